@@ -1,1 +1,2 @@
 pub mod GvecLemmas
+pub mod OthersLemmas

@@ -1,2 +1,3 @@
 pub mod Gvec
 pub mod Lends
+pub mod Others
