@@ -1,0 +1,2 @@
+pub mod Gvec
+pub mod Lends
