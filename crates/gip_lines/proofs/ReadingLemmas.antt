@@ -1,8 +1,11 @@
 -- What the lines of a text say, as far as they have been read.
-use Rattle.std.proofs.Common.{◌≡◌, ℕ, suc, ◌+◌, List, [], ◌∷◌, ◌++◌, length, map, refl, ap, ◌∙◌, arith, Option, Some, None, is_none, is_some, true, not, length-append, ◌<◌, cond, nat_lt}
+use Rattle.std.proofs.Common.{◌≡◌, ℕ, suc, ◌+◌, List, [], ◌∷◌, ◌++◌, length, map, refl, ap, ◌∙◌, arith, Option, Some, None, is_none, is_some, true, not, length-append, ◌<◌, ◌≤◌, cond, nat_lt, le-leb}
 use Rattle.std.specs.Option.{option_map}
 use Rattle.std.specs.List.{position, prefix_len, filter_map, list_all}
-use Rattle.gip_lines.specs.Lines.{readings, script_lines, line_of, first_other_line, lines_of, IsScript}
+use Rattle.gip_lines.specs.Lines.{readings, script_lines, line_of, first_other_line, lines_of, IsScript, pieces, line_of_words, number_up_to, has_small_key}
+use Rattle.gip_lines.specs.declared.lines.Line.TheVariants.{Push, Pop, Len, Clear}
+use Rattle.std.specs.Str.{bytes_eq}
+use Rattle.std.specs.Prelude.{codes, Bool, false, if◌then◌else◌, nat_le}
 use Rattle.gip_lines.specs.declared.lines.Line.{Line}
 
 -- the line after some lines of the form has another one
@@ -45,3 +48,41 @@ filter_map_some (line ∷ lines) = ap (λ more. line ∷ more) (filter_map_some 
 
 pub lines_of-read : (text : List ℕ) (lines : List Line) → readings text ≡ map Some lines → lines_of text ≡ lines
 lines_of-read text lines e = ap (filter_map (λ reading. reading)) e ∙ filter_map_some lines
+
+-- a line names a small key
+number_up_to-small : (greatest : ℕ) (word : List ℕ) (n : ℕ) → number_up_to greatest word ≡ Some n → n ≤ greatest
+number_up_to-small greatest word n e = grind arith
+
+-- a line without a key
+small_name : (pop len clear : Bool) (said : Line)
+    → ◌≡◌ {A = Option Line} (if pop then Some Pop else (if len then Some Len else (if clear then Some Clear else None))) (Some said)
+    → has_small_key said ≡ true
+small_name true len clear said e = let same : said ≡ Pop = cc in ap has_small_key same
+small_name false true clear said e = let same : said ≡ Len = cc in ap has_small_key same
+small_name false false true said e = let same : said ≡ Clear = cc in ap has_small_key same
+small_name false false false said e = cc
+
+-- a line with one
+small_push : (push : Bool) (key : Option ℕ) (said : Line) → ((k : ℕ) → key ≡ Some k → nat_le k 15 ≡ true)
+    → (if push then option_map Push key else None) ≡ Some said → has_small_key said ≡ true
+small_push true None said small e = cc
+small_push true (Some k) said small e = let same : said ≡ Push k = cc in ap has_small_key same ∙ small k refl
+small_push false key said small e = cc
+
+small_words : (words : List (List ℕ)) (said : Line) → line_of_words words ≡ Some said → has_small_key said ≡ true
+small_words [] said e = cc
+small_words (name ∷ []) said e =
+    small_name (bytes_eq name (codes "pop")) (bytes_eq name (codes "len")) (bytes_eq name (codes "clear")) said e
+small_words (name ∷ key ∷ []) said e =
+    small_push (bytes_eq name (codes "push")) (number_up_to 15 key) said (λ k f. le-leb k 15 (number_up_to-small 15 key k f)) e
+small_words (name ∷ key ∷ other ∷ more) said e = cc
+
+-- the lines of a script name small keys
+pub small_keys : (lines : List (List ℕ)) (said : List Line) → map line_of lines ≡ map Some said → list_all has_small_key said ≡ true
+small_keys [] [] e = refl
+small_keys [] (s ∷ said) e = cc
+small_keys (line ∷ lines) [] e = cc
+small_keys (line ∷ lines) (s ∷ said) e =
+    let first : line_of line ≡ Some s = cc in
+    let rest : map line_of lines ≡ map Some said = cc in
+    rw (small_words (pieces 32 line) s first) (small_keys lines said rest)

@@ -1,8 +1,12 @@
 -- The input as a whole.
-use Rattle.std.specs.Prelude.{◌≡◌, ℕ, ◌<◌, Bool, false, List, length, Option, IfSome}
+use Rattle.std.specs.Prelude.{◌≡◌, ℕ, ◌<◌, ◌≤◌, Bool, false, List, length, Option, IfSome}
 use Rattle.gip_lines.specs.declared.fault.GipFault.{GipFault}
 use Rattle.gip_lines.specs.declared.fault.GipFault.TheVariants.{Input, Line, Memory, Output}
 use Rattle.gip_lines.specs.declared.transfer.TheConstants.{INPUT_LIMIT}
+
+-- an input is not too long
+abbrev pub Fits : List ℕ → Type 0
+Fits input = length input ≤ INPUT_LIMIT
 
 -- what a reader has left is more than an input may have, where it is known
 abbrev pub IsTooLong : Option (List ℕ) → Type 0

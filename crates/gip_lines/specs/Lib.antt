@@ -2,5 +2,6 @@ pub mod Checked
 pub mod Fault
 pub mod Input
 pub mod Lines
+pub mod Replies
 pub mod Script
 pub mod Watch

@@ -1,5 +1,5 @@
 -- The lines of a script and the form of each.
-use Rattle.std.specs.Prelude.{ℕ, ◌==◌, ◌+◌, ◌&&◌, List, [], ◌∷◌, length, nat_lt, nat_le, if◌then◌else◌, codes, Option, Some, None, is_some, is_none, position, map, IsTrue}
+use Rattle.std.specs.Prelude.{ℕ, ◌==◌, ◌+◌, ◌&&◌, Bool, true, List, [], ◌∷◌, length, nat_lt, nat_le, if◌then◌else◌, codes, Option, Some, None, is_some, is_none, position, map, IsTrue}
 use Rattle.std.specs.List.{slice_split, filter_map, list_all}
 use Rattle.std.specs.Option.{option_map}
 use Rattle.std.specs.Str.{all_ascii_digits, bytes_eq}
@@ -42,6 +42,13 @@ line_of_words words = None
 -- what a line says, where it has the form: its words stand one space apart, with none at the ends
 abbrev pub line_of : List ℕ → Option Line
 line_of line = line_of_words (pieces 32 line)
+
+-- the key that a line pushes, if any, is one that a line can name
+abbrev pub has_small_key : Line → Bool
+has_small_key (Push key) = nat_le key 15
+has_small_key Pop = true
+has_small_key Len = true
+has_small_key Clear = true
 
 -- what each line of a text says, where it has the form
 abbrev pub readings : List ℕ → List (Option Line)

@@ -7,7 +7,7 @@ use Rattle.gip_lines.specs.declared.lines.Line.TheVariants.{Push, Pop, Len, Clea
 
 -- the key is held
 abbrev pub is_held : ℕ → List ℕ → Bool
-is_held key held = list_any (λ x. x == key) held
+is_held key held = list_any (λ x. key == x) held
 
 -- the greatest of the held keys
 abbrev pub greatest : List ℕ → Option ℕ
@@ -16,7 +16,7 @@ greatest (key ∷ held) = Some (option_map_or (max key) (greatest held) key)
 
 -- the held keys without one
 abbrev pub without : ℕ → List ℕ → List ℕ
-without key held = filter (λ x. not (x == key)) held
+without key held = filter (λ x. not (key == x)) held
 
 -- the keys that are held after a line; where `refused` is true, memory was refused to it
 abbrev pub held_after : Line → Bool → List ℕ → List ℕ

@@ -3,7 +3,10 @@
 
 pub mod fault;
 pub mod lines;
+mod replies;
+pub mod scripts;
 pub mod transfer;
 pub mod watched;
 
 pub use fault::GipFault;
+pub use scripts::script;
