@@ -1,2 +1,4 @@
 mod KeySets
 mod OrderLemmas
+mod StepLemmas
+mod RunLemmas

@@ -3,3 +3,4 @@ pub mod Counted
 pub mod Keys
 pub mod Order
 pub mod Record
+pub mod Stands

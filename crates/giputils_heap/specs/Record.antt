@@ -1,6 +1,7 @@
 -- The record of a run of a heap, and what its replies have to be.
-use Rattle.std.specs.Prelude.{ℕ, ◌-◌, ◌==◌, nat_lt, Bool, true, false, ◌&&◌, ◌||◌, not, if◌then◌else◌, List, [], ◌∷◌, length, IsTrue, Option, Some, None}
+use Rattle.std.specs.Prelude.{◌≡◌, ℕ, ◌+◌, ◌-◌, ◌^◌, ◌≤◌, ◌==◌, nat_lt, Bool, true, false, ◌&&◌, ◌||◌, not, if◌then◌else◌, List, [], ◌∷◌, length, take, IsTrue, Option, Some, None}
 use Rattle.std.specs.Bool.{beq}
+use Rattle.std.specs.List.{All, AllZip}
 use Rattle.giputils_heap.specs.Keys.{is_held, without, key_limit}
 use Rattle.giputils_heap.specs.Order.{is_lawful, agree_on, is_greatest}
 use Rattle.giputils_heap.specs.declared.run.HeapCall.{HeapCall}
@@ -91,28 +92,57 @@ module _ {T C : Type 0} where
       then (p.still && (is_lawful (at_least c) (compared_keys p.held call) && agrees_with_last at_least p.last (at_least c) p.held))
       else p.still
 
-  -- the progress after one more step
-  abbrev pub after_step : (T → ℕ) → (C → T → T → Bool) → Progress T C → Entry T C → Progress T C
-  after_step number at_least p e =
+  -- the progress after one more call, which was lent this comparer and had this reply
+  abbrev pub after_call : (T → ℕ) → (C → T → T → Bool) → Progress T C → HeapCall T → C → HeapReply T → Progress T C
+  after_call number at_least p call c reply =
       let q : Progress T C = forgetting p in
       record {
-        held = held_after number q.held e.call e.reply;
-        still = is_still_at at_least q e.call e.comparer;
-        last = if may_compare e.call then Some e.comparer else q.last;
+        held = held_after number q.held call reply;
+        still = is_still_at at_least q call c;
+        last = if may_compare call then Some c else q.last;
       }
+
+  -- whether a call that is lent this comparer may have this reply after this progress
+  abbrev pub may_answer : (T → ℕ) → (C → T → T → Bool) → Progress T C → HeapCall T → C → HeapReply T → Bool
+  may_answer number at_least p call c reply =
+      may_reply number (at_least c) (is_still_at at_least (forgetting p) call c) p.held call reply
 
   -- the progress after these steps
   abbrev pub progress_from : (T → ℕ) → (C → T → T → Bool) → Progress T C → List (Entry T C) → Progress T C
   progress_from number at_least p [] = p
-  progress_from number at_least p (e ∷ es) = progress_from number at_least (after_step number at_least p e) es
+  progress_from number at_least p (e ∷ es) =
+      progress_from number at_least (after_call number at_least p e.call e.comparer e.reply) es
 
-  -- whether every step of the record may reply as it did
+  -- whether every step may reply as it did
   abbrev pub answers_from : (T → ℕ) → (C → T → T → Bool) → Progress T C → List (Entry T C) → Bool
   answers_from number at_least p [] = true
   answers_from number at_least p (e ∷ es) =
-      may_reply number (at_least e.comparer) (after_step number at_least p e).still p.held e.call e.reply
-      && answers_from number at_least (after_step number at_least p e) es
+      may_answer number at_least p e.call e.comparer e.reply
+      && answers_from number at_least (after_call number at_least p e.call e.comparer e.reply) es
 
   -- a run from the empty heap may have this record: the heap answers as a set, and its pops give greatest keys
   abbrev pub Answers : (T → ℕ) → (C → T → T → Bool) → List (Entry T C) → Type 0
   Answers number at_least entries = IsTrue (answers_from number at_least beginning entries)
+
+  -- the keys that are held before step i of a record
+  abbrev pub held_before : (T → ℕ) → (C → T → T → Bool) → List (Entry T C) → ℕ → List T
+  held_before number at_least entries i = (progress_from number at_least beginning (take i entries)).held
+
+  -- up to step i the comparisons were lawful and unchanged, since nothing was last held
+  abbrev pub IsStill : (T → ℕ) → (C → T → T → Bool) → List (Entry T C) → ℕ → Type 0
+  IsStill number at_least entries i = IsTrue (progress_from number at_least beginning (take (i + 1) entries)).still
+
+  -- a step keeps its call and its comparer, and its counter rises by what was compared
+  pub record KeepsStep (old new : HeapStep T C) : Type 0 where
+    pub call : new.call ≡ old.call
+    pub comparer : new.cmp.comparer ≡ old.cmp.comparer
+    pub rises : old.cmp.count ≤ new.cmp.count
+    pub comparisons : new.cmp.count ≤ old.cmp.count + 2 ^ 34
+
+  -- every step keeps its call and its comparer
+  abbrev pub KeepsSteps : List (HeapStep T C) → List (HeapStep T C) → Type 0
+  KeepsSteps old new = AllZip KeepsStep old new
+
+  -- every counter may still count what a step compares
+  abbrev pub CanCount : List (HeapStep T C) → Type 0
+  CanCount steps = All (λ s. s.cmp.count ≤ 2 ^ 63) steps

@@ -9,4 +9,4 @@ pub mod run;
 pub use counting::Counting;
 pub use heap::BinaryHeap;
 pub use key::{BinaryHeapCmp, HeapKey};
-pub use run::{HeapCall, HeapReply, HeapStep};
+pub use run::{HeapCall, HeapReply, HeapStep, heap_run};

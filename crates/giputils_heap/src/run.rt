@@ -1,7 +1,12 @@
 //! Lists of calls of one heap.
-ghost use Rattle.std.specs.Prelude.{◌≡◌};
+ghost use Rattle.std.specs.Prelude.{◌≡◌, ◌+◌, ◌^◌, ◌≤◌, IsTrue, IfOk, OnErr, OnOk, length};
+ghost use Rattle.giputils_heap.specs.Record.{Progress, may_answer, after_call, record_of, Answers, KeepsSteps, CanCount};
+ghost use Rattle.giputils_heap.specs.Stands.{Stands};
 
 use crate::counting::Counting;
+use crate::heap::BinaryHeap;
+use crate::key::{BinaryHeapCmp, HeapKey};
+use std::alloc::{AllocError, Allocator};
 
 /// A call of a heap.
 #[derive(Clone, Copy)]
@@ -40,4 +45,57 @@ pub enum HeapReply<T> {
 pub struct HeapStep<'a, T, C> {
     pub call: HeapCall<T>,
     pub cmp: Counting<'a, C>,
+}
+
+/// Runs the steps in order from the empty heap, and answers one reply for each.
+///
+/// Each counter must be at most 2^63, which [`Counting::count`] tells. The list of replies is asked for first. The steps keep their calls and comparers, and each counter rises by what its step compared.
+///
+/// # Errors
+/// `AllocError` where memory for the list of replies is refused. Nothing was run then.
+pub fn heap_run<T: HeapKey, C: BinaryHeapCmp<T>, A: Allocator + Copy>(
+    alloc: A,
+    steps: &mut [HeapStep<'_, T, C>],
+) -> Result<Vec<HeapReply<T>, A>, AllocError>
+    requires { CanCount steps.old }
+    ensures record { IfOk result (λ replies. Answers T.number C.at_least (record_of steps.old steps.new replies.items)) }
+    ensures replies { IfOk result (λ replies. length replies.items ≡ length steps.old) }
+    ensures kept { KeepsSteps steps.old steps.new }
+    ensures refused { OnErr result (steps.new ≡ steps.old) }
+{
+    let mut replies = Vec::with_capacity(alloc, steps.len())?;
+    let mut heap = BinaryHeap::new(alloc);
+    for step in steps.iter_mut() {
+        replies.push_reserved(answer(&mut heap, step.call, &mut step.cmp));
+    }
+    Ok(replies)
+}
+
+// Makes one call, and skips a push of a key that no heap can hold.
+fn answer<T: HeapKey, C: BinaryHeapCmp<T>, A: Allocator>(
+    heap: &mut BinaryHeap<T, A>,
+    call: HeapCall<T>,
+    cmp: &mut Counting<'_, C>,
+) -> HeapReply<T>
+    requires { cmp.old.count ≤ 2 ^ 63 }
+    ensures reply { (p : Progress T C) → Stands T.number C.at_least p heap.old → IsTrue (may_answer T.number C.at_least p call cmp.old.comparer result) }
+    ensures stands { (p : Progress T C) → Stands T.number C.at_least p heap.old → Stands T.number C.at_least (after_call T.number C.at_least p call cmp.old.comparer result) heap.new }
+    ensures comparer { cmp.new.comparer ≡ cmp.old.comparer }
+    ensures rises { cmp.old.count ≤ cmp.new.count }
+    ensures comparisons { cmp.new.count ≤ cmp.old.count + 2 ^ 34 }
+{
+    match call {
+        HeapCall::Push(v) if v.key() == u32::MAX => HeapReply::Skipped,
+        HeapCall::Push(v) => match heap.push_counted(v, cmp) {
+            Ok(()) => HeapReply::Done,
+            Err(AllocError) => HeapReply::Refused,
+        },
+        HeapCall::Pop => HeapReply::Popped(heap.pop_counted(cmp)),
+        HeapCall::Clear => {
+            heap.clear();
+            HeapReply::Done
+        }
+        HeapCall::Len => HeapReply::Length(heap.len()),
+        HeapCall::IsEmpty => HeapReply::Empty(heap.is_empty()),
+    }
 }

@@ -1,0 +1,40 @@
+use Rattle.std.proofs.Common.{◌≡◌, ◌≤◌, ◌^◌, ◌∙◌, refl, arith, get_or}
+use Rattle.std.proofs.lemmas.List.Elements.{All-get_or}
+use Rattle.giputils_heap.proofs.RunLemmas.{HasRun-start, HasRun-more, HasRun-answers, HasRun-kept, KeepsSteps-refl, next_is_old}
+use Rattle.giputils_heap.proofs.run.heap_run.Goals as goal
+
+pub returns-in_err-replies-clause-kept : goal.returns-in_err-replies-clause-kept
+returns-in_err-replies-clause-kept g c = KeepsSteps-refl c.args.steps.now
+
+pub loop-step-init : goal.loop-step-init
+loop-step-init g c =
+    (HasRun-start g.T.HeapKey.number g.C.BinaryHeapCmp.at_least c.args.steps.now c.in_ok-replies.replies.items c.new-heap.result c.in_ok-replies.ensures.items c.new-heap.ensures.empty c.new-heap.ensures.in_order, c.in_ok-replies.ensures.len, c.in_ok-replies.ensures.capacity)
+
+pub answer-requires : goal.answer-requires
+answer-requires g c =
+    rw (next_is_old g.T.HeapKey.number g.C.BinaryHeapCmp.at_least c.args.steps.now c.loop-step.steps c.loop-step.step-index c.loop-step.replies.items c.loop-step.heap c.loop-step-test.true c.loop-step.invariant.0 c.step-item.result)
+    (All-get_or (λ s. s.cmp.count ≤ 2 ^ 63) c.args.steps.now c.loop-step.step-index c.step-item.result c.loop-step-test.true c.requires)
+
+pub push_reserved-requires : goal.push_reserved-requires
+push_reserved-requires g c = omega (arith, c.loop-step.invariant.1, c.loop-step.invariant.2)
+
+pub loop-step-preserved : goal.loop-step-preserved
+loop-step-preserved g c = (
+  rw c.push_reserved.ensures.items
+      (HasRun-more g.T.HeapKey.number g.C.BinaryHeapCmp.at_least c.args.steps.now c.loop-step.steps c.loop-step.step-index c.loop-step.replies.items c.loop-step.heap c.loop-step-test.true c.loop-step.invariant.0 c.step-item.result
+      c.answer.new.cmp c.answer.result c.answer.new.heap c.answer.ensures.reply c.answer.ensures.stands
+      record { call = refl; comparer = c.answer.ensures.comparer; rises = c.answer.ensures.rises; comparisons = c.answer.ensures.comparisons }),
+  omega (arith, c.push_reserved.ensures.len, c.loop-step.invariant.1),
+  omega (arith, c.push_reserved.ensures.capacity, c.loop-step.invariant.2),
+)
+
+pub returns-clause-record : goal.returns-clause-record
+returns-clause-record g c =
+    HasRun-answers g.T.HeapKey.number g.C.BinaryHeapCmp.at_least c.args.steps.now c.loop-step.steps c.loop-step.step-index c.loop-step.replies.items c.loop-step.heap c.loop-step-test.false c.loop-step.invariant.0
+
+pub returns-clause-replies : goal.returns-clause-replies
+returns-clause-replies g c = omega (arith, c.loop-step.invariant.0.replied, c.loop-step-test.false)
+
+pub returns-clause-kept : goal.returns-clause-kept
+returns-clause-kept g c =
+    HasRun-kept g.T.HeapKey.number g.C.BinaryHeapCmp.at_least c.args.steps.now c.loop-step.steps c.loop-step.step-index c.loop-step.replies.items c.loop-step.heap c.loop-step-test.false c.loop-step.invariant.0
