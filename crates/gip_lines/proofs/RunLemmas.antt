@@ -6,7 +6,7 @@ use Rattle.std.specs.Bool.{beq}
 use Rattle.std.specs.Option.{option_map_or}
 use Rattle.std.proofs.lemmas.Grind.{common_steps}
 use Rattle.gip_lines.specs.Lines.{has_small_key}
-use Rattle.gip_lines.specs.Replies.{call_of, reply_text, reply_line, is_line_reply}
+use Rattle.gip_lines.specs.Replies.{call_of, step_of, reply_text, reply_line, is_line_reply}
 use Rattle.gip_lines.specs.Script.{is_held, greatest, without, held_after, reply_to, text_from, script_text}
 use Rattle.gip_lines.specs.declared.lines.Line.{Line}
 use Rattle.gip_lines.specs.declared.lines.Line.TheVariants as line
@@ -202,7 +202,7 @@ module _ {C : Type 0} where
   agrees-last None held = refl
   agrees-last (Some c) held = agrees held
 
-  still-after : (p : run.Progress ℕ C) (e : run.Entry ℕ C) → p.still ≡ true → (run.after_step number by_number p e).still ≡ true
+  still-after : (p : run.Progress ℕ C) (e : run.Entry ℕ C) → p.still ≡ true → (run.after_call number by_number p e.call e.comparer e.reply).still ≡ true
   still-after p e still =
       let q : run.Progress ℕ C = run.forgetting p in
       let q_still : q.still ≡ true = forgetting-still p still in
@@ -223,7 +223,7 @@ module _ {C : Type 0} where
   replies_match (e ∷ entries) (said ∷ lines) p still calls small answers =
       let call : e.call ≡ call_of said = cc in
       let calls' : map (λ e. e.call) entries ≡ map call_of lines = cc in
-      let q : run.Progress ℕ C = run.after_step number by_number p e in
+      let q : run.Progress ℕ C = run.after_call number by_number p e.call e.comparer e.reply in
       let q_still : q.still ≡ true = still-after p e still in
       let reply : run.may_reply number at_least q.still p.held e.call e.reply ≡ true =
           and-left _ (run.answers_from number by_number q entries) answers in
@@ -269,3 +269,16 @@ module _ {C : Type 0} where
       let replied = record_replies before after replies same one_each in
       let (refusals, text, known) = replies_match entries lines run.beginning refl (record_calls before after replies same one_each ∙ calls) small answers in
       (refusals, ap (flat_map reply_line) (sym replied) ∙ text, ap (list_all is_line_reply) (sym replied) ∙ known)
+
+  -- the calls of the steps of some lines
+  pub calls_of_steps : (comparer : C) (lines : List Line) → map (λ s. s.call) (map (step_of comparer) lines) ≡ map call_of lines
+  calls_of_steps comparer [] = refl
+  calls_of_steps comparer (said ∷ lines) = ap (λ calls. call_of said ∷ calls) (calls_of_steps comparer lines)
+
+  -- the same of the steps of some lines
+  pub run_of_lines : (comparer : C) (lines : List Line) (before after : List (HeapStep ℕ C)) (replies : List (HeapReply ℕ))
+      → before ≡ map (step_of comparer) lines → length after ≡ length before → length replies ≡ length before
+      → list_all has_small_key lines ≡ true → run.Answers number by_number (run.record_of before after replies)
+      → (refusals : List Bool) × (flat_map reply_line replies ≡ script_text lines refusals) × (list_all is_line_reply replies ≡ true)
+  run_of_lines comparer lines before after replies steps same one_each small answers =
+      run_text before after replies lines same one_each (ap (map (λ s. s.call)) steps ∙ calls_of_steps comparer lines) small answers

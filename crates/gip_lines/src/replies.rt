@@ -7,7 +7,7 @@ ghost use Rattle.gip_lines.specs.Script.{script_text};
 
 use crate::fault::GipFault;
 use crate::lines::Line;
-use giputils_heap::{BinaryHeapCmp, Counting, HeapCall, HeapReply, HeapStep};
+use giputils_heap::{BinaryHeapCmp, Counting, HeapCall, HeapReply, HeapStep, heap_run};
 use std::alloc::{AllocError, Allocator};
 use std::io::Write;
 
@@ -29,7 +29,10 @@ pub(crate) fn answer<A: Allocator + Copy>(alloc: A, lines: &[Line]) -> Result<Ve
     ensures text { IfOk result (λ text. (refusals : List Bool) × (text.items ≡ script_text lines.now refusals)) }
     ensures err { IfErr result (λ fault. fault ≡ GipFault.Memory) }
 {
-    Err(GipFault::Memory)
+    let by_number = ByNumber;
+    let mut steps = steps_of(alloc, lines, &by_number)?;
+    let replies = heap_run(alloc, &mut steps)?;
+    text_of(alloc, &replies)
 }
 
 /// A step for each line, all lent one comparer.
