@@ -5,8 +5,9 @@ pub mod fault;
 pub mod lines;
 mod replies;
 pub mod scripts;
-pub mod transfer;
+mod transfer;
 pub mod watched;
 
 pub use fault::GipFault;
 pub use scripts::script;
+pub use transfer::INPUT_LIMIT;

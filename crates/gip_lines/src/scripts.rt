@@ -20,7 +20,7 @@ use std::io::{Read, Write};
 /// Neither device may have failed, which [`Watched::failed`] tells.
 ///
 /// # Errors
-/// - [`GipFault::Input`] where a read fails, or the input has more than [`INPUT_LIMIT`](crate::transfer::INPUT_LIMIT) bytes.
+/// - [`GipFault::Input`] where a read fails, or the input has more than [`INPUT_LIMIT`](crate::INPUT_LIMIT) bytes.
 /// - [`GipFault::Line`] with the number of the first line of another form.
 /// - [`GipFault::Memory`] where memory for anything but a held key is refused.
 /// - [`GipFault::Output`] where a write fails. What was written by then is open.
