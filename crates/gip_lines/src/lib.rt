@@ -1,1 +1,13 @@
+//! The program part of `gip`: a script of lines over a set of keys with its greatest member.
 #![tactic(auto)]
+
+pub mod fault;
+pub mod lines;
+mod replies;
+pub mod scripts;
+mod transfer;
+pub mod watched;
+
+pub use fault::GipFault;
+pub use scripts::script;
+pub use transfer::INPUT_LIMIT;

@@ -1,0 +1,5 @@
+pub mod NumberLemmas
+pub mod PieceLemmas
+pub mod ReadingLemmas
+pub mod RunLemmas
+pub mod ScriptLemmas

@@ -1,0 +1,26 @@
+-- What the program says and how it ends when it stops early.
+use Rattle.std.specs.Prelude.{◌≡◌, ℕ, List, ◌++◌, codes, decimal, Some, ⊤}
+use Rattle.gip_lines.specs.Lines.{first_other_line}
+use Rattle.gip_lines.specs.declared.fault.GipFault.{GipFault}
+use Rattle.gip_lines.specs.declared.fault.GipFault.TheVariants.{Input, Line, Memory, Output}
+
+-- the text of a fault
+abbrev pub fault_text : GipFault → List ℕ
+fault_text Input = codes "input: refused"
+fault_text (Line number) = codes "line " ++ decimal number ++ codes ": refused"
+fault_text Memory = codes "memory: refused"
+fault_text Output = codes "output: failed"
+
+-- the exit status of a fault
+abbrev pub fault_status : GipFault → ℕ
+fault_status Input = 2
+fault_status (Line number) = 2
+fault_status Memory = 1
+fault_status Output = 1
+
+-- the fault may end the reading of a text's lines
+abbrev pub StopsParsing : List ℕ → GipFault → Type 0
+StopsParsing text Input = ⊥
+StopsParsing text (Line number) = first_other_line text ≡ Some number
+StopsParsing text Memory = ⊤
+StopsParsing text Output = ⊥

@@ -1,0 +1,7 @@
+pub mod Checked
+pub mod Fault
+pub mod Input
+pub mod Lines
+pub mod Replies
+pub mod Script
+pub mod Watch

@@ -1,0 +1,53 @@
+-- What a script answers, over the set of the keys that are held. It knows nothing of a heap.
+use Rattle.std.specs.Prelude.{ℕ, ◌==◌, ◌&&◌, ◌||◌, max, Bool, false, not, List, [], ◌∷◌, ◌++◌, length, filter, codes, decimal, if◌then◌else◌, Option, Some, None}
+use Rattle.std.specs.List.{list_any}
+use Rattle.std.specs.Option.{option_map_or}
+use Rattle.gip_lines.specs.declared.lines.Line.{Line}
+use Rattle.gip_lines.specs.declared.lines.Line.TheVariants.{Push, Pop, Len, Clear}
+
+-- the key is held
+abbrev pub is_held : ℕ → List ℕ → Bool
+is_held key held = list_any (λ x. key == x) held
+
+-- the greatest of the held keys
+abbrev pub greatest : List ℕ → Option ℕ
+greatest [] = None
+greatest (key ∷ held) = Some (option_map_or (max key) (greatest held) key)
+
+-- the held keys without one
+abbrev pub without : ℕ → List ℕ → List ℕ
+without key held = filter (λ x. not (key == x)) held
+
+-- the keys that are held after a line; where `refused` is true, memory was refused to it
+abbrev pub held_after : Line → Bool → List ℕ → List ℕ
+held_after (Push key) refused held = if is_held key held || refused then held else key ∷ held
+held_after Pop refused held = option_map_or (λ key. without key held) (greatest held) held
+held_after Len refused held = held
+held_after Clear refused held = []
+
+-- the reply to a line
+abbrev pub reply_to : Line → Bool → List ℕ → List ℕ
+reply_to (Push key) refused held = if not (is_held key held) && refused then codes "memory" else codes "ok"
+reply_to Pop refused held = option_map_or decimal (greatest held) (codes "none")
+reply_to Len refused held = decimal (length held)
+reply_to Clear refused held = codes "ok"
+
+-- whether the first of some lines was refused memory, and whether the others were
+abbrev pub first_refused : List Bool → Bool
+first_refused [] = false
+first_refused (refused ∷ more) = refused
+
+abbrev pub later_refused : List Bool → List Bool
+later_refused [] = []
+later_refused (refused ∷ more) = more
+
+-- the replies to some lines where these keys are held, each with a line feed
+abbrev pub text_from : List ℕ → List Line → List Bool → List ℕ
+text_from held [] refusals = []
+text_from held (line ∷ lines) refusals =
+    reply_to line (first_refused refusals) held ++ 10 ∷ text_from (held_after line (first_refused refusals) held) lines (later_refused refusals)
+
+-- the text of a script: a reply for each line. `refusals` says line by line whether memory was
+-- refused to it; past its end it was not
+abbrev pub script_text : List Line → List Bool → List ℕ
+script_text lines refusals = text_from [] lines refusals
