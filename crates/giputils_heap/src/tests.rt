@@ -93,6 +93,9 @@ fn an_empty_heap_pops_nothing_and_asks_nothing(rt: HostRuntime) -> Result<(), Fa
     let mut counter = Counting::new(&ByNumber);
     assert_eq!(rt; heap.pop_counted(&mut counter), None);
     assert_eq!(rt; counter.count(), 0);
+    assert!(rt; counter.gte(2u32, 1));
+    assert!(rt; !counter.gte(1u32, 2));
+    assert_eq!(rt; counter.count(), 2);
     let mut steps: [HeapStep<u32, ByNumber>; 0] = [];
     assert_eq!(rt; heap_run(rt.alloc(), &mut steps)?.len(), 0);
     Ok(())
