@@ -1,1 +1,15 @@
+//! Containers for solvers, model checkers, simulators and schedulers, under the module names of the Rust crate giputils.
+//!
+//! This crate has no code of its own: it gathers the crates beside it.
 #![tactic(auto)]
+
+pub use giputils_base::others::{OptionU8, OptionU32};
+pub use giputils_base::{grc, gvec, hash, others};
+
+/// A set of small keys with a greatest member, lent its comparer at each call.
+pub mod heap {
+    pub use giputils_heap::{
+        BinaryHeap, BinaryHeapCmp, Counting, HeapCall, HeapKey, HeapReply, HeapStep,
+        answers_at_each_step, heap_run, order_laws,
+    };
+}

@@ -1,1 +1,3 @@
 pub mod GvecLemmas
+pub mod HashLemmas
+pub mod OthersLemmas

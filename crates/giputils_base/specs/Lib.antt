@@ -1,2 +1,5 @@
 pub mod Gvec
+pub mod Hash
 pub mod Lends
+pub mod LendsHashed
+pub mod Others

@@ -2,3 +2,4 @@ mod KeySets
 mod OrderLemmas
 mod StepLemmas
 mod RunLemmas
+mod RecordLemmas

@@ -121,4 +121,4 @@ module _ {T C : Type 0} (number : T → ℕ) (at_least : C → T → T → Bool)
 -- steps that nothing was done to are kept
 pub KeepsSteps-refl : {T C : Type 0} (steps : List (HeapStep T C)) → KeepsSteps steps steps
 KeepsSteps-refl [] = tt
-KeepsSteps-refl (s ∷ steps) = (record { call = refl; comparer = refl; rises = omega arith; comparisons = omega arith }, KeepsSteps-refl steps)
+KeepsSteps-refl (s ∷ steps) = (record { call = refl; comparer = refl; rises = omega arith; comparisons = omega arith; uncompared = λ _. refl }, KeepsSteps-refl steps)

@@ -4,3 +4,4 @@ pub mod Keys
 pub mod Order
 pub mod Record
 pub mod Stands
+pub mod Examples

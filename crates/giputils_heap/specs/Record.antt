@@ -1,5 +1,5 @@
 -- The record of a run of a heap, and what its replies have to be.
-use Rattle.std.specs.Prelude.{◌≡◌, ℕ, ◌+◌, ◌-◌, ◌^◌, ◌≤◌, ◌==◌, nat_lt, Bool, true, false, ◌&&◌, ◌||◌, not, if◌then◌else◌, List, [], ◌∷◌, length, take, IsTrue, Option, Some, None}
+use Rattle.std.specs.Prelude.{◌≡◌, ℕ, ◌+◌, ◌-◌, ◌^◌, ◌≤◌, ◌==◌, nat_lt, Bool, true, false, ◌&&◌, ◌||◌, not, if◌then◌else◌, List, [], ◌∷◌, length, take, slice_get, IsTrue, IsFalse, Option, Some, None}
 use Rattle.std.specs.Bool.{beq}
 use Rattle.std.specs.List.{All, AllZip}
 use Rattle.giputils_heap.specs.Keys.{is_held, without, key_limit}
@@ -128,9 +128,14 @@ module _ {T C : Type 0} where
   abbrev pub held_before : (T → ℕ) → (C → T → T → Bool) → List (Entry T C) → ℕ → List T
   held_before number at_least entries i = (progress_from number at_least beginning (take i entries)).held
 
-  -- up to step i the comparisons were lawful and unchanged, since nothing was last held
-  abbrev pub IsStill : (T → ℕ) → (C → T → T → Bool) → List (Entry T C) → ℕ → Type 0
-  IsStill number at_least entries i = IsTrue (progress_from number at_least beginning (take (i + 1) entries)).still
+  -- whether up to step i the comparisons were lawful and unchanged, since nothing was last held
+  abbrev pub is_still : (T → ℕ) → (C → T → T → Bool) → List (Entry T C) → ℕ → Bool
+  is_still number at_least entries i = (progress_from number at_least beginning (take (i + 1) entries)).still
+
+  -- step i of a record may reply as it did to the keys that are held before it
+  abbrev pub AnswersAt : (T → ℕ) → (C → T → T → Bool) → List (Entry T C) → ℕ → Entry T C → Type 0
+  AnswersAt number at_least entries i e =
+      IsTrue (may_reply number (at_least e.comparer) (is_still number at_least entries i) (held_before number at_least entries i) e.call e.reply)
 
   -- a step keeps its call and its comparer, and its counter rises by what was compared
   pub record KeepsStep (old new : HeapStep T C) : Type 0 where
@@ -138,6 +143,7 @@ module _ {T C : Type 0} where
     pub comparer : new.cmp.comparer ≡ old.cmp.comparer
     pub rises : old.cmp.count ≤ new.cmp.count
     pub comparisons : new.cmp.count ≤ old.cmp.count + 2 ^ 34
+    pub uncompared : IsFalse (may_compare old.call) → new.cmp.count ≡ old.cmp.count
 
   -- every step keeps its call and its comparer
   abbrev pub KeepsSteps : List (HeapStep T C) → List (HeapStep T C) → Type 0
@@ -146,3 +152,9 @@ module _ {T C : Type 0} where
   -- every counter may still count what a step compares
   abbrev pub CanCount : List (HeapStep T C) → Type 0
   CanCount steps = All (λ s. s.cmp.count ≤ 2 ^ 63) steps
+
+-- a record that answers does so at each of its steps
+abbrev pub AnswersAtEachStep : (T C : Type 0) → Type 0
+AnswersAtEachStep T C =
+    (number : T → ℕ) (at_least : C → T → T → Bool) (entries : List (Entry T C)) → Answers number at_least entries
+    → (i : ℕ) (e : Entry T C) → slice_get entries i ≡ Some e → AnswersAt number at_least entries i e

@@ -5,8 +5,10 @@ pub mod counting;
 pub mod heap;
 pub mod key;
 pub mod run;
+#[cfg(test)]
+mod tests;
 
 pub use counting::Counting;
-pub use heap::BinaryHeap;
+pub use heap::{BinaryHeap, order_laws};
 pub use key::{BinaryHeapCmp, HeapKey};
-pub use run::{HeapCall, HeapReply, HeapStep, heap_run};
+pub use run::{HeapCall, HeapReply, HeapStep, answers_at_each_step, heap_run};

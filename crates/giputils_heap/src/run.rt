@@ -1,6 +1,6 @@
 //! Lists of calls of one heap.
-ghost use Rattle.std.specs.Prelude.{◌≡◌, ◌+◌, ◌^◌, ◌≤◌, IsTrue, IfOk, OnErr, OnOk, length};
-ghost use Rattle.giputils_heap.specs.Record.{Progress, may_answer, after_call, record_of, Answers, KeepsSteps, CanCount};
+ghost use Rattle.std.specs.Prelude.{◌≡◌, ◌+◌, ◌^◌, ◌≤◌, IsTrue, IsFalse, IfOk, OnErr, length};
+ghost use Rattle.giputils_heap.specs.Record.{Progress, may_compare, may_answer, after_call, AnswersAtEachStep, record_of, Answers, KeepsSteps, CanCount};
 ghost use Rattle.giputils_heap.specs.Stands.{Stands};
 
 use crate::counting::Counting;
@@ -9,7 +9,7 @@ use crate::key::{BinaryHeapCmp, HeapKey};
 use std::alloc::{AllocError, Allocator};
 
 /// A call of a heap.
-#[derive(Clone, Copy)]
+#[derive(Clone, Copy, PartialEq, Eq, Debug)]
 pub enum HeapCall<T> {
     /// Holds the key as well.
     Push(T),
@@ -24,7 +24,7 @@ pub enum HeapCall<T> {
 }
 
 /// The answer to a [`HeapCall`].
-#[derive(Clone, Copy)]
+#[derive(Clone, Copy, PartialEq, Eq, Debug)]
 pub enum HeapReply<T> {
     /// The key is held, or was held already; or nothing is held after a `Clear`.
     Done,
@@ -46,6 +46,11 @@ pub struct HeapStep<'a, T, C> {
     pub call: HeapCall<T>,
     pub cmp: Counting<'a, C>,
 }
+
+/// A law of records, which callers of [`heap_run`] may cite: a record that answers does so at each of its steps, by the keys that are held before it.
+pub const fn answers_at_each_step<T, C>()
+    ensures { AnswersAtEachStep T C }
+{}
 
 /// Runs the steps in order from the empty heap, and answers one reply for each.
 ///
@@ -83,6 +88,7 @@ fn answer<T: HeapKey, C: BinaryHeapCmp<T>, A: Allocator>(
     ensures comparer { cmp.new.comparer ≡ cmp.old.comparer }
     ensures rises { cmp.old.count ≤ cmp.new.count }
     ensures comparisons { cmp.new.count ≤ cmp.old.count + 2 ^ 34 }
+    ensures uncompared { IsFalse (may_compare call) → (cmp.new.count ≡ cmp.old.count) }
 {
     match call {
         HeapCall::Push(v) if v.key() == u32::MAX => HeapReply::Skipped,

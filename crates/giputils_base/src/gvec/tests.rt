@@ -1,9 +1,10 @@
 // What callers learn through the clauses, and the calls once each.
-ghost use Rattle.std.specs.Prelude.{◌≡◌, ◌+◌, ◌<◌, ◌++◌, ◌∷◌, [], ℕ, length, slice_index_or, slice_set, sum, OnOk, OnErr, ◌↔◌, IsTrue, Contains};
-ghost use Rattle.giputils_base.specs.Gvec.{swap_remove};
+ghost use Rattle.std.specs.Prelude.{◌≡◌, ◌+◌, ◌<◌, ◌++◌, ◌∷◌, [], length, slice_index_or, slice_set, sum, OnOk, OnErr, IfOk, ◌↔◌, IsTrue, Contains};
 
 use super::Gvec;
-use std::alloc::{AllocError, AllocFailed, Allocator};
+use rand_core::Rng;
+use rand_pcg::Pcg32;
+use std::alloc::{AllocError, AllocFailed, Allocator, Global};
 use std::test::Fail;
 
 fn push_through<T, A: Allocator>(g: &mut Gvec<T, A>, x: T) -> Result<(), AllocFailed<T>>
@@ -58,16 +59,105 @@ fn total<A: Allocator>(g: &Gvec<u32, A>) -> u64
     g.iter().map(|x| u64::from(*x)).sum()
 }
 
+fn cloned<A: Allocator + Clone>(g: &Gvec<u32, A>) -> Result<Gvec<u32, A>, AllocError>
+    ensures { IfOk result (λ h. h ≡ g.now) }
+{
+    g.clone()
+}
+
+fn copied(alloc: Global, items: &[u32]) -> Result<Gvec<u32>, AllocError>
+    ensures { IfOk result (λ g. g ≡ items.now) }
+{
+    items.iter().copied().collect(alloc)
+}
+
+fn into_vec(alloc: Global, g: Gvec<u8>) -> Result<Vec<u8>, AllocError>
+    ensures { IfOk result (λ v. v.items ≡ g) }
+{
+    g.into_iter().collect(alloc)
+}
+
+fn drawn(alloc: Global, seed: u64) -> Result<Gvec<u32>, AllocError>
+    ensures { IfOk result (λ g. length g ≡ 5) }
+{
+    let mut rng = Pcg32::new(seed, 54);
+    Gvec::new_rand(alloc, 5, &mut rng, |rng| rng.next_u32())
+}
+
 #[test]
-fn pushes_reads_and_removes(rt: HostRuntime) -> Result<(), Fail> {
+fn pushes_reads_and_clears(rt: HostRuntime) -> Result<(), Fail> {
     let mut g = Gvec::new(rt.alloc());
-    g.push(1u32)?;
-    g.push(2)?;
-    g.push(3)?;
+    push_two(&mut g)?;
+    assert_eq!(rt; g.len(), 2);
+    assert_eq!(rt; exchange(&mut g, 1, 5), 2);
+    bump(&mut g, 0);
+    assert_eq!(rt; total(&g), 7);
+    assert!(rt; holds(&g, 5));
+    assert_eq!(rt;
+        format!(in rt.alloc(); "{g:?}")?.as_str(),
+        "Gvec { items: [2, 5] }"
+    );
+    clear_through(&mut g);
+    assert_eq!(rt; g.len(), 0);
+    Ok(())
+}
+
+#[test]
+fn indexes_by_three_types(rt: HostRuntime) -> Result<(), Fail> {
+    let mut g = Gvec::from_array(rt.alloc(), [7u8, 8, 9])?;
     assert_eq!(rt; g.len(), 3);
-    assert_eq!(rt; g[1], 2);
-    g[1] = 5;
+    g[0usize] += 1;
+    g[1u32] += 2;
+    g[2i32] += 3;
+    assert_eq!(rt; (g[0i32], g[1usize], g[2u32]), (8, 10, 12));
+    assert_eq!(rt; into_vec(rt.alloc(), g)?.as_slice(), [8, 10, 12].as_slice());
+    Ok(())
+}
+
+#[test]
+fn swaps_removes_and_grows(rt: HostRuntime) -> Result<(), Fail> {
+    let mut g = Gvec::from_array(rt.alloc(), [1u32, 2, 3, 4])?;
+    g.swap(0, 3);
+    assert_eq!(rt; g.as_slice(), [4, 2, 3, 1].as_slice());
+    g.swap_remove(1);
+    assert_eq!(rt; g.as_slice(), [4, 1, 3].as_slice());
+    g.reserve(5)?;
+    assert_eq!(rt; g.as_slice(), [4, 1, 3, 0, 0].as_slice());
+    g.reserve(2)?;
+    assert_eq!(rt; g.as_slice(), [4, 1, 3, 0, 0].as_slice());
+    Ok(())
+}
+
+#[test]
+fn swapping_with_itself_and_removing_the_last_item(rt: HostRuntime) -> Result<(), Fail> {
+    let mut g = Gvec::from_array(rt.alloc(), [9u32])?;
+    g.swap(0, 0);
+    assert_eq!(rt; g.as_slice(), [9].as_slice());
     g.swap_remove(0);
-    assert_eq!(rt; g.as_slice(), [3, 5].as_slice());
+    assert_eq!(rt; g.len(), 0);
+    Ok(())
+}
+
+#[test]
+fn made_from_an_array_an_iterator_a_vec_and_a_clone(rt: HostRuntime) -> Result<(), Fail> {
+    let array = Gvec::from_array(rt.alloc(), [1u32, 2])?;
+    let copied = copied(rt.alloc(), [1, 2].as_slice())?;
+    let iterator = Gvec::from_iter(rt.alloc(), 1u32..3)?;
+    let vec = Gvec::from(vec![in rt.alloc(); 1u32, 2]?);
+    let clone = cloned(&copied)?;
+    assert_eq!(rt; array.as_slice(), vec.as_slice());
+    assert_eq!(rt; copied.as_slice(), [1, 2].as_slice());
+    assert_eq!(rt; iterator.as_slice(), [1, 2].as_slice());
+    assert_eq!(rt; clone.as_slice(), copied.as_slice());
+    Ok(())
+}
+
+#[test]
+fn one_seed_draws_one_list(rt: HostRuntime) -> Result<(), Fail> {
+    let first = drawn(rt.alloc(), 42)?;
+    assert_eq!(rt; first.as_slice(), drawn(rt.alloc(), 42)?.as_slice());
+    assert_ne!(rt; first.as_slice(), drawn(rt.alloc(), 43)?.as_slice());
+    assert_eq!(rt; first.len(), 5);
+    assert_eq!(rt; first[0usize], 0xa15c02b7);
     Ok(())
 }

@@ -23,7 +23,7 @@ loop-step-preserved g c = (
   rw c.push_reserved.ensures.items
       (HasRun-more g.T.HeapKey.number g.C.BinaryHeapCmp.at_least c.args.steps.now c.loop-step.steps c.loop-step.step-index c.loop-step.replies.items c.loop-step.heap c.loop-step-test.true c.loop-step.invariant.0 c.step-item.result
       c.answer.new.cmp c.answer.result c.answer.new.heap c.answer.ensures.reply c.answer.ensures.stands
-      record { call = refl; comparer = c.answer.ensures.comparer; rises = c.answer.ensures.rises; comparisons = c.answer.ensures.comparisons }),
+      record { call = refl; comparer = c.answer.ensures.comparer; rises = c.answer.ensures.rises; comparisons = c.answer.ensures.comparisons; uncompared = c.answer.ensures.uncompared }),
   omega (arith, c.push_reserved.ensures.len, c.loop-step.invariant.1),
   omega (arith, c.push_reserved.ensures.capacity, c.loop-step.invariant.2),
 )

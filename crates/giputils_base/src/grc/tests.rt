@@ -1,0 +1,33 @@
+// What callers learn through the clauses, and the calls once each.
+ghost use Rattle.std.specs.Prelude.{◌≡◌, IfOk};
+
+use super::Grc;
+use std::alloc::{AllocError, Global};
+use std::test::Fail;
+
+fn shared(alloc: Global, value: u32) -> Result<(Grc<u32>, Grc<u32>), AllocError>
+    ensures { IfOk result (λ p. p ≡ (value, value)) }
+{
+    let first = Grc::new(alloc, value)?;
+    let second = first.clone()?;
+    Ok((first, second))
+}
+
+fn read(owner: &Grc<u32>) -> u32
+    ensures { result ≡ owner.now }
+{
+    **owner
+}
+
+#[test]
+fn all_owners_read_the_same_value(rt: HostRuntime) -> Result<(), Fail> {
+    let (first, second) = shared(rt.alloc(), 8)?;
+    assert_eq!(rt; read(&first), 8);
+    drop(first);
+    assert_eq!(rt; read(&second), 8);
+    assert_eq!(rt;
+        format!(in rt.alloc(); "{second:?}")?.as_str(),
+        "Grc { inner: 8 }"
+    );
+    Ok(())
+}

@@ -1,0 +1,213 @@
+//! A hashed set and a hashed map, whose hasher has a fixed seed.
+ghost use Rattle.std.specs.Prelude.{◌≡◌, ◌<◌, ◌^◌, [], length};
+ghost use Rattle.std.specs.List.{AllZip, IsDistinct};
+ghost use Rattle.std.specs.Map.Iter.{GivesInOrder};
+ghost use Rattle.std.specs.Borrow.{sem};
+ghost use Rattle.giputils_base.specs.Hash.{IsMapOf, IsSetOf, HasUniqueKeys};
+
+#[cfg(test)]
+mod tests;
+
+use std::alloc::{AllocError, Allocator, Global};
+use std::collections::{HashMap, HashSet, hash_map, hash_set};
+use std::fmt;
+use std::hash::{BuildHasher, BuildHasherDefault, FoldHasher, Hash, Hasher};
+use std::marker::Model;
+use std::ops::{Deref, DerefMut};
+
+type Set<T, A> = HashSet<T, BuildHasherDefault<FoldHasher>, A>;
+
+type Map<K, V, A> = HashMap<K, V, BuildHasherDefault<FoldHasher>, A>;
+
+/// A hashed set, seen as the list of its members: each once, in an open order.
+#[derive(Drop)]
+pub struct GHashSet<T: Eq + Hash, A: Allocator = Global> {
+    set: Set<T, A>,
+}
+
+impl<T: Eq + Hash, A: Allocator> Model for GHashSet<T, A> {
+    ghost use Rattle.std.specs.Prelude.{List};
+
+    ghost Value = { List T };
+
+    ghost view = { λ g. g.set.keys };
+}
+
+impl<T: Eq + Hash, A: Allocator> GHashSet<T, A> {
+    /// The empty set. It takes no memory.
+    #[inline]
+    pub fn new(alloc: A) -> Self
+        ensures { result ≡ [] }
+    {
+        GHashSet {
+            set: HashSet::new(alloc),
+        }
+    }
+}
+
+/// The items that the iterator gives, each once.
+impl<T: Eq + Hash + Drop, A: Allocator + Clone> FromIterator<T> for GHashSet<T, A> {
+    type Alloc = A;
+
+    ghost from_iter_gives = { IsSetOf T.eq };
+
+    fn from_iter<U: IntoIterator<Item = T>>(alloc: A, iter: U) -> Result<Self, AllocError> {
+        Ok(GHashSet {
+            set: HashSet::from_iter(alloc, iter)?,
+        })
+    }
+}
+
+/// Clones each member.
+impl<T: Eq + Hash + Clone, A: Allocator + Clone> Clone for GHashSet<T, A> {
+    ghost is_clone = { AllZip T.is_clone };
+
+    fn clone(&self) -> Result<Self, AllocError> {
+        Ok(GHashSet {
+            set: self.set.clone()?,
+        })
+    }
+}
+
+/// The members, each once.
+impl<T: Eq + Hash + Drop, A: Allocator> IntoIterator for GHashSet<T, A> {
+    type Item = T;
+
+    type IntoIter = hash_set::IntoIter<T, A>;
+
+    ghost into_iter_gives = { λ g it. (it ≡ g) × (length g < 2 ^ 63) × GivesInOrder T × IsDistinct T.eq g };
+
+    #[inline]
+    fn into_iter(self) -> hash_set::IntoIter<T, A> {
+        self.set.into_iter()
+    }
+}
+
+impl<T: Eq + Hash, A: Allocator> Deref for GHashSet<T, A> {
+    type Target = Set<T, A>;
+
+    ghost deref_gives = { λ g s. s.keys ≡ g };
+
+    #[inline]
+    fn deref(&self) -> &Set<T, A> {
+        &self.set
+    }
+}
+
+impl<T: Eq + Hash, A: Allocator> DerefMut for GHashSet<T, A> {
+    ghost use Rattle.giputils_base.specs.LendsHashed.{lends_set};
+
+    ghost deref_mut_gives = { λ g s. s.keys ≡ g };
+
+    #[inline]
+    fn deref_mut(&mut self) -> &mut Set<T, A>
+        ensures* writes_back { sem 𝓛 (lends_set T.row A.row T.Hash ⟦<BuildHasherDefault<FoldHasher> as BuildHasher>⟧ ⟦<FoldHasher as Hasher>⟧ A.Allocator self.entry result) }
+        ensures value { result.now.keys ≡ self.old }
+    {
+        &mut self.set
+    }
+}
+
+/// The text of the set inside.
+impl<T: Eq + Hash + fmt::Debug, A: Allocator> fmt::Debug for GHashSet<T, A> {
+    fn fmt<W: fmt::Write>(&self, f: &mut fmt::Formatter<W>) -> fmt::Result {
+        fmt::Debug::fmt(&self.set, f)
+    }
+}
+
+/// A hashed map, seen as the list of its entries: each key once, in an open order.
+#[derive(Drop)]
+pub struct GHashMap<K: Eq + Hash, V, A: Allocator = Global> {
+    map: Map<K, V, A>,
+}
+
+impl<K: Eq + Hash, V, A: Allocator> Model for GHashMap<K, V, A> {
+    ghost use Rattle.std.specs.Prelude.{List};
+
+    ghost Value = { List (K × V) };
+
+    ghost view = { λ g. g.map.entries };
+}
+
+impl<K: Eq + Hash, V, A: Allocator> GHashMap<K, V, A> {
+    /// The empty map. It takes no memory.
+    #[inline]
+    pub fn new(alloc: A) -> Self
+        ensures { result ≡ [] }
+    {
+        GHashMap {
+            map: HashMap::new(alloc),
+        }
+    }
+}
+
+/// The pairs that the iterator gives. Of pairs with equal keys the last value stands.
+impl<K: Eq + Hash + Drop, V: Drop, A: Allocator + Clone> FromIterator<(K, V)>
+    for GHashMap<K, V, A> {
+    type Alloc = A;
+
+    ghost from_iter_gives = { IsMapOf K.eq };
+
+    fn from_iter<U: IntoIterator<Item = (K, V)>>(alloc: A, iter: U) -> Result<Self, AllocError> {
+        Ok(GHashMap {
+            map: HashMap::from_iter(alloc, iter)?,
+        })
+    }
+}
+
+/// Clones each key and each value.
+impl<K: Eq + Hash + Clone, V: Clone, A: Allocator + Clone> Clone for GHashMap<K, V, A> {
+    ghost is_clone = { AllZip (λ e f. K.is_clone e.0 f.0 × V.is_clone e.1 f.1) };
+
+    fn clone(&self) -> Result<Self, AllocError> {
+        Ok(GHashMap {
+            map: self.map.clone()?,
+        })
+    }
+}
+
+/// The entries, each once.
+impl<K: Eq + Hash + Drop, V: Drop, A: Allocator> IntoIterator for GHashMap<K, V, A> {
+    type Item = (K, V);
+
+    type IntoIter = hash_map::IntoIter<K, V, A>;
+
+    ghost into_iter_gives = { λ g it. (it ≡ g) × (length g < 2 ^ 63) × GivesInOrder (K × V) × HasUniqueKeys K.eq g };
+
+    #[inline]
+    fn into_iter(self) -> hash_map::IntoIter<K, V, A> {
+        self.map.into_iter()
+    }
+}
+
+impl<K: Eq + Hash, V, A: Allocator> Deref for GHashMap<K, V, A> {
+    type Target = Map<K, V, A>;
+
+    ghost deref_gives = { λ g m. m.entries ≡ g };
+
+    #[inline]
+    fn deref(&self) -> &Map<K, V, A> {
+        &self.map
+    }
+}
+
+impl<K: Eq + Hash, V, A: Allocator> DerefMut for GHashMap<K, V, A> {
+    ghost use Rattle.giputils_base.specs.LendsHashed.{lends_map};
+
+    ghost deref_mut_gives = { λ g m. m.entries ≡ g };
+
+    #[inline]
+    fn deref_mut(&mut self) -> &mut Map<K, V, A>
+        ensures* writes_back { sem 𝓛 (lends_map K.row V.row A.row K.Hash ⟦<BuildHasherDefault<FoldHasher> as BuildHasher>⟧ ⟦<FoldHasher as Hasher>⟧ A.Allocator self.entry result) }
+        ensures value { result.now.entries ≡ self.old }
+    {
+        &mut self.map
+    }
+}
+
+/// The text of the map inside.
+impl<K: Eq + Hash + fmt::Debug, V: fmt::Debug, A: Allocator> fmt::Debug for GHashMap<K, V, A> {
+    fn fmt<W: fmt::Write>(&self, f: &mut fmt::Formatter<W>) -> fmt::Result {
+        fmt::Debug::fmt(&self.map, f)
+    }
+}

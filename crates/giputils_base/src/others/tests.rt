@@ -1,0 +1,52 @@
+// What callers learn through the clauses, and the calls once each.
+ghost use Rattle.std.specs.Prelude.{◌≡◌, ◌<◌, Some, None};
+ghost use Rattle.giputils_base.specs.Others.{option_u8, option_u32, option_of};
+
+use super::{OptionU8, OptionU32};
+
+fn write(o: &mut OptionU8, n: u8)
+    ensures { option_u8 o.new ≡ option_of 255 n }
+{
+    **o = n;
+}
+
+fn write_some(o: &mut OptionU32, n: u32)
+    requires { n < 4294967295 }
+    ensures { option_u32 o.new ≡ Some n }
+{
+    **o = n;
+}
+
+fn number(o: OptionU32) -> Option<u32>
+    ensures { result ≡ option_u32 o }
+{
+    if o.is_some() { Some(*o) } else { None }
+}
+
+fn none() -> OptionU8
+    ensures { option_u8 result ≡ None }
+{
+    OptionU8::NONE
+}
+
+#[test]
+fn writing_the_greatest_number_leaves_none(rt: HostRuntime) {
+    let mut o = OptionU8::some(254);
+    assert!(rt; o.is_some());
+    assert_eq!(rt; *o, 254);
+    write(&mut o, 255);
+    assert!(rt; o.is_none());
+    assert_eq!(rt; o, OptionU8::NONE);
+    assert_eq!(rt; o, none());
+}
+
+#[test]
+fn holds_every_number_below_the_greatest(rt: HostRuntime) {
+    let mut o = OptionU32::default();
+    assert!(rt; o.is_none());
+    assert_eq!(rt; number(o), None);
+    write_some(&mut o, 4294967294);
+    assert_eq!(rt; number(o), Some(4294967294));
+    assert_eq!(rt; o, OptionU32::some(4294967294));
+    assert_ne!(rt; o, OptionU32::NONE);
+}

@@ -1,0 +1,97 @@
+use super::*;
+use linked_list_allocator::LocalHeap;
+use std::collections::HashMap;
+use std::test::Fail;
+
+// Which of five requests in a row are refused.
+fn five_requests<B: Allocator>(memory: &Refusing<B>) -> [bool; 5] {
+    let mut refused = [false; 5];
+    for each in &mut refused {
+        *each = Box::new(memory, 0u64).is_err();
+    }
+    refused
+}
+
+#[test]
+fn refuses_what_it_was_told_to(rt: HostRuntime) {
+    let cases = [
+        (Refusing::none(rt.alloc()), [false; 5]),
+        (
+            Refusing::nth(rt.alloc(), 1),
+            [true, false, false, false, false],
+        ),
+        (
+            Refusing::nth(rt.alloc(), 3),
+            [false, false, true, false, false],
+        ),
+        (Refusing::nth(rt.alloc(), 0), [false; 5]),
+        (
+            Refusing::from(rt.alloc(), 3),
+            [false, false, true, true, true],
+        ),
+        (Refusing::from(rt.alloc(), 1), [true; 5]),
+        (
+            Refusing::between(rt.alloc(), 2, 4),
+            [false, true, true, true, false],
+        ),
+        (Refusing::between(rt.alloc(), 4, 2), [false; 5]),
+    ];
+    for (memory, want) in &cases {
+        assert_eq!(rt; five_requests(memory), *want, "{:?}", memory.refused());
+        assert_eq!(rt; memory.requests(), 5);
+        assert_eq!(rt; memory.largest(), 8);
+    }
+}
+
+#[test]
+fn passes_requests_on_to_a_budget(rt: HostRuntime) -> Result<(), Fail> {
+    let budget = LocalHeap::new(rt.alloc(), 1024)?;
+    let memory = Refusing::nth(&budget, 2);
+    assert_eq!(rt; five_requests(&memory), [false, true, false, false, false]);
+    let held = Box::new(&memory, [0u8; 100])?;
+    assert!(rt; budget.used() >= 100);
+    let over_budget: Result<Vec<u8, _>, _> = Vec::with_capacity(&memory, 2000);
+    assert!(rt; over_budget.is_err());
+    assert_eq!(rt; memory.requests(), 7);
+    assert_eq!(rt; memory.largest(), 2000);
+    drop(held);
+    assert_eq!(rt; budget.used(), 0);
+    Ok(())
+}
+
+#[test]
+fn counts_the_requests_of_a_vector(rt: HostRuntime) -> Result<(), Fail> {
+    let memory = Refusing::nth(rt.alloc(), 2);
+    let mut v = Vec::<u32, &Refusing>::new(&memory);
+    assert_eq!(rt; memory.requests(), 0);
+    assert_eq!(rt; memory.largest(), 0);
+    v.reserve(4)?;
+    assert_eq!(rt; memory.requests(), 1);
+    assert_eq!(rt; memory.largest(), 16);
+    v.extend_from_slice(&[5, 6, 7, 8])?;
+    assert!(rt; v.push(9).is_err());
+    assert_eq!(rt; memory.requests(), 2);
+    v.push(9)?;
+    assert_eq!(rt; memory.requests(), 3);
+    assert_eq!(rt; v.as_slice(), [5, 6, 7, 8, 9].as_slice());
+    Ok(())
+}
+
+#[test]
+fn tells_the_size_of_a_refused_request(rt: HostRuntime) {
+    let memory = Refusing::from(rt.alloc(), 1);
+    let all: Result<Vec<u64, _>, _> = Vec::with_capacity(&memory, 1 << 58);
+    assert!(rt; all.is_err());
+    assert_eq!(rt; memory.largest(), 1 << 61);
+}
+
+// What a test that refuses one request after another relies on.
+#[test]
+fn a_map_grows_in_four_requests(rt: HostRuntime) -> Result<(), Fail> {
+    let memory = Refusing::none(rt.alloc());
+    let mut map = HashMap::new(&memory);
+    assert_eq!(rt; memory.requests(), 0);
+    map.insert(1u32, 2u32)?;
+    assert_eq!(rt; memory.requests(), 4);
+    Ok(())
+}

@@ -1,0 +1,70 @@
+#!/usr/bin/env python3
+"""Tries to compile what must not compile, and wants the compiler's own error for each.
+
+Each file of tests/must_not_compile is one change of a source file, with the error that it must meet:
+lines 'file: PATH', 'old: TEXT' (which stands once in that file), 'new: TEXT' and 'error: TEXT'.
+The change is made in a copy of the repository's crates, which is then checked.
+"""
+
+import pathlib
+import shutil
+import subprocess
+import sys
+import tempfile
+
+ROOT = pathlib.Path(__file__).resolve().parent.parent
+SECONDS = 300
+
+
+def read_case(path):
+    case = {}
+    for line in path.read_text(encoding="utf-8").splitlines():
+        key, _, value = line.partition(": ")
+        case[key] = value
+    return case
+
+
+def compile_with(case):
+    """Returns what the check of the changed crate says, or None where the change cannot be made."""
+    source = ROOT / case["file"]
+    text = source.read_text(encoding="utf-8")
+    if text.count(case["old"]) != 1:
+        return None
+    with tempfile.TemporaryDirectory(prefix="giputils-") as room:
+        copy = pathlib.Path(room)
+        shutil.copytree(ROOT / "crates", copy / "crates", ignore=shutil.ignore_patterns("out"))
+        shutil.copy(ROOT / "crates.txt", copy)
+        (copy / case["file"]).write_text(text.replace(case["old"], case["new"]), encoding="utf-8")
+        crate = copy / pathlib.Path(*pathlib.Path(case["file"]).parts[:2])
+        check = subprocess.run(
+            ["rt", "check"],
+            cwd=crate,
+            stdin=subprocess.DEVNULL,
+            stdout=subprocess.PIPE,
+            stderr=subprocess.STDOUT,
+            errors="replace",
+            timeout=SECONDS,
+        )
+        return check.stdout if check.returncode != 0 else "it compiles"
+
+
+def main():
+    passed = failed = 0
+    for path in sorted((ROOT / "tests" / "must_not_compile").glob("*.edit")):
+        case = read_case(path)
+        said = compile_with(case)
+        if said is None:
+            failed += 1
+            print(f"must-not-compile {path.name}: FAILED: its 'old:' text does not stand once in {case['file']}")
+        elif case["error"] in said:
+            passed += 1
+            print(f"must-not-compile {path.name}: refused, as it must be: {case['error']}")
+        else:
+            failed += 1
+            print(f"must-not-compile {path.name}: FAILED: no '{case['error']}' in\n{said}")
+    print(f"{passed} passed, {failed} failed")
+    return 1 if failed or not passed else 0
+
+
+if __name__ == "__main__":
+    sys.exit(main())
