@@ -1,21 +1,17 @@
 -- A record of a heap that answers, under the comparer by number, has the replies of the script.
-use Rattle.std.proofs.Common.{◌≡◌, ℕ, suc, zero, ◌+◌, ◌≤◌, Bool, true, false, ◌&&◌, ◌||◌, not, cond, nat_le, nat_lt, ◌==◌, List, [], ◌∷◌, ◌++◌, length, map, refl, ap, sym, subst, ◌∙◌, arith, rules, Option, Some, None, append_assoc, true≢false, leb-true, eqb-true, max, codes, decimal}
-use Rattle.std.specs.Prelude.{if◌then◌else◌}
-use Rattle.std.specs.List.{flat_map, list_all, list_any}
+use Rattle.std.proofs.Common.{◌≡◌, ℕ, ◌≤◌, Bool, true, false, ◌&&◌, ◌||◌, not, cond, nat_le, nat_lt, ◌==◌, List, [], ◌∷◌, ◌++◌, length, map, refl, ap, sym, subst, ◌∙◌, arith, Option, Some, None, append_assoc, true≢false, leb-true, eqb-true, max, decimal}
+use Rattle.std.specs.List.{flat_map, list_all}
 use Rattle.std.specs.Bool.{beq}
 use Rattle.std.specs.Option.{option_map_or}
-use Rattle.std.proofs.lemmas.Grind.{common_steps}
 use Rattle.gip_lines.specs.Lines.{has_small_key}
 use Rattle.gip_lines.specs.Replies.{call_of, step_of, reply_text, reply_line, is_line_reply}
-use Rattle.gip_lines.specs.Script.{is_held, greatest, without, held_after, reply_to, text_from, script_text}
+use Rattle.gip_lines.specs.Script.{is_held, greatest, held_after, reply_to, text_from, script_text}
 use Rattle.gip_lines.specs.declared.lines.Line.{Line}
 use Rattle.gip_lines.specs.declared.lines.Line.TheVariants as line
-use Rattle.giputils_heap.specs.declared.run.HeapCall.{HeapCall}
-use Rattle.giputils_heap.specs.declared.run.HeapCall.TheVariants as call
 use Rattle.giputils_heap.specs.declared.run.HeapReply.{HeapReply}
 use Rattle.giputils_heap.specs.declared.run.HeapReply.TheVariants.{Done, Refused, Skipped, Popped, Length, Empty}
 use Rattle.giputils_heap.specs.Keys as keys
-use Rattle.giputils_heap.specs.Order.{all_pairs, is_total, is_transitive, is_lawful, agree_on, is_greatest}
+use Rattle.giputils_heap.specs.Order.{is_total, is_transitive, is_lawful, agree_on, is_greatest}
 use Rattle.giputils_heap.specs.Record as run
 use Rattle.giputils_heap.specs.declared.run.HeapStep.{HeapStep}
 
@@ -47,9 +43,9 @@ transitive_at x y z = grind arith
 lawful : (held : List ℕ) → is_lawful at_least held ≡ true
 lawful held =
     let total : is_total at_least held ≡ true =
-        list_all-always _ (λ x. list_all-always _ (λ y. total_at x y) held) held in
+    list_all-always _ (λ x. list_all-always _ (λ y. total_at x y) held) held in
     let transitive : is_transitive at_least held ≡ true =
-        list_all-always _ (λ x. list_all-always _ (λ y. list_all-always _ (λ z. transitive_at x y z) held) held) held in
+    list_all-always _ (λ x. list_all-always _ (λ y. list_all-always _ (λ z. transitive_at x y z) held) held) held in
     rw total transitive
 
 beq-same : (b : Bool) → beq b b ≡ true
@@ -80,14 +76,14 @@ greatest-held k (x ∷ held) here all =
     let within : x ≤ k = leb-true x k (and-left (nat_le x k) (list_all (at_least k) held) all) in
     let others : list_all (at_least k) held ≡ true = and-right (nat_le x k) (list_all (at_least k) held) all in
     let by_case : (b : Bool) → (k == x) ≡ b → (b || is_held k held) ≡ true → greatest (x ∷ held) ≡ Some k =
-        λ b. elim b as (λ v. (k == x) ≡ v → (v || is_held k held) ≡ true → greatest (x ∷ held) ≡ Some k) [
-          | true ↦ λ e _.
-              let same : k ≡ x = eqb-true k x e in
-              let below = greatest-below k x held others within in
-              let above = greatest-above x (greatest held) in
-              ap Some (omega arith)
-          | false ↦ λ e found. rw (greatest-held k held found others) (ap Some (omega arith))
-        ] in
+    λ b. elim b as (λ v. (k == x) ≡ v → (v || is_held k held) ≡ true → greatest (x ∷ held) ≡ Some k) [
+      | true ↦ λ e _.
+          let same : k ≡ x = eqb-true k x e in
+          let below = greatest-below k x held others within in
+          let above = greatest-above x (greatest held) in
+          ap Some (omega arith)
+      | false ↦ λ e found. rw (greatest-held k held found others) (ap Some (omega arith))
+    ] in
     by_case (k == x) refl here
 
 and-true : (a b : Bool) → a ≡ true → b ≡ true → (a && b) ≡ true
@@ -190,7 +186,7 @@ module _ {C : Type 0} where
   forgetting-held : (p : run.Progress ℕ C) → (run.forgetting p).held ≡ p.held
   forgetting-held p =
       let by_case : (held : List ℕ) → p.held ≡ held → (cond (run.is_nil held) run.beginning p).held ≡ p.held =
-          elim [ [] ↦ λ e. sym e | x ∷ xs ↦ λ e. refl ] in
+      elim [ [] ↦ λ e. sym e | x ∷ xs ↦ λ e. refl ] in
       by_case p.held refl
 
   forgetting-still : (p : run.Progress ℕ C) → p.still ≡ true → (run.forgetting p).still ≡ true
@@ -207,9 +203,9 @@ module _ {C : Type 0} where
       let q : run.Progress ℕ C = run.forgetting p in
       let q_still : q.still ≡ true = forgetting-still p still in
       let compared : (q.still && (is_lawful at_least (run.compared_keys q.held e.call) && run.agrees_with_last by_number q.last at_least q.held)) ≡ true =
-          and-true _ _ q_still (and-true _ _ (lawful (run.compared_keys q.held e.call)) (agrees-last q.last q.held)) in
+      and-true _ _ q_still (and-true _ _ (lawful (run.compared_keys q.held e.call)) (agrees-last q.last q.held)) in
       let by_case : (b : Bool) → cond b (q.still && (is_lawful at_least (run.compared_keys q.held e.call) && run.agrees_with_last by_number q.last at_least q.held)) q.still ≡ true =
-          elim [ true ↦ compared | false ↦ q_still ] in
+      elim [ true ↦ compared | false ↦ q_still ] in
       by_case (run.may_compare e.call)
 
   -- the replies of a record that answers are those of the script, for some refusals, and each is one that a line can have
@@ -226,18 +222,17 @@ module _ {C : Type 0} where
       let q : run.Progress ℕ C = run.after_call number by_number p e.call e.comparer e.reply in
       let q_still : q.still ≡ true = still-after p e still in
       let reply : run.may_reply number at_least q.still p.held e.call e.reply ≡ true =
-          and-left _ (run.answers_from number by_number q entries) answers in
+      and-left _ (run.answers_from number by_number q entries) answers in
       let rest : run.answers_from number by_number q entries ≡ true = and-right (run.may_reply number at_least q.still p.held e.call e.reply) _ answers in
       let m = matches said p.held e.reply q.still q_still (and-left _ (list_all has_small_key lines) small)
-          (subst (λ c. run.may_reply number at_least q.still p.held c e.reply ≡ true) call reply) in
+      (subst (λ c. run.may_reply number at_least q.still p.held c e.reply ≡ true) call reply) in
       let held : q.held ≡ held_after said m.refused p.held =
-          ap (λ h. run.held_after number h e.call e.reply) (forgetting-held p) ∙ ap (λ c. run.held_after number p.held c e.reply) call ∙ m.after in
+      ap (λ h. run.held_after number h e.call e.reply) (forgetting-held p) ∙ ap (λ c. run.held_after number p.held c e.reply) call ∙ m.after in
       let (refusals, text, known) = replies_match entries lines q q_still calls' (and-right (has_small_key said) _ small) rest in
-      let later = flat_map reply_line (map (λ e. e.reply) entries) in
-      (
+      let later = flat_map reply_line (map (λ e. e.reply) entries) in (
         m.refused ∷ refusals,
         append_assoc (reply_text e.reply) (10 ∷ []) later ∙ ap (λ t. t ++ 10 ∷ later) m.text
-        ∙ ap (λ t. reply_to said m.refused p.held ++ 10 ∷ t) (text ∙ ap (λ h. text_from h lines refusals) held),
+            ∙ ap (λ t. reply_to said m.refused p.held ++ 10 ∷ t) (text ∙ ap (λ h. text_from h lines refusals) held),
         and-true _ _ m.known known,
       )
 

@@ -1,5 +1,5 @@
 -- From what was read and written to what a script promises.
-use Rattle.std.proofs.Common.{◌≡◌, ℕ, List, [], ◌++◌, Option, Some, None, Result, Ok, Err, OnOk, IfOk, IfSome, ap, sym, subst, ◌∙◌, append-nil}
+use Rattle.std.proofs.Common.{ℕ, List, ◌++◌, Option, Some, None, Result, Ok, Err, OnOk, IfOk, IfSome, ap, sym, subst, ◌∙◌, append-nil}
 use Rattle.std.specs.Io.KnownBytes.{Consumes, IsAtEnd}
 
 -- what was read to the end is what the reader had left

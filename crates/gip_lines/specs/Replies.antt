@@ -1,5 +1,5 @@
 -- How a script is run on a heap: a call for each line, and a line of text for each reply.
-use Rattle.std.specs.Prelude.{ℕ, Bool, true, false, nat_le, List, [], ◌∷◌, ◌++◌, codes, decimal, Some, None, IsTrue}
+use Rattle.std.specs.Prelude.{ℕ, Bool, true, false, List, [], ◌∷◌, ◌++◌, codes, decimal, Some, None}
 use Rattle.gip_lines.specs.declared.lines.Line.{Line}
 use Rattle.gip_lines.specs.declared.lines.Line.TheVariants as line
 use Rattle.giputils_heap.specs.declared.run.HeapCall.{HeapCall}

@@ -11,3 +11,6 @@ pub mod watched;
 pub use fault::GipFault;
 pub use scripts::script;
 pub use transfer::INPUT_LIMIT;
+
+#[cfg(test)]
+mod tests;

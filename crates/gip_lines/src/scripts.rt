@@ -8,8 +8,8 @@ ghost use Rattle.gip_lines.specs.Script.{script_text};
 
 use crate::fault::GipFault;
 use crate::lines;
-use crate::transfer::{read_all, write_all};
 use crate::replies::answer;
+use crate::transfer::{read_all, write_all};
 use crate::watched::Watched;
 use std::alloc::Allocator;
 use std::io::{Read, Write};

@@ -13,15 +13,16 @@ use std::marker::Model;
 #[derive(Debug, Drop)]
 pub struct Watched<D> {
     device: D,
-    failed: bool,
+    works: bool,
 }
 
 impl<D> Model for Watched<D> {
+    ghost use Rattle.std.specs.Prelude.{not};
     ghost use Rattle.gip_lines.specs.Watch.{Watch};
 
     ghost Value = { Watch D };
 
-    ghost view = { λ w. record { device = w.device; has_failed = w.failed } };
+    ghost view = { λ w. record { device = w.device; has_failed = not w.works } };
 }
 
 impl<D> Watched<D> {
@@ -32,7 +33,7 @@ impl<D> Watched<D> {
     {
         Watched {
             device,
-            failed: false,
+            works: true,
         }
     }
 
@@ -47,7 +48,7 @@ impl<D> Watched<D> {
     pub fn failed(&self) -> bool
         ensures { result ≡ self.now.has_failed }
     {
-        self.failed
+        !self.works
     }
 }
 
@@ -60,7 +61,7 @@ impl<R: Read> Watched<R> {
     {
         let outcome = self.device.read(buf);
         if outcome.is_err() {
-            self.failed = true;
+            self.works = false;
         }
         outcome
     }
@@ -79,7 +80,7 @@ impl<W: Write> Watched<W> {
             Err(_) => true,
         };
         if took_none {
-            self.failed = true;
+            self.works = false;
         }
         outcome
     }

@@ -1,6 +1,6 @@
 -- The steps are those of the lines, so the record of the run has the replies of the script.
-use Rattle.std.proofs.Common.{◌≡◌, ◌∙◌, ◌^◌, ◌≤◌, ℕ, Bool, true, List, length, map, refl, sym, ap, subst, rules, arith, IfOk}
-use Rattle.std.specs.List.{list_all, flat_map, All}
+use Rattle.std.proofs.Common.{◌≡◌, ◌∙◌, ◌^◌, ◌≤◌, ℕ, Bool, true, List, arith}
+use Rattle.std.specs.List.{list_all, flat_map}
 use Rattle.std.proofs.lemmas.List.Elements.{All-same, All-map}
 use Rattle.giputils_heap.specs.declared.run.HeapStep.{HeapStep}
 use Rattle.gip_lines.specs.declared.replies.ByNumber.{ByNumber}
@@ -24,8 +24,8 @@ replied : (g : Over) (c : After-deref g)
 replied g c =
     let ran = c.in_ok-replies.ensures in
     rw c.deref.ensures.value
-      (run_of_lines _ c.args.lines.now c.deref_mut.result.now c.heap_run.new.steps c.in_ok-replies.replies.items
-        (c.deref_mut.ensures.value ∙ c.in_ok-steps.ensures) c.heap_run.auto.steps ran.replies c.requires.keys ran.record)
+    (run_of_lines _ c.args.lines.now c.deref_mut.result.now c.heap_run.new.steps c.in_ok-replies.replies.items
+    (c.deref_mut.ensures.value ∙ c.in_ok-steps.ensures) c.heap_run.auto.steps ran.replies c.requires.keys ran.record)
 
 pub text_of-requires : goal.text_of-requires
 text_of-requires g c = (replied g c).2

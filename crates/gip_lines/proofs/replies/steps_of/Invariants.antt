@@ -1,5 +1,5 @@
 -- A step for each line so far.
-use Rattle.std.proofs.Common.{◌≡◌, ◌≤◌, ◌+◌, ◌-◌, map, take, length, vec_len}
+use Rattle.std.proofs.Common.{◌≡◌, map, take}
 use Rattle.gip_lines.specs.Replies.{step_of}
 use Rattle.gip_lines.proofs.replies.steps_of.Given as goal
 

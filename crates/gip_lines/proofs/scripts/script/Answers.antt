@@ -1,5 +1,5 @@
 -- The input is what the reader had left, and its lines are those that were answered.
-use Rattle.std.proofs.Common.{◌≡◌, ℕ, Bool, List, rules, sym, ap, ◌∙◌, subst, IfSome}
+use Rattle.std.proofs.Common.{◌≡◌, Bool, List, sym, ap, ◌∙◌, subst}
 use Rattle.std.specs.Io.KnownBytes.{Appends}
 use Rattle.gip_lines.specs.Lines.{IsScript, lines_of, script_lines}
 use Rattle.gip_lines.specs.Script.{script_text}
@@ -25,8 +25,8 @@ returns-clause-written g c =
     let said = lines_of-read c.in_ok-input.input.items c.in_ok-lines.lines.items read in
     let (refusals, text) = c.in_ok-text.ensures.text in
     let same : c.deref-3.result.now ≡ script_text (lines_of c.in_ok-input.input.items) refusals =
-        c.deref-3.ensures.value ∙ text ∙ ap (λ lines. script_text lines refusals) (c.deref-2.ensures.value ∙ sym said) in
+    c.deref-3.ensures.value ∙ text ∙ ap (λ lines. script_text lines refusals) (c.deref-2.ensures.value ∙ sym said) in
     OnOk-map _ _ _
-      (λ appended. whole_input (λ input. (refusals : List Bool) × Appends old new (script_text (lines_of input) refusals)) _ _ _
-        c.in_ok-input.ensures.input c.in_ok-input.ensures.end (refusals, subst (Appends old new) same appended))
-      c.write_all.ensures.ok
+    (λ appended. whole_input (λ input. (refusals : List Bool) × Appends old new (script_text (lines_of input) refusals)) _ _ _
+    c.in_ok-input.ensures.input c.in_ok-input.ensures.end (refusals, subst (Appends old new) same appended))
+    c.write_all.ensures.ok

@@ -1,0 +1,213 @@
+//! Scripts on devices that move few bytes at a time, or fail.
+use crate::watched::Watched;
+use crate::{GipFault, INPUT_LIMIT, script};
+use std::alloc::Global;
+use std::io;
+use std::io::{Error, ErrorKind, Read, Write};
+use std::test::Fail;
+
+const MISSION: &[u8] = b"push 3\npush 2\npush 4\npush 5\npush 1\npop\npop\nlen\nclear\npop\n";
+
+const MISSION_REPLIES: &[u8] = b"ok\nok\nok\nok\nok\n5\n4\n3\nok\nnone\n";
+
+/// A reader of bytes in memory that gives at most so many at a time, fails at one call, and counts its calls.
+#[derive(Drop)]
+struct Source<'a> {
+    rest: &'a [u8],
+    most: usize,
+    fails_at: u64,
+    calls: u64,
+}
+
+impl<'a> Source<'a> {
+    fn new(rest: &'a [u8], most: usize, fails_at: u64) -> Self {
+        Source {
+            rest,
+            most,
+            fails_at,
+            calls: 0,
+        }
+    }
+}
+
+impl Read for Source<'_> {
+    fn read(&mut self, buf: &mut [u8]) -> io::Result<usize> {
+        self.calls = self.calls.wrapping_add(1);
+        if self.calls == self.fails_at {
+            return Err(Error::from(ErrorKind::Interrupted));
+        }
+        let room = buf.len().min(self.most);
+        self.rest.read(&mut buf[..room])
+    }
+}
+
+/// What a writer does at the call at which it fails.
+#[derive(Clone, Copy, Debug)]
+enum Failure {
+    Refuses,
+    TakesNone,
+}
+
+/// A writer into memory that takes at most so many bytes at a time, fails at one call, and counts its calls.
+#[derive(Drop)]
+struct Sink {
+    text: Vec<u8>,
+    most: usize,
+    fails_at: u64,
+    failure: Failure,
+    calls: u64,
+}
+
+impl Sink {
+    fn new(alloc: Global, most: usize, fails_at: u64, failure: Failure) -> Self {
+        Sink {
+            text: Vec::new(alloc),
+            most,
+            fails_at,
+            failure,
+            calls: 0,
+        }
+    }
+}
+
+impl Write for Sink {
+    fn write(&mut self, buf: &[u8]) -> io::Result<usize> {
+        self.calls = self.calls.wrapping_add(1);
+        if self.calls == self.fails_at {
+            return match self.failure {
+                Failure::Refuses => Err(Error::from(ErrorKind::Interrupted)),
+                Failure::TakesNone => Ok(0),
+            };
+        }
+        let taken = buf.len().min(self.most);
+        self.text.write(&buf[..taken])
+    }
+
+    fn flush(&mut self) -> io::Result<()> {
+        Ok(())
+    }
+}
+
+#[test]
+fn answers_scripts(rt: HostRuntime) -> Result<(), Fail> {
+    let table: [(&[u8], &[u8]); 6] = [
+        (MISSION, MISSION_REPLIES),
+        (b"", b""),
+        (b"push 003\npop", b"ok\n3\n"),
+        (b"len", b"0\n"),
+        (b"push 7\nclear\npush 7\npop\npop", b"ok\nok\nok\n7\nnone\n"),
+        (b"push 0\npush 1\npush 0\nlen\n", b"ok\nok\nok\n2\n"),
+    ];
+    for (input, replies) in table {
+        let mut reader = Watched::new(input);
+        let mut writer = Watched::new(Vec::new(rt.alloc()));
+        assert_eq!(rt; script(rt.alloc(), &mut reader, &mut writer), Ok(()));
+        assert_eq!(rt; writer.device().as_slice(), replies);
+    }
+    Ok(())
+}
+
+#[test]
+fn refuses_the_first_line_of_another_form(rt: HostRuntime) {
+    let table: [(&[u8], usize); 12] = [
+        (b"push 1\npush 16\n", 2),
+        (b"push  3", 1),
+        (b"pop ", 1),
+        (b" pop", 1),
+        (b"push +3", 1),
+        (b"push 3\r\n", 1),
+        (b"pop\n\npop", 2),
+        (b"len\npop\n\xff\nlen\n\n", 3),
+        (b"\n", 1),
+        (b"push", 1),
+        (b"rank 1 2", 1),
+        (b"push 18446744073709551617", 1),
+    ];
+    for (input, number) in table {
+        let mut reader = Watched::new(input);
+        let mut writer = Watched::new(Vec::new(rt.alloc()));
+        let outcome = script(rt.alloc(), &mut reader, &mut writer);
+        assert_eq!(rt; outcome, Err(GipFault::Line(number)), "at {input:?}");
+        assert!(rt; writer.device().is_empty());
+    }
+}
+
+#[test]
+fn moves_one_byte_at_a_time(rt: HostRuntime) {
+    let mut reader = Watched::new(Source::new(MISSION, 1, 0));
+    let mut writer = Watched::new(Sink::new(rt.alloc(), 1, 0, Failure::Refuses));
+    assert_eq!(rt; script(rt.alloc(), &mut reader, &mut writer), Ok(()));
+    assert_eq!(rt; writer.device().text.as_slice(), MISSION_REPLIES);
+    assert_eq!(rt; reader.device().calls, 1 + MISSION.len() as u64);
+    assert_eq!(rt; writer.device().calls, MISSION_REPLIES.len() as u64);
+}
+
+#[test]
+fn stops_at_a_failed_read(rt: HostRuntime) {
+    for call in 1..=1 + MISSION.len() as u64 {
+        let mut reader = Watched::new(Source::new(MISSION, 1, call));
+        let mut writer = Watched::new(Vec::new(rt.alloc()));
+        let outcome = script(rt.alloc(), &mut reader, &mut writer);
+        assert_eq!(rt; outcome, Err(GipFault::Input), "at call {call}");
+        assert!(rt; reader.failed());
+        assert_eq!(rt; reader.device().calls, call);
+        assert!(rt; writer.device().is_empty());
+    }
+}
+
+#[test]
+fn stops_at_a_failed_write(rt: HostRuntime) {
+    for failure in [Failure::Refuses, Failure::TakesNone] {
+        for call in 1..=MISSION_REPLIES.len() as u64 {
+            let mut reader = Watched::new(MISSION);
+            let mut writer = Watched::new(Sink::new(rt.alloc(), 1, call, failure));
+            let outcome = script(rt.alloc(), &mut reader, &mut writer);
+            assert_eq!(rt;
+                outcome,
+                Err(GipFault::Output),
+                "{failure:?} at call {call}"
+            );
+            assert!(rt; writer.failed());
+            assert_eq!(rt; writer.device().calls, call);
+        }
+    }
+}
+
+#[test]
+fn refuses_an_input_that_is_too_long(rt: HostRuntime) {
+    let limit = INPUT_LIMIT as u64;
+    for (len, fault) in [(limit, GipFault::Line(1)), (limit + 1, GipFault::Input)] {
+        let mut reader = Watched::new(io::repeat(b'0').take(len));
+        let mut writer = Watched::new(Vec::new(rt.alloc()));
+        let outcome = script(rt.alloc(), &mut reader, &mut writer);
+        assert_eq!(rt; outcome, Err(fault), "{len} bytes");
+        assert!(rt; !reader.failed());
+        assert!(rt; writer.device().is_empty());
+    }
+}
+
+#[test]
+fn faults_have_texts_and_statuses(rt: HostRuntime) -> Result<(), Fail> {
+    let table = [
+        (GipFault::Input, "input: refused", 2),
+        (GipFault::Line(12), "line 12: refused", 2),
+        (GipFault::Memory, "memory: refused", 1),
+        (GipFault::Output, "output: failed", 1),
+    ];
+    for (fault, text, status) in table {
+        assert_eq!(rt; fault.to_string(rt.alloc())?.as_str(), text);
+        assert_eq!(rt; fault.status(), status);
+    }
+    Ok(())
+}
+
+#[test]
+fn an_empty_write_fails_only_by_an_error(rt: HostRuntime) {
+    let mut writer = Watched::new(Sink::new(rt.alloc(), 1, 2, Failure::Refuses));
+    assert!(rt; writer.write(b"").is_ok());
+    assert!(rt; !writer.failed());
+    assert!(rt; writer.write(b"").is_err());
+    assert!(rt; writer.failed());
+    assert!(rt; writer.write(b"a").is_ok());
+    assert!(rt; writer.failed());
+}
