@@ -1,14 +1,14 @@
 -- The definitions on worked rows, computed by the check.
 use Rattle.std.specs.Prelude.{◌≡◌, ℕ, List, [], ◌∷◌, ◌++◌, codes, Some, None, refl, true, false}
 use Rattle.std.specs.Fmt.{digits}
-use Rattle.gip_lines.specs.Lines.{line_of, lines_of, first_other_line}
+use Rattle.gip_lines.specs.Lines.{line_feed, line_of, lines_of, first_other_line}
 use Rattle.gip_lines.specs.Script.{script_text}
 use Rattle.gip_lines.specs.declared.lines.Line.TheVariants.{Push, Pop, Len}
 
 -- a text of some lines, each with a line feed
 abbrev text_of : List (List ℕ) → List ℕ
 text_of [] = []
-text_of (line ∷ lines) = line ++ 10 ∷ text_of lines
+text_of (line ∷ lines) = line ++ line_feed ∷ text_of lines
 
 -- a set with its greatest member
 abbrev mission : List ℕ
@@ -40,7 +40,7 @@ pub empty_input : lines_of [] ≡ []
 empty_input = refl
 
 -- leading zeros are allowed, and a last line without a line feed counts
-pub leading_zeros : lines_of (codes "push 003" ++ 10 ∷ codes "pop") ≡ Push 3 ∷ Pop ∷ []
+pub leading_zeros : lines_of (codes "push 003" ++ line_feed ∷ codes "pop") ≡ Push 3 ∷ Pop ∷ []
 leading_zeros = refl
 
 pub two_spaces : line_of (codes "push  3") ≡ None
@@ -70,12 +70,12 @@ not_ascii = refl
 pub capital_letters : line_of (codes "POP") ≡ None
 capital_letters = refl
 
-pub empty_line : first_other_line (codes "pop" ++ 10 ∷ 10 ∷ codes "pop") ≡ Some 2
+pub empty_line : first_other_line (codes "pop" ++ line_feed ∷ line_feed ∷ codes "pop") ≡ Some 2
 empty_line = refl
 
-pub lone_line_feed : first_other_line (10 ∷ []) ≡ Some 1
+pub lone_line_feed : first_other_line (line_feed ∷ []) ≡ Some 1
 lone_line_feed = refl
 
-pub empty_heap_has_length_0 : script_text (lines_of (codes "len")) [] ≡ codes "0" ++ 10 ∷ []
+pub empty_heap_has_length_0 : script_text (lines_of (codes "len")) [] ≡ codes "0" ++ line_feed ∷ []
 unfolding digits
 empty_heap_has_length_0 = refl

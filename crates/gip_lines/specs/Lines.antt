@@ -7,6 +7,14 @@ use Rattle.std.specs.Str.Parse.{digits_value}
 use Rattle.gip_lines.specs.declared.lines.Line.{Line}
 use Rattle.gip_lines.specs.declared.lines.Line.TheVariants.{Push, Pop, Len, Clear}
 
+-- the byte that ends a line
+abbrev pub line_feed : ℕ
+line_feed = 10
+
+-- the byte that stands between two words
+abbrev pub space : ℕ
+space = 32
+
 -- what stands between the places of a byte: "a b" has two pieces between its spaces, and "a " too
 abbrev pub pieces : ℕ → List ℕ → List (List ℕ)
 pieces byte text = slice_split (λ b. b == byte) text
@@ -20,7 +28,7 @@ without_empty_last (piece ∷ next ∷ more) = piece ∷ without_empty_last (nex
 -- the lines of a text: it is split at each line feed, a last line without one counts, and a line
 -- feed at the very end begins no line
 abbrev pub script_lines : List ℕ → List (List ℕ)
-script_lines text = without_empty_last (pieces 10 text)
+script_lines text = without_empty_last (pieces line_feed text)
 
 -- the number that a word of decimal digits alone writes, up to a greatest one
 abbrev pub number_up_to : ℕ → List ℕ → Option ℕ
@@ -41,7 +49,7 @@ line_of_words words = None
 
 -- what a line says, where it has the form: its words stand one space apart, with none at the ends
 abbrev pub line_of : List ℕ → Option Line
-line_of line = line_of_words (pieces 32 line)
+line_of line = line_of_words (pieces space line)
 
 -- the key that a line pushes, if any, is one that a line can name
 abbrev pub has_small_key : Line → Bool

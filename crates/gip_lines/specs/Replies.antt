@@ -1,5 +1,6 @@
 -- How a script is run on a heap: a call for each line, and a line of text for each reply.
 use Rattle.std.specs.Prelude.{ℕ, Bool, true, false, List, [], ◌∷◌, ◌++◌, codes, decimal, Some, None}
+use Rattle.gip_lines.specs.Lines.{line_feed}
 use Rattle.gip_lines.specs.declared.lines.Line.{Line}
 use Rattle.gip_lines.specs.declared.lines.Line.TheVariants as line
 use Rattle.giputils_heap.specs.declared.run.HeapCall.{HeapCall}
@@ -36,7 +37,7 @@ reply_text (Empty b) = []
 
 -- the text of a reply, with a line feed
 abbrev pub reply_line : HeapReply ℕ → List ℕ
-reply_line reply = reply_text reply ++ 10 ∷ []
+reply_line reply = reply_text reply ++ line_feed ∷ []
 
 -- the step of a line, lent a comparer that was not yet asked
 abbrev pub step_of : {C : Type 0} → C → Line → HeapStep ℕ C

@@ -2,6 +2,7 @@
 use Rattle.std.specs.Prelude.{ℕ, ◌==◌, ◌&&◌, ◌||◌, max, Bool, false, not, List, [], ◌∷◌, ◌++◌, length, filter, codes, decimal, if◌then◌else◌, Option, Some, None}
 use Rattle.std.specs.List.{list_any}
 use Rattle.std.specs.Option.{option_map_or}
+use Rattle.gip_lines.specs.Lines.{line_feed}
 use Rattle.gip_lines.specs.declared.lines.Line.{Line}
 use Rattle.gip_lines.specs.declared.lines.Line.TheVariants.{Push, Pop, Len, Clear}
 
@@ -32,22 +33,14 @@ reply_to Pop refused held = option_map_or decimal (greatest held) (codes "none")
 reply_to Len refused held = decimal (length held)
 reply_to Clear refused held = codes "ok"
 
--- whether the first of some lines was refused memory, and whether the others were
-abbrev pub first_refused : List Bool → Bool
-first_refused [] = false
-first_refused (refused ∷ more) = refused
-
-abbrev pub later_refused : List Bool → List Bool
-later_refused [] = []
-later_refused (refused ∷ more) = more
-
--- the replies to some lines where these keys are held, each with a line feed
+-- the replies to some lines where these keys are held, each with a line feed; memory was refused to
+-- the lines where `refusals` is true, and to none past its end
 abbrev pub text_from : List ℕ → List Line → List Bool → List ℕ
 text_from held [] refusals = []
-text_from held (line ∷ lines) refusals =
-    reply_to line (first_refused refusals) held ++ 10 ∷ text_from (held_after line (first_refused refusals) held) lines (later_refused refusals)
+text_from held (line ∷ lines) [] = reply_to line false held ++ line_feed ∷ text_from (held_after line false held) lines []
+text_from held (line ∷ lines) (refused ∷ refusals) =
+    reply_to line refused held ++ line_feed ∷ text_from (held_after line refused held) lines refusals
 
--- the text of a script: a reply for each line. `refusals` says line by line whether memory was
--- refused to it; past its end it was not
+-- the text of a script: a reply for each line, from no held key on
 abbrev pub script_text : List Line → List Bool → List ℕ
 script_text lines refusals = text_from [] lines refusals

@@ -1,7 +1,7 @@
 //! The lines of a script as calls of a heap, and its replies as text.
 ghost use Rattle.std.specs.Prelude.{◌≡◌, ◌++◌, ◌∷◌, [], ℕ, Bool, List, nat_le, decimal, map, IsTrue, IfOk, IfErr, OnOk};
 ghost use Rattle.std.specs.List.{list_all, flat_map};
-ghost use Rattle.gip_lines.specs.Lines.{has_small_key};
+ghost use Rattle.gip_lines.specs.Lines.{line_feed, has_small_key};
 ghost use Rattle.gip_lines.specs.Replies.{call_of, step_of, is_line_reply, reply_line};
 ghost use Rattle.gip_lines.specs.Script.{script_text};
 
@@ -94,7 +94,7 @@ fn write_reply<A: Allocator>(text: &mut Vec<u8, A>, reply: HeapReply<u8>) -> Res
 }
 
 fn write_number<A: Allocator>(text: &mut Vec<u8, A>, n: usize) -> Result<(), GipFault>
-    ensures ok { OnOk result (text.new.items ≡ text.old.items ++ (decimal n ++ 10 ∷ [])) }
+    ensures ok { OnOk result (text.new.items ≡ text.old.items ++ (decimal n ++ line_feed ∷ [])) }
     ensures err { IfErr result (λ fault. fault ≡ GipFault.Memory) }
 {
     match writeln!(text, "{n}") {

@@ -1,9 +1,8 @@
 //! A script from the bytes in to the bytes out.
-ghost use Rattle.std.specs.Prelude.{◌≡◌, ◌≢◌, ◌≤◌, ◌↔◌, ℕ, Bool, true, false, List, length, Some, IsTrue, IfOk, IfErr, IfSome, OnOk, IsErrOf};
-ghost use Rattle.std.specs.List.{list_all};
+ghost use Rattle.std.specs.Prelude.{◌≡◌, ◌≢◌, ◌↔◌, ℕ, Bool, true, false, List, IfErr, IfSome, OnOk, IsErrOf};
 ghost use Rattle.std.specs.Io.KnownBytes.{Appends, IsAtEnd};
 ghost use Rattle.gip_lines.specs.Input.{IsTooLong, Fits};
-ghost use Rattle.gip_lines.specs.Lines.{IsScript, lines_of, first_other_line, has_small_key};
+ghost use Rattle.gip_lines.specs.Lines.{IsScript, lines_of, first_other_line};
 ghost use Rattle.gip_lines.specs.Script.{script_text};
 
 use crate::fault::GipFault;

@@ -1,7 +1,7 @@
 //! The whole input in, and the whole output out.
-ghost use Rattle.std.specs.Prelude.{◌≡◌, ◌<◌, ◌≤◌, Bool, true, false, is_err, length, take, vec_len, IfOk, IfErr, OnOk, IsErrOf};
+ghost use Rattle.std.specs.Prelude.{◌≡◌, ◌<◌, ◌≤◌, false, is_err, length, take, vec_len, IfOk, IfErr, OnOk};
 ghost use Rattle.std.specs.Io.KnownBytes.{Appends, Consumes, IsAtEnd};
-ghost use Rattle.gip_lines.specs.Input.{IsTooLong, StopsReading};
+ghost use Rattle.gip_lines.specs.Input.{input_limit, StopsReading};
 
 use crate::fault::GipFault;
 use crate::watched::Watched;
@@ -20,7 +20,7 @@ pub(crate) fn read_all<R: Read, A: Allocator>(
     ensures input { IfOk result (λ input.
         Consumes (R.remaining reader.old.device) (R.remaining reader.new.device) input.items) }
     ensures end { OnOk result (IsAtEnd (R.remaining reader.new.device)) }
-    ensures fits { IfOk result (λ input. vec_len input ≤ INPUT_LIMIT) }
+    ensures fits { IfOk result (λ input. vec_len input ≤ input_limit) }
     ensures err { IfErr result (StopsReading reader.new.has_failed (R.remaining reader.old.device)) }
     ensures still_works { OnOk result (reader.new.has_failed ≡ false) }
 {

@@ -1,5 +1,5 @@
 //! A device that remembers whether a call on it failed.
-ghost use Rattle.std.specs.Prelude.{◌≡◌, ◌||◌, Bool, false, is_err};
+ghost use Rattle.std.specs.Prelude.{◌≡◌, ◌||◌, false, is_err};
 ghost use Rattle.std.specs.Io.{ReadsAtMost, WritesAtMost};
 ghost use Rattle.std.specs.Io.KnownBytes.{ReadConsumes, WriteAppends};
 ghost use Rattle.gip_lines.specs.Watch.{write_failed};
