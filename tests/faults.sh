@@ -1,19 +1,35 @@
 #!/usr/bin/env bash
-# Runs the program GIP into each of its faults: tests/faults.sh GIP
-# Prints a line for each case, and ends with status 1 where one failed.
+# Runs the program into each of its faults: tests/faults.sh [GIP]
+# With no path it builds the program first. It prints a line for each case; the last line is 'N passed, M failed', and the
+# status is 1 where a case failed.
 set -u
-gip=${1:?usage: tests/faults.sh GIP}
+gip=${1:-}
+if [ -z "$gip" ]; then
+    cd "$(dirname "$0")/../crates/gip" || exit 2
+    rt run < stdin > /dev/null || exit 2
+    gip=$PWD/out/gip
+fi
 work=$(mktemp -d) || exit 2
 trap 'rm -rf "$work"' EXIT
+passed=0
 failed=0
+
+# Counts a case that passed, or one that failed.
+pass() {
+    echo "ok: $1"
+    passed=$((passed + 1))
+}
+fail() {
+    echo "FAILED: $1"
+    failed=$((failed + 1))
+}
 
 # NAME STATUS ERROR OUTPUT: the last run had this status and wrote this to standard error and output.
 expect() {
     if [ "$status" = "$2" ] && [ "$(cat "$work/err")" = "$3" ] && [ "$(cat "$work/out")" = "$4" ]; then
-        echo "ok: $1"
+        pass "$1"
     else
-        echo "FAILED: $1 (status $status, $(head -c 200 "$work/err"))"
-        failed=1
+        fail "$1 (status $status, $(head -c 200 "$work/err"))"
     fi
 }
 
@@ -66,10 +82,10 @@ yes none | head -n 262144 > "$work/replies"
 timeout 2 "$gip" < "$work/largest" > "$work/out" 2> "$work/err"
 status=$?
 if [ "$status" = 0 ] && cmp -s "$work/out" "$work/replies"; then
-    echo "ok: 262144 lines within 2 seconds"
+    pass "262144 lines within 2 seconds"
 else
-    echo "FAILED: 262144 lines within 2 seconds (status $status)"
-    failed=1
+    fail "262144 lines within 2 seconds (status $status)"
 fi
 
-exit "$failed"
+echo "$passed passed, $failed failed"
+[ "$failed" -eq 0 ]

@@ -202,12 +202,21 @@ fn faults_have_texts_and_statuses(rt: HostRuntime) -> Result<(), Fail> {
 }
 
 #[test]
-fn an_empty_write_fails_only_by_an_error(rt: HostRuntime) {
+fn remembers_a_failed_call(rt: HostRuntime) {
+    let mut reader = Watched::new(Source::new(b"ab", 2, 1));
+    let mut buf = [0u8; 4];
+    assert!(rt; !reader.failed());
+    let outcome = reader.read(&mut buf).map_err(|e| e.kind());
+    assert_eq!(rt; outcome, Err(ErrorKind::Interrupted));
+    assert!(rt; reader.failed());
+    assert_eq!(rt; reader.read(&mut buf).map_err(|e| e.kind()), Ok(2));
+    assert!(rt; reader.failed());
+
+    // A write of no bytes may take none.
     let mut writer = Watched::new(Sink::new(rt.alloc(), 1, 2, Failure::Refuses));
-    assert!(rt; writer.write(b"").is_ok());
+    assert_eq!(rt; writer.write(b"").map_err(|e| e.kind()), Ok(0));
     assert!(rt; !writer.failed());
-    assert!(rt; writer.write(b"").is_err());
-    assert!(rt; writer.failed());
-    assert!(rt; writer.write(b"a").is_ok());
+    let outcome = writer.write(b"").map_err(|e| e.kind());
+    assert_eq!(rt; outcome, Err(ErrorKind::Interrupted));
     assert!(rt; writer.failed());
 }
