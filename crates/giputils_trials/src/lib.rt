@@ -1,0 +1,9 @@
+//! Tests in which memory is refused, request by request, and tests of which calls ask for none.
+//!
+//! They stand apart from the libraries, so that no library is proved twice for them.
+#![tactic(auto)]
+
+#[cfg(test)]
+mod in_turn;
+#[cfg(test)]
+mod vectors;
