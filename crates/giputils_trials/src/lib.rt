@@ -4,6 +4,18 @@
 #![tactic(auto)]
 
 #[cfg(test)]
+mod comparers;
+#[cfg(test)]
+mod comparisons;
+#[cfg(test)]
+mod hashed;
+#[cfg(test)]
+mod heaps;
+#[cfg(test)]
 mod in_turn;
+#[cfg(test)]
+mod scripts;
+#[cfg(test)]
+mod without_memory;
 #[cfg(test)]
 mod vectors;
