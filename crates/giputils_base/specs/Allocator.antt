@@ -1,0 +1,58 @@
+-- An allocator of indexes as a list of slots. A slot is a value, and whether it is marked as removed.
+use Rattle.std.specs.Prelude.{◌≡◌, ℕ, zero, suc, ◌<◌, Bool, true, false, not, List, [], ◌∷◌, length, map, filter, take, slice_get, Option, Some, None, option_map, option_and_then, if◌then◌else◌, nat_eq}
+use Rattle.giputils_base.specs.Hash.{get, HasUniqueKeys}
+
+module _ {T : Type 0} where
+  -- the slot is not marked
+  abbrev pub is_unmarked : T × Bool → Bool
+  is_unmarked slot = not slot.1
+
+  -- the value of slot i, marked or not
+  abbrev pub value_at : List (T × Bool) → ℕ → Option T
+  value_at slots i = option_map (λ slot. slot.0) (slice_get slots i)
+
+  -- the mark of slot i
+  abbrev pub mark_at : List (T × Bool) → ℕ → Option Bool
+  mark_at slots i = option_map (λ slot. slot.1) (slice_get slots i)
+
+  -- slot i is marked
+  abbrev pub mark : List (T × Bool) → ℕ → List (T × Bool)
+  mark [] i = []
+  mark (slot ∷ slots) zero = (slot.0, true) ∷ slots
+  mark (slot ∷ slots) (suc i) = slot ∷ mark slots i
+
+  -- slot i has the value v, and its old mark
+  abbrev pub write : List (T × Bool) → ℕ → T → List (T × Bool)
+  write [] i v = []
+  write (slot ∷ slots) zero v = (v, slot.1) ∷ slots
+  write (slot ∷ slots) (suc i) v = slot ∷ write slots i v
+
+  -- the unmarked values, in order
+  abbrev pub survivors : List (T × Bool) → List T
+  survivors slots = map (λ slot. slot.0) (filter is_unmarked slots)
+
+  -- the values, each unmarked
+  abbrev pub unmarked : List T → List (T × Bool)
+  unmarked values = map (λ v. (v, false)) values
+
+  -- how many slots before i survive
+  abbrev pub new_index : List (T × Bool) → ℕ → ℕ
+  new_index slots i = length (survivors (take i slots))
+
+  -- the new index of an unmarked slot; a marked one, and one past the end, has none
+  abbrev pub index_map : List (T × Bool) → ℕ → Option ℕ
+  index_map slots i = option_and_then (λ is_marked. if is_marked then None else Some (new_index slots i)) (mark_at slots i)
+
+  -- the map has the unmarked places as its keys, each with its new index
+  abbrev pub IsIndexMap : List (T × Bool) → List (ℕ × ℕ) → Type 0
+  IsIndexMap slots indexes = ((i : ℕ) → get nat_eq indexes i ≡ index_map slots i) × HasUniqueKeys nat_eq indexes
+
+  -- what a collection does to the slots `old`: they become `new`, and index i becomes `index i`, if it has a new one
+  pub record Renumbers (old new : List (T × Bool)) (index : ℕ → Option ℕ) : Type 0 where
+    -- the order stays
+    pub increasing : (i j m n : ℕ) → index i ≡ Some m → index j ≡ Some n → i < j → m < n
+    -- each new place is the new index of an old one, and there is no other
+    pub below : (i m : ℕ) → index i ≡ Some m → m < length new
+    pub onto : (m : ℕ) → m < length new → (i : ℕ) × (index i ≡ Some m)
+    -- the value goes along
+    pub same_value : (i m : ℕ) → index i ≡ Some m → value_at new m ≡ value_at old i

@@ -1,0 +1,11 @@
+-- What an allocator ends as, where a `&mut` to one of its values is returned.
+use Rattle.std.specs.Prelude.{ℕ, Bool, List}
+use Rattle.std.specs.Borrow.{Lends, Fml, RattleType, MutBor}
+use Rattle.std.specs.declared.alloc.Allocator.{Ghosts}
+use Rattle.giputils_base.specs.contracts.allocator.Gallocator as allocator
+use Rattle.giputils_base.specs.Allocator.{write}
+
+module _ (T A : RattleType) (alloc : Ghosts A.Denot) (g : MutBor (List (T.Denot × Bool))) where
+  -- once the borrow r ends, slot i has the last value written through r, and its old mark
+  abbrev pub lends_value : ℕ → MutBor T.Denot → Fml
+  lends_value i r = Lends (allocator.the_row T A alloc) T g r (write g.now i)

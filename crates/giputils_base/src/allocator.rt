@@ -1,0 +1,250 @@
+//! An allocator of indexes: removed values are marked, and a collection drops them and renumbers the others.
+ghost use Rattle.std.specs.Prelude.{◌≡◌, ℕ, ◌<◌, [], ◌∷◌, ◌++◌, false, Some, length, slice_get, IfOk, IfErr, OnOk, OnErr, nat_eq};
+ghost use Rattle.std.specs.Borrow.{Lends, sem};
+ghost use Rattle.giputils_base.specs.Hash.{get};
+ghost use Rattle.giputils_base.specs.Allocator.{value_at, mark_at, mark, write, survivors, unmarked, IsIndexMap, Renumbers};
+
+mod run;
+#[cfg(test)]
+mod tests;
+
+use crate::gvec::Gvec;
+use crate::hash::GHashMap;
+pub use run::{GallocCall, GallocReply, galloc_run};
+use std::alloc::{AllocError, Allocator, Global};
+use std::marker::Model;
+use std::ops::{Deref, DerefMut, Index, IndexMut};
+
+/// A value that may be marked as removed, seen as the pair of the two.
+#[derive(Drop)]
+pub struct GallocElem<T> {
+    value: T,
+    removed: bool,
+}
+
+impl<T> Model for GallocElem<T> {
+    ghost use Rattle.std.specs.Prelude.{Bool};
+
+    ghost Value = { T × Bool };
+
+    ghost view = { λ e. (e.value, e.removed) };
+}
+
+impl<T> GallocElem<T> {
+    /// The value, not removed.
+    #[inline]
+    pub fn new(value: T) -> Self
+        ensures { result ≡ (value, false) }
+    {
+        GallocElem {
+            value,
+            removed: false,
+        }
+    }
+
+    /// The value, marked or not.
+    #[inline]
+    pub fn take(self) -> T
+        ensures { result ≡ self.0 }
+    {
+        let GallocElem { value, removed: _ } = self;
+        value
+    }
+
+    /// Whether it is marked as removed.
+    #[inline]
+    pub fn is_removed(&self) -> bool
+        ensures { result ≡ self.now.1 }
+    {
+        self.removed
+    }
+}
+
+/// The value, marked or not.
+impl<T> Deref for GallocElem<T> {
+    type Target = T;
+
+    ghost deref_gives = { λ e v. v ≡ e.0 };
+
+    #[inline]
+    fn deref(&self) -> &T {
+        &self.value
+    }
+}
+
+/// Writing leaves the mark as it is.
+impl<T> DerefMut for GallocElem<T> {
+    ghost use Rattle.giputils_base.specs.contracts.allocator.GallocElem.{the_row};
+
+    ghost deref_mut_gives = { λ e v. v ≡ e.0 };
+
+    #[inline]
+    fn deref_mut(&mut self) -> &mut T
+        ensures* writes_back { sem 𝓛 (Lends (the_row T.row) T.row self.entry result (λ v. (v, self.old.1))) }
+        ensures value { result.now ≡ self.old.0 }
+    {
+        &mut self.value
+    }
+}
+
+/// Values by the indexes that were given out for them, seen as the list of its slots: each value with whether it is
+/// marked as removed.
+#[derive(Drop)]
+pub struct Gallocator<T, A: Allocator = Global> {
+    slots: Gvec<GallocElem<T>, A>,
+}
+
+impl<T, A: Allocator> Model for Gallocator<T, A> {
+    ghost use Rattle.std.specs.Prelude.{Bool, List};
+
+    ghost Value = { List (T × Bool) };
+
+    ghost view = { λ g. g.slots };
+}
+
+impl<T, A: Allocator> Gallocator<T, A> {
+    /// No values. It takes no memory.
+    #[inline]
+    pub fn new(alloc: A) -> Self
+        ensures { result ≡ [] }
+    {
+        Gallocator {
+            slots: Gvec::new(alloc),
+        }
+    }
+
+    /// The number of slots, marked ones counted. Each index below it may be used.
+    #[inline]
+    pub fn len(&self) -> usize
+        ensures { result ≡ length self.now }
+    {
+        self.slots.len()
+    }
+
+    /// Puts `value` into a new slot behind the others, unmarked, and answers its index. Where there is no memory the value
+    /// comes back, and nothing changes.
+    pub fn alloc(&mut self, value: T) -> Result<usize, T>
+        ensures index { IfOk result (λ index. index ≡ length self.old) }
+        ensures ok { OnOk result (self.new ≡ self.old ++ (value, false) ∷ []) }
+        ensures value_returned { IfErr result (λ v. v ≡ value) }
+        ensures err { OnErr result (self.new ≡ self.old) }
+    {
+        let index = self.slots.len();
+        match self.slots.push(GallocElem::new(value)) {
+            Ok(()) => Ok(index),
+            Err(refused) => Err(refused.value.take()),
+        }
+    }
+
+    /// Marks slot `index` as removed. A marked one stays marked, and its value can still be read.
+    #[inline]
+    pub fn dealloc(&mut self, index: usize)
+        requires { index < length self.old }
+        ensures marked { self.new ≡ mark self.old index }
+        ensures len { length self.new ≡ length self.old }
+    {
+        let slot = &mut self.slots[index];
+        slot.removed = true;
+    }
+
+    /// Whether slot `index` is marked as removed.
+    #[inline]
+    pub fn is_removed(&self, index: usize) -> bool
+        requires { index < length self.now }
+        ensures { mark_at self.now index ≡ Some result }
+    {
+        self.slots[index].is_removed()
+    }
+
+    /// Drops the marked values, and closes the gaps: the others keep their order and are unmarked. Answers the map from the
+    /// old index of each value that is kept to its new one. Where there is no memory for the map, nothing changes.
+    pub fn gc(&mut self) -> Result<GHashMap<usize, usize, A>, AllocError>
+    where
+        T: Drop,
+        A: Copy,
+        ensures ok { OnOk result (self.new ≡ unmarked (survivors self.old)) }
+        ensures map { IfOk result (λ m. IsIndexMap self.old m) }
+        ensures renumbers { IfOk result (λ m. Renumbers self.old self.new (get nat_eq m)) }
+        ensures err { OnErr result (self.new ≡ self.old) }
+    {
+        let indexes = self.index_map()?;
+        self.slots.retain(|slot| !slot.is_removed());
+        Ok(indexes)
+    }
+
+    // The new index of each unmarked slot. The map grows once, to the number of those.
+    fn index_map(&self) -> Result<GHashMap<usize, usize, A>, AllocError>
+    where
+        A: Copy,
+        ensures { IfOk result (λ m. IsIndexMap self.now m) }
+    {
+        let survivors = self.slots.iter().filter(|slot| !slot.is_removed()).count();
+        let mut indexes = GHashMap::new(*self.slots.allocator());
+        indexes.reserve(survivors)?;
+        let mut next = 0usize;
+        for old in 0..self.slots.len() {
+            if !self.slots[old].is_removed() {
+                indexes.insert(old, next)?;
+                next += 1;
+            }
+        }
+        Ok(indexes)
+    }
+}
+
+/// The value of slot `index`, marked or not.
+impl<T, A: Allocator> Index<usize> for Gallocator<T, A> {
+    type Output = T;
+
+    ghost can_index = { λ g i. i < length g };
+
+    ghost index_gives = { λ g i v. value_at g i ≡ Some v };
+
+    #[inline]
+    fn index(&self, index: usize) -> &T {
+        self.slots[index].deref()
+    }
+}
+
+/// The value of slot `index`, marked or not. Writing leaves the mark as it is.
+impl<T, A: Allocator> IndexMut<usize> for Gallocator<T, A> {
+    ghost use Rattle.giputils_base.specs.LendsValue.{lends_value};
+
+    #[inline]
+    fn index_mut(&mut self, index: usize) -> &mut T
+        requires { index < length self.old }
+        ensures* writes_back { sem 𝓛 (lends_value T.row A.row A.Allocator self.entry index result) }
+        ensures value { value_at self.old index ≡ Some result.now }
+    {
+        let slot = &mut self.slots[index];
+        slot.deref_mut()
+    }
+}
+
+/// The value of slot `index`, marked or not.
+impl<T, A: Allocator> Index<u32> for Gallocator<T, A> {
+    type Output = T;
+
+    ghost can_index = { λ g i. i < length g };
+
+    ghost index_gives = { λ g i v. value_at g i ≡ Some v };
+
+    #[inline]
+    fn index(&self, index: u32) -> &T {
+        &self[index as usize]
+    }
+}
+
+/// The value of slot `index`, marked or not. Writing leaves the mark as it is.
+impl<T, A: Allocator> IndexMut<u32> for Gallocator<T, A> {
+    ghost use Rattle.giputils_base.specs.LendsValue.{lends_value};
+
+    #[inline]
+    fn index_mut(&mut self, index: u32) -> &mut T
+        requires { index < length self.old }
+        ensures* writes_back { sem 𝓛 (lends_value T.row A.row A.Allocator self.entry index result) }
+        ensures value { value_at self.old index ≡ Some result.now }
+    {
+        &mut self[index as usize]
+    }
+}

@@ -1,0 +1,167 @@
+// What callers learn through the clauses, and the calls once each.
+ghost use Rattle.std.specs.Prelude.{◌≡◌, ◌<◌, Some, length};
+ghost use Rattle.giputils_base.specs.Allocator.{value_at, mark_at, write};
+
+use super::{GallocCall, GallocElem, GallocReply, Gallocator, galloc_run};
+use std::test::Fail;
+
+fn read(allocator: &Gallocator<u32>, index: usize) -> u32
+    requires { index < length allocator.now }
+    ensures { value_at allocator.now index ≡ Some result }
+{
+    allocator[index]
+}
+
+fn overwrite(allocator: &mut Gallocator<u32>, index: u32, value: u32)
+    requires { index < length allocator.old }
+    ensures { allocator.new ≡ write allocator.old index value }
+{
+    allocator[index] = value;
+}
+
+fn replaced(mut elem: GallocElem<u32>, value: u32) -> GallocElem<u32>
+    ensures { result ≡ (value, elem.1) }
+{
+    *elem = value;
+    elem
+}
+
+// The reply, where it is no map.
+fn text(reply: &GallocReply<u32>) -> (&'static str, usize) {
+    match reply {
+        GallocReply::Index(index) => ("index", *index),
+        GallocReply::Done => ("done", 0),
+        GallocReply::Flag(marked) => ("flag", usize::from(*marked)),
+        GallocReply::Value(value) => ("value", *value as usize),
+        GallocReply::Map(indexes) => ("map", indexes.len()),
+        GallocReply::Length(len) => ("length", *len),
+        GallocReply::Refused => ("refused", 0),
+        GallocReply::Skipped => ("skipped", 0),
+    }
+}
+
+// The new index that the reply gives an old one.
+fn moved(reply: &GallocReply<u32>, old: usize) -> Option<usize> {
+    match reply {
+        GallocReply::Map(indexes) => indexes.get(&old).copied(),
+        _ => None,
+    }
+}
+
+#[test]
+fn an_element_keeps_its_value_and_is_not_removed(rt: HostRuntime) {
+    let elem = replaced(GallocElem::new(3), 4);
+    assert!(rt; !elem.is_removed());
+    assert_eq!(rt; *elem, 4);
+    assert_eq!(rt; elem.take(), 4);
+}
+
+#[test]
+fn a_collection_drops_marked_values_and_renumbers_the_others(rt: HostRuntime) -> Result<(), Fail> {
+    let mut allocator = Gallocator::new(rt.alloc());
+    for (value, index) in [(10u32, 0usize), (20, 1), (30, 2)] {
+        assert_eq!(rt; allocator.alloc(value).ok(), Some(index));
+    }
+    assert_eq!(rt; allocator.len(), 3);
+    allocator.dealloc(1);
+    allocator.dealloc(1);
+    assert_eq!(rt; allocator.len(), 3);
+    assert!(rt; allocator.is_removed(1));
+    assert!(rt; !allocator.is_removed(2));
+    assert_eq!(rt; read(&allocator, 1), 20);
+    let indexes = allocator.gc()?;
+    assert_eq!(rt; indexes.len(), 2);
+    assert_eq!(rt;
+        (indexes.get(&0).copied(), indexes.get(&2).copied()),
+        (Some(0), Some(1))
+    );
+    assert_eq!(rt; allocator.len(), 2);
+    assert_eq!(rt; read(&allocator, 1), 30);
+    overwrite(&mut allocator, 1, 31);
+    assert_eq!(rt; allocator.len(), 2);
+    assert_eq!(rt; (allocator[0u32], allocator[1u32]), (10, 31));
+    allocator.dealloc(0);
+    allocator.dealloc(1);
+    assert_eq!(rt; allocator.gc()?.len(), 0);
+    assert_eq!(rt; allocator.len(), 0);
+    Ok(())
+}
+
+#[test]
+fn a_run_answers_each_call(rt: HostRuntime) -> Result<(), Fail> {
+    let calls = [
+        GallocCall::Alloc(10u32),
+        GallocCall::Alloc(20),
+        GallocCall::Alloc(30),
+        GallocCall::Dealloc(0),
+        GallocCall::Gc,
+        GallocCall::Read(0),
+        GallocCall::Write(1, 5),
+        GallocCall::Read(1),
+        GallocCall::IsRemoved(2),
+        GallocCall::Len,
+        GallocCall::Gc,
+    ];
+    let answers = [
+        ("index", 0usize),
+        ("index", 1),
+        ("index", 2),
+        ("done", 0),
+        ("map", 2),
+        ("value", 20),
+        ("done", 0),
+        ("value", 5),
+        ("skipped", 0),
+        ("length", 2),
+        ("map", 2),
+    ];
+    let (allocator, replies) = galloc_run(rt.alloc(), calls.as_slice())?;
+    assert_eq!(rt; replies.len(), 11);
+    for (reply, answer) in replies.iter().zip(answers) {
+        assert_eq!(rt; text(reply), answer);
+    }
+    let (first, second) = (&replies[4], &replies[10]);
+    assert_eq!(rt;
+        (moved(first, 0), moved(first, 1), moved(first, 2)),
+        (None, Some(0), Some(1))
+    );
+    assert_eq!(rt;
+        (moved(second, 0), moved(second, 1), moved(second, 2)),
+        (Some(0), Some(1), None)
+    );
+    assert_eq!(rt; allocator.len(), 2);
+    Ok(())
+}
+
+#[test]
+fn a_marked_value_can_be_written_and_read(rt: HostRuntime) -> Result<(), Fail> {
+    let calls = [
+        GallocCall::Alloc(1u32),
+        GallocCall::Dealloc(0),
+        GallocCall::Write(0, 2),
+        GallocCall::IsRemoved(0),
+        GallocCall::Read(0),
+        GallocCall::Dealloc(1),
+    ];
+    let answers = [
+        ("index", 0usize),
+        ("done", 0),
+        ("done", 0),
+        ("flag", 1),
+        ("value", 2),
+        ("skipped", 0),
+    ];
+    let (_, replies) = galloc_run(rt.alloc(), calls.as_slice())?;
+    assert_eq!(rt; replies.len(), 6);
+    for (reply, answer) in replies.iter().zip(answers) {
+        assert_eq!(rt; text(reply), answer);
+    }
+    Ok(())
+}
+
+#[test]
+fn a_run_of_no_calls_answers_nothing(rt: HostRuntime) -> Result<(), Fail> {
+    let (allocator, replies) = galloc_run(rt.alloc(), [GallocCall::<u32>::Len; 0].as_slice())?;
+    assert_eq!(rt; (allocator.len(), replies.len()), (0, 0));
+    Ok(())
+}
