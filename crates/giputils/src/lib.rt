@@ -13,3 +13,6 @@ pub mod heap {
         answers_at_each_step, heap_run, order_laws,
     };
 }
+
+#[cfg(test)]
+mod tests;
