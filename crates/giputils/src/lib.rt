@@ -4,7 +4,7 @@
 #![tactic(auto)]
 
 pub use giputils_base::others::{OptionU8, OptionU32};
-pub use giputils_base::{grc, gvec, hash, others};
+pub use giputils_base::{allocator, grc, gvec, hash, others};
 
 /// A set of small keys with a greatest member, lent its comparer at each call.
 pub mod heap {
@@ -13,3 +13,6 @@ pub mod heap {
         answers_at_each_step, heap_run, order_laws,
     };
 }
+
+#[cfg(test)]
+mod tests;

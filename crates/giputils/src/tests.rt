@@ -1,0 +1,75 @@
+// The examples of the README.
+ghost use Rattle.std.specs.Prelude.{nat_le};
+
+use crate::OptionU8;
+use crate::allocator::Gallocator;
+use crate::grc::Grc;
+use crate::gvec::Gvec;
+use crate::hash::GHashMap;
+use crate::heap::{BinaryHeap, BinaryHeapCmp};
+use std::test::Fail;
+
+struct Reversed;
+
+impl BinaryHeapCmp<u32> for Reversed {
+    ghost at_least = { λ _ s o. nat_le s o };
+
+    fn gte(&self, s: u32, o: u32) -> bool {
+        s <= o
+    }
+}
+
+#[test]
+fn a_heap(rt: HostRuntime) -> Result<(), Fail> {
+    let mut heap: BinaryHeap<u32> = BinaryHeap::new(rt.alloc());
+    for key in [3, 2, 4, 5, 1] {
+        heap.push(key, &Reversed)?;
+    }
+    assert_eq!(rt; heap.pop(&Reversed), Some(1));
+    Ok(())
+}
+
+#[test]
+fn a_vector(rt: HostRuntime) -> Result<(), Fail> {
+    let mut g = Gvec::from_array(rt.alloc(), [1u8, 2, 3, 4])?;
+    g.swap(0, 3);
+    g.swap_remove(1);
+    g.reserve(5)?;
+    assert_eq!(rt; g.as_slice(), [4, 1, 3, 0, 0].as_slice());
+    Ok(())
+}
+
+#[test]
+fn option_numbers(rt: HostRuntime) {
+    let mut o = OptionU8::some(254);
+    *o = 255;
+    assert!(rt; o.is_none());
+}
+
+#[test]
+fn a_hashed_map(rt: HostRuntime) -> Result<(), Fail> {
+    let map = GHashMap::from_iter(rt.alloc(), [(1u8, 5u8), (2, 6), (1, 7)])?;
+    assert_eq!(rt; map.get(&1).copied(), Some(7));
+    assert_eq!(rt; map.get(&2).copied(), Some(6));
+    Ok(())
+}
+
+#[test]
+fn a_shared_value(rt: HostRuntime) -> Result<(), Fail> {
+    let eight = Grc::new(rt.alloc(), 8u8)?;
+    let other = eight.clone()?;
+    assert_eq!(rt; *other, *eight);
+    Ok(())
+}
+
+#[test]
+fn an_allocator_of_indexes(rt: HostRuntime) -> Result<(), Fail> {
+    let mut values = Gallocator::new(rt.alloc());
+    assert_eq!(rt; values.alloc('a'), Ok(0));
+    assert_eq!(rt; values.alloc('b'), Ok(1));
+    values.dealloc(0);
+    let moved = values.gc()?;
+    assert_eq!(rt; moved.get(&1).copied(), Some(0));
+    assert_eq!(rt; values.len(), 1);
+    Ok(())
+}
