@@ -14,8 +14,10 @@ mod heaps;
 #[cfg(test)]
 mod in_turn;
 #[cfg(test)]
+mod indexes;
+#[cfg(test)]
 mod scripts;
 #[cfg(test)]
-mod without_memory;
-#[cfg(test)]
 mod vectors;
+#[cfg(test)]
+mod without_memory;

@@ -1,6 +1,8 @@
 //! Calls that take no memory: each is made while every further request would be refused.
 
 use crate::comparers::ByNumber;
+use crate::indexes::{Slots, holds};
+use giputils_base::allocator::{GallocElem, Gallocator};
 use giputils_base::grc::Grc;
 use giputils_base::gvec::Gvec;
 use giputils_base::hash::{GHashMap, GHashSet};
@@ -16,6 +18,7 @@ fn empty_containers_ask_for_nothing(rt: HostRuntime) {
     let memory = Refusing::from(rt.alloc(), 1);
     assert_eq!(rt; Gvec::<u32, &Refusing>::new(&memory).len(), 0);
     assert_eq!(rt; Gvec::<u32, &Refusing>::from(Vec::new(&memory)).len(), 0);
+    assert_eq!(rt; Gallocator::<u32, &Refusing>::new(&memory).len(), 0);
     assert_eq!(rt; GHashSet::<u32, &Refusing>::new(&memory).len(), 0);
     assert_eq!(rt; GHashMap::<u32, u32, &Refusing>::new(&memory).len(), 0);
     assert!(rt; BinaryHeap::<u32, &Refusing>::new(&memory).is_empty());
@@ -116,6 +119,44 @@ fn a_shared_value_is_read_in_place(rt: HostRuntime) -> Result<(), Fail> {
     let memory = Refusing::from(rt.alloc(), 2);
     let owner = Grc::new(&memory, 8u32)?;
     assert_eq!(rt; *owner, 8);
+    assert_eq!(rt; memory.requests(), 1);
+    Ok(())
+}
+
+fn three_slots(memory: &Refusing) -> Result<Slots<'_>, u32> {
+    let mut slots = Gallocator::new(memory);
+    slots.alloc(10)?;
+    slots.alloc(20)?;
+    slots.alloc(30)?;
+    Ok(slots)
+}
+
+#[test]
+fn slots_are_marked_read_and_written_in_place(rt: HostRuntime) -> Result<(), Fail> {
+    let counted = Refusing::none(rt.alloc());
+    drop(three_slots(&counted)?);
+    let memory = Refusing::from(rt.alloc(), counted.requests().saturating_add(1));
+    let mut slots = three_slots(&memory)?;
+    assert_eq!(rt; slots.len(), 3);
+    slots[0usize] = 5;
+    assert_eq!(rt; slots.len(), 3);
+    slots[1u32] = 6;
+    assert_eq!(rt; slots.len(), 3);
+    assert_eq!(rt; slots[2u32], 30);
+    slots.dealloc(1);
+    assert!(rt; holds(&slots, &[(5, false), (6, true), (30, false)]));
+    assert_eq!(rt; memory.requests(), counted.requests());
+    Ok(())
+}
+
+#[test]
+fn an_element_keeps_its_value_in_place(rt: HostRuntime) -> Result<(), Fail> {
+    let memory = Refusing::from(rt.alloc(), 2);
+    let mut element = GallocElem::new(Gvec::from_array(&memory, [1u32, 2])?);
+    assert!(rt; !element.is_removed());
+    element.deref_mut().swap_remove(0);
+    assert_eq!(rt; element.deref().len(), 1);
+    assert_eq!(rt; element.take().as_slice(), [2].as_slice());
     assert_eq!(rt; memory.requests(), 1);
     Ok(())
 }
