@@ -5,7 +5,7 @@ use Rattle.std.proofs.Common.{arith, inl}
 use Rattle.std.proofs.lemmas.Bool.Decides.{nat_tests}
 use Rattle.giputils_base.specs.Others.{option_of}
 use Rattle.giputils_base.specs.Gvec.{swap_remove, FilledTo, IsPlace}
-use Rattle.giputils_base.specs.Hash.{get, last_value, contains, HasUniqueKeys}
+use Rattle.giputils_base.specs.Hash.{get, last_value, contains, HasUniqueKeys, IsMapOf, IsSetOf}
 use Rattle.giputils_base.specs.Allocator.{value_at, mark_at, mark, write, survivors, unmarked, new_index, index_map, IsIndexMap}
 use Rattle.giputils_base.specs.AllocatorRun.{Answers}
 use Rattle.giputils_base.specs.declared.allocator.run.GallocCall.{GallocCall}
@@ -60,6 +60,17 @@ a_set_has_its_member = refl
 a_key_stands_once : HasUniqueKeys {V = ℕ} nat_eq ((1, 7) ∷ (1, 5) ∷ []) → ⊥
 unfolding IsDistinct
 a_key_stands_once unique = cc
+
+of_three_pairs_two_stand : IsMapOf {V = ℕ} nat_eq ((1, 5) ∷ (2, 6) ∷ (1, 7) ∷ []) ((1, 7) ∷ (2, 6) ∷ [])
+unfolding IsDistinct
+of_three_pairs_two_stand = (λ k. grind (arith, nat_tests), ((refl, tt), (tt, tt)))
+
+the_first_value_does_not : IsMapOf {V = ℕ} nat_eq ((1, 5) ∷ (1, 7) ∷ []) ((1, 5) ∷ []) → ⊥
+the_first_value_does_not is_map = let first = is_map.0 1 in cc
+
+of_two_equal_items_one_stands : IsSetOf nat_eq (3 ∷ 3 ∷ []) (3 ∷ [])
+unfolding IsDistinct
+of_two_equal_items_one_stands = (λ k. grind (arith, nat_tests), (tt, tt))
 
 -- an allocator of three values, with the middle one marked
 
