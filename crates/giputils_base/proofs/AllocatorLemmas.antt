@@ -1,6 +1,6 @@
 -- Lemmas on the slots of an allocator.
 use Rattle.std.specs.Prelude.{◌≡◌, ℕ, zero, suc, ◌+◌, ◌<◌, ◌≤◌, Bool, true, false, cond, List, [], ◌∷◌, length, filter, slice_get, slice_set, slice_index_or, Option, Some, None, option_and_then, if◌then◌else◌, nat_eq, nat_lt, refl}
-use Rattle.std.proofs.Common.{arith, sym, ap, ◌∙◌, inl, inr}
+use Rattle.std.proofs.Common.{not, arith, sym, ap, ◌∙◌, inl, inr}
 use Rattle.std.proofs.lemmas.Bool.{cases_lt, lt-ltb, le-ltb}
 use Rattle.std.proofs.lemmas.Bool.Decides.{nat_tests}
 use Rattle.giputils_base.specs.Allocator.{is_unmarked, value_at, mark_at, mark, write, survivors, unmarked, new_index, index_map, Renumbers}
@@ -131,6 +131,11 @@ module _ {T : Type 0} where
   ]
 
   -- no more slots survive before a place than there are
+  -- the mark of slot i says what it adds
+  pub new_index-more : (slots : List (T × Bool)) (i : ℕ) (b : Bool) (f : Bool → ℕ) → f false ≡ 0 → f true ≡ 1 → mark_at slots i ≡ Some b → new_index slots i + f (not b) ≡ new_index slots (i + 1)
+  new_index-more slots i true f none one at = let same = new_index-more_marked slots i at in omega arith
+  new_index-more slots i false f none one at = let more = new_index-more_unmarked slots i at in omega arith
+
   pub new_index_le : (slots : List (T × Bool)) (i : ℕ) → new_index slots i ≤ i
   new_index_le [] zero = omega arith
   new_index_le [] (suc i) = omega arith

@@ -172,15 +172,25 @@ impl<T, A: Allocator> Gallocator<T, A> {
         Ok(indexes)
     }
 
+    // How many slots are unmarked. The sum takes no branch at a mark.
+    fn survivor_count(&self) -> usize
+        ensures { result ≡ length (survivors self.now) }
+    {
+        let mut count = 0usize;
+        for slot in self.slots.iter() {
+            count += usize::from(!slot.is_removed());
+        }
+        count
+    }
+
     // The new index of each unmarked slot. The map grows once, to the number of those.
     fn index_map(&self) -> Result<GHashMap<usize, usize, A>, AllocError>
     where
         A: Copy,
         ensures { IfOk result (λ m. IsIndexMap self.now m) }
     {
-        let survivors = self.slots.iter().filter(|slot| !slot.is_removed()).count();
         let mut indexes = GHashMap::new(*self.slots.allocator());
-        indexes.reserve(survivors)?;
+        indexes.reserve(self.survivor_count())?;
         let mut next = 0usize;
         for old in 0..self.slots.len() {
             if !self.slots[old].is_removed() {
