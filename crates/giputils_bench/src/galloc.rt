@@ -1,21 +1,21 @@
+//! A workload of the index allocator.
 ghost use Rattle.std.specs.Prelude.{◌≡◌, length, OnOk, IfOk};
-ghost use Rattle.giputils_bench_galloc.specs.Workload.{AreIndexes, LeadsTo};
+ghost use Rattle.giputils_bench.specs.Galloc.{AreIndexes, LeadsTo};
 
-use crate::checksum::Checksum;
+use crate::common::{Checksum, Generator};
 use giputils_base::allocator::Gallocator;
 use giputils_base::hash::GHashMap;
-use rand_core::Rng;
 use std::alloc::{AllocError, Global};
 
-/// How often values are allocated and collected again.
+// How often values are allocated and collected again.
 const ROUNDS: u32 = 8;
 
-/// In each round, allocates `size` values, marks about half of all that are held, collects, and
-/// takes the held indexes through the map to their new places, mixing each and its value.
-pub fn galloc<R: Rng>(
+/// In each round, allocates `size` values, marks about half of all that are held, collects, and takes the held indexes
+/// through the map to their new places, mixing each and its value.
+pub fn galloc(
     alloc: Global,
-    size: usize,
-    rng: &mut R,
+    size: u32,
+    rng: &mut Generator,
     checksum: &mut Checksum,
 ) -> Result<(), AllocError> {
     let mut gallocator = Gallocator::new(alloc);
@@ -30,33 +30,36 @@ pub fn galloc<R: Rng>(
     Ok(())
 }
 
-fn fill<R: Rng>(
+// Allocates `size` values, and appends their indexes to the held ones.
+fn fill(
     gallocator: &mut Gallocator<u32>,
     held: &mut Vec<usize>,
-    size: usize,
-    rng: &mut R,
+    size: u32,
+    rng: &mut Generator,
 ) -> Result<(), AllocError>
     requires { AreIndexes gallocator.old held.old.items }
     ensures { OnOk result (AreIndexes gallocator.new held.new.items) }
 {
     for _ in 0..size {
-        let index = gallocator.alloc(rng.next_u32()).map_err(|_| AllocError)?;
+        let index = gallocator.alloc(rng.draw()).map_err(|_| AllocError)?;
         held.push(index)?;
     }
     Ok(())
 }
 
-fn mark_some<R: Rng>(gallocator: &mut Gallocator<u32>, held: &[usize], rng: &mut R)
+// Marks each held slot whose draw is odd.
+fn mark_some(gallocator: &mut Gallocator<u32>, held: &[usize], rng: &mut Generator)
     requires { AreIndexes gallocator.old held.now }
     ensures { length gallocator.new ≡ length gallocator.old }
 {
     for &index in held {
-        if rng.next_u32() % 2 == 1 {
+        if rng.draw() % 2 == 1 {
             gallocator.dealloc(index);
         }
     }
 }
 
+// The new indexes of the held slots that were kept.
 fn renumber(
     alloc: Global,
     gallocator: &Gallocator<u32>,
