@@ -1,13 +1,14 @@
 -- The definitions, computed on worked examples.
-use Rattle.std.specs.Prelude.{◌≡◌, ℕ, zero, suc, ◌<◌, pos, negsuc, Bool, true, false, List, [], ◌∷◌, Some, None, nat_eq, slice_index_or, refl}
+use Rattle.std.specs.Prelude.{◌≡◌, ℕ, zero, suc, ◌-◌, ◌<◌, pos, negsuc, Bool, true, false, List, [], ◌∷◌, Some, None, nat_eq, slice_index_or, refl}
 use Rattle.std.specs.List.{IsDistinct}
 use Rattle.std.proofs.Common.{arith, inl}
 use Rattle.std.proofs.lemmas.Bool.Decides.{nat_tests}
 use Rattle.giputils_base.specs.Others.{option_of}
 use Rattle.giputils_base.specs.Gvec.{swap_remove, FilledTo, IsPlace}
 use Rattle.giputils_base.specs.Hash.{get, last_value, contains, HasUniqueKeys, IsMapOf, IsSetOf}
-use Rattle.giputils_base.specs.Allocator.{value_at, mark_at, mark, write, survivors, unmarked, new_index, index_map, IsIndexMap}
+use Rattle.giputils_base.specs.Allocator.{value_at, mark_at, mark, write, survivors, unmarked_slots, new_index, index_map, IsIndexMap, Renumbers}
 use Rattle.giputils_base.specs.AllocatorRun.{Answers}
+use Rattle.giputils_base.proofs.Renumbering.{Renumbers-index_map}
 use Rattle.giputils_base.specs.declared.allocator.run.GallocCall.{GallocCall}
 use Rattle.giputils_base.specs.declared.allocator.run.GallocCall.TheVariants.{Alloc, Dealloc, IsRemoved, Read, Write, Gc, Len}
 use Rattle.giputils_base.specs.declared.allocator.run.GallocReply.{GallocReply}
@@ -96,7 +97,7 @@ two_survive : survivors slots ≡ 10 ∷ 30 ∷ []
 unfolding slots
 two_survive = refl
 
-they_are_unmarked : unmarked (survivors slots) ≡ (10, false) ∷ (30, false) ∷ []
+they_are_unmarked : unmarked_slots (survivors slots) ≡ (10, false) ∷ (30, false) ∷ []
 unfolding slots
 they_are_unmarked = refl
 
@@ -127,6 +128,19 @@ it_is_the_index_map = (two_entries, ((refl, tt), (tt, tt)))
 the_empty_map_is_not : IsIndexMap slots [] → ⊥
 unfolding slots
 the_empty_map_is_not is_map = let first = is_map.0 0 in cc
+
+it_renumbers_the_slots : Renumbers slots ((10, false) ∷ (30, false) ∷ []) (index_map slots)
+unfolding slots
+it_renumbers_the_slots = Renumbers-index_map slots
+
+dropping_a_live_value_does_not : Renumbers {T = ℕ} ((10, false) ∷ []) [] (λ i. None) → ⊥
+dropping_a_live_value_does_not renumbers = let kept = (renumbers.kept 0).1 refl in cc
+
+nor_does_keeping_a_marked_one : Renumbers {T = ℕ} ((10, true) ∷ []) ((10, false) ∷ []) (λ i. Some i) → ⊥
+nor_does_keeping_a_marked_one renumbers = let dropped = (renumbers.kept 0).0 refl in cc
+
+nor_does_exchanging_two : Renumbers {T = ℕ} ((10, false) ∷ (20, false) ∷ []) ((20, false) ∷ (10, false) ∷ []) (λ i. Some (1 - i)) → ⊥
+nor_does_exchanging_two renumbers = let apart = renumbers.increasing 0 1 1 0 refl refl (omega arith) in omega arith
 
 -- the values that fill holes from the end are not the survivors
 holes_are_not_filled_from_the_end : survivors {T = ℕ} ((1, true) ∷ (2, false) ∷ (3, false) ∷ []) ≡ 3 ∷ 2 ∷ [] → ⊥
