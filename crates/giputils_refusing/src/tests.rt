@@ -91,7 +91,7 @@ fn a_map_grows_in_four_requests(rt: HostRuntime) -> Result<(), Fail> {
     Ok(())
 }
 
-// Whether so many requests in a row are served; it ends at the first that is not.
+// Whether so many requests in a row are served. It ends at the first that is not.
 fn are_served(memory: &Refusing, requests: u64) -> bool {
     for _ in 0..requests {
         if Box::new(memory, 0u64).is_err() {
