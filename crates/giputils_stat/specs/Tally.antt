@@ -52,6 +52,14 @@ no_outcomes = record { successes = 0; failures = 0 }
 abbrev pub tries : Outcomes → ℕ
 tries o = o.successes + o.failures
 
+-- one try more can be counted
+abbrev pub CanTry : Outcomes → Type 0
+CanTry o = tries o < max_count
+
+-- the tries of both can be counted
+abbrev pub CanTryBoth : Outcomes → Outcomes → Type 0
+CanTryBoth o p = tries o + tries p ≤ max_count
+
 -- one success more, and one failure more
 abbrev pub with_success : Outcomes → Outcomes
 with_success o = record o { successes = o.successes + 1 }

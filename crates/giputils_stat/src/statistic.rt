@@ -5,6 +5,7 @@ mod counted_duration;
 mod running_time;
 mod success_rate;
 
+pub use crate::decimal::Seconds;
 pub use average::Average;
 pub use average_duration::AverageDuration;
 pub use counted_duration::CountedDuration;

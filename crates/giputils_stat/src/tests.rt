@@ -1,4 +1,4 @@
-use crate::decimal::{Decimal, Seconds};
+use crate::decimal::Decimal;
 use crate::logger::IntervalLogger;
 use crate::statistic::{Average, AverageDuration, CountedDuration, RunningTime, SuccessRate};
 use log::sink::Memory;
@@ -29,6 +29,11 @@ fn averages_are_rounded_to_six_decimals(rt: HostRuntime) -> Result<(), Fail> {
     average += 0;
     assert_eq!(rt; average.count(), 3);
     debugs(&rt, &average, "0.666667")?;
+    // The options of a formatter make no difference.
+    assert_eq!(rt;
+        format!(in rt.alloc(); "{average:>12?}")?.as_str(),
+        "0.666667"
+    );
 
     let mut greatest = Average::default();
     greatest += usize::MAX;
@@ -85,7 +90,7 @@ fn a_running_time_is_that_since_its_beginning(rt: HostRuntime) -> Result<(), Fai
     let later = RunningTime::new(Duration::from_secs(5));
     assert!(rt; later.time(Duration::from_secs(3)).is_zero());
     let label = later.clone()?.label(Duration::from_secs(6));
-    assert!(rt; label.as_nanos() <= later.time(Duration::from_secs(8)).as_nanos());
+    assert!(rt; label <= later.time(Duration::from_secs(8)));
     assert_eq!(rt;
         later.from_label(Duration::from_secs(8), label),
         Duration::from_secs(2)

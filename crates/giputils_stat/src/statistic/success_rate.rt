@@ -1,5 +1,5 @@
-ghost use Rattle.std.specs.Prelude.{◌≡◌, ◌+◌, ◌<◌, ◌≤◌, ◌↔◌, Some, IsTrue, if◌then◌else◌};
-ghost use Rattle.giputils_stat.specs.Tally.{max_count, no_outcomes, tries, with_success, with_failure, both_outcomes};
+ghost use Rattle.std.specs.Prelude.{◌≡◌, ◌↔◌, Some, IsTrue, if◌then◌else◌};
+ghost use Rattle.giputils_stat.specs.Tally.{no_outcomes, tries, CanTry, CanTryBoth, with_success, with_failure, both_outcomes};
 ghost use Rattle.giputils_stat.specs.Texts.{success_rate_text};
 
 use crate::decimal::Ratio;
@@ -39,7 +39,7 @@ impl SuccessRate {
     /// Whether one more outcome can be counted.
     #[inline]
     pub fn can_add(&self) -> bool
-        ensures { IsTrue result ↔ (tries self.now < max_count) }
+        ensures { IsTrue result ↔ CanTry self.now }
     {
         self.count() < usize::MAX
     }
@@ -47,7 +47,7 @@ impl SuccessRate {
     /// Whether the outcomes of `other` can be counted too.
     #[inline]
     pub fn can_merge(&self, other: &Self) -> bool
-        ensures { IsTrue result ↔ (tries self.now + tries other.now ≤ max_count) }
+        ensures { IsTrue result ↔ CanTryBoth self.now other.now }
     {
         other.count() <= usize::MAX - self.count()
     }
@@ -55,7 +55,7 @@ impl SuccessRate {
     /// Counts a success. [`SuccessRate::can_add`] must hold.
     #[inline]
     pub fn success(&mut self)
-        requires { tries self.old < max_count }
+        requires { CanTry self.old }
         ensures { self.new ≡ with_success self.old }
     {
         self.successes += 1;
@@ -64,7 +64,7 @@ impl SuccessRate {
     /// Counts a failure. [`SuccessRate::can_add`] must hold.
     #[inline]
     pub fn fail(&mut self)
-        requires { tries self.old < max_count }
+        requires { CanTry self.old }
         ensures { self.new ≡ with_failure self.old }
     {
         self.failures += 1;
@@ -73,7 +73,7 @@ impl SuccessRate {
     /// Counts a success or a failure. [`SuccessRate::can_add`] must hold.
     #[inline]
     pub fn statistic(&mut self, success: bool)
-        requires { tries self.old < max_count }
+        requires { CanTry self.old }
         ensures { self.new ≡ (if success then with_success self.old else with_failure self.old) }
     {
         if success {
@@ -101,7 +101,7 @@ impl Default for SuccessRate {
 impl Add for SuccessRate {
     type Output = Self;
 
-    ghost can_add = { λ r s. tries r + tries s ≤ max_count };
+    ghost can_add = { CanTryBoth };
 
     ghost add_gives = { λ r s t. t ≡ both_outcomes r s };
 
@@ -116,7 +116,7 @@ impl Add for SuccessRate {
 
 /// Adds the outcomes of another. [`SuccessRate::can_merge`] must hold.
 impl AddAssign for SuccessRate {
-    ghost can_add_assign = { λ r s. tries r + tries s ≤ max_count };
+    ghost can_add_assign = { CanTryBoth };
 
     ghost add_assign_gives = { λ r s t. t ≡ both_outcomes r s };
 
