@@ -8,3 +8,7 @@ pub use Rattle.giputils_heap.specs.Counted
 pub use Rattle.giputils_heap.specs.Keys
 pub use Rattle.giputils_heap.specs.Order
 pub use Rattle.giputils_heap.specs.Record
+pub use Rattle.giputils_stat.specs.Decimals
+pub use Rattle.giputils_stat.specs.Due
+pub use Rattle.giputils_stat.specs.Tally
+pub use Rattle.giputils_stat.specs.Texts

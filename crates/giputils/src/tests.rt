@@ -7,7 +7,12 @@ use crate::grc::Grc;
 use crate::gvec::Gvec;
 use crate::hash::GHashMap;
 use crate::heap::{BinaryHeap, BinaryHeapCmp};
+use crate::logger::IntervalLogger;
+use crate::statistic::Average;
+use log::Level;
+use log::sink::Memory;
 use std::test::Fail;
+use std::time::Duration;
 
 struct Reversed;
 
@@ -72,4 +77,24 @@ fn an_allocator_of_indexes(rt: HostRuntime) -> Result<(), Fail> {
     assert_eq!(rt; moved.get(&1).copied(), Some(0));
     assert_eq!(rt; values.len(), 1);
     Ok(())
+}
+
+#[test]
+fn an_average(rt: HostRuntime) -> Result<(), Fail> {
+    let mut average = Average::default();
+    average += 1;
+    average += 1;
+    average += 0;
+    assert_eq!(rt; format!(in rt.alloc(); "{average:?}")?.as_str(), "0.666667");
+    Ok(())
+}
+
+#[test]
+fn an_interval_logger(rt: HostRuntime) {
+    let sink = Memory::new(rt.alloc());
+    let mut logger = IntervalLogger::with_default(Duration::ZERO);
+    assert!(rt; !logger.log(&sink, Duration::from_secs(9), Level::Info, &"at work"));
+    assert!(rt; logger.log(&sink, Duration::from_secs(10), Level::Info, &"at work"));
+    assert!(rt; !logger.log(&sink, Duration::from_secs(19), Level::Info, &"at work"));
+    assert_eq!(rt; sink.into_lines().len(), 1);
 }

@@ -1,0 +1,5 @@
+pub mod Rounding
+pub mod Digits
+pub mod Decimals
+mod Texts
+mod Examples

@@ -1,0 +1,72 @@
+-- Sums with the number of their terms, and numbers of successes and failures.
+use Rattle.std.specs.Prelude.{ℕ, ◌+◌, ◌-◌, ◌^◌, ◌<◌, ◌≤◌}
+use Rattle.std.specs.Duration.{FitsDuration}
+
+-- the greatest count, `usize::MAX`
+abbrev pub max_count : ℕ
+max_count = 2 ^ 64 - 1
+
+-- a sum, and how many terms it has
+pub record Tally : Type 0 where
+  pub sum : ℕ
+  pub count : ℕ
+
+-- no term
+abbrev pub no_terms : Tally
+no_terms = record { sum = 0; count = 0 }
+
+-- one term more
+abbrev pub with_term : Tally → ℕ → Tally
+with_term t n = record { sum = t.sum + n; count = t.count + 1 }
+
+-- the terms of both
+abbrev pub both : Tally → Tally → Tally
+both s t = record { sum = s.sum + t.sum; count = s.count + t.count }
+
+-- one term more can be counted
+abbrev pub CanCount : Tally → Type 0
+CanCount t = t.count < max_count
+
+-- the terms of both can be counted
+abbrev pub CanCountBoth : Tally → Tally → Type 0
+CanCountBoth s t = s.count + t.count ≤ max_count
+
+-- a term of so many nanoseconds can be counted, and the sum stays a `Duration`
+abbrev pub CanAddNanos : Tally → ℕ → Type 0
+CanAddNanos t nanos = CanCount t × FitsDuration (t.sum + nanos)
+
+-- the terms of both can be counted, and the sum of both is a `Duration`
+abbrev pub CanAddBoth : Tally → Tally → Type 0
+CanAddBoth s t = CanCountBoth s t × FitsDuration (s.sum + t.sum)
+
+-- how often something succeeded, and how often it failed
+pub record Outcomes : Type 0 where
+  pub successes : ℕ
+  pub failures : ℕ
+
+-- nothing was tried
+abbrev pub no_outcomes : Outcomes
+no_outcomes = record { successes = 0; failures = 0 }
+
+-- how often it was tried
+abbrev pub tries : Outcomes → ℕ
+tries o = o.successes + o.failures
+
+-- one try more can be counted
+abbrev pub CanTry : Outcomes → Type 0
+CanTry o = tries o < max_count
+
+-- the tries of both can be counted
+abbrev pub CanTryBoth : Outcomes → Outcomes → Type 0
+CanTryBoth o p = tries o + tries p ≤ max_count
+
+-- one success more, and one failure more
+abbrev pub with_success : Outcomes → Outcomes
+with_success o = record o { successes = o.successes + 1 }
+
+abbrev pub with_failure : Outcomes → Outcomes
+with_failure o = record o { failures = o.failures + 1 }
+
+-- the outcomes of both
+abbrev pub both_outcomes : Outcomes → Outcomes → Outcomes
+both_outcomes o p = record { successes = o.successes + p.successes; failures = o.failures + p.failures }
