@@ -1,4 +1,5 @@
-mod KeySets
+pub mod KeySets
+pub mod OrderLaws
 mod OrderLemmas
 mod StepLemmas
 mod RunLemmas
