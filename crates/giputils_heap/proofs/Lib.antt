@@ -1,6 +1,10 @@
 pub mod KeySets
 pub mod OrderLaws
 mod OrderLemmas
-mod StepLemmas
-mod RunLemmas
-mod RecordLemmas
+pub mod HoldAlike
+mod Steps
+mod Runs
+mod Records
+pub mod Preorders
+pub mod Comparisons
+mod Examples

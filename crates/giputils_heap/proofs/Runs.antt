@@ -6,7 +6,7 @@ use Rattle.std.proofs.lemmas.List.{take_more, take_more_set, take_all, get_or-dr
 use Rattle.std.proofs.lemmas.Grind.{drop_more_same}
 use Rattle.std.proofs.Math.Nat.{add-zero}
 use Rattle.std.proofs.lemmas.List.Elements.{AllZip-push}
-use Rattle.giputils_heap.specs.Record.{Entry, Progress, beginning, after_call, may_answer, progress_from, answers_from, record_of, Answers, KeepsStep, KeepsSteps}
+use Rattle.giputils_heap.specs.Record.{Entry, Progress, start, after_call, may_answer, progress_from, answers_from, record_of, Answers, KeepsStep, KeepsSteps}
 use Rattle.giputils_heap.specs.Counted.{Counted}
 use Rattle.giputils_heap.specs.InOrder.{IsInOrder}
 use Rattle.giputils_heap.proofs.KeySets.{AreDistinct-nil}
@@ -51,8 +51,8 @@ module _ {T C : Type 0} (number : T → ℕ) (at_least : C → T → T → Bool)
   pub record HasRun (old now : List (HeapStep T C)) (i : ℕ) (replies : List (HeapReply T)) (keys : List T) : Type 0 where
     pub replied : length replies ≡ i
     pub same_length : length now ≡ length old
-    pub answers : answers_from number at_least beginning (record_of (take i old) (take i now) replies) ≡ true
-    pub stands : Stands number at_least (progress_from number at_least beginning (record_of (take i old) (take i now) replies)) keys
+    pub answers : answers_from number at_least start (record_of (take i old) (take i now) replies) ≡ true
+    pub stands : Stands number at_least (progress_from number at_least start (record_of (take i old) (take i now) replies)) keys
     pub kept : KeepsSteps (take i old) (take i now)
     pub rest : drop i now ≡ drop i old
 
@@ -97,12 +97,12 @@ module _ {T C : Type 0} (number : T → ℕ) (at_least : C → T → T → Bool)
         (record_of-append (take i old) (take i now) replies s t r (omega (arith, length-take-le i old, run.replied)) (omega (arith, length-take-le i now, run.replied)))
         in
         let so_far : List (Entry T C) = record_of (take i old) (take i now) replies in
-        let before : Progress T C = progress_from number at_least beginning so_far in
+        let before : Progress T C = progress_from number at_least start so_far in
         record {
           replied = rw length-append (omega (arith, run.replied));
           same_length = rw length-set run.same_length;
-          answers = rw recorded (answers_from-append beginning so_far (entry_of s t r) run.answers (may before run.stands));
-          stands = rw (recorded, progress_from-append beginning so_far (entry_of s t r)) (stands' before run.stands);
+          answers = rw recorded (answers_from-append start so_far (entry_of s t r) run.answers (may before run.stands));
+          stands = rw (recorded, progress_from-append start so_far (entry_of s t r)) (stands' before run.stands);
           kept = rw (old_more, now_more) (AllZip-push KeepsStep (take i old) (take i now) s t run.kept keeps);
           rest = drop-set-lt (i + 1) now i t (omega arith) ∙ drop_more_same now old i run.rest;
         }

@@ -1,13 +1,13 @@
-use Rattle.std.proofs.Common.{◌≡◌, ◌∷◌, sym, ◌∙◌, refl}
+use Rattle.std.proofs.Common.{◌∙◌}
 use Rattle.std.proofs.lemmas.Bool.{eq-eqb}
-use Rattle.giputils_heap.specs.Record.{forgetting}
-use Rattle.giputils_heap.proofs.StepLemmas.{stands_where_keys_stay, stands_pushed, stands_after_pop, may_pop_so, stands_cleared, length_of_held, is_nil_of_held, is_nil-iff, beq-refl}
-use Rattle.giputils_heap.proofs.run.answer.Goals as goal
+use Rattle.giputils_heap.proofs.Steps.{stands_where_push_fails, stands_pushed, stands_after_pop, may_pop_so, stands_cleared, stands_unchanged, length_of_held, is_nil_of_held, is_nil-iff}
+use Rattle.giputils_heap.proofs.Preorders.{beq-refl}
+use Rattle.giputils_heap.proofs.run.make_call.Goals as goal
 
 pub returns-in-Push-clause-stands : goal.returns-in-Push-clause-stands
 returns-in-Push-clause-stands g c p stands =
     rw c.in-Push.is
-    (stands_where_keys_stay g.T.HeapKey.number g.met.T.HeapKey.one_value g.C.BinaryHeapCmp.at_least p c.args.heap.now stands c.args.cmp.now.comparer (c.in-Push.v ∷ (forgetting p).held))
+    (stands_where_push_fails g.T.HeapKey.number g.met.T.HeapKey.one_value g.C.BinaryHeapCmp.at_least p c.args.heap.now stands c.args.cmp.now.comparer c.in-Push.v)
 
 pub returns-in-Ok-clause-stands : goal.returns-in-Ok-clause-stands
 returns-in-Ok-clause-stands g c p stands =
@@ -18,7 +18,7 @@ returns-in-Ok-clause-stands g c p stands =
 pub returns-in-Err-clause-stands : goal.returns-in-Err-clause-stands
 returns-in-Err-clause-stands g c p stands =
     rw (c.in-Push-2.is, c.in-Err.ensures.refused)
-    (stands_where_keys_stay g.T.HeapKey.number g.met.T.HeapKey.one_value g.C.BinaryHeapCmp.at_least p c.args.heap.now stands c.args.cmp.now.comparer (c.in-Push-2.v ∷ (forgetting p).held))
+    (stands_where_push_fails g.T.HeapKey.number g.met.T.HeapKey.one_value g.C.BinaryHeapCmp.at_least p c.args.heap.now stands c.args.cmp.now.comparer c.in-Push-2.v)
 
 pub returns-in-Pop-clause-reply : goal.returns-in-Pop-clause-reply
 returns-in-Pop-clause-reply g c p stands =
@@ -42,7 +42,17 @@ returns-in-Len-clause-reply g c p stands =
     rw c.in-Len.is
     (eq-eqb _ _ (c.len.ensures.len ∙ length_of_held g.T.HeapKey.number g.met.T.HeapKey.one_value g.C.BinaryHeapCmp.at_least p c.args.heap.now stands c.args.cmp.now.comparer))
 
+pub returns-in-Len-clause-stands : goal.returns-in-Len-clause-stands
+returns-in-Len-clause-stands g c p stands =
+    rw c.in-Len.is
+    (stands_unchanged g.T.HeapKey.number g.met.T.HeapKey.one_value g.C.BinaryHeapCmp.at_least p c.args.heap.now stands c.args.cmp.now.comparer)
+
 pub returns-in-IsEmpty-clause-reply : goal.returns-in-IsEmpty-clause-reply
 returns-in-IsEmpty-clause-reply g c p stands =
     rw (c.in-IsEmpty.is, is_nil-iff c.is_empty.result c.args.heap.now c.is_empty.ensures, is_nil_of_held g.T.HeapKey.number g.met.T.HeapKey.one_value g.C.BinaryHeapCmp.at_least p c.args.heap.now stands c.args.cmp.now.comparer)
     (beq-refl _)
+
+pub returns-in-IsEmpty-clause-stands : goal.returns-in-IsEmpty-clause-stands
+returns-in-IsEmpty-clause-stands g c p stands =
+    rw c.in-IsEmpty.is
+    (stands_unchanged g.T.HeapKey.number g.met.T.HeapKey.one_value g.C.BinaryHeapCmp.at_least p c.args.heap.now stands c.args.cmp.now.comparer)
