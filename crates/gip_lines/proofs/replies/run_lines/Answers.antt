@@ -1,16 +1,14 @@
 -- The steps are those of the lines, so the record of the run has the replies of the script.
-use Rattle.std.proofs.Common.{◌≡◌, ◌∙◌, ◌^◌, ◌≤◌, ℕ, Bool, true, List, arith}
-use Rattle.std.specs.List.{list_all, flat_map}
+use Rattle.std.proofs.Common.{◌∙◌, ◌^◌, ◌≤◌, ℕ, [], arith}
 use Rattle.std.proofs.lemmas.List.Elements.{All-same, All-map}
+use Rattle.std.proofs.lemmas.Result.{IfOk-weaker}
 use Rattle.giputils_heap.specs.declared.run.HeapStep.{HeapStep}
 use Rattle.gip_lines.specs.declared.replies.ByNumber.{ByNumber}
-use Rattle.gip_lines.specs.Replies.{step_of, is_line_reply, reply_line}
-use Rattle.gip_lines.specs.Script.{script_text}
-use Rattle.gip_lines.proofs.RunLemmas.{run_of_lines}
-use Rattle.gip_lines.proofs.ScriptLemmas.{IfOk-map}
-use Rattle.gip_lines.proofs.replies.answer.Given.{Over}
-use Rattle.gip_lines.proofs.replies.answer.Goals as goal
-use Rattle.gip_lines.proofs.replies.answer.Goals.{After-deref}
+use Rattle.gip_lines.specs.Replies.{step_of}
+use Rattle.gip_lines.proofs.Records.{Match, run_of_lines}
+use Rattle.gip_lines.proofs.replies.run_lines.Given.{Over}
+use Rattle.gip_lines.proofs.replies.run_lines.Goals as goal
+use Rattle.gip_lines.proofs.replies.run_lines.Goals.{After-deref}
 
 pub heap_run-requires : goal.heap_run-requires
 heap_run-requires g c =
@@ -20,7 +18,7 @@ heap_run-requires g c =
 
 -- what the run replied
 replied : (g : Over) (c : After-deref g)
-    → (refusals : List Bool) × (flat_map reply_line c.deref.result.now ≡ script_text c.args.lines.now refusals) × (list_all is_line_reply c.deref.result.now ≡ true)
+    → Match [] c.args.lines.now c.deref.result.now
 replied g c =
     let ran = c.in_ok-replies.ensures in
     rw c.deref.ensures.value
@@ -33,4 +31,4 @@ text_of-requires g c = (replied g c).2
 pub returns-clause-text : goal.returns-clause-text
 returns-clause-text g c =
     let (refusals, text, known) = replied g (goal.at.returns-clause-text g c).After-deref in
-    IfOk-map c.text_of.result _ _ (λ answer same. (refusals, same ∙ text)) c.text_of.ensures.ok
+    IfOk-weaker c.text_of.result _ _ (λ answer same. (refusals, same ∙ text)) c.text_of.ensures.ok

@@ -5,7 +5,7 @@ use Rattle.std.proofs.lemmas.List.Splits.{slice_split_first, slice_split_none}
 use Rattle.std.proofs.lemmas.List.Sums.{fails_before_first, position_or_len_is}
 use Rattle.std.proofs.lemmas.List.Quantifiers.{position-Some}
 use Rattle.std.specs.List.{onto_first, position, position_or_len}
-use Rattle.gip_lines.specs.Lines.{pieces, script_lines, line_of}
+use Rattle.gip_lines.specs.Lines.{line_feed, space, pieces, script_lines, line_of}
 
 -- a text has a first piece
 pub pieces-cons : (byte : ℕ) (text : List ℕ) → (first : List ℕ) × (more : List (List ℕ)) × (pieces byte text ≡ first ∷ more)
@@ -25,6 +25,7 @@ pieces-at byte text at e =
     let same : position_or_len p text ≡ at = position_or_len_is p text at 0 (omega arith) before (λ _. here) in
     subst (λ k. pieces byte text ≡ take k text ∷ pieces byte (drop (k + 1) text)) same (slice_split_first p text 0 (subst (λ k. k < length text) (sym same) within))
 
+-- a first place that is none is past the end
 past_from_none : (n len : ℕ) → ◌≡◌ {A = Option ℕ} (cond (nat_lt n len) (Some n) None) None → len ≤ n
 past_from_none n len e = grind arith
 
@@ -36,20 +37,13 @@ pieces-none byte text e =
     slice_split_none p text (All-from_get_or (λ x. p x ≡ false) text 0 (λ k within. fails_before_first p text k 0 (omega arith)))
 
 -- a text with some byte begins with its first piece as a line, where a line feed ends it
-pub script_lines-at : (text line rest : List ℕ) → pieces 10 text ≡ line ∷ pieces 10 rest → script_lines text ≡ line ∷ script_lines rest
+pub script_lines-at : (text line rest : List ℕ) → pieces line_feed text ≡ line ∷ pieces line_feed rest → script_lines text ≡ line ∷ script_lines rest
 script_lines-at text line rest e =
-    let (first, more, f) = pieces-cons 10 rest in
+    let (first, more, f) = pieces-cons line_feed rest in
     rw (e, f) refl
 
--- and where none does, the text is its only line
-pub script_lines-last : (text : List ℕ) → 0 < length text → pieces 10 text ≡ text ∷ [] → script_lines text ≡ text ∷ []
-script_lines-last [] some e = absurd (omega arith)
-script_lines-last (b ∷ bs) some e =
-    let more : (length (b ∷ bs) == 0) ≡ false = grind arith in
-    rw (e, more) refl
-
 -- a line of three words or more has another form
-pub line_of-three : (line name rest key more : List ℕ) → pieces 32 line ≡ name ∷ pieces 32 rest → pieces 32 rest ≡ key ∷ pieces 32 more → line_of line ≡ None
+pub line_of-three : (line name rest key more : List ℕ) → pieces space line ≡ name ∷ pieces space rest → pieces space rest ≡ key ∷ pieces space more → line_of line ≡ None
 line_of-three line name rest key more e f =
-    let (first, others, h) = pieces-cons 32 more in
+    let (first, others, h) = pieces-cons space more in
     rw (e, f, h) refl

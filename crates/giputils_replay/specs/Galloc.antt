@@ -1,31 +1,10 @@
--- Which words stand for which call of the allocator.
-use Rattle.std.specs.Prelude.{◌≡◌, ℕ, ◌+◌, ◌^◌, ◌<◌, ◌⊎◌, List, [], length, slice_index_or, codes, Result, Ok, IsOk}
-use Rattle.std.specs.Borrow.{Bor}
+-- Which words stand for which call of the index allocator.
+use Rattle.std.specs.Prelude.{◌≡◌, ℕ, ◌⊎◌, List, codes, Result, Ok, IsOk}
 use Rattle.std.specs.Result.{OkIff}
-use Rattle.std.specs.Str.Parse.{IsNumeral, digits_value, without_leading_plus}
 use Rattle.giputils_base.specs.declared.allocator.run.GallocCall.{GallocCall}
 use Rattle.giputils_base.specs.declared.allocator.run.GallocCall.TheVariants.{Alloc, Dealloc, IsRemoved, Read, Write, Gc, Len}
-use Rattle.giputils_replay.specs.declared.call.NotACall.{NotACall}
-
--- a `&[&str]`
-abbrev pub Words : Type 0
-Words = List (Bor (List ℕ))
-
--- the text of word i, which is empty past the end
-abbrev pub word : Words → ℕ → List ℕ
-word words i = (slice_index_or words i (record { ref_ptr = (0, 0); now = [] })).now
-
--- the number that word i writes in decimal digits
-abbrev pub number : Words → ℕ → ℕ
-number words i = digits_value 10 (without_leading_plus (word words i))
-
--- word i is a number of so many bits
-abbrev pub IsNumber : ℕ → Words → ℕ → Type 0
-IsNumber bits words i = IsNumeral 10 (without_leading_plus (word words i)) × (number words i < 2 ^ bits)
-
--- the words are this name and so many more
-abbrev pub HasForm : Words → List ℕ → ℕ → Type 0
-HasForm words name more = (length words ≡ more + 1) × (word words 0 ≡ name)
+use Rattle.giputils_replay.specs.Words.{Words, HasForm, IsNumber, number}
+use Rattle.giputils_replay.specs.declared.calls.NotACall.{NotACall}
 
 -- `NAME INDEX` is the call of the index, and is refused where that is no index
 abbrev pub ReadsIndex : Words → Result (GallocCall ℕ) NotACall → List ℕ → (ℕ → GallocCall ℕ) → Type 0
