@@ -1,6 +1,13 @@
 pub mod KeySets
+pub mod Levels
 pub mod OrderLaws
+pub mod Relations
+mod AtPlaces
 mod OrderLemmas
+mod Places
+mod Rising
+mod Sinking
+mod Trees
 mod StepLemmas
 mod RunLemmas
 mod RecordLemmas
