@@ -3,7 +3,7 @@ pub mod Levels
 pub mod OrderLaws
 pub mod Relations
 mod AtPlaces
-mod OrderLemmas
+mod InOrder
 mod Places
 mod Rising
 mod Sinking

@@ -5,6 +5,7 @@ pub mod counting;
 pub mod heap;
 pub mod key;
 pub mod run;
+mod sealed;
 mod sift;
 mod table;
 #[cfg(test)]
