@@ -1,10 +1,17 @@
-pub mod KeySets
-pub mod OrderLaws
-mod OrderLemmas
-pub mod HoldAlike
-mod Steps
-mod Runs
-mod Records
-pub mod Preorders
 pub mod Comparisons
+pub mod HoldAlike
+pub mod KeySets
+pub mod Levels
+pub mod OrderLaws
+pub mod Preorders
+pub mod Relations
+mod AtPlaces
 mod Examples
+mod InOrder
+mod Places
+mod Records
+mod Rising
+mod Runs
+mod Sinking
+mod Steps
+mod Trees

@@ -1,4 +1,4 @@
--- What the contracts of the heap speak of.
+-- What the contracts of the heap speak of. Table and Tree are the heap's own arrangement.
 pub mod Bounds
 pub mod Comparers
 pub mod Counted
@@ -8,3 +8,5 @@ pub mod Laws
 pub mod Record
 pub mod Relations
 pub mod Stands
+pub mod Table
+pub mod Tree

@@ -6,6 +6,10 @@ pub mod counting;
 pub mod heap;
 pub mod key;
 pub mod run;
+mod sealed;
+mod sift;
+mod table;
+mod tree;
 #[cfg(test)]
 mod tests;
 
