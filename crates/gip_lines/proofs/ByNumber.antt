@@ -6,7 +6,7 @@ use Rattle.std.specs.Bool.{beq}
 use Rattle.std.specs.List.{list_all}
 use Rattle.std.specs.Option.{option_map_or}
 use Rattle.gip_lines.specs.Script.{is_held, greatest}
-use Rattle.giputils_heap.specs.Order.{is_lawful, agree_on}
+use Rattle.giputils_heap.specs.Relations.{is_lawful, agree_on}
 
 -- s is at least o as a number
 abbrev pub at_least : ℕ → ℕ → Bool

@@ -9,7 +9,7 @@ use Rattle.gip_lines.specs.declared.lines.Line.{Line}
 use Rattle.gip_lines.specs.declared.lines.Line.TheVariants as line
 use Rattle.gip_lines.proofs.ByNumber.{at_least, greatest-held}
 use Rattle.giputils_heap.specs.Keys.{key_limit}
-use Rattle.giputils_heap.specs.Order.{is_greatest}
+use Rattle.giputils_heap.specs.Relations.{is_greatest}
 use Rattle.giputils_heap.specs.Record as run
 use Rattle.giputils_heap.specs.declared.run.HeapReply.{HeapReply}
 use Rattle.giputils_heap.specs.declared.run.HeapReply.TheVariants.{Done, Refused, Skipped, Popped, Length}

@@ -26,49 +26,42 @@ abbrev pub Match : List ℕ → List Line → List (HeapReply ℕ) → Type 0
 Match held lines replies =
     (refusals : List Bool) × (flat_map reply_line replies ≡ text_from held lines refusals) × (list_all is_line_reply replies ≡ true)
 
-nil-held : (held : List ℕ) → run.is_nil held ≡ true → [] ≡ held
-nil-held [] e = refl
-nil-held (x ∷ held) e = cc
-
 -- the progress of a record under the comparer by number: nothing that is held is forgotten, and it stays steady
 module _ {C : Type 0} where
   abbrev by_number : C → ℕ → ℕ → Bool
   by_number c = at_least
 
-  forgetting-held : (p : run.Progress ℕ C) → (run.forgetting p).held ≡ p.held
-  forgetting-held p = cond_both (run.is_nil p.held) run.beginning p (λ q. q.held ≡ p.held) (nil-held p.held) (λ _. refl)
+  steady-if_empty : (p : run.Progress ℕ C) → p.steady ≡ true → (run.start_if_empty p).steady ≡ true
+  steady-if_empty p steady = cond_both (run.is_nil p.held) run.start p (λ q. q.steady ≡ true) (λ _. refl) (λ _. steady)
 
-  forgetting-still : (p : run.Progress ℕ C) → p.still ≡ true → (run.forgetting p).still ≡ true
-  forgetting-still p still = cond_both (run.is_nil p.held) run.beginning p (λ q. q.still ≡ true) (λ _. refl) (λ _. still)
+  agrees-last : (last : Option C) (call : HeapCall ℕ) (c : C) (held : List ℕ) → run.agrees_with_last number by_number last call c held ≡ true
+  agrees-last None call c held = refl
+  agrees-last (Some b) call c held = agree_on-by_number held
 
-  agrees-last : (last : Option C) (held : List ℕ) → run.agrees_with_last by_number last at_least held ≡ true
-  agrees-last None held = refl
-  agrees-last (Some c) held = agree_on-by_number held
-
-  still-after : (p : run.Progress ℕ C) (e : run.Entry ℕ C) → p.still ≡ true → (run.after_call number by_number p e.call e.comparer e.reply).still ≡ true
-  still-after p e still =
-      let q : run.Progress ℕ C = run.forgetting p in
-      let before : q.still ≡ true = forgetting-still p still in
-      let compared = and_from _ _ (is_lawful-by_number (run.compared_keys q.held e.call)) (agrees-last q.last q.held) in
+  steady-after : (p : run.Progress ℕ C) (e : run.Entry ℕ C) → p.steady ≡ true → (run.after_call number by_number p e.call e.comparer e.reply).steady ≡ true
+  steady-after p e steady =
+      let q : run.Progress ℕ C = run.start_if_empty p in
+      let before : q.steady ≡ true = steady-if_empty p steady in
+      let compared = and_from _ _ (is_lawful-by_number (run.compared_keys p.held e.call)) (agrees-last q.last e.call e.comparer p.held) in
       cond_both (run.may_compare e.call) _ _ (λ b. b ≡ true) (λ _. and_from _ _ before compared) (λ _. before)
 
-  answered_from : (entries : List (run.Entry ℕ C)) (lines : List Line) (p : run.Progress ℕ C) → p.still ≡ true
+  answered_from : (entries : List (run.Entry ℕ C)) (lines : List Line) (p : run.Progress ℕ C) → p.steady ≡ true
       → calls_of entries ≡ map call_of lines → list_all has_small_key lines ≡ true
       → run.answers_from number by_number p entries ≡ true → Match p.held lines (replies_of entries)
-  answered_from [] [] p still calls small answers = ([], refl, refl)
-  answered_from [] (said ∷ lines) p still calls small answers = cc
-  answered_from (e ∷ entries) [] p still calls small answers = cc
-  answered_from (e ∷ entries) (said ∷ lines) p still calls small answers =
+  answered_from [] [] p steady calls small answers = ([], refl, refl)
+  answered_from [] (said ∷ lines) p steady calls small answers = cc
+  answered_from (e ∷ entries) [] p steady calls small answers = cc
+  answered_from (e ∷ entries) (said ∷ lines) p steady calls small answers =
       let call : e.call ≡ call_of said = cc in
       let calls' : calls_of entries ≡ map call_of lines = cc in
       let q : run.Progress ℕ C = run.after_call number by_number p e.call e.comparer e.reply in
-      let q_still : q.still ≡ true = still-after p e still in
-      let (reply, rest) = and_parts (run.may_reply number at_least q.still p.held e.call e.reply) (run.answers_from number by_number q entries) answers in
+      let q_steady : q.steady ≡ true = steady-after p e steady in
+      let (reply, rest) = and_parts (run.may_reply number at_least q.steady p.held e.call e.reply) (run.answers_from number by_number q entries) answers in
       let (small', smaller) = and_parts (has_small_key said) (list_all has_small_key lines) small in
-      let m = matches said p.held e.reply q.still q_still small' (subst (λ c. run.may_reply number at_least q.still p.held c e.reply ≡ true) call reply) in
+      let m = matches said p.held e.reply q.steady q_steady small' (subst (λ c. run.may_reply number at_least q.steady p.held c e.reply ≡ true) call reply) in
       let held : q.held ≡ held_after said m.refused p.held =
-      ap (λ h. run.held_after number h e.call e.reply) (forgetting-held p) ∙ ap (λ c. run.held_after number p.held c e.reply) call ∙ m.after in
-      let (refusals, text, known) = answered_from entries lines q q_still calls' smaller rest in
+      ap (λ c. run.held_after number p.held c e.reply) call ∙ m.after in
+      let (refusals, text, known) = answered_from entries lines q q_steady calls' smaller rest in
       let later = flat_map reply_line (replies_of entries) in (
         m.refused ∷ refusals,
         append_assoc (reply_text e.reply) (line_feed ∷ []) later ∙ ap (λ t. t ++ line_feed ∷ later) m.text
@@ -98,4 +91,4 @@ module _ {C : Type 0} where
   run_of_lines comparer lines before after replies steps same one_each small answers =
       let calls = calls_of-record_of before after replies same one_each ∙ ap (map (λ s. s.call)) steps ∙ map-map (λ (s : HeapStep ℕ C). s.call) (step_of comparer) lines in
       subst (Match [] lines) (replies_of-record_of before after replies same one_each)
-      (answered_from (run.record_of before after replies) lines run.beginning refl calls small answers)
+      (answered_from (run.record_of before after replies) lines run.start refl calls small answers)

@@ -1,5 +1,17 @@
-mod KeySets
-mod OrderLemmas
-mod StepLemmas
-mod RunLemmas
-mod RecordLemmas
+pub mod Comparisons
+pub mod HoldAlike
+pub mod KeySets
+pub mod Levels
+pub mod OrderLaws
+pub mod Preorders
+pub mod Relations
+mod AtPlaces
+mod Examples
+mod InOrder
+mod Places
+mod Records
+mod Rising
+mod Runs
+mod Sinking
+mod Steps
+mod Trees
