@@ -11,7 +11,7 @@ use Rattle.gip_lines.specs.declared.lines.Line.TheVariants as line
 use Rattle.giputils_heap.specs.declared.run.HeapReply.{HeapReply}
 use Rattle.giputils_heap.specs.declared.run.HeapReply.TheVariants.{Done, Refused, Skipped, Popped, Length, Empty}
 use Rattle.giputils_heap.specs.Keys as keys
-use Rattle.giputils_heap.specs.Order.{is_total, is_transitive, is_lawful, agree_on, is_greatest}
+use Rattle.giputils_heap.specs.Relations.{is_total, is_transitive, is_lawful, agree_on, is_greatest}
 use Rattle.giputils_heap.specs.Record as run
 use Rattle.giputils_heap.specs.declared.run.HeapStep.{HeapStep}
 

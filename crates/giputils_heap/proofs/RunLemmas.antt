@@ -1,7 +1,6 @@
 -- A run that has come to a step, and its next step.
-use Rattle.std.proofs.Common.{◌≡◌, ℕ, zero, suc, ◌+◌, ◌-◌, ◌<◌, ◌≤◌, Bool, true, false, ◌&&◌, List, [], ◌∷◌, ◌++◌, length, take, drop, get_or, refl, ap, sym, ◌∙◌, arith, IsTrue}
+use Rattle.std.proofs.Common.{◌≡◌, ℕ, ◌+◌, ◌-◌, ◌<◌, ◌≤◌, Bool, true, List, [], ◌∷◌, ◌++◌, length, take, drop, get_or, refl, ap, ◌∙◌, arith}
 use Rattle.std.proofs.Math.ListN.{set}
-use Rattle.std.specs.List.{AllZip}
 use Rattle.std.proofs.lemmas.Bool.{and_parts, and_from}
 use Rattle.std.proofs.lemmas.List.{take_more, take_more_set, take_all, get_or-drop, drop-set-lt, length-take-le, length-append, length-set}
 use Rattle.std.proofs.lemmas.Grind.{drop_more_same}
@@ -9,7 +8,7 @@ use Rattle.std.proofs.Math.Nat.{add-zero}
 use Rattle.std.proofs.lemmas.List.Elements.{AllZip-push}
 use Rattle.giputils_heap.specs.Record.{Entry, Progress, beginning, after_call, may_answer, progress_from, answers_from, record_of, Answers, KeepsStep, KeepsSteps}
 use Rattle.giputils_heap.specs.Counted.{Counted}
-use Rattle.giputils_heap.specs.Order.{IsInOrder}
+use Rattle.giputils_heap.specs.InOrder.{IsInOrder}
 use Rattle.giputils_heap.proofs.KeySets.{AreDistinct-nil}
 use Rattle.giputils_heap.specs.Stands.{Stands}
 use Rattle.giputils_heap.specs.declared.run.HeapReply.{HeapReply}

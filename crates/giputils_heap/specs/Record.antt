@@ -3,7 +3,7 @@ use Rattle.std.specs.Prelude.{◌≡◌, ℕ, ◌+◌, ◌-◌, ◌^◌, ◌≤�
 use Rattle.std.specs.Bool.{beq}
 use Rattle.std.specs.List.{All, AllZip}
 use Rattle.giputils_heap.specs.Keys.{is_held, without, key_limit}
-use Rattle.giputils_heap.specs.Order.{is_lawful, agree_on, is_greatest}
+use Rattle.giputils_heap.specs.Relations.{is_lawful, agree_on, is_greatest}
 use Rattle.giputils_heap.specs.declared.run.HeapCall.{HeapCall}
 use Rattle.giputils_heap.specs.declared.run.HeapCall.TheVariants.{Push, Pop, Clear, Len, IsEmpty}
 use Rattle.giputils_heap.specs.declared.run.HeapReply.{HeapReply}

@@ -1,7 +1,7 @@
 -- How a heap stands to the record of the calls that it has answered.
 use Rattle.std.specs.Prelude.{ℕ, Bool, List, IsTrue, MatchOption}
 use Rattle.giputils_heap.specs.Keys.{AreDistinct, HoldAlike}
-use Rattle.giputils_heap.specs.Order.{IsInOrder}
+use Rattle.giputils_heap.specs.InOrder.{IsInOrder}
 use Rattle.giputils_heap.specs.Record.{Progress, forgetting}
 
 module _ {T C : Type 0} (number : T → ℕ) (at_least : C → T → T → Bool) where

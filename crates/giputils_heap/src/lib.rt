@@ -5,8 +5,12 @@ pub mod counting;
 pub mod heap;
 pub mod key;
 pub mod run;
+mod sealed;
+mod sift;
+mod table;
 #[cfg(test)]
 mod tests;
+mod tree;
 
 pub use counting::Counting;
 pub use heap::{BinaryHeap, order_laws};

@@ -90,6 +90,8 @@ fn answer<T: HeapKey, C: BinaryHeapCmp<T>, A: Allocator>(
     ensures comparisons { cmp.new.count ≤ cmp.old.count + 2 ^ 34 }
     ensures uncompared { IsFalse (may_compare call) → (cmp.new.count ≡ cmp.old.count) }
 {
+    // No more keys are held than there are numbers below `u32::MAX`, which bounds what a call may compare.
+    let _held = heap.len();
     match call {
         HeapCall::Push(v) if v.key() == u32::MAX => HeapReply::Skipped,
         HeapCall::Push(v) => match heap.push_counted(v, cmp) {

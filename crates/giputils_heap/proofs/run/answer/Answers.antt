@@ -1,8 +1,21 @@
-use Rattle.std.proofs.Common.{◌≡◌, ◌∷◌, sym, ◌∙◌, refl}
+use Rattle.std.proofs.Common.{◌≡◌, ◌+◌, ◌∷◌, length, sym, ◌∙◌, refl, arith}
 use Rattle.std.proofs.lemmas.Bool.{eq-eqb}
 use Rattle.giputils_heap.specs.Record.{forgetting}
 use Rattle.giputils_heap.proofs.StepLemmas.{stands_where_keys_stay, stands_pushed, stands_after_pop, may_pop_so, stands_cleared, length_of_held, is_nil_of_held, is_nil-iff, beq-refl}
+use Rattle.giputils_heap.proofs.Levels.{floor_log2-below}
 use Rattle.giputils_heap.proofs.run.answer.Goals as goal
+
+pub returns-in-Ok-clause-comparisons : goal.returns-in-Ok-clause-comparisons
+returns-in-Ok-clause-comparisons g c =
+    omega (arith, c.push_counted.ensures.comparisons, floor_log2-below 32 (length c.args.heap.now + 1) (omega (arith, c.len-held.ensures.len, c.len-held.ensures.fits)))
+
+pub returns-in-Err-clause-comparisons : goal.returns-in-Err-clause-comparisons
+returns-in-Err-clause-comparisons g c =
+    omega (arith, c.push_counted.ensures.comparisons, floor_log2-below 32 (length c.args.heap.now + 1) (omega (arith, c.len-held.ensures.len, c.len-held.ensures.fits)))
+
+pub returns-in-Pop-clause-comparisons : goal.returns-in-Pop-clause-comparisons
+returns-in-Pop-clause-comparisons g c =
+    omega (arith, c.pop_counted.ensures.comparisons, floor_log2-below 32 (length c.args.heap.now) (omega (arith, c.len-held.ensures.len, c.len-held.ensures.fits)))
 
 pub returns-in-Push-clause-stands : goal.returns-in-Push-clause-stands
 returns-in-Push-clause-stands g c p stands =
