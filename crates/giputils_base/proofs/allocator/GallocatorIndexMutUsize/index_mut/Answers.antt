@@ -1,6 +1,6 @@
 -- The slot that was read is written back with another value, and its mark.
-use Rattle.std.proofs.Common.{◌≡◌, ◌<◌, length, refl, ap, sym, ◌∙◌, Some}
-use Rattle.std.specs.Prelude.{slice_get, option_map}
+use Rattle.std.proofs.Common.{◌≡◌, ◌<◌, length, refl, ap, sym, Some}
+use Rattle.std.specs.Prelude.{slice_get}
 use Rattle.std.proofs.lemmas.Option.{slice_get_read}
 use Rattle.giputils_base.proofs.allocator.GallocatorIndexMutUsize.index_mut.Goals as goal
 
