@@ -1,6 +1,7 @@
-pub mod AllocatorLemmas
-pub mod AllocatorRunLemmas
-pub mod GvecLemmas
-pub mod HashLemmas
-pub mod OthersLemmas
-pub mod WorkedRows
+mod Examples
+mod IndexMaps
+mod LastValues
+mod Runs
+pub mod Renumbering
+pub mod Slots
+pub mod Vectors

@@ -1,5 +1,6 @@
 -- An allocator of indexes as a list of slots. A slot is a value, and whether it is marked as removed.
-use Rattle.std.specs.Prelude.{◌≡◌, ℕ, zero, suc, ◌<◌, Bool, true, false, not, List, [], ◌∷◌, length, map, filter, take, slice_get, Option, Some, None, option_map, option_and_then, if◌then◌else◌, nat_eq}
+use Rattle.std.specs.Prelude.{◌≡◌, ◌↔◌, ℕ, ◌<◌, Bool, true, false, not, List, length, map, filter, take, slice_get, slice_set, Option, Some, None, IsSome, option_map, option_and_then, if◌then◌else◌, nat_eq}
+use Rattle.std.specs.Option.{option_map_or}
 use Rattle.giputils_base.specs.Hash.{get, HasUniqueKeys}
 
 module _ {T : Type 0} where
@@ -15,25 +16,21 @@ module _ {T : Type 0} where
   abbrev pub mark_at : List (T × Bool) → ℕ → Option Bool
   mark_at slots i = option_map (λ slot. slot.1) (slice_get slots i)
 
-  -- slot i is marked
+  -- slot i is marked, and keeps its value
   abbrev pub mark : List (T × Bool) → ℕ → List (T × Bool)
-  mark [] i = []
-  mark (slot ∷ slots) zero = (slot.0, true) ∷ slots
-  mark (slot ∷ slots) (suc i) = slot ∷ mark slots i
+  mark slots i = option_map_or (λ slot. slice_set slots i (slot.0, true)) (slice_get slots i) slots
 
-  -- slot i has the value v, and its old mark
+  -- slot i has the value v, and keeps its mark
   abbrev pub write : List (T × Bool) → ℕ → T → List (T × Bool)
-  write [] i v = []
-  write (slot ∷ slots) zero v = (v, slot.1) ∷ slots
-  write (slot ∷ slots) (suc i) v = slot ∷ write slots i v
+  write slots i v = option_map_or (λ slot. slice_set slots i (v, slot.1)) (slice_get slots i) slots
 
   -- the unmarked values, in order
   abbrev pub survivors : List (T × Bool) → List T
   survivors slots = map (λ slot. slot.0) (filter is_unmarked slots)
 
-  -- the values, each unmarked
-  abbrev pub unmarked : List T → List (T × Bool)
-  unmarked values = map (λ v. (v, false)) values
+  -- the slots of these values, each unmarked
+  abbrev pub unmarked_slots : List T → List (T × Bool)
+  unmarked_slots values = map (λ v. (v, false)) values
 
   -- how many slots before i survive
   abbrev pub new_index : List (T × Bool) → ℕ → ℕ
@@ -49,10 +46,13 @@ module _ {T : Type 0} where
 
   -- what a collection does to the slots `old`: they become `new`, and index i becomes `index i`, if it has a new one
   pub record Renumbers (old new : List (T × Bool)) (index : ℕ → Option ℕ) : Type 0 where
+    -- the unmarked slots are kept, and no others
+    pub kept : (i : ℕ) → IsSome (index i) ↔ (mark_at old i ≡ Some false)
     -- the order stays
     pub increasing : (i j m n : ℕ) → index i ≡ Some m → index j ≡ Some n → i < j → m < n
     -- each new place is the new index of an old one, and there is no other
     pub below : (i m : ℕ) → index i ≡ Some m → m < length new
     pub onto : (m : ℕ) → m < length new → (i : ℕ) × (index i ≡ Some m)
-    -- the value goes along
+    -- the value goes along, and no new slot is marked
     pub same_value : (i m : ℕ) → index i ≡ Some m → value_at new m ≡ value_at old i
+    pub not_marked : (m : ℕ) → m < length new → mark_at new m ≡ Some false

@@ -1,8 +1,8 @@
 //! An allocator of indexes: removed values are marked, and a collection drops them and renumbers the others.
-ghost use Rattle.std.specs.Prelude.{◌≡◌, ℕ, ◌<◌, [], ◌∷◌, ◌++◌, false, Some, length, slice_get, IfOk, IfErr, OnOk, OnErr, nat_eq};
+ghost use Rattle.std.specs.Prelude.{◌≡◌, ◌≢◌, ◌↔◌, ℕ, ◌<◌, [], ◌∷◌, ◌++◌, true, false, Some, length, IsTrue, IfOk, IfErr, OnOk, OnErr, nat_eq};
 ghost use Rattle.std.specs.Borrow.{Lends, sem};
 ghost use Rattle.giputils_base.specs.Hash.{get};
-ghost use Rattle.giputils_base.specs.Allocator.{value_at, mark_at, mark, write, survivors, unmarked, IsIndexMap, Renumbers};
+ghost use Rattle.giputils_base.specs.Allocator.{value_at, mark_at, mark, survivors, unmarked_slots, IsIndexMap, Renumbers};
 
 mod run;
 #[cfg(test)]
@@ -16,7 +16,7 @@ use std::marker::Model;
 use std::ops::{Deref, DerefMut, Index, IndexMut};
 
 /// A value that may be marked as removed, seen as the pair of the two.
-#[derive(Drop)]
+#[derive(Debug, Drop)]
 pub struct GallocElem<T> {
     value: T,
     removed: bool,
@@ -90,6 +90,7 @@ impl<T> DerefMut for GallocElem<T> {
 /// Values by the indexes that were given out for them, seen as the list of its slots: each value with whether it is
 /// marked as removed.
 #[derive(Drop)]
+#[derive_where(Debug; T)]
 pub struct Gallocator<T, A: Allocator = Global> {
     slots: Gvec<GallocElem<T>, A>,
 }
@@ -121,6 +122,14 @@ impl<T, A: Allocator> Gallocator<T, A> {
         self.slots.len()
     }
 
+    /// Whether there is no slot, marked ones counted.
+    #[inline]
+    pub fn is_empty(&self) -> bool
+        ensures { IsTrue result ↔ (self.now ≡ []) }
+    {
+        self.slots.is_empty()
+    }
+
     /// Puts `value` into a new slot behind the others, unmarked, and answers its index. Where there is no memory the value
     /// comes back, and nothing changes.
     pub fn alloc(&mut self, value: T) -> Result<usize, T>
@@ -129,11 +138,11 @@ impl<T, A: Allocator> Gallocator<T, A> {
         ensures value_returned { IfErr result (λ v. v ≡ value) }
         ensures err { OnErr result (self.new ≡ self.old) }
     {
-        let index = self.slots.len();
-        match self.slots.push(GallocElem::new(value)) {
-            Ok(()) => Ok(index),
-            Err(refused) => Err(refused.value.take()),
-        }
+        let index = self.len();
+        self.slots
+            .push(GallocElem::new(value))
+            .map_err(|refused| refused.value.take())?;
+        Ok(index)
     }
 
     /// Marks slot `index` as removed. A marked one stays marked, and its value can still be read.
@@ -142,6 +151,11 @@ impl<T, A: Allocator> Gallocator<T, A> {
         requires { index < length self.old }
         ensures marked { self.new ≡ mark self.old index }
         ensures len { length self.new ≡ length self.old }
+
+        // `marked` again, slot by slot.
+        ensures mark { mark_at self.new index ≡ Some true }
+        ensures other_marks { (k : ℕ) → k ≢ index → mark_at self.new k ≡ mark_at self.old k }
+        ensures values { (k : ℕ) → value_at self.new k ≡ value_at self.old k }
     {
         let slot = &mut self.slots[index];
         slot.removed = true;
@@ -162,7 +176,7 @@ impl<T, A: Allocator> Gallocator<T, A> {
     where
         T: Drop,
         A: Copy,
-        ensures ok { OnOk result (self.new ≡ unmarked (survivors self.old)) }
+        ensures ok { OnOk result (self.new ≡ unmarked_slots (survivors self.old)) }
         ensures map { IfOk result (λ m. IsIndexMap self.old m) }
         ensures renumbers { IfOk result (λ m. Renumbers self.old self.new (get nat_eq m)) }
         ensures err { OnErr result (self.new ≡ self.old) }
@@ -172,28 +186,16 @@ impl<T, A: Allocator> Gallocator<T, A> {
         Ok(indexes)
     }
 
-    // How many slots are unmarked. The sum takes no branch at a mark.
-    fn survivor_count(&self) -> usize
-        ensures { result ≡ length (survivors self.now) }
-    {
-        let mut count = 0usize;
-        for slot in self.slots.iter() {
-            count += usize::from(!slot.is_removed());
-        }
-        count
-    }
-
-    // The new index of each unmarked slot. The map grows once, to the number of those.
+    // The new index of each unmarked slot.
     fn index_map(&self) -> Result<GHashMap<usize, usize, A>, AllocError>
     where
         A: Copy,
         ensures { IfOk result (λ m. IsIndexMap self.now m) }
     {
         let mut indexes = GHashMap::new(*self.slots.allocator());
-        indexes.reserve(self.survivor_count())?;
         let mut next = 0usize;
-        for old in 0..self.slots.len() {
-            if !self.slots[old].is_removed() {
+        for (old, slot) in self.slots.iter().enumerate() {
+            if !slot.is_removed() {
                 indexes.insert(old, next)?;
                 next += 1;
             }

@@ -31,11 +31,13 @@ impl<T: Drop, A: Allocator> Grc<T, A> {
             inner: Rc::new(alloc, value)?,
         })
     }
+}
 
-    /// Another owner of the same value. It takes no memory, and is refused only where the owners can no longer be counted.
-    pub fn clone(&self) -> Result<Self, AllocError>
-        ensures { IfOk result (λ g. g ≡ self.now) }
-    {
+/// Another owner of the same value. It takes no memory, and is refused only where the owners can no longer be counted.
+impl<T: Drop, A: Allocator> Clone for Grc<T, A> {
+    ghost is_clone = { λ g h. h ≡ g };
+
+    fn clone(&self) -> Result<Self, AllocError> {
         Ok(Grc {
             inner: self.inner.clone()?,
         })

@@ -1,5 +1,5 @@
 //! A vector that is indexed by `u32`, `i32` and `usize`.
-ghost use Rattle.std.specs.Prelude.{◌≡◌, ◌≢◌, ℕ, ◌+◌, ◌-◌, ◌<◌, ◌≤◌, [], length, slice_index_or, swap, IfOk, OnOk, OnErr, IsOk};
+ghost use Rattle.std.specs.Prelude.{◌≡◌, ◌+◌, ◌<◌, ◌≤◌, [], length, slice_index_or, swap, IfOk, OnOk, OnErr, IsOk};
 ghost use Rattle.std.specs.List.{FoldsTo, AllZip};
 ghost use Rattle.std.specs.Borrow.{sem};
 ghost use Rattle.giputils_base.specs.Gvec.{swap_remove, FilledTo, Draws, Iterates, IsPlace, place};
@@ -98,10 +98,6 @@ impl<T, A: Allocator> Gvec<T, A> {
         requires { i < length self.old }
         ensures items { self.new ≡ swap_remove self.old i }
         ensures len { length self.new + 1 ≡ length self.old }
-
-        // `items` again, place by place.
-        ensures moved { (d : T) → i + 1 < length self.old → slice_index_or self.new i d ≡ slice_index_or self.old (length self.old - 1) d }
-        ensures kept { (k : ℕ) (d : T) → k ≢ i → k + 1 < length self.old → slice_index_or self.new k d ≡ slice_index_or self.old k d }
     {
         let _ = self.items.swap_remove(i);
     }
@@ -115,7 +111,7 @@ impl<T, A: Allocator> Gvec<T, A> {
         ensures had_room { size ≤ length self.old → IsOk result }
         ensures err { OnErr result (self.new ≡ self.old) }
     {
-        let missing = size.saturating_sub(self.items.len());
+        let missing = size.saturating_sub(self.len());
         self.items.reserve(missing)?;
         for _ in 0..missing {
             self.items.push_reserved(T::default());
@@ -226,7 +222,8 @@ impl<T: Drop, A: Allocator> IntoIterator for Gvec<T, A> {
     }
 }
 
-/// The items that the iterator gives, in order.
+/// The items that the iterator gives, in order. Where the iterator is at hand write `iterator.collect(alloc)`: a proof then
+/// knows the list at once, and after `Gvec::from_iter` only that some run of the iterator gave it.
 impl<T: Drop, A: Allocator> FromIterator<T> for Gvec<T, A> {
     type Alloc = A;
 
@@ -254,6 +251,7 @@ impl<T, A: Allocator> Deref for Gvec<T, A> {
 
     ghost deref_gives = { λ g v. v.items ≡ g };
 
+    #[inline]
     fn deref(&self) -> &Vec<T, A> {
         &self.items
     }
@@ -264,6 +262,7 @@ impl<T, A: Allocator> DerefMut for Gvec<T, A> {
 
     ghost deref_mut_gives = { λ g v. v.items ≡ g };
 
+    #[inline]
     fn deref_mut(&mut self) -> &mut Vec<T, A>
         ensures* writes_back { sem 𝓛 (lends_vec T.row A.row A.Allocator self.entry result) }
         ensures value { result.now.items ≡ self.old }

@@ -45,7 +45,8 @@ impl<T: Eq + Hash, A: Allocator> GHashSet<T, A> {
     }
 }
 
-/// The items that the iterator gives, each once.
+/// The items that the iterator gives, each once. Where the iterator is at hand write `iterator.collect(alloc)`: a proof then
+/// knows the items at once, and after `GHashSet::from_iter` only that some run of the iterator gave them.
 impl<T: Eq + Hash + Drop, A: Allocator + Clone> FromIterator<T> for GHashSet<T, A> {
     type Alloc = A;
 
@@ -88,6 +89,7 @@ impl<T: Eq + Hash, A: Allocator> Deref for GHashSet<T, A> {
 
     ghost deref_gives = { λ g s. s.keys ≡ g };
 
+    #[inline]
     #[inline]
     fn deref(&self) -> &Set<T, A> {
         &self.set
@@ -141,7 +143,9 @@ impl<K: Eq + Hash, V, A: Allocator> GHashMap<K, V, A> {
     }
 }
 
-/// The pairs that the iterator gives. Of pairs with equal keys the last value stands.
+/// The pairs that the iterator gives. Of pairs with equal keys the last value stands. Where the iterator is at hand write
+/// `iterator.collect(alloc)`: a proof then knows the pairs at once, and after `GHashMap::from_iter` only that some run of the
+/// iterator gave them.
 impl<K: Eq + Hash + Drop, V: Drop, A: Allocator + Clone> FromIterator<(K, V)>
     for GHashMap<K, V, A> {
     type Alloc = A;
@@ -185,6 +189,7 @@ impl<K: Eq + Hash, V, A: Allocator> Deref for GHashMap<K, V, A> {
 
     ghost deref_gives = { λ g m. m.entries ≡ g };
 
+    #[inline]
     #[inline]
     fn deref(&self) -> &Map<K, V, A> {
         &self.map

@@ -1,20 +1,27 @@
 //! A list of calls, made on an allocator one after another.
 ghost use Rattle.std.specs.Prelude.{◌≡◌, [], length, IfOk, vec_len};
-ghost use Rattle.giputils_base.specs.AllocatorRun.{IsAnswer, after, Answers};
+ghost use Rattle.giputils_base.specs.AllocatorRun.{IsAnswer, slots_after, Answers};
 
 use crate::allocator::Gallocator;
 use crate::hash::GHashMap;
 use std::alloc::{AllocError, Allocator, Global};
 
 /// A call on an allocator, with its arguments.
-#[derive(Clone, Copy, Debug)]
+#[derive(Clone, Copy, Debug, PartialEq)]
 pub enum GallocCall<T> {
+    /// [`Gallocator::alloc`] of this value.
     Alloc(T),
+    /// [`Gallocator::dealloc`] of the slot at this index.
     Dealloc(usize),
+    /// [`Gallocator::is_removed`] of the slot at this index.
     IsRemoved(usize),
+    /// Reads the value at this index.
     Read(usize),
+    /// Writes this value at this index.
     Write(usize, T),
+    /// [`Gallocator::gc`].
     Gc,
+    /// [`Gallocator::len`].
     Len,
 }
 
@@ -53,18 +60,18 @@ pub fn galloc_run<T: Copy, A: Allocator + Copy>(
     let mut replies = Vec::with_capacity(alloc, calls.len())?;
     let mut allocator = Gallocator::new(alloc);
     for call in calls {
-        replies.push_reserved(answer(&mut allocator, *call));
+        replies.push_reserved(make_call(&mut allocator, *call));
     }
     Ok((allocator, replies))
 }
 
 // Makes one call, if its index is below the length.
-fn answer<T: Copy, A: Allocator + Copy>(
+fn make_call<T: Copy, A: Allocator + Copy>(
     allocator: &mut Gallocator<T, A>,
     call: GallocCall<T>,
 ) -> GallocReply<T, A>
-    ensures answer { IsAnswer allocator.old call result }
-    ensures after { allocator.new ≡ after allocator.old call result }
+    ensures reply { IsAnswer allocator.old call result }
+    ensures slots { allocator.new ≡ slots_after allocator.old call result }
 {
     match call {
         GallocCall::Alloc(value) => match allocator.alloc(value) {

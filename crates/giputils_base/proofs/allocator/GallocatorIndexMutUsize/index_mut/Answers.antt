@@ -1,18 +1,16 @@
 -- The slot that was read is written back with another value, and its mark.
-use Rattle.std.proofs.Common.{◌∙◌, refl, ap, sym}
-use Rattle.std.specs.Prelude.{◌<◌, length, option_map, Some}
-use Rattle.giputils_base.proofs.AllocatorLemmas.{slice_set-write, slice_get-read}
+use Rattle.std.proofs.Common.{◌≡◌, ◌<◌, length, refl, ap, sym, ◌∙◌, Some}
+use Rattle.std.specs.Prelude.{slice_get, option_map}
+use Rattle.std.proofs.lemmas.Option.{slice_get_read}
 use Rattle.giputils_base.proofs.allocator.GallocatorIndexMutUsize.index_mut.Goals as goal
 
 pub returns : goal.returns
 returns g c =
     let slots = c.self.inside.slots in
-    let read = c.index_mut-slot.ensures.value in
+    let slot = c.index_mut-slot.result.now in
     let below : c.args.index < length c.self.inside.slots = rw c.self.view_is c.requires in
-    rw (← c.self.view_is) (
-      (refl, λ w. slice_set-write slots c.args.index _ w read),
-      record {
-        writes_back = tt;
-        value = ap (option_map (λ slot. slot.0)) (slice_get-read slots c.args.index _ below read) ∙ ap (λ v. Some v) (sym c.deref_mut.ensures.value);
-      },
+    let read : slice_get c.self.inside.slots c.args.index ≡ Some c.index_mut-slot.result.now = slice_get_read slots (length slots) c.args.index slot refl below c.index_mut-slot.ensures.value in
+    rw (← c.self.view_is, read) (
+      (refl, λ w. refl),
+      record { writes_back = tt; value = ap (λ v. Some v) (sym c.deref_mut.ensures.value) },
     )

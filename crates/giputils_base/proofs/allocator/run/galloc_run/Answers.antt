@@ -1,7 +1,7 @@
 -- One more call is answered; after the last, all are.
 use Rattle.std.proofs.Common.{arith, ap, sym, ◌∙◌, ◌≡◌, ◌+◌, ◌++◌, ◌∷◌, [], take}
 use Rattle.std.proofs.lemmas.List.{take_more, take_all}
-use Rattle.giputils_base.proofs.AllocatorRunLemmas.{Answers-push}
+use Rattle.giputils_base.proofs.Runs.{Answers-push}
 use Rattle.giputils_base.proofs.allocator.run.galloc_run.Goals as goal
 
 pub loop-call-preserved : goal.loop-call-preserved
@@ -10,7 +10,7 @@ loop-call-preserved g c =
     take_more c.args.calls.now c.loop-call.call-index c.call-item.result c.loop-call-test.true
     ∙ ap (λ call. take c.loop-call.call-index c.args.calls.now ++ call ∷ []) (sym c.call-item.is) in
     record {
-      answers = rw (more, c.push_reserved.ensures.items, c.answer.ensures.after) (Answers-push [] _ _ _ _ _ c.loop-call.invariant.answers c.answer.ensures.answer);
+      answers = rw (more, c.push_reserved.ensures.items, c.make_call.ensures.slots) (Answers-push [] _ _ _ _ _ c.loop-call.invariant.answers c.make_call.ensures.reply);
       len = omega arith;
       room = omega arith;
     }

@@ -1,6 +1,6 @@
 -- The map inside was made of the pairs that the iterator gave, inserted in turn.
 use Rattle.std.proofs.Common.{◌∙◌}
-use Rattle.giputils_base.proofs.HashLemmas.{update_all-last_value}
+use Rattle.giputils_base.proofs.LastValues.{update_all-last_value}
 use Rattle.giputils_base.proofs.hash.GHashMapFromIteratorTuple2.from_iter.Goals as goal
 
 pub returns : goal.returns

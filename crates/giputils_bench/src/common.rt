@@ -1,0 +1,56 @@
+//! What all workloads share: the numbers that they draw, and the checksum of what was answered.
+ghost use Rattle.std.specs.Prelude.{◌^◌, ◌<◌, ◌≤◌};
+
+use rand_core::Rng;
+use rand_pcg::Pcg32;
+use std::fmt;
+
+// The stream of every generator.
+const STREAM: u64 = 54;
+
+/// The numbers that a workload draws: those of PCG32 from a seed on.
+#[derive(Drop)]
+pub struct Generator(Pcg32);
+
+impl Generator {
+    pub fn new(seed: u64) -> Self {
+        Generator(Pcg32::new(seed, STREAM))
+    }
+
+    /// The next number.
+    #[inline]
+    pub fn draw(&mut self) -> u32 {
+        self.0.next_u32()
+    }
+
+    /// A number below `bound`, made of the next one.
+    #[inline]
+    pub fn below(&mut self, bound: usize) -> usize
+        requires positive { 0 < bound }
+        requires fits { bound ≤ 2 ^ 32 }
+        ensures { result < bound }
+    {
+        ((u64::from(self.draw()) * bound as u64) >> 32) as usize
+    }
+}
+
+/// A checksum of 64-bit words, FNV-1a taken a word at a time. `{}` writes 16 hexadecimal digits.
+#[derive(Clone, Copy)]
+pub struct Checksum(u64);
+
+impl Checksum {
+    pub fn new() -> Self {
+        Checksum(0xcbf2_9ce4_8422_2325)
+    }
+
+    #[inline]
+    pub fn mix(&mut self, word: u64) {
+        self.0 = (self.0 ^ word).wrapping_mul(0x100_0000_01b3);
+    }
+}
+
+impl fmt::Display for Checksum {
+    fn fmt<W: fmt::Write>(&self, f: &mut fmt::Formatter<W>) -> fmt::Result {
+        write!(f, "{:016x}", self.0)
+    }
+}

@@ -1,0 +1,66 @@
+//! Workloads of the containers, to be timed: `giputils_bench WORKLOAD SIZE SEED [REPS]`.
+//!
+//! A run makes the workload REPS times (once where it isn't given), each with a generator of its own, and writes a
+//! checksum of all that was answered, in 16 hexadecimal digits. By it the runs of several programs over one workload are
+//! known to have done the same. `all` makes each workload, and writes a line for each. A name of no workload ends with
+//! status 3.
+#![tactic(auto)]
+
+mod common;
+mod galloc;
+mod heap;
+
+use anyhow::{Context, bail};
+use common::{Checksum, Generator};
+use std::alloc::{AllocError, Global};
+use std::env;
+use std::process::ExitCode;
+
+const WORKLOADS: [&str; 2] = ["heapsort", "galloc"];
+
+fn main(rt: HostRuntime) -> anyhow::Result<ExitCode> {
+    let alloc = rt.alloc();
+    let args: Vec<String> = env::args(&rt)?.collect(alloc)?;
+    let words: Vec<&str> = args.iter().map(|arg| arg.as_str()).collect(alloc)?;
+    let (workload, size, seed, reps) = match *words.as_slice() {
+        [_, workload, size, seed] => (workload, size, seed, "1"),
+        [_, workload, size, seed, reps] => (workload, size, seed, reps),
+        _ => bail!("usage: giputils_bench WORKLOAD SIZE SEED [REPS]"),
+    };
+    let size: u32 = size.parse().context("SIZE")?;
+    let seed: u64 = seed.parse().context("SEED")?;
+    let reps: u64 = reps.parse().context("REPS")?;
+    if workload == "all" {
+        for workload in WORKLOADS {
+            if let Some(checksum) = repeat(alloc, workload, size, seed, reps)? {
+                println!(rt; "{workload} {checksum}")?;
+            }
+        }
+        return Ok(ExitCode::SUCCESS);
+    }
+    match repeat(alloc, workload, size, seed, reps)? {
+        Some(checksum) => println!(rt; "{checksum}")?,
+        None => return Ok(ExitCode::from(3)),
+    }
+    Ok(ExitCode::SUCCESS)
+}
+
+// The checksum of `reps` runs of the workload of this name, if there is one.
+fn repeat(
+    alloc: Global,
+    workload: &str,
+    size: u32,
+    seed: u64,
+    reps: u64,
+) -> Result<Option<Checksum>, AllocError> {
+    let mut checksum = Checksum::new();
+    for rep in 0..reps {
+        let mut rng = Generator::new(seed.wrapping_add(rep));
+        match workload {
+            "heapsort" => heap::heapsort(alloc, size, &mut rng, &mut checksum)?,
+            "galloc" => galloc::galloc(alloc, size, &mut rng, &mut checksum)?,
+            _ => return Ok(None),
+        }
+    }
+    Ok(Some(checksum))
+}
