@@ -1,3 +1,4 @@
 pub mod Bits
+pub mod Extended
 pub mod Hashed
 pub mod Places

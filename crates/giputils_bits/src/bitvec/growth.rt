@@ -2,6 +2,7 @@
 ghost use Rattle.std.specs.Prelude.{◌≡◌, ◌+◌, ◌*◌, ◌/◌, ◌%◌, ◌<◌, ◌≤◌, ◌↔◌, [], ◌∷◌, ◌++◌, List, Bool, length, IfOk, OnErr, OnOk, IsOk};
 ghost use Rattle.std.specs.Iterator.{Drains, ExtendsWithItems, IsFinite};
 ghost use Rattle.giputils_bits.specs.Bits.{digits_of};
+ghost use Rattle.giputils_bits.specs.Extended.{StopsBefore};
 ghost use Rattle.giputils_bits.specs.Places.{bits_of, IsPacked, HasRoom, AppendsWord};
 
 use super::BitVec;
@@ -65,6 +66,7 @@ impl<A: Allocator> BitVec<A> {
     pub fn extend<U: IntoIterator<Item = bool>>(&mut self, iter: U) -> Result<(), BitVecError>
         requires { (it : U.IntoIter) → U.into_iter_gives iter it → U.IntoIter.can_next it × IsFinite (U.IntoIter.remaining it) }
         ensures ran { ExtendsWithItems U.into_iter_gives U.IntoIter.next_gives (λ bits items more. more ≡ bits ++ items) iter self.old self.new result }
+        ensures err { OnErr result (StopsBefore U.into_iter_gives U.IntoIter.next_gives iter self.old self.new) }
         ensures inline { ((it : U.IntoIter) → U.into_iter_gives iter it → length self.old + (U.IntoIter.remaining it).bound ≤ 64) → IsOk result }
         ensures memory { result ≡ Err BitVecError.Memory → (0 < length self.new) × (length self.new % 64 ≡ 0) }
         ensures too_long { result ≡ Err BitVecError.TooLong → length self.new ≡ usize.MAX }
@@ -137,6 +139,7 @@ fn append_items<A: Allocator, U: IntoIterator<Item = bool>>(
     requires ends { (it : U.IntoIter) → U.into_iter_gives iter it → U.IntoIter.can_next it × IsFinite (U.IntoIter.remaining it) }
     ensures packed { IsPacked result.0 words.new }
     ensures ran { ExtendsWithItems U.into_iter_gives U.IntoIter.next_gives (λ bits items more. more ≡ bits ++ items) iter (bits_of len words.old) (bits_of result.0 words.new) result.1 }
+    ensures err { OnErr result.1 (StopsBefore U.into_iter_gives U.IntoIter.next_gives iter (bits_of len words.old) (bits_of result.0 words.new)) }
     ensures inline { ((it : U.IntoIter) → U.into_iter_gives iter it → len + (U.IntoIter.remaining it).bound ≤ 64) → IsOk result.1 }
     ensures memory { result.1 ≡ Err BitVecError.Memory → (0 < result.0) × (result.0 % 64 ≡ 0) }
     ensures too_long { result.1 ≡ Err BitVecError.TooLong → result.0 ≡ usize.MAX }
