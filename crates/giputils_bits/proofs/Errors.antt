@@ -1,0 +1,14 @@
+-- What a refused request becomes.
+use Rattle.std.proofs.Common.{◌≡◌, Result, Ok, Err, ap}
+use Rattle.std.specs.Prelude.{IsErr, IsErrAnd, OnOk, is_err, false}
+use Rattle.giputils_bits.specs.declared.bitvec.error.BitVecError.{BitVecError}
+use Rattle.giputils_bits.specs.declared.bitvec.error.BitVecError.TheVariants.{Memory}
+
+pub memory_from : {X : Type 0} → (r : Result X BitVecError) → IsErr r × IsErrAnd r (λ error. error ≡ Memory) → r ≡ Err Memory
+memory_from (Ok x) h = absurd (let never = h.0 in cc)
+memory_from (Err e) h = ap (λ error. Err error) h.1
+
+-- what a call that did not fail ensures
+pub ok_if_not_err : {X E : Type 0} {P : Type 0} → (r : Result X E) → is_err r ≡ false → OnOk r P → P
+ok_if_not_err (Ok x) e h = h
+ok_if_not_err (Err e') e h = absurd (cc)

@@ -1,0 +1,4 @@
+use Rattle.giputils_bits.proofs.bitvec.BitVec.extend.Goals as goal
+
+pub returns-clause-err : goal.returns-clause-err
+returns-clause-err g c = rw c.self.view_is at c.append_items-len.ensures.err

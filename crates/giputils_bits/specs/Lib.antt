@@ -1,0 +1,5 @@
+pub mod Bits
+pub mod Error
+pub mod Extended
+pub mod Hashed
+pub mod Places

@@ -1,0 +1,48 @@
+-- How words keep a list of booleans: place i is digit i % 64 of word i / 64. Only this crate's own functions speak of it.
+use Rattle.std.specs.Prelude.{◌≡◌, ◌≢◌, ℕ, ◌+◌, ◌-◌, ◌/◌, ◌%◌, ◌<◌, ◌≤◌, max, Bool, false, List, [], ◌∷◌, map, length, slice_index}
+use Rattle.std.specs.List.{range_with_len}
+use Rattle.giputils_bits.specs.Bits.{has_digit, word_count}
+
+-- the words of a storage: those on the heap, or the one inline where there are none
+abbrev pub kept : ℕ → List ℕ → List ℕ
+kept inline [] = inline ∷ []
+kept inline (w ∷ ws) = w ∷ ws
+
+-- place i of the words; past their end it is false
+unfoldable pub place : List ℕ → ℕ → Bool
+place ws i = has_digit (slice_index ws (i / 64)) (i % 64)
+
+-- n places of the words, from place `start` on
+unfoldable pub places : List ℕ → ℕ → ℕ → List Bool
+places ws start n = map (place ws) (range_with_len start n)
+
+-- the first n places of the words
+abbrev pub bits_of : ℕ → List ℕ → List Bool
+bits_of n ws = places ws 0 n
+
+-- the words are as many as n places take, but at least one, and all their places from n on are false
+pub record IsPacked (n : ℕ) (ws : List ℕ) : Type 0 where
+  pub count : length ws ≡ max 1 (word_count n)
+  pub padding : (i : ℕ) → n ≤ i → place ws i ≡ false
+
+-- digit k of a word becomes b, and no other changes
+pub record SetsDigit (old new k : ℕ) (b : Bool) : Type 0 where
+  pub at : has_digit new k ≡ b
+  pub others : (j : ℕ) → j < 64 → j ≢ k → has_digit new j ≡ has_digit old j
+
+-- place i of the words becomes b, and no other changes
+pub record SetsPlace (old new : List ℕ) (i : ℕ) (b : Bool) : Type 0 where
+  pub count : length new ≡ length old
+  pub at : place new i ≡ b
+  pub others : (j : ℕ) → j ≢ i → place new j ≡ place old j
+
+-- there is room for a place more after n of them, and each place is as it was
+pub record HasRoom (n : ℕ) (old new : List ℕ) : Type 0 where
+  pub count : length new ≡ word_count (n + 1)
+  pub same : (j : ℕ) → place new j ≡ place old j
+
+-- after n places come 64 more: those of the word
+pub record AppendsWord (n : ℕ) (old new : List ℕ) (word : ℕ) : Type 0 where
+  pub count : length new ≡ word_count (n + 64)
+  pub before : (j : ℕ) → j < n → place new j ≡ place old j
+  pub after : (j : ℕ) → n ≤ j → place new j ≡ place (word ∷ []) (j - n)

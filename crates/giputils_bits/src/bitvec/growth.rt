@@ -1,0 +1,168 @@
+//! How a bit vector grows and is emptied. What refuses stands before what writes.
+ghost use Rattle.std.specs.Prelude.{◌≡◌, ◌+◌, ◌*◌, ◌/◌, ◌%◌, ◌<◌, ◌≤◌, ◌↔◌, [], ◌∷◌, ◌++◌, List, Bool, length, IfOk, OnErr, OnOk, IsOk};
+ghost use Rattle.std.specs.Iterator.{Drains, ExtendsWithItems, IsFinite};
+ghost use Rattle.giputils_bits.specs.Bits.{digits_of};
+ghost use Rattle.giputils_bits.specs.Extended.{StopsBefore};
+ghost use Rattle.giputils_bits.specs.Places.{bits_of, IsPacked, HasRoom, AppendsWord};
+
+use super::BitVec;
+use super::error::BitVecError;
+use super::queries::with_bit;
+use super::storage::Storage;
+use std::alloc::{AllocError, Allocator};
+
+impl<A: Allocator> BitVec<A> {
+    /// Leaves no bit. Memory that is there is kept for the next growth.
+    #[inline]
+    pub fn clear(&mut self)
+        ensures { self.new ≡ [] }
+    {
+        self.len = 0;
+        self.words.reset();
+    }
+
+    /// Appends a bit. Refused, nothing changes.
+    #[inline]
+    #[tactic(auto, using(crate::proofs::Kept::kept))]
+    pub fn push(&mut self, bit: bool) -> Result<(), BitVecError>
+        ensures ok { OnOk result (self.new ≡ self.old ++ bit ∷ []) }
+        ensures inline { length self.old < 64 → IsOk result }
+        ensures too_long { (result ≡ Err BitVecError.TooLong) ↔ (length self.old ≡ usize.MAX) }
+        ensures err { OnErr result (self.new ≡ self.old) }
+    {
+        if self.len == usize::MAX {
+            return Err(BitVecError::TooLong);
+        }
+        make_room(&mut self.words, self.len)?;
+        let k = self.len / 64;
+        let word = self.words.as_slice()[k];
+        self.words.put(k, with_bit(word, self.len % 64, bit));
+        self.len += 1;
+        Ok(())
+    }
+
+    /// Appends the 64 binary digits of `word`, the lowest first. Refused, nothing changes.
+    #[inline]
+    #[tactic(auto, using(crate::proofs::Kept::kept))]
+    pub fn push_word(&mut self, word: u64) -> Result<(), BitVecError>
+        ensures ok { OnOk result (self.new ≡ self.old ++ digits_of 64 word) }
+        ensures inline { self.old ≡ [] → IsOk result }
+        ensures too_long { (result ≡ Err BitVecError.TooLong) ↔ (usize.MAX < length self.old + 64) }
+        ensures err { OnErr result (self.new ≡ self.old) }
+    {
+        if self.len > usize::MAX - 64 {
+            return Err(BitVecError::TooLong);
+        }
+        append_word(&mut self.words, self.len, word)?;
+        self.len += 64;
+        Ok(())
+    }
+
+    /// Appends the items of an iterator that ends.
+    ///
+    /// At an error the items before the refused one stand, and the refused one was taken and is not kept. Memory is
+    /// refused only where a word is full, and the vector then ends with that word.
+    #[tactic(auto, using(crate::proofs::Kept::kept))]
+    pub fn extend<U: IntoIterator<Item = bool>>(&mut self, iter: U) -> Result<(), BitVecError>
+        requires { (it : U.IntoIter) → U.into_iter_gives iter it → U.IntoIter.can_next it × IsFinite (U.IntoIter.remaining it) }
+        ensures ran { ExtendsWithItems U.into_iter_gives U.IntoIter.next_gives (λ bits items more. more ≡ bits ++ items) iter self.old self.new result }
+        ensures err { OnErr result (StopsBefore U.into_iter_gives U.IntoIter.next_gives iter self.old self.new) }
+        ensures inline { ((it : U.IntoIter) → U.into_iter_gives iter it → length self.old + (U.IntoIter.remaining it).bound ≤ 64) → IsOk result }
+        ensures memory { result ≡ Err BitVecError.Memory → (0 < length self.new) × (length self.new % 64 ≡ 0) }
+        ensures too_long { result ≡ Err BitVecError.TooLong → length self.new ≡ usize.MAX }
+    {
+        let (len, done) = append_items(&mut self.words, self.len, iter);
+        self.len = len;
+        done
+    }
+
+    /// The items of an iterator that ends, in order.
+    pub fn from<U: IntoIterator<Item = bool>>(alloc: A, iter: U) -> Result<Self, BitVecError>
+        requires { (it : U.IntoIter) → U.into_iter_gives iter it → U.IntoIter.can_next it × IsFinite (U.IntoIter.remaining it) }
+        ensures ran { IfOk result (λ bits. (it : U.IntoIter) × (items : List Bool) × U.into_iter_gives iter it × Drains U.IntoIter.next_gives it items × (bits ≡ items)) }
+        ensures inline { ((it : U.IntoIter) → U.into_iter_gives iter it → (U.IntoIter.remaining it).bound ≤ 64) → IsOk result }
+    {
+        let mut bits = Self::new(alloc);
+        bits.extend(iter)?;
+        Ok(bits)
+    }
+}
+
+// Makes room for one place after the first `len`.
+#[inline]
+fn make_room<A: Allocator>(words: &mut Storage<A>, len: usize) -> Result<(), AllocError>
+    requires { IsPacked len words.old }
+    ensures ok { OnOk result (HasRoom len words.old words.new) }
+    ensures inline { len < 64 → IsOk result }
+    ensures err { OnErr result (words.new ≡ words.old) }
+{
+    if len % 64 == 0 && len > 0 {
+        words.push(0)?;
+    }
+    Ok(())
+}
+
+// Appends the digits of a word to the first `len` places.
+#[inline]
+fn append_word<A: Allocator>(
+    words: &mut Storage<A>,
+    len: usize,
+    word: u64,
+) -> Result<(), AllocError>
+    requires { IsPacked len words.old }
+    ensures ok { OnOk result (AppendsWord len words.old words.new word) }
+    ensures inline { len ≡ 0 → IsOk result }
+    ensures err { OnErr result (words.new ≡ words.old) }
+{
+    let shift = len % 64;
+    if len == 0 {
+        words.put(0, word);
+    } else if shift == 0 {
+        words.push(word)?;
+    } else {
+        words.push(word >> (64 - shift))?;
+        let last = len / 64;
+        let joined = words.as_slice()[last] | word << shift;
+        words.put(last, joined);
+    }
+    Ok(())
+}
+
+// Appends the items to the first `len` places, and answers how many places there are then. Items are gathered in a
+// word, and written as a word.
+fn append_items<A: Allocator, U: IntoIterator<Item = bool>>(
+    words: &mut Storage<A>,
+    len: usize,
+    iter: U,
+) -> (usize, Result<(), BitVecError>)
+    requires packed { IsPacked len words.old }
+    requires ends { (it : U.IntoIter) → U.into_iter_gives iter it → U.IntoIter.can_next it × IsFinite (U.IntoIter.remaining it) }
+    ensures packed { IsPacked result.0 words.new }
+    ensures ran { ExtendsWithItems U.into_iter_gives U.IntoIter.next_gives (λ bits items more. more ≡ bits ++ items) iter (bits_of len words.old) (bits_of result.0 words.new) result.1 }
+    ensures err { OnErr result.1 (StopsBefore U.into_iter_gives U.IntoIter.next_gives iter (bits_of len words.old) (bits_of result.0 words.new)) }
+    ensures inline { ((it : U.IntoIter) → U.into_iter_gives iter it → len + (U.IntoIter.remaining it).bound ≤ 64) → IsOk result.1 }
+    ensures memory { result.1 ≡ Err BitVecError.Memory → (0 < result.0) × (result.0 % 64 ≡ 0) }
+    ensures too_long { result.1 ≡ Err BitVecError.TooLong → result.0 ≡ usize.MAX }
+{
+    let mut end = len;
+    let mut last = words.len() - 1;
+    let mut word = words.as_slice()[last];
+    for bit in iter {
+        if end == usize::MAX {
+            words.put(last, word);
+            return (end, Err(BitVecError::TooLong));
+        }
+        if end % 64 == 0 && end > 0 {
+            words.put(last, word);
+            if words.push(0).is_err() {
+                return (end, Err(BitVecError::Memory));
+            }
+            last += 1;
+            word = 0;
+        }
+        word = with_bit(word, end % 64, bit);
+        end += 1;
+    }
+    words.put(last, word);
+    (end, Ok(()))
+}

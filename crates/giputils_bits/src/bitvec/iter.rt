@@ -1,0 +1,209 @@
+//! The iterators of a bit vector. Each is seen as the list of the bits that it has left.
+ghost use Rattle.std.specs.Prelude.{◌≡◌, ⊤};
+ghost use Rattle.std.specs.Iterator.{YieldsFirst, YieldsLast, item_count};
+
+use super::BitVec;
+use super::queries::bit_at;
+use super::storage::Storage;
+use std::alloc::{AllocError, Allocator, Global};
+use std::iter::FusedIterator;
+use std::marker::Model;
+
+/// An iterator over the bits of a vector, in order.
+#[derive(Drop)]
+pub struct Iter<'a> {
+    words: &'a [u64],
+    start: usize,
+    end: usize,
+}
+
+impl<'a> Model for Iter<'a> {
+    ghost use Rattle.std.specs.Prelude.{List, Bool};
+
+    ghost Value = { List Bool };
+
+    ghost use Rattle.std.specs.Prelude.{◌≤◌, ◌*◌, ◌-◌, length};
+    ghost use Rattle.giputils_bits.specs.Places.{places};
+
+    ghost view = { λ s. places s.words.now s.start (s.end - s.start) };
+
+    ghost invariant = { λ s. (s.start ≤ s.end) × (s.end ≤ 64 * length s.words.now) };
+}
+
+impl<A: Allocator> BitVec<A> {
+    /// An iterator over the bits, in order.
+    #[inline]
+    pub fn iter(&self) -> Iter<'_>
+        ensures { result ≡ self.now }
+    {
+        Iter {
+            words: self.words.as_slice(),
+            start: 0,
+            end: self.len,
+        }
+    }
+}
+
+impl<'a> Iterator for Iter<'a> {
+    type Item = bool;
+
+    ghost next_gives = { YieldsFirst (λ rest. rest) };
+
+    ghost remaining = { item_count (λ rest. rest) };
+
+    #[inline]
+    #[tactic(auto, using(crate::proofs::Kept::kept))]
+    fn next(&mut self) -> Option<bool> {
+        if self.start == self.end {
+            return None;
+        }
+        let bit = bit_at(self.words, self.start);
+        self.start += 1;
+        Some(bit)
+    }
+
+    #[inline]
+    fn size_hint(&self) -> (usize, Option<usize>) {
+        let len = self.len();
+        (len, Some(len))
+    }
+}
+
+impl<'a> DoubleEndedIterator for Iter<'a> {
+    ghost next_back_gives = { YieldsLast (λ rest. rest) };
+
+    #[inline]
+    #[tactic(auto, using(crate::proofs::Kept::kept))]
+    fn next_back(&mut self) -> Option<bool> {
+        if self.start == self.end {
+            return None;
+        }
+        self.end -= 1;
+        Some(bit_at(self.words, self.end))
+    }
+}
+
+impl<'a> ExactSizeIterator for Iter<'a> {
+    #[inline]
+    #[tactic(auto, using(crate::proofs::Kept::kept))]
+    fn len(&self) -> usize {
+        self.end - self.start
+    }
+}
+
+impl<'a> FusedIterator for Iter<'a> {}
+
+impl<'a> Clone for Iter<'a> {
+    ghost is_clone = { λ s r. r ≡ s };
+
+    ghost is_infallible = { λ _. ⊤ };
+
+    fn clone(&self) -> Result<Iter<'a>, AllocError> {
+        Ok(Iter {
+            words: self.words,
+            start: self.start,
+            end: self.end,
+        })
+    }
+}
+
+/// An iterator that owns the vector whose bits it gives, in order.
+#[derive(Drop)]
+pub struct IntoIter<A: Allocator = Global> {
+    words: Storage<A>,
+    start: usize,
+    end: usize,
+}
+
+impl<A: Allocator> Model for IntoIter<A> {
+    ghost use Rattle.std.specs.Prelude.{List, Bool};
+
+    ghost Value = { List Bool };
+
+    ghost use Rattle.std.specs.Prelude.{◌≤◌, ◌*◌, ◌-◌, length};
+    ghost use Rattle.giputils_bits.specs.Places.{places};
+
+    ghost view = { λ s. places s.words s.start (s.end - s.start) };
+
+    ghost invariant = { λ s. (s.start ≤ s.end) × (s.end ≤ 64 * length s.words) };
+}
+
+impl<A: Allocator> Iterator for IntoIter<A> {
+    type Item = bool;
+
+    ghost next_gives = { YieldsFirst (λ rest. rest) };
+
+    ghost remaining = { item_count (λ rest. rest) };
+
+    #[inline]
+    #[tactic(auto, using(crate::proofs::Kept::kept))]
+    fn next(&mut self) -> Option<bool> {
+        if self.start == self.end {
+            return None;
+        }
+        let bit = bit_at(self.words.as_slice(), self.start);
+        self.start += 1;
+        Some(bit)
+    }
+
+    #[inline]
+    fn size_hint(&self) -> (usize, Option<usize>) {
+        let len = self.len();
+        (len, Some(len))
+    }
+}
+
+impl<A: Allocator> DoubleEndedIterator for IntoIter<A> {
+    ghost next_back_gives = { YieldsLast (λ rest. rest) };
+
+    #[inline]
+    #[tactic(auto, using(crate::proofs::Kept::kept))]
+    fn next_back(&mut self) -> Option<bool> {
+        if self.start == self.end {
+            return None;
+        }
+        self.end -= 1;
+        Some(bit_at(self.words.as_slice(), self.end))
+    }
+}
+
+impl<A: Allocator> ExactSizeIterator for IntoIter<A> {
+    #[inline]
+    #[tactic(auto, using(crate::proofs::Kept::kept))]
+    fn len(&self) -> usize {
+        self.end - self.start
+    }
+}
+
+impl<A: Allocator> FusedIterator for IntoIter<A> {}
+
+impl<'a, A: Allocator> IntoIterator for &'a BitVec<A> {
+    type Item = bool;
+
+    type IntoIter = Iter<'a>;
+
+    ghost into_iter_gives = { λ bits it. it ≡ bits.now };
+
+    #[inline]
+    fn into_iter(self) -> Iter<'a> {
+        self.iter()
+    }
+}
+
+impl<A: Allocator> IntoIterator for BitVec<A> {
+    type Item = bool;
+
+    type IntoIter = IntoIter<A>;
+
+    ghost into_iter_gives = { λ bits it. it ≡ bits };
+
+    #[inline]
+    fn into_iter(self) -> IntoIter<A> {
+        let BitVec { len, words } = self;
+        IntoIter {
+            words,
+            start: 0,
+            end: len,
+        }
+    }
+}

@@ -1,0 +1,168 @@
+//! What a bit vector answers, and a place set.
+ghost use Rattle.std.specs.Prelude.{◌≡◌, ◌≢◌, ◌<◌, ◌≤◌, ◌-◌, ◌*◌, ◌/◌, ◌^◌, ◌↔◌, [], ◌∷◌, true, false, length, take, replicate, slice_index, slice_index_or, slice_set, EachIndex, IsTrue, MatchOption};
+ghost use Rattle.giputils_bits.specs.Bits.{value_of, word_count, words_of, one_of};
+ghost use Rattle.giputils_bits.specs.Places.{place, SetsDigit};
+
+use super::BitVec;
+use std::alloc::Allocator;
+
+impl<A: Allocator> BitVec<A> {
+    /// The number of bits.
+    #[inline]
+    #[tactic(auto, using(crate::proofs::Kept::kept))]
+    pub fn len(&self) -> usize
+        ensures { result ≡ length self.now }
+    {
+        self.len
+    }
+
+    /// Whether there is no bit.
+    #[inline]
+    #[tactic(auto, using(crate::proofs::Kept::kept))]
+    pub fn is_empty(&self) -> bool
+        ensures { IsTrue result ↔ (length self.now ≡ 0) }
+    {
+        self.len == 0
+    }
+
+    /// The number of words: the length divided by 64, rounded up.
+    #[inline]
+    #[tactic(auto, using(crate::proofs::Kept::kept))]
+    pub fn word_len(&self) -> usize
+        ensures { result ≡ word_count (length self.now) }
+    {
+        self.len / 64 + usize::from(self.len % 64 != 0)
+    }
+
+    /// The words, in order, with zeros past the last bit. The empty vector has none.
+    #[inline]
+    pub fn words(&self) -> &[u64]
+        ensures { result.now ≡ words_of self.now }
+    {
+        let words = self.words.as_slice();
+        &words[..self.word_len()]
+    }
+
+    /// The first word, or 0 if there is none: the number that the first 64 bits are.
+    #[inline]
+    pub fn to_usize(&self) -> usize
+        ensures { result ≡ value_of (take 64 self.now) }
+    {
+        self.words.as_slice()[0] as usize
+    }
+
+    /// Bit `index`, which is below the length.
+    #[inline]
+    pub fn get(&self, index: usize) -> bool
+        requires { index < length self.now }
+        ensures { result ≡ slice_index_or self.now index false }
+    {
+        bit_at(self.words.as_slice(), index)
+    }
+
+    /// Sets bit `index`, which is below the length. It takes no memory.
+    #[inline]
+    pub fn set(&mut self, index: usize, val: bool)
+        requires { index < length self.old }
+        ensures { self.new ≡ slice_set self.old index val }
+    {
+        let k = index / 64;
+        let word = self.words.as_slice()[k];
+        self.words.put(k, with_bit(word, index % 64, val));
+    }
+
+    /// Whether each bit is false. The vector is not empty.
+    pub fn is_zero(&self) -> bool
+        requires { 0 < length self.now }
+        ensures { IsTrue result ↔ (self.now ≡ replicate (length self.now) false) }
+    {
+        all_equal(self.words(), 0)
+    }
+
+    /// Whether bit 0 alone is true. The vector is not empty.
+    pub fn is_one(&self) -> bool
+        requires { 0 < length self.now }
+        ensures { IsTrue result ↔ (self.now ≡ one_of (length self.now)) }
+    {
+        let words = self.words();
+        words[0] == 1 && all_equal(&words[1..], 0)
+    }
+
+    /// Whether each bit is true. The vector is not empty.
+    pub fn is_ones(&self) -> bool
+        requires { 0 < length self.now }
+        ensures { IsTrue result ↔ (self.now ≡ replicate (length self.now) true) }
+    {
+        let words = self.words();
+        let last = words.len() - 1;
+        words[last] == ones(self.len - 64 * last) && all_equal(&words[..last], u64::MAX)
+    }
+
+    /// The bit of a vector that has one.
+    #[inline]
+    pub fn bool(&self) -> bool
+        requires { length self.now ≡ 1 }
+        ensures { self.now ≡ result ∷ [] }
+    {
+        self.get(0)
+    }
+
+    /// The bit, if the vector has one and no more.
+    #[inline]
+    #[tactic(auto, using(crate::proofs::Kept::kept))]
+    pub fn try_bool(&self) -> Option<bool>
+        ensures { MatchOption result (length self.now ≢ 1) (λ bit. self.now ≡ bit ∷ []) }
+    {
+        if self.len == 1 {
+            Some(self.bool())
+        } else {
+            None
+        }
+    }
+}
+
+// Whether each of the words is `word`.
+#[inline]
+fn all_equal(words: &[u64], word: u64) -> bool
+    ensures { IsTrue result ↔ EachIndex words.now (λ k. slice_index words.now k ≡ word) }
+{
+    words.iter().all(|other| *other == word)
+}
+
+// Place `index` of the words.
+#[inline]
+pub fn bit_at(words: &[u64], index: usize) -> bool
+    requires { index / 64 < length words.now }
+    ensures { result ≡ place words.now index }
+{
+    (words[index / 64] >> (index % 64)) & 1 == 1
+}
+
+// The word with digit `k` as told.
+#[inline]
+pub fn with_bit(word: u64, k: usize, val: bool) -> u64
+    requires { k < 64 }
+    ensures { SetsDigit word result k val }
+{
+    if val { word | 1 << k } else { word & !(1 << k) }
+}
+
+// The word whose `count` lowest digits are `val`, where `count` is 1 to 64, and whose others are 0.
+#[inline]
+pub fn filled_word(val: bool, count: usize) -> u64
+    requires some { 0 < count }
+    requires fits { count ≤ 64 }
+    ensures { result ≡ value_of (replicate count val) }
+{
+    if val { ones(count) } else { 0 }
+}
+
+// The word whose `count` lowest digits are 1, where `count` is 1 to 64.
+#[inline]
+pub fn ones(count: usize) -> u64
+    requires some { 0 < count }
+    requires fits { count ≤ 64 }
+    ensures { result ≡ 2 ^ count - 1 }
+{
+    u64::MAX >> (64 - count)
+}

@@ -1,0 +1,126 @@
+//! The words of a bit vector: one in the value itself, or several in a `Gvec`.
+ghost use Rattle.std.specs.Prelude.{◌≡◌, ◌<◌, [], ◌∷◌, ◌++◌, length, slice_set, OnErr, OnOk, IfOk, IsOk};
+
+use giputils_base::gvec::Gvec;
+use std::alloc::{AllocError, Allocator};
+use std::marker::Model;
+use std::slice;
+
+// A list of words that is never empty. A single word stands in `inline`, and `heap` is empty then; several stand in
+// `heap`, and `inline` says nothing.
+#[derive(Drop)]
+pub struct Storage<A: Allocator> {
+    inline: u64,
+    heap: Gvec<u64, A>,
+}
+
+impl<A: Allocator> Model for Storage<A> {
+    ghost use Rattle.std.specs.Prelude.{ℕ, List};
+
+    ghost Value = { List ℕ };
+
+    ghost use Rattle.giputils_bits.specs.Places.{kept};
+
+    ghost view = { λ s. kept s.inline s.heap };
+}
+
+impl<A: Allocator> Storage<A> {
+    // One word. It takes no memory.
+    #[inline]
+    pub fn of_word(alloc: A, word: u64) -> Self
+        ensures { result ≡ word ∷ [] }
+    {
+        Storage {
+            inline: word,
+            heap: Gvec::new(alloc),
+        }
+    }
+
+    // The words of a vector that has one at least.
+    #[inline]
+    pub fn of_words(words: Vec<u64, A>) -> Self
+        requires { 0 < length words.items }
+        ensures { result ≡ words.items }
+    {
+        Storage {
+            inline: 0,
+            heap: Gvec::from(words),
+        }
+    }
+
+    // The number of words.
+    #[inline]
+    pub fn len(&self) -> usize
+        ensures { result ≡ length self.now }
+    {
+        self.as_slice().len()
+    }
+
+    // The words, in order.
+    #[inline]
+    pub fn as_slice(&self) -> &[u64]
+        ensures { result.now ≡ self.now }
+    {
+        let words: &[u64] = &self.heap;
+        if words.is_empty() {
+            slice::from_ref(&self.inline)
+        } else {
+            words
+        }
+    }
+
+    // Puts a word in the place of word `k`.
+    #[inline]
+    pub fn put(&mut self, k: usize, word: u64)
+        requires { k < length self.old }
+        ensures { self.new ≡ slice_set self.old k word }
+    {
+        if self.heap.is_empty() {
+            self.inline = word;
+        } else {
+            self.heap[k] = word;
+        }
+    }
+
+    // Appends a word. A second word takes the first along into memory, by one request.
+    #[inline]
+    pub fn push(&mut self, word: u64) -> Result<(), AllocError>
+        ensures ok { OnOk result (self.new ≡ self.old ++ word ∷ []) }
+        ensures err { OnErr result (self.new ≡ self.old) }
+    {
+        let inline = self.inline;
+        let heap: &mut Vec<u64, A> = &mut self.heap;
+        if heap.is_empty() {
+            heap.reserve(2)?;
+            heap.push_reserved(inline);
+            heap.push_reserved(word);
+        } else {
+            heap.push(word)?;
+        }
+        Ok(())
+    }
+
+    // Back to one word, which is zero. The memory is kept for the next growth.
+    #[inline]
+    pub fn reset(&mut self)
+        ensures { self.new ≡ 0 ∷ [] }
+    {
+        self.inline = 0;
+        self.heap.clear();
+    }
+
+    // The same words, by one request for memory at most, and by none for a single word.
+    pub fn try_clone(&self) -> Result<Self, AllocError>
+    where
+        A: Copy,
+        ensures ok { IfOk result (λ s. s ≡ self.now) }
+        ensures inline { length self.now ≡ 1 → IsOk result }
+    {
+        let words = self.as_slice();
+        let alloc = *self.heap.allocator();
+        if words.len() == 1 {
+            return Ok(Self::of_word(alloc, words[0]));
+        }
+        Ok(Self::of_words(Vec::from_slice(alloc, words)?))
+    }
+}
