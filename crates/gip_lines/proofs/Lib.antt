@@ -1,5 +1,8 @@
-pub mod NumberLemmas
-pub mod PieceLemmas
-pub mod ReadingLemmas
-pub mod RunLemmas
-pub mod ScriptLemmas
+mod ByNumber
+mod Digits
+mod Examples
+mod MatchingReplies
+mod Pieces
+mod Readings
+mod Records
+mod WholeInput

@@ -15,8 +15,8 @@ Fits input = length input ≤ input_limit
 abbrev pub IsTooLong : Option (List ℕ) → Type 0
 IsTooLong remaining = IfSome remaining (λ input. input_limit < length input)
 
--- the fault may end the reading of an input: `Input` where the reader failed or has too much left, and
--- want of memory where it has not failed
+-- the fault may end the reading of an input: `Input` where the reader failed or has too much left, and want of memory
+-- where it has not failed
 abbrev pub StopsReading : Bool → Option (List ℕ) → GipFault → Type 0
 StopsReading has_failed remaining Input = has_failed ≡ false → IsTooLong remaining
 StopsReading has_failed remaining (Line number) = ⊥

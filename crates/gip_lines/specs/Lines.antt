@@ -15,6 +15,10 @@ line_feed = 10
 abbrev pub space : ℕ
 space = 32
 
+-- the greatest key that a line can name
+abbrev pub greatest_key : ℕ
+greatest_key = 15
+
 -- what stands between the places of a byte: "a b" has two pieces between its spaces, and "a " too
 abbrev pub pieces : ℕ → List ℕ → List (List ℕ)
 pieces byte text = slice_split (λ b. b == byte) text
@@ -25,8 +29,8 @@ without_empty_last [] = []
 without_empty_last (last ∷ []) = if length last == 0 then [] else last ∷ []
 without_empty_last (piece ∷ next ∷ more) = piece ∷ without_empty_last (next ∷ more)
 
--- the lines of a text: it is split at each line feed, a last line without one counts, and a line
--- feed at the very end begins no line
+-- the lines of a text: it is split at each line feed, a last line without one counts, and a line feed at the very end
+-- begins no line
 abbrev pub script_lines : List ℕ → List (List ℕ)
 script_lines text = without_empty_last (pieces line_feed text)
 
@@ -36,7 +40,7 @@ number_up_to greatest word =
     if nat_lt 0 (length word) && all_ascii_digits word && nat_le (digits_value 10 word) greatest
     then Some (digits_value 10 word) else None
 
--- what the words of a line say: `push K` with K from 0 to 15, `pop`, `len` or `clear`
+-- what the words of a line say: `push K` with K from 0 to the greatest key, `pop`, `len` or `clear`
 abbrev pub line_of_words : List (List ℕ) → Option Line
 line_of_words (name ∷ []) =
     if bytes_eq name (codes "pop") then Some Pop
@@ -44,7 +48,7 @@ line_of_words (name ∷ []) =
     else if bytes_eq name (codes "clear") then Some Clear
     else None
 line_of_words (name ∷ key ∷ []) =
-    if bytes_eq name (codes "push") then option_map Push (number_up_to 15 key) else None
+    if bytes_eq name (codes "push") then option_map Push (number_up_to greatest_key key) else None
 line_of_words words = None
 
 -- what a line says, where it has the form: its words stand one space apart, with none at the ends
@@ -53,7 +57,7 @@ line_of line = line_of_words (pieces space line)
 
 -- the key that a line pushes, if any, is one that a line can name
 abbrev pub has_small_key : Line → Bool
-has_small_key (Push key) = nat_le key 15
+has_small_key (Push key) = nat_le key greatest_key
 has_small_key Pop = true
 has_small_key Len = true
 has_small_key Clear = true

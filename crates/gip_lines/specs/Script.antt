@@ -33,8 +33,8 @@ reply_to Pop refused held = option_map_or decimal (greatest held) (codes "none")
 reply_to Len refused held = decimal (length held)
 reply_to Clear refused held = codes "ok"
 
--- the replies to some lines where these keys are held, each with a line feed; memory was refused to
--- the lines where `refusals` is true, and to none past its end
+-- the replies to some lines where these keys are held, each with a line feed; memory was refused to the lines where
+-- `refusals` is true, and to none past its end
 abbrev pub text_from : List ℕ → List Line → List Bool → List ℕ
 text_from held [] refusals = []
 text_from held (line ∷ lines) [] = reply_to line false held ++ line_feed ∷ text_from (held_after line false held) lines []

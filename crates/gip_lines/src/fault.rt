@@ -21,8 +21,8 @@ pub enum GipFault {
 }
 
 impl GipFault {
-    /// The exit status of a program that ends with this fault: 2 where what was given is at fault,
-    /// 1 where the machine is.
+    /// The exit status of a program that ends with this fault: 2 where what was given is at fault, and 1 where the
+    /// machine is.
     pub fn status(&self) -> u8
         ensures { result ≡ fault_status self.now }
     {

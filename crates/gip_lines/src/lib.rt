@@ -1,16 +1,15 @@
 //! The program part of `gip`: a script of lines over a set of keys with its greatest member.
 #![tactic(auto)]
 
-pub mod fault;
+mod fault;
 pub mod lines;
 mod replies;
-pub mod scripts;
+mod scripts;
+#[cfg(test)]
+mod tests;
 mod transfer;
 pub mod watched;
 
 pub use fault::GipFault;
 pub use scripts::script;
 pub use transfer::INPUT_LIMIT;
-
-#[cfg(test)]
-mod tests;

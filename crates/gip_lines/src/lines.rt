@@ -58,14 +58,11 @@ impl Line {
         if name != b"push".as_slice() {
             return None;
         }
-        match number(key, Line::GREATEST_KEY) {
-            Some(key) => Some(Line::Push(key)),
-            None => None,
-        }
+        number(key, Line::GREATEST_KEY).map(|key| Line::Push(key))
     }
 }
 
-/// What the lines of a text say, line by line.
+// What the lines of a text say, line by line.
 pub(crate) fn parse<A: Allocator>(alloc: A, text: &[u8]) -> Result<Vec<Line, A>, GipFault>
     ensures ok { IfOk result (λ lines. readings text.now ≡ map Some lines.items) }
     ensures err { IfErr result (StopsParsing text.now) }
@@ -82,7 +79,7 @@ pub(crate) fn parse<A: Allocator>(alloc: A, text: &[u8]) -> Result<Vec<Line, A>,
     Ok(lines)
 }
 
-/// The first line of a text and what comes after it. An empty text has none.
+// The first line of a text and what comes after it. An empty text has none.
 fn split_line(text: &[u8]) -> Option<(&[u8], &[u8])>
     ensures lines { MatchOption result (script_lines text.now ≡ [])
         (λ split. script_lines text.now ≡ split.0.now ∷ script_lines split.1.now) }
@@ -98,7 +95,7 @@ fn split_line(text: &[u8]) -> Option<(&[u8], &[u8])>
     }
 }
 
-/// What stands before the first `byte` of a text, and what comes after it where there is one.
+// What stands before the first `byte` of a text, and what comes after it where there is one.
 pub(crate) fn split_once(text: &[u8], byte: u8) -> (&[u8], Option<&[u8]>)
     ensures parts { pieces byte text.now ≡ result.0.now ∷ option_map_or (λ rest. pieces byte rest.now) result.1 [] }
     ensures shorter { IfSome result.1 (λ rest. length rest.now < length text.now) }
@@ -110,7 +107,7 @@ pub(crate) fn split_once(text: &[u8], byte: u8) -> (&[u8], Option<&[u8]>)
     }
 }
 
-/// The number that a word of decimal digits alone writes, where it is no greater than `greatest`.
+// The number that a word of decimal digits alone writes, where it is no greater than `greatest`.
 fn number(word: &[u8], greatest: u8) -> Option<u8>
     ensures { result ≡ number_up_to greatest word.now }
 {

@@ -11,7 +11,7 @@ use giputils_heap::{BinaryHeapCmp, Counting, HeapCall, HeapReply, HeapStep, heap
 use std::alloc::{AllocError, Allocator};
 use std::io::Write;
 
-/// Compares keys by their numbers.
+// Compares keys by their numbers.
 #[derive(Clone, Copy)]
 pub(crate) struct ByNumber;
 
@@ -23,8 +23,11 @@ impl BinaryHeapCmp<u8> for ByNumber {
     }
 }
 
-/// The replies to some lines, as the text to write.
-pub(crate) fn answer<A: Allocator + Copy>(alloc: A, lines: &[Line]) -> Result<Vec<u8, A>, GipFault>
+// Runs some lines on a heap that is empty at first. Gives the replies, as the text to write.
+pub(crate) fn run_lines<A: Allocator + Copy>(
+    alloc: A,
+    lines: &[Line],
+) -> Result<Vec<u8, A>, GipFault>
     requires keys { IsTrue (list_all has_small_key lines.now) }
     ensures text { IfOk result (λ text. (refusals : List Bool) × (text.items ≡ script_text lines.now refusals)) }
     ensures err { IfErr result (λ fault. fault ≡ GipFault.Memory) }
@@ -35,7 +38,7 @@ pub(crate) fn answer<A: Allocator + Copy>(alloc: A, lines: &[Line]) -> Result<Ve
     text_of(alloc, &replies)
 }
 
-/// A step for each line, all lent one comparer.
+// A step for each line, all lent one comparer.
 fn steps_of<'a, A: Allocator>(
     alloc: A,
     lines: &[Line],
@@ -64,7 +67,7 @@ fn heap_call(line: Line) -> HeapCall<u8>
     }
 }
 
-/// The replies as text, a line each.
+// The replies as text, a line each.
 fn text_of<A: Allocator>(alloc: A, replies: &[HeapReply<u8>]) -> Result<Vec<u8, A>, GipFault>
     requires { IsTrue (list_all is_line_reply replies.now) }
     ensures ok { IfOk result (λ text. text.items ≡ flat_map reply_line replies.now) }
@@ -97,8 +100,5 @@ fn write_number<A: Allocator>(text: &mut Vec<u8, A>, n: usize) -> Result<(), Gip
     ensures ok { OnOk result (text.new.items ≡ text.old.items ++ (decimal n ++ line_feed ∷ [])) }
     ensures err { IfErr result (λ fault. fault ≡ GipFault.Memory) }
 {
-    match writeln!(text, "{n}") {
-        Ok(()) => Ok(()),
-        Err(_) => Err(GipFault::Memory),
-    }
+    writeln!(text, "{n}").map_err(|_| GipFault::Memory)
 }

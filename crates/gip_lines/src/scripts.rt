@@ -7,14 +7,14 @@ ghost use Rattle.gip_lines.specs.Script.{script_text};
 
 use crate::fault::GipFault;
 use crate::lines;
-use crate::replies::answer;
+use crate::replies::run_lines;
 use crate::transfer::{read_all, write_all};
 use crate::watched::Watched;
 use std::alloc::Allocator;
 use std::io::{Read, Write};
 
-/// Runs a script: reads all of it, checks every line, runs the lines in turn on a set of keys that
-/// is empty at first, and then writes the replies, one line each.
+/// Runs a script: reads all of it, checks every line, runs the lines in turn on a set of keys that is empty at first,
+/// and then writes the replies, one line each.
 ///
 /// Neither device may have failed, which [`Watched::failed`] tells.
 ///
@@ -51,6 +51,6 @@ pub fn script<A: Allocator + Copy, R: Read, W: Write>(
 {
     let input = read_all(alloc, reader)?;
     let lines = lines::parse(alloc, &input)?;
-    let text = answer(alloc, &lines)?;
+    let text = run_lines(alloc, &lines)?;
     write_all(writer, &text)
 }

@@ -2,15 +2,15 @@
 use crate::watched::Watched;
 use crate::{GipFault, INPUT_LIMIT, script};
 use std::alloc::Global;
-use std::io;
-use std::io::{Error, ErrorKind, Read, Write};
+use std::io::{self, Error, ErrorKind, Read, Write};
 use std::test::Fail;
 
-const MISSION: &[u8] = b"push 3\npush 2\npush 4\npush 5\npush 1\npop\npop\nlen\nclear\npop\n";
+// The script that the README shows, and its replies.
+const README_SCRIPT: &[u8] = b"push 3\npush 2\npush 4\npush 5\npush 1\npop\npop\nlen\nclear\npop\n";
 
-const MISSION_REPLIES: &[u8] = b"ok\nok\nok\nok\nok\n5\n4\n3\nok\nnone\n";
+const README_REPLIES: &[u8] = b"ok\nok\nok\nok\nok\n5\n4\n3\nok\nnone\n";
 
-/// A reader of bytes in memory that gives at most so many at a time, fails at one call, and counts its calls.
+// A reader of bytes in memory that gives at most so many at a time, fails at one call, and counts its calls.
 #[derive(Drop)]
 struct Source<'a> {
     rest: &'a [u8],
@@ -41,14 +41,14 @@ impl Read for Source<'_> {
     }
 }
 
-/// What a writer does at the call at which it fails.
+// What a writer does at the call at which it fails.
 #[derive(Clone, Copy, Debug)]
 enum Failure {
     Refuses,
     TakesNone,
 }
 
-/// A writer into memory that takes at most so many bytes at a time, fails at one call, and counts its calls.
+// A writer into memory that takes at most so many bytes at a time, fails at one call, and counts its calls.
 #[derive(Drop)]
 struct Sink {
     text: Vec<u8>,
@@ -91,7 +91,7 @@ impl Write for Sink {
 #[test]
 fn answers_scripts(rt: HostRuntime) -> Result<(), Fail> {
     let table: [(&[u8], &[u8]); 6] = [
-        (MISSION, MISSION_REPLIES),
+        (README_SCRIPT, README_REPLIES),
         (b"", b""),
         (b"push 003\npop", b"ok\n3\n"),
         (b"len", b"0\n"),
@@ -134,18 +134,18 @@ fn refuses_the_first_line_of_another_form(rt: HostRuntime) {
 
 #[test]
 fn moves_one_byte_at_a_time(rt: HostRuntime) {
-    let mut reader = Watched::new(Source::new(MISSION, 1, 0));
+    let mut reader = Watched::new(Source::new(README_SCRIPT, 1, 0));
     let mut writer = Watched::new(Sink::new(rt.alloc(), 1, 0, Failure::Refuses));
     assert_eq!(rt; script(rt.alloc(), &mut reader, &mut writer), Ok(()));
-    assert_eq!(rt; writer.device().text.as_slice(), MISSION_REPLIES);
-    assert_eq!(rt; reader.device().calls, 1 + MISSION.len() as u64);
-    assert_eq!(rt; writer.device().calls, MISSION_REPLIES.len() as u64);
+    assert_eq!(rt; writer.device().text.as_slice(), README_REPLIES);
+    assert_eq!(rt; reader.device().calls, 1 + README_SCRIPT.len() as u64);
+    assert_eq!(rt; writer.device().calls, README_REPLIES.len() as u64);
 }
 
 #[test]
 fn stops_at_a_failed_read(rt: HostRuntime) {
-    for call in 1..=1 + MISSION.len() as u64 {
-        let mut reader = Watched::new(Source::new(MISSION, 1, call));
+    for call in 1..=1 + README_SCRIPT.len() as u64 {
+        let mut reader = Watched::new(Source::new(README_SCRIPT, 1, call));
         let mut writer = Watched::new(Vec::new(rt.alloc()));
         let outcome = script(rt.alloc(), &mut reader, &mut writer);
         assert_eq!(rt; outcome, Err(GipFault::Input), "at call {call}");
@@ -158,8 +158,8 @@ fn stops_at_a_failed_read(rt: HostRuntime) {
 #[test]
 fn stops_at_a_failed_write(rt: HostRuntime) {
     for failure in [Failure::Refuses, Failure::TakesNone] {
-        for call in 1..=MISSION_REPLIES.len() as u64 {
-            let mut reader = Watched::new(MISSION);
+        for call in 1..=README_REPLIES.len() as u64 {
+            let mut reader = Watched::new(README_SCRIPT);
             let mut writer = Watched::new(Sink::new(rt.alloc(), 1, call, failure));
             let outcome = script(rt.alloc(), &mut reader, &mut writer);
             assert_eq!(rt;

@@ -11,7 +11,7 @@ use std::io::{Read, Write};
 /// The greatest number of bytes in an input.
 pub const INPUT_LIMIT: usize = 1_048_576;
 
-/// Reads all that the reader has left, in reads as large as they can be.
+// Reads all that the reader has left, in reads as large as they can be.
 pub(crate) fn read_all<R: Read, A: Allocator>(
     alloc: A,
     reader: &mut Watched<R>,
@@ -40,7 +40,7 @@ fn zeros<A: Allocator>(alloc: A, len: usize) -> Result<Vec<u8, A>, AllocError>
     vec![in alloc; 0u8; len]
 }
 
-/// Reads until the buffer is full or the input ends, and says how many bytes it read.
+// Reads until the buffer is full or the input ends, and says how many bytes it read.
 fn fill<R: Read>(reader: &mut Watched<R>, buf: &mut [u8]) -> Result<usize, GipFault>
     requires works { reader.old.has_failed ≡ false }
     ensures bound { IfOk result (λ n. n ≤ length buf.new) }
@@ -61,7 +61,7 @@ fn fill<R: Read>(reader: &mut Watched<R>, buf: &mut [u8]) -> Result<usize, GipFa
     Ok(filled)
 }
 
-/// Writes all of a text, however much of it each write takes.
+// Writes all of a text, however much of it each write takes.
 pub(crate) fn write_all<W: Write>(writer: &mut Watched<W>, text: &[u8]) -> Result<(), GipFault>
     requires works { writer.old.has_failed ≡ false }
     ensures ok { OnOk result (Appends (W.contents writer.old.device) (W.contents writer.new.device) text.now) }

@@ -4,25 +4,23 @@ ghost use Rattle.std.specs.Io.{ReadsAtMost, WritesAtMost};
 ghost use Rattle.std.specs.Io.KnownBytes.{ReadConsumes, WriteAppends};
 ghost use Rattle.gip_lines.specs.Watch.{write_failed};
 
-use std::io;
-use std::io::{Read, Write};
+use std::io::{self, Read, Write};
 use std::marker::Model;
 
-/// A reader or a writer, and whether a call on it has failed. Each call here makes one call on the
-/// device and tries nothing again.
+/// A reader or a writer, and whether a call on it has failed. Each call here makes one call on the device and tries
+/// nothing again.
 #[derive(Debug, Drop)]
 pub struct Watched<D> {
     device: D,
-    works: bool,
+    has_failed: bool,
 }
 
 impl<D> Model for Watched<D> {
-    ghost use Rattle.std.specs.Prelude.{not};
     ghost use Rattle.gip_lines.specs.Watch.{Watch};
 
     ghost Value = { Watch D };
 
-    ghost view = { λ w. record { device = w.device; has_failed = not w.works } };
+    ghost view = { λ w. record { device = w.device; has_failed = w.has_failed } };
 }
 
 impl<D> Watched<D> {
@@ -33,7 +31,7 @@ impl<D> Watched<D> {
     {
         Watched {
             device,
-            works: true,
+            has_failed: false,
         }
     }
 
@@ -48,7 +46,7 @@ impl<D> Watched<D> {
     pub fn failed(&self) -> bool
         ensures { result ≡ self.now.has_failed }
     {
-        !self.works
+        self.has_failed
     }
 }
 
@@ -61,7 +59,7 @@ impl<R: Read> Watched<R> {
     {
         let outcome = self.device.read(buf);
         if outcome.is_err() {
-            self.works = false;
+            self.has_failed = true;
         }
         outcome
     }
@@ -75,12 +73,12 @@ impl<W: Write> Watched<W> {
         ensures failed { self.new.has_failed ≡ (self.old.has_failed || write_failed result buf.now) }
     {
         let outcome = self.device.write(buf);
-        let took_none = match &outcome {
+        let has_failed = match &outcome {
             Ok(n) => *n == 0 && !buf.is_empty(),
             Err(_) => true,
         };
-        if took_none {
-            self.works = false;
+        if has_failed {
+            self.has_failed = true;
         }
         outcome
     }

@@ -1,9 +1,10 @@
 -- The record of a run of a heap, and what its replies have to be.
-use Rattle.std.specs.Prelude.{◌≡◌, ℕ, ◌+◌, ◌-◌, ◌^◌, ◌≤◌, ◌==◌, nat_lt, Bool, true, false, ◌&&◌, ◌||◌, not, if◌then◌else◌, List, [], ◌∷◌, length, take, slice_get, IsTrue, IsFalse, Option, Some, None}
+use Rattle.std.specs.Prelude.{◌≡◌, ℕ, ◌+◌, ◌-◌, ◌^◌, ◌≤◌, ◌==◌, nat_lt, Bool, true, false, ◌&&◌, ◌||◌, not, if◌then◌else◌, List, [], ◌∷◌, length, take, IsTrue, IsFalse, Option, Some, None}
 use Rattle.std.specs.Bool.{beq}
 use Rattle.std.specs.List.{All, AllZip}
 use Rattle.giputils_heap.specs.Keys.{is_held, without, key_limit}
 use Rattle.giputils_heap.specs.Relations.{is_lawful, agree_on, is_greatest}
+use Rattle.giputils_heap.specs.Bounds.{count_limit}
 use Rattle.giputils_heap.specs.declared.run.HeapCall.{HeapCall}
 use Rattle.giputils_heap.specs.declared.run.HeapCall.TheVariants.{Push, Pop, Clear, Len, IsEmpty}
 use Rattle.giputils_heap.specs.declared.run.HeapReply.{HeapReply}
@@ -17,11 +18,11 @@ pub record Entry (T C : Type 0) : Type 0 where
   pub comparisons : ℕ
   pub reply : HeapReply T
 
--- what a record's steps so far have come to: the held keys, each once; whether the comparisons have been lawful and
--- unchanged since nothing was last held; and the comparer that was last lent since then to a step that may compare
+-- what a record's steps so far have come to: the held keys, each once; whether the comparisons have been steady since
+-- nothing was last held; and the comparer that was last lent since then to a step that may compare
 pub record Progress (T C : Type 0) : Type 0 where
   pub held : List T
-  pub still : Bool
+  pub steady : Bool
   pub last : Option C
 
 -- whether nothing is listed
@@ -36,107 +37,114 @@ record_of (s ∷ before) (t ∷ after) (r ∷ replies) =
 record_of _ _ _ = []
 
 module _ {T : Type 0} where
-  -- whether a call compares keys
+  -- whether a call may compare keys
   abbrev pub may_compare : HeapCall T → Bool
-  may_compare (Push v) = true
-  may_compare Pop = true
   may_compare Clear = false
   may_compare Len = false
   may_compare IsEmpty = false
+  may_compare _ = true
 
   -- the keys that a call may compare: those held, and the one handed in
   abbrev pub compared_keys : List T → HeapCall T → List T
   compared_keys held (Push v) = v ∷ held
-  compared_keys held Pop = held
-  compared_keys held Clear = held
-  compared_keys held Len = held
-  compared_keys held IsEmpty = held
+  compared_keys held _ = held
 
+module _ {T : Type 0} (number : T → ℕ) where
   -- the held keys after a call with this reply
-  abbrev pub held_after : (T → ℕ) → List T → HeapCall T → HeapReply T → List T
-  held_after number held (Push v) Done = if is_held number held v then held else (v ∷ held)
-  held_after number held Pop (Popped (Some k)) = without number held k
-  held_after number held Clear Done = []
-  held_after number held _ _ = held
+  abbrev pub held_after : List T → HeapCall T → HeapReply T → List T
+  held_after held (Push v) Done = if is_held number held v then held else (v ∷ held)
+  held_after held Pop (Popped (Some k)) = without number held k
+  held_after held Clear Done = []
+  held_after held _ _ = held
 
-  -- whether a call that finds these keys held may have this reply; a pop of a greatest key is owed where `still`
-  abbrev pub may_reply : (T → ℕ) → (T → T → Bool) → Bool → List T → HeapCall T → HeapReply T → Bool
-  may_reply number R still held (Push v) Done = nat_lt (number v) key_limit
-  may_reply number R still held (Push v) Refused = nat_lt (number v) key_limit && not (is_held number held v)
-  may_reply number R still held (Push v) Skipped = number v == key_limit
-  may_reply number R still held Pop (Popped None) = is_nil held
-  may_reply number R still held Pop (Popped (Some k)) = is_held number held k && (not still || is_greatest number R held k)
-  may_reply number R still held Clear Done = true
-  may_reply number R still held Len (Length n) = n == length held
-  may_reply number R still held IsEmpty (Empty b) = beq b (is_nil held)
-  may_reply number R still held _ _ = false
+  -- whether a call that finds these keys held may have this reply; a pop of a greatest key is owed where `steady`
+  abbrev pub may_reply : (T → T → Bool) → Bool → List T → HeapCall T → HeapReply T → Bool
+  may_reply R steady held (Push v) Done = nat_lt (number v) key_limit
+  may_reply R steady held (Push v) Refused = nat_lt (number v) key_limit && not (is_held number held v)
+  may_reply R steady held (Push v) Skipped = number v == key_limit
+  may_reply R steady held Pop (Popped None) = is_nil held
+  may_reply R steady held Pop (Popped (Some k)) = is_held number held k && (not steady || is_greatest number R held k)
+  may_reply R steady held Clear Done = true
+  may_reply R steady held Len (Length n) = n == length held
+  may_reply R steady held IsEmpty (Empty b) = beq b (is_nil held)
+  may_reply R steady held _ _ = false
 
 module _ {T C : Type 0} where
   -- before the first step nothing is held
-  abbrev pub beginning : Progress T C
-  beginning = record { held = []; still = true; last = None }
+  abbrev pub start : Progress T C
+  start = record { held = []; steady = true; last = None }
 
-  -- where nothing is held, no comparison counts any more
-  abbrev pub forgetting : Progress T C → Progress T C
-  forgetting p = if is_nil p.held then beginning else p
+  -- where nothing is held, no comparison made so far counts any more
+  abbrev pub start_if_empty : Progress T C → Progress T C
+  start_if_empty p = if is_nil p.held then start else p
 
-  -- whether R compares these keys as the last comparer did, if there is one
-  abbrev pub agrees_with_last : (C → T → T → Bool) → Option C → (T → T → Bool) → List T → Bool
-  agrees_with_last at_least None R keys = true
-  agrees_with_last at_least (Some c) R keys = agree_on (at_least c) R keys
+module _ {T C : Type 0} (number : T → ℕ) (at_least : C → T → T → Bool) where
+  -- whether a call's comparer compares the held keys as the last comparer did, if there is one
+  abbrev pub agrees_with_last : Option C → HeapCall T → C → List T → Bool
+  agrees_with_last None call c held = true
+  agrees_with_last (Some b) call c held = agree_on (at_least b) (at_least c) held
 
-  -- whether the comparisons stay lawful and unchanged at a step
-  abbrev pub is_still_at : (C → T → T → Bool) → Progress T C → HeapCall T → C → Bool
-  is_still_at at_least p call c =
+  -- whether the comparisons stay steady at a step: lawful on the keys concerned, and as they were
+  abbrev pub is_steady_at : Progress T C → HeapCall T → C → Bool
+  is_steady_at p call c =
+      let before : Progress T C = start_if_empty p in
       if may_compare call
-      then (p.still && (is_lawful (at_least c) (compared_keys p.held call) && agrees_with_last at_least p.last (at_least c) p.held))
-      else p.still
+      then (before.steady && (is_lawful (at_least c) (compared_keys p.held call) && agrees_with_last before.last call c p.held))
+      else before.steady
 
   -- the progress after one more call, which was lent this comparer and had this reply
-  abbrev pub after_call : (T → ℕ) → (C → T → T → Bool) → Progress T C → HeapCall T → C → HeapReply T → Progress T C
-  after_call number at_least p call c reply =
-      let q : Progress T C = forgetting p in
+  abbrev pub after_call : Progress T C → HeapCall T → C → HeapReply T → Progress T C
+  after_call p call c reply =
       record {
-        held = held_after number q.held call reply;
-        still = is_still_at at_least q call c;
-        last = if may_compare call then Some c else q.last;
+        held = held_after number p.held call reply;
+        steady = is_steady_at p call c;
+        last = if may_compare call then Some c else (start_if_empty p).last;
       }
 
   -- whether a call that is lent this comparer may have this reply after this progress
-  abbrev pub may_answer : (T → ℕ) → (C → T → T → Bool) → Progress T C → HeapCall T → C → HeapReply T → Bool
-  may_answer number at_least p call c reply =
-      may_reply number (at_least c) (is_still_at at_least (forgetting p) call c) p.held call reply
+  abbrev pub may_answer : Progress T C → HeapCall T → C → HeapReply T → Bool
+  may_answer p call c reply = may_reply number (at_least c) (is_steady_at p call c) p.held call reply
 
   -- the progress after these steps
-  abbrev pub progress_from : (T → ℕ) → (C → T → T → Bool) → Progress T C → List (Entry T C) → Progress T C
-  progress_from number at_least p [] = p
-  progress_from number at_least p (e ∷ es) =
-      progress_from number at_least (after_call number at_least p e.call e.comparer e.reply) es
+  abbrev pub progress_from : Progress T C → List (Entry T C) → Progress T C
+  progress_from p [] = p
+  progress_from p (e ∷ es) = progress_from (after_call p e.call e.comparer e.reply) es
 
   -- whether every step may reply as it did
-  abbrev pub answers_from : (T → ℕ) → (C → T → T → Bool) → Progress T C → List (Entry T C) → Bool
-  answers_from number at_least p [] = true
-  answers_from number at_least p (e ∷ es) =
-      may_answer number at_least p e.call e.comparer e.reply
-      && answers_from number at_least (after_call number at_least p e.call e.comparer e.reply) es
+  abbrev pub answers_from : Progress T C → List (Entry T C) → Bool
+  answers_from p [] = true
+  answers_from p (e ∷ es) =
+      may_answer p e.call e.comparer e.reply && answers_from (after_call p e.call e.comparer e.reply) es
 
   -- a run from the empty heap may have this record: the heap answers as a set, and its pops give greatest keys
-  abbrev pub Answers : (T → ℕ) → (C → T → T → Bool) → List (Entry T C) → Type 0
-  Answers number at_least entries = IsTrue (answers_from number at_least beginning entries)
+  abbrev pub Answers : List (Entry T C) → Type 0
+  Answers entries = IsTrue (answers_from start entries)
+
+  -- whether up to step i, since nothing was last held, the comparisons were lawful and unchanged
+  abbrev pub is_steady : List (Entry T C) → ℕ → Bool
+  is_steady entries i = (progress_from start (take (i + 1) entries)).steady
+
+  -- step i is steady
+  abbrev pub IsSteady : List (Entry T C) → ℕ → Type 0
+  IsSteady entries i = IsTrue (is_steady entries i)
+
+module _ {T C : Type 0} (number : T → ℕ) where
+  -- the held keys after these steps
+  abbrev pub held_from : List T → List (Entry T C) → List T
+  held_from held [] = held
+  held_from held (e ∷ es) = held_from (held_after number held e.call e.reply) es
 
   -- the keys that are held before step i of a record
-  abbrev pub held_before : (T → ℕ) → (C → T → T → Bool) → List (Entry T C) → ℕ → List T
-  held_before number at_least entries i = (progress_from number at_least beginning (take i entries)).held
+  abbrev pub held_before : List (Entry T C) → ℕ → List T
+  held_before entries i = held_from [] (take i entries)
 
-  -- whether up to step i the comparisons were lawful and unchanged, since nothing was last held
-  abbrev pub is_still : (T → ℕ) → (C → T → T → Bool) → List (Entry T C) → ℕ → Bool
-  is_still number at_least entries i = (progress_from number at_least beginning (take (i + 1) entries)).still
-
+module _ {T C : Type 0} (number : T → ℕ) (at_least : C → T → T → Bool) where
   -- step i of a record may reply as it did to the keys that are held before it
-  abbrev pub AnswersAt : (T → ℕ) → (C → T → T → Bool) → List (Entry T C) → ℕ → Entry T C → Type 0
-  AnswersAt number at_least entries i e =
-      IsTrue (may_reply number (at_least e.comparer) (is_still number at_least entries i) (held_before number at_least entries i) e.call e.reply)
+  abbrev pub AnswersAt : List (Entry T C) → ℕ → Entry T C → Type 0
+  AnswersAt entries i e =
+      IsTrue (may_reply number (at_least e.comparer) (is_steady number at_least entries i) (held_before number entries i) e.call e.reply)
 
+module _ {T C : Type 0} where
   -- a step keeps its call and its comparer, and its counter rises by what was compared
   pub record KeepsStep (old new : HeapStep T C) : Type 0 where
     pub call : new.call ≡ old.call
@@ -151,10 +159,4 @@ module _ {T C : Type 0} where
 
   -- every counter may still count what a step compares
   abbrev pub CanCount : List (HeapStep T C) → Type 0
-  CanCount steps = All (λ s. s.cmp.count ≤ 2 ^ 63) steps
-
--- a record that answers does so at each of its steps
-abbrev pub AnswersAtEachStep : (T C : Type 0) → Type 0
-AnswersAtEachStep T C =
-    (number : T → ℕ) (at_least : C → T → T → Bool) (entries : List (Entry T C)) → Answers number at_least entries
-    → (i : ℕ) (e : Entry T C) → slice_get entries i ≡ Some e → AnswersAt number at_least entries i e
+  CanCount steps = All (λ s. s.cmp.count ≤ count_limit) steps

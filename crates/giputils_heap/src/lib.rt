@@ -1,6 +1,7 @@
 //! A binary heap of small integer keys, lent its comparer at each call.
 #![tactic(auto)]
 
+pub mod comparers;
 pub mod counting;
 pub mod heap;
 pub mod key;
@@ -12,7 +13,11 @@ mod table;
 mod tests;
 mod tree;
 
+pub use comparers::{ByNumber, ByRank};
 pub use counting::Counting;
 pub use heap::{BinaryHeap, order_laws};
 pub use key::{BinaryHeapCmp, HeapKey};
-pub use run::{HeapCall, HeapReply, HeapStep, answers_at_each_step, heap_run};
+pub use run::{
+    HeapCall, HeapReply, HeapStep, answers_at_each_step, heap_run, one_order_is_steady,
+    pops_list_downward,
+};

@@ -1,6 +1,8 @@
 //! Lists of calls of one heap.
 ghost use Rattle.std.specs.Prelude.{◌≡◌, ◌+◌, ◌^◌, ◌≤◌, IsTrue, IsFalse, IfOk, OnErr, length};
-ghost use Rattle.giputils_heap.specs.Record.{Progress, may_compare, may_answer, after_call, AnswersAtEachStep, record_of, Answers, KeepsSteps, CanCount};
+ghost use Rattle.giputils_heap.specs.Record.{Progress, may_compare, may_answer, after_call, record_of, Answers, KeepsSteps, CanCount};
+ghost use Rattle.giputils_heap.specs.Bounds.{count_limit};
+ghost use Rattle.giputils_heap.specs.Laws.{AnswersAtEachStep, PopsListDownward, OneOrderIsSteady};
 ghost use Rattle.giputils_heap.specs.Stands.{Stands};
 
 use crate::counting::Counting;
@@ -47,14 +49,42 @@ pub struct HeapStep<'a, T, C> {
     pub cmp: Counting<'a, C>,
 }
 
-/// A law of records, which callers of [`heap_run`] may cite: a record that answers does so at each of its steps, by the keys that are held before it.
+impl<'a, T, C> HeapStep<'a, T, C> {
+    /// A step that makes `call` and is lent `cmp`, which it has not asked yet.
+    pub fn new(call: HeapCall<T>, cmp: &'a C) -> Self
+        ensures call { result.call ≡ call }
+        ensures comparer { result.cmp.comparer ≡ cmp.now }
+        ensures zero { result.cmp.count ≡ 0 }
+    {
+        HeapStep {
+            call,
+            cmp: Counting::new(cmp),
+        }
+    }
+}
+
+/// A law of records, which callers of [`heap_run`] may cite: a record that answers does so at each of its steps, by the
+/// keys that are held before it.
 pub const fn answers_at_each_step<T, C>()
     ensures { AnswersAtEachStep T C }
 {}
 
+/// A law of records: popping by one relation until nothing is held gives every key that was held once, and each is at
+/// least the next, where the first of these pops is steady.
+pub const fn pops_list_downward<T: HeapKey, C: BinaryHeapCmp<T>>()
+    ensures { PopsListDownward T.number C.at_least }
+{}
+
+/// A law of records: where the comparers of all steps have one relation, which is total and transitive on all keys, every
+/// step is steady.
+pub const fn one_order_is_steady<T: HeapKey, C: BinaryHeapCmp<T>>()
+    ensures { OneOrderIsSteady T.number C.at_least }
+{}
+
 /// Runs the steps in order from the empty heap, and answers one reply for each.
 ///
-/// Each counter must be at most 2^63, which [`Counting::count`] tells. The list of replies is asked for first. The steps keep their calls and comparers, and each counter rises by what its step compared.
+/// Each counter must be at most 2^63, which [`Counting::count`] tells. The list of replies is asked for first. The steps
+/// keep their calls and comparers, and each counter rises by what its step compared.
 ///
 /// # Errors
 /// `AllocError` where memory for the list of replies is refused. Nothing was run then.
@@ -71,20 +101,22 @@ pub fn heap_run<T: HeapKey, C: BinaryHeapCmp<T>, A: Allocator + Copy>(
     let mut replies = Vec::with_capacity(alloc, steps.len())?;
     let mut heap = BinaryHeap::new(alloc);
     for step in steps.iter_mut() {
-        replies.push_reserved(answer(&mut heap, step.call, &mut step.cmp));
+        replies.push_reserved(make_call(&mut heap, step.call, &mut step.cmp));
     }
     Ok(replies)
 }
 
 // Makes one call, and skips a push of a key that no heap can hold.
-fn answer<T: HeapKey, C: BinaryHeapCmp<T>, A: Allocator>(
+fn make_call<T: HeapKey, C: BinaryHeapCmp<T>, A: Allocator>(
     heap: &mut BinaryHeap<T, A>,
     call: HeapCall<T>,
     cmp: &mut Counting<'_, C>,
 ) -> HeapReply<T>
-    requires { cmp.old.count ≤ 2 ^ 63 }
-    ensures reply { (p : Progress T C) → Stands T.number C.at_least p heap.old → IsTrue (may_answer T.number C.at_least p call cmp.old.comparer result) }
-    ensures stands { (p : Progress T C) → Stands T.number C.at_least p heap.old → Stands T.number C.at_least (after_call T.number C.at_least p call cmp.old.comparer result) heap.new }
+    requires { cmp.old.count ≤ count_limit }
+    ensures reply { (p : Progress T C) → Stands T.number C.at_least p heap.old →
+        IsTrue (may_answer T.number C.at_least p call cmp.old.comparer result) }
+    ensures stands { (p : Progress T C) → Stands T.number C.at_least p heap.old →
+        Stands T.number C.at_least (after_call T.number C.at_least p call cmp.old.comparer result) heap.new }
     ensures comparer { cmp.new.comparer ≡ cmp.old.comparer }
     ensures rises { cmp.old.count ≤ cmp.new.count }
     ensures comparisons { cmp.new.count ≤ cmp.old.count + 2 ^ 34 }

@@ -10,9 +10,11 @@
 ghost use Rattle.std.specs.Prelude.{◌≡◌, ◌+◌, ◌↔◌, IsTrue, IfSome, min, max};
 ghost use Rattle.giputils_refusing.specs.Refused.{Includes};
 
+mod in_turn;
 #[cfg(test)]
 mod tests;
 
+pub use in_turn::{MOST_RUNS, TurnFault, refuse_each, refuse_from_each};
 use std::alloc::{AllocError, Allocator, Global};
 use std::cell::Cell;
 
@@ -25,9 +27,6 @@ pub enum Refused {
     Nth(u64),
     /// The request of this number and each later one.
     From(u64),
-    /// Each request from the first number to the second, both included.
-    /// None, if the first is the greater.
-    Between(u64, u64),
 }
 
 impl Refused {
@@ -39,7 +38,6 @@ impl Refused {
             Refused::Never => false,
             Refused::Nth(n) => request == n,
             Refused::From(first) => first <= request,
-            Refused::Between(first, last) => first <= request && request <= last,
         }
     }
 }
@@ -110,15 +108,6 @@ impl<B> Refusing<B> {
         ensures refused { refused_of result ≡ Refused.From n }
     {
         Self::refusing(inner, Refused::From(n))
-    }
-
-    /// Refuses the requests of the numbers `first` to `last`, counted from 1, both included.
-    /// It refuses none if `first` is the greater.
-    pub fn between(inner: B, first: u64, last: u64) -> Self
-        ensures inner { allocator_of result ≡ inner }
-        ensures refused { refused_of result ≡ Refused.Between first last }
-    {
-        Self::refusing(inner, Refused::Between(first, last))
     }
 
     fn refusing(inner: B, refused: Refused) -> Self

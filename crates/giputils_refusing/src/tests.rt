@@ -30,11 +30,6 @@ fn refuses_what_it_was_told_to(rt: HostRuntime) {
             [false, false, true, true, true],
         ),
         (Refusing::from(rt.alloc(), 1), [true; 5]),
-        (
-            Refusing::between(rt.alloc(), 2, 4),
-            [false, true, true, true, false],
-        ),
-        (Refusing::between(rt.alloc(), 4, 2), [false; 5]),
     ];
     for (memory, want) in &cases {
         assert_eq!(rt; five_requests(memory), *want, "{:?}", memory.refused());
@@ -94,4 +89,37 @@ fn a_map_grows_in_four_requests(rt: HostRuntime) -> Result<(), Fail> {
     map.insert(1u32, 2u32)?;
     assert_eq!(rt; memory.requests(), 4);
     Ok(())
+}
+
+// Whether so many requests in a row are served. It ends at the first that is not.
+fn are_served(memory: &Refusing, requests: u64) -> bool {
+    for _ in 0..requests {
+        if Box::new(memory, 0u64).is_err() {
+            return false;
+        }
+    }
+    true
+}
+
+#[test]
+fn refuses_each_request_in_turn_until_a_run_is_served(rt: HostRuntime) {
+    let alloc = rt.alloc();
+    for requests in [0, 1, 5, MOST_RUNS - 1] {
+        let outcome = refuse_each(alloc, |memory| are_served(memory, requests));
+        assert_eq!(rt; outcome, Ok(requests));
+        let outcome = refuse_from_each(alloc, |memory| are_served(memory, requests));
+        assert_eq!(rt; outcome, Ok(requests));
+    }
+    let endless = refuse_each(alloc, |memory| are_served(memory, MOST_RUNS));
+    assert_eq!(rt; endless, Err(TurnFault::Endless));
+    let hidden = refuse_each(alloc, |memory| {
+        are_served(memory, 3);
+        true
+    });
+    assert_eq!(rt; hidden, Err(TurnFault::Hidden(1)));
+    let unrefused = refuse_each(alloc, |memory| {
+        are_served(memory, 3);
+        false
+    });
+    assert_eq!(rt; unrefused, Err(TurnFault::Unrefused(4)));
 }

@@ -1,42 +1,60 @@
-//! Runs lists of calls on the index allocator, and answers each line with a line.
+//! Runs lists of calls on the containers, and answers each line with a line.
 //!
-//! The line `new` begins a list, and is answered by itself. Each list is run from the empty
-//! allocator. The lists of the file `stdin` and the answers of the file `stdout`, which are those
-//! of the Rust crate, are made by `make_lists.py`.
+//! A line `new NAME ..` begins a list and names the container that its calls are made on, which is empty at first. It is
+//! answered by itself. A container has a module of its own, which parses its calls and writes its replies. The lists
+//! of the file `stdin` and the answers of the file `stdout`, which are those of the Rust crate, are made by
+//! `tests/make_lists.py`.
 #![tactic(auto)]
 
-mod call;
-mod reply;
+mod calls;
+mod galloc;
 
-use anyhow::Context;
-use giputils_base::allocator::{GallocCall, galloc_run};
+use anyhow::{Context, bail};
 use std::alloc::Global;
 use std::io::{self, BufRead, BufReader, BufWriter, Write};
 
-fn answer<W: Write>(alloc: Global, out: &mut W, calls: &[GallocCall<u32>]) -> io::Result<()> {
-    let (_, replies) = galloc_run(alloc, calls)?;
-    for reply in &replies {
-        reply::write_line(alloc, out, reply)?;
-    }
-    Ok(())
+// The lines of a list, and the number of the first of them in the input.
+#[derive(Drop)]
+struct List {
+    first: usize,
+    header: String,
+    calls: Vec<String>,
 }
 
 fn main(rt: HostRuntime) -> anyhow::Result<()> {
     let alloc = rt.alloc();
     let mut out = BufWriter::new(alloc, io::writer(&rt))?;
-    let mut calls = Vec::new(alloc);
+    let mut current: Option<List> = None;
     for (i, line) in BufReader::new(alloc, rt.reader())?.lines(alloc).enumerate() {
         let line = line?;
-        if line.as_str() == "new" {
-            answer(alloc, &mut out, &calls)?;
-            calls.clear();
-            writeln!(out, "new")?;
+        if line.starts_with("new ") {
+            if let Some(list) = current {
+                replay(alloc, &mut out, &list)?;
+            }
+            current = Some(List {
+                first: i + 1,
+                header: line,
+                calls: Vec::new(alloc),
+            });
+        } else if let Some(list) = &mut current {
+            list.calls.push(line)?;
         } else {
-            let words: Vec<&str> = line.split(' ').collect(alloc)?;
-            calls.push(call::parse(&words).context(format_args!("line {}", i + 1))?)?;
+            bail!("the input begins with no list");
         }
     }
-    answer(alloc, &mut out, &calls)?;
+    if let Some(list) = current {
+        replay(alloc, &mut out, &list)?;
+    }
     out.flush()?;
     Ok(())
+}
+
+fn replay<W: Write>(alloc: Global, out: &mut W, list: &List) -> anyhow::Result<()> {
+    writeln!(out, "{}", list.header)?;
+    let words: Vec<&str> = list.header.split(' ').collect(alloc)?;
+    let outcome = match *words {
+        ["new", "galloc"] => galloc::replay(alloc, out, &list.calls),
+        _ => bail!("line {}: no container has this name", list.first),
+    };
+    outcome.context(format_args!("the list at line {}", list.first))
 }

@@ -1,9 +1,10 @@
 -- The word is read from the front: a byte that is no digit, or a front that writes too much, decides.
 use Rattle.std.proofs.Common.{◌≡◌, ◌<◌, ℕ, List, ◌+◌, ◌-◌, ◌*◌, length, take, get_or, sym, arith, rules, take_all}
 use Rattle.std.proofs.lemmas.Int.Digits.{digits_value_more}
+use Rattle.std.proofs.lemmas.Str.Parse.{digits_value-take-le}
 use Rattle.std.specs.Char.{digit_value}
 use Rattle.std.specs.Str.Parse.{digits_value}
-use Rattle.gip_lines.proofs.NumberLemmas.{all_ascii_digits-other, all_ascii_digits-more, digit_value-ascii, digits_value-take, number_up_to-other, number_up_to-large, number_up_to-small}
+use Rattle.gip_lines.proofs.Digits.{all_ascii_digits-other, all_ascii_digits-more, digit_value-ascii, number_up_to-other, number_up_to-large, number_up_to-small}
 use Rattle.gip_lines.proofs.lines.number.Goals as goal
 
 -- one more digit, as the code adds it
@@ -20,7 +21,7 @@ returns-then-value-from c =
     let word = c.args.word.now in
     let i = c.loop-digit.digit-index in
     let step = one_more word i _ _ c.loop-digit-test.true c.loop-digit.invariant.value c.from.ensures (digit_value-ascii _ (cc)) in
-    sym (number_up_to-large c.args.greatest word (omega (arith, digits_value-take (i + 1) word)))
+    sym (number_up_to-large c.args.greatest word (omega (arith, digits_value-take-le 10 word (i + 1) (omega arith))))
 
 pub loop-digit-preserved : goal.loop-digit-preserved
 loop-digit-preserved c =

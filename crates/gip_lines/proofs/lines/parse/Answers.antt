@@ -1,6 +1,6 @@
 -- The first line of another form comes after as many lines as were read.
 use Rattle.std.proofs.Common.{◌≡◌, length, rules}
-use Rattle.gip_lines.proofs.ReadingLemmas.{first_other_line-at}
+use Rattle.gip_lines.proofs.Readings.{first_other_line-at}
 use Rattle.gip_lines.proofs.lines.parse.Goals as goal
 
 pub returns-in-None-clause-err : goal.returns-in-None-clause-err

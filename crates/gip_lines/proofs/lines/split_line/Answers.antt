@@ -1,5 +1,5 @@
 -- The line ends at the first line feed, or where the text does.
-use Rattle.gip_lines.proofs.PieceLemmas.{script_lines-at}
+use Rattle.gip_lines.proofs.Pieces.{script_lines-at}
 use Rattle.gip_lines.proofs.lines.split_line.Goals as goal
 
 pub returns-in-Some-clause-lines : goal.returns-in-Some-clause-lines

@@ -4,7 +4,7 @@ use Rattle.std.proofs.lemmas.Iterator.{YieldsList-from_slice}
 use Rattle.std.proofs.lemmas.Iterator.Search.{position_from_yields_List}
 use Rattle.std.specs.List.{position}
 use borrow.Author.Tests.{tests}
-use Rattle.gip_lines.proofs.PieceLemmas.{pieces-at, pieces-none}
+use Rattle.gip_lines.proofs.Pieces.{pieces-at, pieces-none}
 use Rattle.gip_lines.proofs.lines.split_once.Goals as goal
 
 pub returns-in-Some-clause-parts : goal.returns-in-Some-clause-parts

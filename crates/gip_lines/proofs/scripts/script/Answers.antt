@@ -1,21 +1,24 @@
 -- The input is what the reader had left, and its lines are those that were answered.
 use Rattle.std.proofs.Common.{◌≡◌, Bool, List, sym, ap, ◌∙◌, subst}
+use Rattle.std.proofs.lemmas.Result.{on_ok_weaker}
 use Rattle.std.specs.Io.KnownBytes.{Appends}
 use Rattle.gip_lines.specs.Lines.{IsScript, lines_of, script_lines}
 use Rattle.gip_lines.specs.Script.{script_text}
-use Rattle.gip_lines.proofs.ReadingLemmas.{IsScript-read, lines_of-read, small_keys}
-use Rattle.gip_lines.proofs.ScriptLemmas.{whole_input, OnOk-always, OnOk-map}
+use Rattle.gip_lines.proofs.Readings.{IsScript-read, lines_of-read, small_keys}
+use Rattle.gip_lines.proofs.WholeInput.{whole_input}
 use Rattle.gip_lines.proofs.scripts.script.Goals as goal
 
-pub answer-requires : goal.answer-requires
-answer-requires g c =
+pub run_lines-requires : goal.run_lines-requires
+run_lines-requires g c =
     let read = rw c.deref.ensures.value at c.in_ok-lines.ensures.ok in
     record { keys = rw c.deref-2.ensures.value (small_keys (script_lines c.in_ok-input.input.items) c.in_ok-lines.lines.items read) }
 
 pub returns-clause-is_script : goal.returns-clause-is_script
 returns-clause-is_script g c =
     let read = rw c.deref.ensures.value at c.in_ok-lines.ensures.ok in
-    OnOk-always _ _ (whole_input IsScript _ _ _ c.in_ok-input.ensures.input c.in_ok-input.ensures.end (IsScript-read c.in_ok-input.input.items c.in_ok-lines.lines.items read))
+    on_ok_weaker _
+    (λ _. whole_input IsScript _ _ _ c.in_ok-input.ensures.input c.in_ok-input.ensures.end (IsScript-read c.in_ok-input.input.items c.in_ok-lines.lines.items read))
+    c.write_all.ensures.ok
 
 pub returns-clause-written : goal.returns-clause-written
 returns-clause-written g c =
@@ -26,7 +29,7 @@ returns-clause-written g c =
     let (refusals, text) = c.in_ok-text.ensures.text in
     let same : c.deref-3.result.now ≡ script_text (lines_of c.in_ok-input.input.items) refusals =
     c.deref-3.ensures.value ∙ text ∙ ap (λ lines. script_text lines refusals) (c.deref-2.ensures.value ∙ sym said) in
-    OnOk-map _ _ _
+    on_ok_weaker _
     (λ appended. whole_input (λ input. (refusals : List Bool) × Appends old new (script_text (lines_of input) refusals)) _ _ _
     c.in_ok-input.ensures.input c.in_ok-input.ensures.end (refusals, subst (Appends old new) same appended))
     c.write_all.ensures.ok

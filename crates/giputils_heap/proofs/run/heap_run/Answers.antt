@@ -1,6 +1,7 @@
-use Rattle.std.proofs.Common.{◌≡◌, ◌≤◌, ◌^◌, ◌∙◌, refl, arith, get_or}
+use Rattle.std.proofs.Common.{◌≤◌, refl, arith}
 use Rattle.std.proofs.lemmas.List.Elements.{All-get_or}
-use Rattle.giputils_heap.proofs.RunLemmas.{HasRun-start, HasRun-more, HasRun-answers, HasRun-kept, KeepsSteps-refl, next_is_old}
+use Rattle.giputils_heap.specs.Bounds.{count_limit}
+use Rattle.giputils_heap.proofs.Runs.{HasRun-start, HasRun-more, HasRun-answers, HasRun-kept, KeepsSteps-refl, next_is_old}
 use Rattle.giputils_heap.proofs.run.heap_run.Goals as goal
 
 pub returns-in_err-replies-clause-kept : goal.returns-in_err-replies-clause-kept
@@ -10,10 +11,10 @@ pub loop-step-init : goal.loop-step-init
 loop-step-init g c =
     (HasRun-start g.T.HeapKey.number g.C.BinaryHeapCmp.at_least c.args.steps.now c.in_ok-replies.replies.items c.new-heap.result c.in_ok-replies.ensures.items c.new-heap.ensures.empty c.new-heap.ensures.in_order, c.in_ok-replies.ensures.len, c.in_ok-replies.ensures.capacity)
 
-pub answer-requires : goal.answer-requires
-answer-requires g c =
+pub make_call-requires : goal.make_call-requires
+make_call-requires g c =
     rw (next_is_old g.T.HeapKey.number g.C.BinaryHeapCmp.at_least c.args.steps.now c.loop-step.steps c.loop-step.step-index c.loop-step.replies.items c.loop-step.heap c.loop-step-test.true c.loop-step.invariant.0 c.step-item.result)
-    (All-get_or (λ s. s.cmp.count ≤ 2 ^ 63) c.args.steps.now c.loop-step.step-index c.step-item.result c.loop-step-test.true c.requires)
+    (All-get_or (λ s. s.cmp.count ≤ count_limit) c.args.steps.now c.loop-step.step-index c.step-item.result c.loop-step-test.true c.requires)
 
 pub push_reserved-requires : goal.push_reserved-requires
 push_reserved-requires g c = omega (arith, c.loop-step.invariant.1, c.loop-step.invariant.2)
@@ -22,8 +23,8 @@ pub loop-step-preserved : goal.loop-step-preserved
 loop-step-preserved g c = (
   rw c.push_reserved.ensures.items
       (HasRun-more g.T.HeapKey.number g.C.BinaryHeapCmp.at_least c.args.steps.now c.loop-step.steps c.loop-step.step-index c.loop-step.replies.items c.loop-step.heap c.loop-step-test.true c.loop-step.invariant.0 c.step-item.result
-      c.answer.new.cmp c.answer.result c.answer.new.heap c.answer.ensures.reply c.answer.ensures.stands
-      record { call = refl; comparer = c.answer.ensures.comparer; rises = c.answer.ensures.rises; comparisons = c.answer.ensures.comparisons; uncompared = c.answer.ensures.uncompared }),
+      c.make_call.new.cmp c.make_call.result c.make_call.new.heap c.make_call.ensures.reply c.make_call.ensures.stands
+      record { call = refl; comparer = c.make_call.ensures.comparer; rises = c.make_call.ensures.rises; comparisons = c.make_call.ensures.comparisons; uncompared = c.make_call.ensures.uncompared }),
   omega (arith, c.push_reserved.ensures.len, c.loop-step.invariant.1),
   omega (arith, c.push_reserved.ensures.capacity, c.loop-step.invariant.2),
 )

@@ -1,5 +1,5 @@
 use Rattle.std.proofs.Common.{◌≡◌, ◌≤◌, length, vec_len, vec_capacity}
-use Rattle.giputils_heap.proofs.RunLemmas.{HasRun}
+use Rattle.giputils_heap.proofs.Runs.{HasRun}
 use Rattle.giputils_heap.proofs.run.heap_run.Given as goal
 
 abbrev pub invariant-loop-step : goal.invariant-loop-step

@@ -1,6 +1,6 @@
 -- A third word is too many.
 use Rattle.std.proofs.Common.{sym}
-use Rattle.gip_lines.proofs.PieceLemmas.{line_of-three}
+use Rattle.gip_lines.proofs.Pieces.{line_of-three}
 use Rattle.gip_lines.proofs.lines.Line.parse.Goals as goal
 
 pub returns-in_default-Some : goal.returns-in_default-Some

@@ -1,0 +1,114 @@
+-- The definitions on worked examples, computed by the check.
+use Rattle.std.specs.Prelude.{◌≡◌, ℕ, List, [], ◌∷◌, ◌++◌, codes, Some, None, refl, true, false}
+use Rattle.std.specs.Fmt.{digits}
+use Rattle.gip_lines.specs.Lines.{line_feed, space, pieces, script_lines, number_up_to, line_of, lines_of, first_other_line}
+use Rattle.gip_lines.specs.Script.{greatest, without, script_text}
+use Rattle.gip_lines.specs.declared.lines.Line.TheVariants.{Push, Pop, Len, Clear}
+
+-- a text of some lines, each with a line feed
+abbrev text_of : List (List ℕ) → List ℕ
+text_of [] = []
+text_of (line ∷ lines) = line ++ line_feed ∷ text_of lines
+
+-- ---- texts and lines
+
+a_space_at_the_end_begins_an_empty_piece : pieces space (codes "a ") ≡ codes "a" ∷ [] ∷ []
+a_space_at_the_end_begins_an_empty_piece = refl
+
+a_line_feed_at_the_end_begins_no_line : script_lines (codes "a" ++ line_feed ∷ []) ≡ codes "a" ∷ []
+a_line_feed_at_the_end_begins_no_line = refl
+
+a_last_line_needs_no_line_feed : script_lines (codes "a" ++ line_feed ∷ codes "b") ≡ codes "a" ∷ codes "b" ∷ []
+a_last_line_needs_no_line_feed = refl
+
+an_empty_text_has_no_line : lines_of [] ≡ []
+an_empty_text_has_no_line = refl
+
+a_lone_line_feed_ends_an_empty_line : first_other_line (line_feed ∷ []) ≡ Some 1
+a_lone_line_feed_ends_an_empty_line = refl
+
+an_empty_line_has_another_form : first_other_line (codes "pop" ++ line_feed ∷ line_feed ∷ codes "pop") ≡ Some 2
+an_empty_line_has_another_form = refl
+
+-- ---- the form of a line
+
+push_names_its_key : line_of (codes "push 15") ≡ Some (Push 15)
+push_names_its_key = refl
+
+pop_len_and_clear_name_none : lines_of (text_of (codes "pop" ∷ codes "len" ∷ codes "clear" ∷ [])) ≡ Pop ∷ Len ∷ Clear ∷ []
+pop_len_and_clear_name_none = refl
+
+leading_zeros_are_allowed : line_of (codes "push 003") ≡ Some (Push 3)
+leading_zeros_are_allowed = refl
+
+a_number_may_be_the_greatest : number_up_to 15 (codes "15") ≡ Some 15
+a_number_may_be_the_greatest = refl
+
+a_number_is_not_above_the_greatest : number_up_to 15 (codes "16") ≡ None
+a_number_is_not_above_the_greatest = refl
+
+two_spaces_are_refused : line_of (codes "push  3") ≡ None
+two_spaces_are_refused = refl
+
+a_space_at_the_end_is_refused : line_of (codes "pop ") ≡ None
+a_space_at_the_end_is_refused = refl
+
+a_space_at_the_front_is_refused : line_of (codes " pop") ≡ None
+a_space_at_the_front_is_refused = refl
+
+a_sign_is_refused : line_of (codes "push +3") ≡ None
+a_sign_is_refused = refl
+
+push_without_a_key_is_refused : line_of (codes "push") ≡ None
+push_without_a_key_is_refused = refl
+
+push_of_two_keys_is_refused : line_of (codes "push 3 4") ≡ None
+push_of_two_keys_is_refused = refl
+
+a_carriage_return_is_refused : line_of (codes "push 3" ++ 13 ∷ []) ≡ None
+a_carriage_return_is_refused = refl
+
+other_bytes_than_ascii_are_refused : line_of (255 ∷ []) ≡ None
+other_bytes_than_ascii_are_refused = refl
+
+capital_letters_are_refused : line_of (codes "POP") ≡ None
+capital_letters_are_refused = refl
+
+-- ---- the replies
+
+no_key_is_the_greatest_of_none : greatest [] ≡ None
+no_key_is_the_greatest_of_none = refl
+
+the_greatest_key_may_stand_anywhere : greatest (2 ∷ 5 ∷ 3 ∷ []) ≡ Some 5
+the_greatest_key_may_stand_anywhere = refl
+
+the_other_keys_stay_in_order : without 5 (2 ∷ 5 ∷ 3 ∷ []) ≡ 2 ∷ 3 ∷ []
+the_other_keys_stay_in_order = refl
+
+-- the script that the README shows
+abbrev readme_script : List ℕ
+readme_script = text_of (codes "push 3" ∷ codes "push 2" ∷ codes "push 4" ∷ codes "push 5" ∷ codes "push 1"
+    ∷ codes "pop" ∷ codes "pop" ∷ codes "len" ∷ codes "clear" ∷ codes "pop" ∷ [])
+
+readme_script_has_the_form : first_other_line readme_script ≡ None
+readme_script_has_the_form = refl
+
+readme_script_has_its_replies : script_text (lines_of readme_script) []
+    ≡ text_of (codes "ok" ∷ codes "ok" ∷ codes "ok" ∷ codes "ok" ∷ codes "ok" ∷ codes "5" ∷ codes "4" ∷ codes "3" ∷ codes "ok"
+    ∷ codes "none" ∷ [])
+unfolding digits
+readme_script_has_its_replies = refl
+
+a_refused_push_holds_nothing : script_text (Push 7 ∷ Pop ∷ Len ∷ []) (true ∷ [])
+    ≡ text_of (codes "memory" ∷ codes "none" ∷ codes "0" ∷ [])
+unfolding digits
+a_refused_push_holds_nothing = refl
+
+a_push_of_a_held_key_asks_for_nothing : script_text (Push 7 ∷ Push 7 ∷ Len ∷ []) (false ∷ true ∷ [])
+    ≡ text_of (codes "ok" ∷ codes "ok" ∷ codes "1" ∷ [])
+unfolding digits
+a_push_of_a_held_key_asks_for_nothing = refl
+
+no_keys_are_counted_at_first : script_text (Len ∷ []) [] ≡ text_of (codes "0" ∷ [])
+unfolding digits
+no_keys_are_counted_at_first = refl

@@ -1,0 +1,55 @@
+//! Comparers that everyone writes: by number, the other way round, and by rank.
+ghost use Rattle.std.specs.Prelude.{◌≡◌};
+ghost use Rattle.giputils_heap.specs.Comparers.{by_number, reverse_of, rank_of, by_rank};
+
+use crate::key::{BinaryHeapCmp, HeapKey};
+use std::cmp::Reverse;
+
+/// Compares keys by their numbers: the greatest number comes first, as a max heap by default.
+#[derive(Clone, Copy, PartialEq, Eq, Default, Debug)]
+pub struct ByNumber;
+
+impl<T: HeapKey> BinaryHeapCmp<T> for ByNumber {
+    ghost at_least = { λ _. by_number T.number };
+
+    fn gte(&self, s: T, o: T) -> bool {
+        s.key() >= o.key()
+    }
+}
+
+/// Compares keys as the comparer inside does, the other way round: `Reverse(ByNumber)` makes a min heap.
+impl<T, C: BinaryHeapCmp<T>> BinaryHeapCmp<T> for Reverse<C> {
+    ghost at_least = { λ c. reverse_of (C.at_least c.0) };
+
+    fn gte(&self, s: T, o: T) -> bool {
+        self.0.gte(o, s)
+    }
+}
+
+/// Compares keys by their ranks in a table, and those of one rank by their numbers.
+///
+/// The rank of a key stands in the table at the place of its number; a key past the table's end has rank 0.
+#[derive(Clone, Copy, Debug)]
+pub struct ByRank<'a>(pub &'a [u32]);
+
+impl ByRank<'_> {
+    // The rank of the key with this number.
+    fn rank(&self, number: u32) -> u32
+        ensures { result ≡ rank_of self.now.0.now number }
+    {
+        match self.0.get(number as usize) {
+            Some(rank) => *rank,
+            None => 0,
+        }
+    }
+}
+
+impl<T: HeapKey> BinaryHeapCmp<T> for ByRank<'_> {
+    ghost at_least = { λ c. by_rank T.number c.0.now };
+
+    fn gte(&self, s: T, o: T) -> bool {
+        let (s, o) = (s.key(), o.key());
+        let (s_rank, o_rank) = (self.rank(s), self.rank(o));
+        s_rank > o_rank || s_rank == o_rank && s >= o
+    }
+}

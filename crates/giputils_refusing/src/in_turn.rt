@@ -1,0 +1,92 @@
+//! Runs of one piece of work, each of which is refused memory a little later than the one before.
+ghost use Rattle.std.specs.Prelude.{◌+◌, IfOk, IfErr, true};
+ghost use Rattle.std.specs.Fn.{FnReturnsAt};
+ghost use Rattle.giputils_refusing.specs.InTurn.{IsRun, AreRefused, IsFault};
+
+use crate::{Refused, Refusing};
+use std::alloc::Allocator;
+
+/// The most runs that [`refuse_each`] and [`refuse_from_each`] make.
+pub const MOST_RUNS: u64 = 64;
+
+/// Why runs that are refused memory in turn show nothing.
+#[derive(Clone, Copy, PartialEq, Eq, Debug)]
+pub enum TurnFault {
+    /// The run that was refused this request said that it was served all the same.
+    Hidden(u64),
+    /// The run that was to be refused this request said that it was refused memory, but made fewer requests.
+    Unrefused(u64),
+    /// Each of [`MOST_RUNS`] runs was refused memory.
+    Endless,
+}
+
+/// Makes a run with request 1 refused, then one with request 2 alone refused, and so on, until a run is served.
+/// Tells how many runs were refused.
+///
+/// A run is lent the allocator and says whether it was served all that it asked for. It must say so exactly where
+/// none of its requests was refused: this is looked up in the allocator's count after each run. The count changes
+/// behind a `&`, so no clause can speak of it: the clauses say which runs were made, and what each of them said.
+///
+/// # Errors
+/// [`TurnFault`] where a run says the contrary of what the count shows, and where no run is served.
+pub fn refuse_each<B: Allocator + Copy, F: Fn(&Refusing<B>) -> bool>(
+    inner: B,
+    run: F,
+) -> Result<u64, TurnFault>
+    requires { F.IsAlwaysCallable run }
+    ensures refused { IfOk result (AreRefused (FnReturnsAt F.Fn run) inner Refused.Nth) }
+    ensures served { IfOk result (λ count. IsRun (FnReturnsAt F.Fn run) inner (Refused.Nth (count + 1)) true) }
+    ensures err { IfErr result (IsFault (FnReturnsAt F.Fn run) inner Refused.Nth) }
+{
+    for n in 0..MOST_RUNS {
+        let (served, requests) = make_run(inner, Refused::Nth(n + 1), &run);
+        match (served, requests > n) {
+            (true, false) => return Ok(n),
+            (true, true) => return Err(TurnFault::Hidden(n + 1)),
+            (false, false) => return Err(TurnFault::Unrefused(n + 1)),
+            (false, true) => {}
+        }
+    }
+    Err(TurnFault::Endless)
+}
+
+/// The same, with each later request refused as well.
+///
+/// It is for work that asks again where a request is refused, so that one refusal alone can pass unseen.
+///
+/// # Errors
+/// As for [`refuse_each`].
+pub fn refuse_from_each<B: Allocator + Copy, F: Fn(&Refusing<B>) -> bool>(
+    inner: B,
+    run: F,
+) -> Result<u64, TurnFault>
+    requires { F.IsAlwaysCallable run }
+    ensures refused { IfOk result (AreRefused (FnReturnsAt F.Fn run) inner Refused.From) }
+    ensures served { IfOk result (λ count. IsRun (FnReturnsAt F.Fn run) inner (Refused.From (count + 1)) true) }
+    ensures err { IfErr result (IsFault (FnReturnsAt F.Fn run) inner Refused.From) }
+{
+    for n in 0..MOST_RUNS {
+        let (served, requests) = make_run(inner, Refused::From(n + 1), &run);
+        match (served, requests > n) {
+            (true, false) => return Ok(n),
+            (true, true) => return Err(TurnFault::Hidden(n + 1)),
+            (false, false) => return Err(TurnFault::Unrefused(n + 1)),
+            (false, true) => {}
+        }
+    }
+    Err(TurnFault::Endless)
+}
+
+// Makes one run over `inner` with these requests refused. Tells whether it was served, and how many requests it made.
+fn make_run<B: Allocator, F: Fn(&Refusing<B>) -> bool>(
+    inner: B,
+    refused: Refused,
+    run: &F,
+) -> (bool, u64)
+    requires { F.IsAlwaysCallable run.now }
+    ensures { IsRun (FnReturnsAt F.Fn run.now) inner refused result.0 }
+{
+    let memory = Refusing::refusing(inner, refused);
+    let served = run(&memory);
+    (served, memory.requests())
+}

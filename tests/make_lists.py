@@ -1,0 +1,101 @@
+#!/usr/bin/env python3
+"""Makes the lists of calls that giputils_replay runs, and asks another program for the answers.
+
+    tests/make_lists.py PROGRAM       writes crates/giputils_replay/stdin and crates/giputils_replay/stdout
+
+Each list begins with a line `new NAME ..` and is for a container of its own, which is empty at first. PROGRAM is run
+once for each list, with the words after `new` as its arguments. It reads the list's other lines and answers each with
+one line. The answer to `new NAME ..` is that line itself, so that line n of stdout is the answer to line n of stdin.
+
+The kept answers come from a program over the Rust crate giputils 0.3.6 that makes each call of a list on the crate's
+own container (command: `tests/make_lists.py giputils-oracle`). A call whose condition doesn't hold it answers by
+`skipped`, without making it.
+
+A container's lists come from a seed of their own, so that a change of one container's lists leaves the others' as they
+are.
+"""
+
+import random
+import subprocess
+import sys
+from pathlib import Path
+
+REPLAY = Path(__file__).resolve().parent.parent / "crates" / "giputils_replay"
+
+LARGEST_VALUE = 2**32 - 1
+
+# How often each call of the index allocator comes.
+GALLOC_WEIGHTS = {
+    "alloc": 40,
+    "dealloc": 20,
+    "write": 10,
+    "read": 10,
+    "is_removed": 8,
+    "gc": 8,
+    "len": 4,
+}
+
+
+def galloc_list(rng):
+    """Calls of an index allocator. It keeps track of the marks, so that most indexes are in range."""
+    marks = []
+    yield "new galloc"
+    for _ in range(rng.randint(1, 30)):
+        (name,) = rng.choices(list(GALLOC_WEIGHTS), list(GALLOC_WEIGHTS.values()))
+        value = LARGEST_VALUE if rng.random() < 0.05 else rng.randrange(1000)
+        if marks and rng.random() < 0.9:
+            index = rng.randrange(len(marks))
+        else:
+            index = len(marks) + rng.randrange(3)
+        if name == "alloc":
+            marks.append(False)
+            yield f"alloc {value}"
+        elif name == "write":
+            yield f"write {index} {value}"
+        elif name in ("dealloc", "read", "is_removed"):
+            if name == "dealloc" and index < len(marks):
+                marks[index] = True
+            yield f"{name} {index}"
+        else:
+            if name == "gc":
+                marks = [mark for mark in marks if not mark]
+            yield name
+
+
+# For each container what makes one list, how many lists, and the seed.
+CONTAINERS = [
+    (galloc_list, 300, 36),
+]
+
+
+def all_lists():
+    for make_list, count, seed in CONTAINERS:
+        rng = random.Random(seed)
+        for _ in range(count):
+            yield list(make_list(rng))
+
+
+def answers_of(program, header, calls):
+    """What the program answers to one list's calls."""
+    text = "".join(f"{call}\n" for call in calls)
+    arguments = header.split()[1:]
+    run = subprocess.run([program, *arguments], input=text, stdout=subprocess.PIPE, text=True, check=True)
+    answers = run.stdout.splitlines()
+    if len(answers) != len(calls):
+        sys.exit(f"{header}: {len(answers)} answers to {len(calls)} calls")
+    return answers
+
+
+def main():
+    if len(sys.argv) != 2:
+        sys.exit(__doc__)
+    questions = []
+    answers = []
+    for header, *calls in all_lists():
+        questions += [header, *calls]
+        answers += [header, *answers_of(sys.argv[1], header, calls)]
+    for name, lines in (("stdin", questions), ("stdout", answers)):
+        (REPLAY / name).write_text("".join(f"{line}\n" for line in lines))
+
+
+main()
