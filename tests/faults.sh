@@ -1,13 +1,13 @@
 #!/usr/bin/env bash
-# Runs the program into each of its faults: tests/faults.sh [GIP]
-# With no path it builds the program first. It prints a line for each case; the last line is 'N passed, M failed', and the
-# status is 1 where a case failed.
+# Runs the program into each of its faults: tests/faults.sh GIP
+# GIP is the built program: crates/gip/out/gip, which both `rt ci` and `rt run` leave. It prints a line for each case. The
+# last line is 'N passed, M failed', and the status is 1 where a case failed.
 set -u
-gip=${1:-}
-if [ -z "$gip" ]; then
-    cd "$(dirname "$0")/../crates/gip" || exit 2
-    rt run < stdin > /dev/null || exit 2
-    gip=$PWD/out/gip
+gip=${1:?usage: tests/faults.sh GIP}
+if [ ! -x "$gip" ]; then
+    echo "no program $gip"
+    echo "0 passed, 1 failed"
+    exit 1
 fi
 work=$(mktemp -d) || exit 2
 trap 'rm -rf "$work"' EXIT

@@ -8,7 +8,7 @@ use std::env::Env;
 use std::io::ErrorKind;
 use std::process::ExitCode;
 
-/// The exit status after the usage line.
+// The exit status after the usage line.
 const USAGE: u8 = 2;
 
 fn main(rt: HostRuntime) -> ExitCode {

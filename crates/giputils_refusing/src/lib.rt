@@ -1,10 +1,9 @@
-//! An allocator for tests: it passes requests on to another allocator, and refuses those that it
-//! was told to.
+//! An allocator for tests: it passes requests on to another allocator, and refuses those that it was told to.
 //!
-//! A collection borrows it, as in `Vec::<u32, &Refusing>::new(&memory)`, so that a test can ask it
-//! afterwards how many requests there were and how many bytes the largest asked for.
-//! Requests are numbered from 1, and one that is refused counts as well. A block that grows or
-//! shrinks is a request for the new block, and giving a block back is none.
+//! A collection borrows it, as in `Vec::<u32, &Refusing>::new(&memory)`, so that a test can ask it afterwards how many
+//! requests there were and how many bytes the largest asked for. Requests are numbered from 1, and one that is refused
+//! counts as well. A block that grows or shrinks is a request for the new block, and giving a block back is none.
+//! [`refuse_each`] refuses each request of a piece of work in turn.
 #![tactic(auto)]
 
 ghost use Rattle.std.specs.Prelude.{◌≡◌, ◌+◌, ◌↔◌, IsTrue, IfSome, min, max};
@@ -74,8 +73,8 @@ impl Tally {
 
 /// An allocator over another one, that refuses the requests it was told to and counts them all.
 ///
-/// A refused request is an `AllocError`, and the other allocator does not hear of it. Where that one
-/// has no memory itself, its error is passed on. It is for one thread.
+/// A refused request is an `AllocError`, and the other allocator does not hear of it. Where that one has no memory
+/// itself, its error is passed on. It is for one thread.
 #[derive(Drop)]
 pub struct Refusing<B = Global> {
     inner: B,

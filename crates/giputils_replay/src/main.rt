@@ -1,7 +1,7 @@
 //! Runs lists of calls on the containers, and answers each line with a line.
 //!
-//! A line `new NAME ..` begins a list and names the container that its calls are made on, which is empty at first. It is
-//! answered by itself. A container has a module of its own, which parses its calls and writes its replies. The lists
+//! A line `new NAME ..` begins a list and names the container that its calls are made on, which is empty at first. It
+//! is answered by itself. A container has a module of its own, which parses its calls and writes its replies. The lists
 //! of the file `stdin` and the answers of the file `stdout`, which are those of the Rust crate, are made by
 //! `tests/make_lists.py`.
 #![tactic(auto)]

@@ -1,14 +1,11 @@
 //! Scripts on devices that move few bytes at a time, or fail.
-use crate::watched::Watched;
-use crate::{GipFault, INPUT_LIMIT, script};
-use std::alloc::Global;
+
+use crate::scripts::{README_REPLIES, README_SCRIPT};
+use gip_lines::watched::Watched;
+use gip_lines::{GipFault, INPUT_LIMIT, script};
+use std::alloc::{AllocError, Global};
 use std::io::{self, Error, ErrorKind, Read, Write};
 use std::test::Fail;
-
-// The script that the README shows, and its replies.
-const README_SCRIPT: &[u8] = b"push 3\npush 2\npush 4\npush 5\npush 1\npop\npop\nlen\nclear\npop\n";
-
-const README_REPLIES: &[u8] = b"ok\nok\nok\nok\nok\n5\n4\n3\nok\nnone\n";
 
 // A reader of bytes in memory that gives at most so many at a time, fails at one call, and counts its calls.
 #[derive(Drop)]
@@ -89,50 +86,6 @@ impl Write for Sink {
 }
 
 #[test]
-fn answers_scripts(rt: HostRuntime) -> Result<(), Fail> {
-    let table: [(&[u8], &[u8]); 6] = [
-        (README_SCRIPT, README_REPLIES),
-        (b"", b""),
-        (b"push 003\npop", b"ok\n3\n"),
-        (b"len", b"0\n"),
-        (b"push 7\nclear\npush 7\npop\npop", b"ok\nok\nok\n7\nnone\n"),
-        (b"push 0\npush 1\npush 0\nlen\n", b"ok\nok\nok\n2\n"),
-    ];
-    for (input, replies) in table {
-        let mut reader = Watched::new(input);
-        let mut writer = Watched::new(Vec::new(rt.alloc()));
-        assert_eq!(rt; script(rt.alloc(), &mut reader, &mut writer), Ok(()));
-        assert_eq!(rt; writer.device().as_slice(), replies);
-    }
-    Ok(())
-}
-
-#[test]
-fn refuses_the_first_line_of_another_form(rt: HostRuntime) {
-    let table: [(&[u8], usize); 12] = [
-        (b"push 1\npush 16\n", 2),
-        (b"push  3", 1),
-        (b"pop ", 1),
-        (b" pop", 1),
-        (b"push +3", 1),
-        (b"push 3\r\n", 1),
-        (b"pop\n\npop", 2),
-        (b"len\npop\n\xff\nlen\n\n", 3),
-        (b"\n", 1),
-        (b"push", 1),
-        (b"rank 1 2", 1),
-        (b"push 18446744073709551617", 1),
-    ];
-    for (input, number) in table {
-        let mut reader = Watched::new(input);
-        let mut writer = Watched::new(Vec::new(rt.alloc()));
-        let outcome = script(rt.alloc(), &mut reader, &mut writer);
-        assert_eq!(rt; outcome, Err(GipFault::Line(number)), "at {input:?}");
-        assert!(rt; writer.device().is_empty());
-    }
-}
-
-#[test]
 fn moves_one_byte_at_a_time(rt: HostRuntime) {
     let mut reader = Watched::new(Source::new(README_SCRIPT, 1, 0));
     let mut writer = Watched::new(Sink::new(rt.alloc(), 1, 0, Failure::Refuses));
@@ -174,34 +127,6 @@ fn stops_at_a_failed_write(rt: HostRuntime) {
 }
 
 #[test]
-fn refuses_an_input_that_is_too_long(rt: HostRuntime) {
-    let limit = INPUT_LIMIT as u64;
-    for (len, fault) in [(limit, GipFault::Line(1)), (limit + 1, GipFault::Input)] {
-        let mut reader = Watched::new(io::repeat(b'0').take(len));
-        let mut writer = Watched::new(Vec::new(rt.alloc()));
-        let outcome = script(rt.alloc(), &mut reader, &mut writer);
-        assert_eq!(rt; outcome, Err(fault), "{len} bytes");
-        assert!(rt; !reader.failed());
-        assert!(rt; writer.device().is_empty());
-    }
-}
-
-#[test]
-fn faults_have_texts_and_statuses(rt: HostRuntime) -> Result<(), Fail> {
-    let table = [
-        (GipFault::Input, "input: refused", 2),
-        (GipFault::Line(12), "line 12: refused", 2),
-        (GipFault::Memory, "memory: refused", 1),
-        (GipFault::Output, "output: failed", 1),
-    ];
-    for (fault, text, status) in table {
-        assert_eq!(rt; fault.to_string(rt.alloc())?.as_str(), text);
-        assert_eq!(rt; fault.status(), status);
-    }
-    Ok(())
-}
-
-#[test]
 fn remembers_a_failed_call(rt: HostRuntime) {
     let mut reader = Watched::new(Source::new(b"ab", 2, 1));
     let mut buf = [0u8; 4];
@@ -219,4 +144,19 @@ fn remembers_a_failed_call(rt: HostRuntime) {
     let outcome = writer.write(b"").map_err(|e| e.kind());
     assert_eq!(rt; outcome, Err(ErrorKind::Interrupted));
     assert!(rt; writer.failed());
+}
+
+fn zeros(alloc: Global, len: usize) -> Result<Vec<u8>, AllocError> {
+    vec![in alloc; b'0'; len]
+}
+
+#[test]
+fn reads_an_input_that_is_too_long_no_further(rt: HostRuntime) -> Result<(), Fail> {
+    let input = zeros(rt.alloc(), 2 * INPUT_LIMIT)?;
+    let mut reader = Watched::new(Source::new(&input, 1, 0));
+    let mut writer = Watched::new(Vec::new(rt.alloc()));
+    let outcome = script(rt.alloc(), &mut reader, &mut writer);
+    assert_eq!(rt; outcome, Err(GipFault::Input));
+    assert_eq!(rt; reader.device().calls, 1_048_577);
+    Ok(())
 }

@@ -1,0 +1,94 @@
+//! Hashed sets and maps.
+
+use giputils_base::hash::{GHashMap, GHashSet};
+use giputils_refusing::{Refusing, refuse_each, refuse_from_each};
+use std::ops::{Deref, DerefMut};
+use std::test::Fail;
+
+// The requests of one growth of a hashed collection.
+const GROWTH: u64 = 4;
+
+fn is_set_collected(memory: &Refusing) -> bool {
+    GHashSet::from_iter(memory, [3u32, 3]).is_ok()
+}
+
+fn is_map_collected(memory: &Refusing) -> bool {
+    GHashMap::from_iter(memory, [(1u32, 5u32), (2, 6), (1, 7)]).is_ok()
+}
+
+fn is_set_cloned(memory: &Refusing) -> bool {
+    let mut set = GHashSet::new(memory);
+    if set.insert(3u32).is_err() {
+        return false;
+    }
+    let copy: Result<_, _> = set.clone();
+    copy.is_ok()
+}
+
+fn is_map_cloned(memory: &Refusing) -> bool {
+    let mut map = GHashMap::new(memory);
+    if map.insert(4u32, 16u32).is_err() {
+        return false;
+    }
+    let copy: Result<_, _> = map.clone();
+    copy.is_ok()
+}
+
+// Collecting asks again where the room for all items is refused, so that one refusal alone can pass.
+#[test]
+fn each_request_of_a_hashed_collection_is_refused_in_turn(rt: HostRuntime) {
+    let alloc = rt.alloc();
+    let outcomes = [
+        (
+            "a set from_iter",
+            refuse_from_each(alloc, is_set_collected),
+            GROWTH,
+        ),
+        (
+            "a map from_iter",
+            refuse_from_each(alloc, is_map_collected),
+            GROWTH,
+        ),
+        (
+            "a set's clone",
+            refuse_each(alloc, is_set_cloned),
+            2 * GROWTH,
+        ),
+        (
+            "a map's clone",
+            refuse_each(alloc, is_map_cloned),
+            2 * GROWTH,
+        ),
+    ];
+    for (call, outcome, requests) in outcomes {
+        assert_eq!(rt; outcome, Ok(requests), "{call}");
+    }
+}
+
+#[test]
+fn a_set_is_lent_in_place(rt: HostRuntime) -> Result<(), Fail> {
+    let memory = Refusing::from(rt.alloc(), GROWTH + 1);
+    let mut set = GHashSet::<u32, &Refusing>::new(&memory);
+    assert_eq!(rt; memory.requests(), 0);
+    set.insert(3)?;
+    let is_taken = set.deref_mut().remove(&3);
+    assert_eq!(rt;
+        (is_taken, set.deref().len(), memory.requests()),
+        (true, 0, GROWTH)
+    );
+    Ok(())
+}
+
+#[test]
+fn a_map_is_lent_in_place(rt: HostRuntime) -> Result<(), Fail> {
+    let memory = Refusing::from(rt.alloc(), GROWTH + 1);
+    let mut map = GHashMap::<u32, u32, &Refusing>::new(&memory);
+    assert_eq!(rt; memory.requests(), 0);
+    map.insert(4, 16)?;
+    let taken = map.deref_mut().remove(&4);
+    assert_eq!(rt;
+        (taken, map.deref().len(), memory.requests()),
+        (Some(16), 0, GROWTH)
+    );
+    Ok(())
+}

@@ -1,0 +1,7 @@
+-- What a pop of the plain heap answers.
+use Rattle.std.specs.Prelude.{ℕ, Bool, List}
+use Rattle.giputils_heap.specs.Order.{IsGreatest}
+
+-- k is a greatest key, where there is one; under a relation that is no order there may be none
+abbrev pub IsGreatestIfAny : {T : Type 0} → (T → ℕ) → (T → T → Bool) → List T → T → Type 0
+IsGreatestIfAny {T} number R keys k = (g : T) → IsGreatest number R keys g → IsGreatest number R keys k
