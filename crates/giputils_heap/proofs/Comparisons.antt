@@ -1,12 +1,27 @@
 -- The relations of the library's comparers: they order all keys, and a changed rank changes one key.
-use Rattle.std.proofs.Common.{◌≡◌, ℕ, Bool, ◌&&◌, ◌||◌, List, arith, IsTrue, eqb, ltb, leb}
+use Rattle.std.proofs.Common.{◌≡◌, ◌≢◌, ℕ, ◌<◌, ◌≤◌, Bool, true, false, ◌&&◌, ◌||◌, not, List, [], ◌∷◌, length, refl, ap, sym, ◌∙◌, ⊎_elim, arith, IsTrue, eqb, ltb, leb}
+use Rattle.std.specs.Prelude.{filter, slice_set}
+use Rattle.std.proofs.Math.ListN.{set}
+use Rattle.std.specs.Bool.{beq}
+use Rattle.std.specs.List.{list_all}
+use Rattle.std.proofs.lemmas.Bool.{and_from, cases_Bool, false≢true, eqb-true, eq-eqb}
 use Rattle.std.proofs.lemmas.Bool.Decides.{nat_tests}
-use Rattle.giputils_heap.specs.Comparers.{reverse_of, by_number, by_rank}
+use Rattle.std.proofs.lemmas.List.{get_or-set_other, get_or-set_same}
+use Rattle.giputils_heap.specs.Keys.{same_key, without}
+use Rattle.giputils_heap.specs.Relations.{AgreesExcept, HasRisen, HasFallen}
+use Rattle.giputils_heap.specs.Comparers.{reverse_of, rank_of, by_number, by_rank}
 use Rattle.giputils_heap.specs.Laws.{IsTotalPreorder}
+use Rattle.giputils_heap.proofs.Preorders.{beq-refl, list_all-always}
 
--- a pair of a rank and a number is at least another
-at_least : ℕ → ℕ → ℕ → ℕ → Bool
-at_least r s q o = ltb q r || (eqb r q && leb o s)
+-- a pair of a rank and a number is at least another still where its rank rises, or where the other's falls
+at_least_risen : (q q' n r m : ℕ) → q ≤ q' → (not (ltb r q || (eqb q r && leb m n)) || (ltb r q' || (eqb q' r && leb m n))) ≡ true
+at_least_risen q q' n r m rises = grind (arith, nat_tests)
+
+at_least_fallen : (q q' n r m : ℕ) → q' ≤ q → (not (ltb q r || (eqb r q && leb n m)) || (ltb q' r || (eqb r q' && leb n m))) ≡ true
+at_least_fallen q q' n r m falls = grind (arith, nat_tests)
+
+at_least_itself : (q n : ℕ) (b : Bool) → (not b || (ltb q q || (eqb q q && leb n n))) ≡ true
+at_least_itself q n b = grind (arith, nat_tests)
 
 module _ {T : Type 0} where
   -- a relation that orders all keys does so the other way round
@@ -30,3 +45,51 @@ module _ {T : Type 0} where
     -- nor are there by rank
     pub by_rank-tie : (ranks : List ℕ) (x y : T) → IsTrue (by_rank number ranks x y) → IsTrue (by_rank number ranks y x) → number x ≡ number y
     by_rank-tie ranks x y xy yx = grind (arith, nat_tests)
+
+    -- what follows of each key that is kept
+    list_all-kept : (p q : T → Bool) → ((k : T) → p k ≡ true → q k ≡ true) → (keys : List T) → list_all q (filter p keys) ≡ true
+    list_all-kept p q follows [] = refl
+    list_all-kept p q follows (k ∷ keys) =
+        ⊎_elim (λ kept. rw kept (and_from (q k) (list_all q (filter p keys)) (follows k kept) (list_all-kept p q follows keys)))
+        (λ dropped. rw dropped (list_all-kept p q follows keys)) (cases_Bool (p k))
+
+    -- a key of another number keeps its rank
+    rank_of-other : (v x : T) (ranks : List ℕ) (r : ℕ) → not (same_key number v x) ≡ true → rank_of (set ranks (number v) r) (number x) ≡ rank_of ranks (number x)
+    rank_of-other v x ranks r other =
+        let apart : number x ≢ number v = λ same. false≢true (sym (ap not (eq-eqb (number v) (number x) (sym same))) ∙ other) in
+        get_or-set_other ranks (number v) (number x) r 0 apart
+
+    -- a changed rank changes the comparisons of its key alone
+    pub AgreesExcept-by_rank : (v : T) (ranks : List ℕ) (r : ℕ) (keys : List T)
+        → AgreesExcept number v (by_rank number ranks) (by_rank number (slice_set ranks (number v) r)) keys
+    AgreesExcept-by_rank v ranks r keys =
+        let kept : T → Bool = λ k. not (same_key number v k) in
+        list_all-kept kept (λ x. list_all (λ y. beq (by_rank number ranks x y) (by_rank number (set ranks (number v) r) x y)) (filter kept keys))
+        (λ x x_kept. list_all-kept kept (λ y. beq (by_rank number ranks x y) (by_rank number (set ranks (number v) r) x y))
+        (λ y y_kept. rw (rank_of-other v x ranks r x_kept, rank_of-other v y ranks r y_kept) (beq-refl (by_rank number ranks x y))) keys) keys
+
+    -- where the rank rises, so does the key
+    pub HasRisen-by_rank : (v : T) (ranks : List ℕ) (r : ℕ) (keys : List T) → number v < length ranks → rank_of ranks (number v) ≤ r
+        → HasRisen v (by_rank number ranks) (by_rank number (slice_set ranks (number v) r)) keys
+    HasRisen-by_rank v ranks r keys inside rises =
+        let now : rank_of (set ranks (number v) r) (number v) ≡ r = get_or-set_same ranks (number v) r 0 inside in
+        list_all-always (λ x. not (by_rank number ranks v x) || by_rank number (set ranks (number v) r) v x)
+        (λ x. ⊎_elim
+        (λ same. let same' : number x ≡ number v = sym (eqb-true (number v) (number x) same) in
+        rw same' (at_least_itself (rank_of (set ranks (number v) r) (number v)) (number v) (by_rank number ranks v v)))
+        (λ other. let apart : not (same_key number v x) ≡ true = ap not other in
+        rw (now, rank_of-other v x ranks r apart) (at_least_risen (rank_of ranks (number v)) r (number v) (rank_of ranks (number x)) (number x) rises))
+        (cases_Bool (same_key number v x))) keys
+
+    -- where the rank falls, so does the key
+    pub HasFallen-by_rank : (v : T) (ranks : List ℕ) (r : ℕ) (keys : List T) → number v < length ranks → r ≤ rank_of ranks (number v)
+        → HasFallen v (by_rank number ranks) (by_rank number (slice_set ranks (number v) r)) keys
+    HasFallen-by_rank v ranks r keys inside falls =
+        let now : rank_of (set ranks (number v) r) (number v) ≡ r = get_or-set_same ranks (number v) r 0 inside in
+        list_all-always (λ x. not (by_rank number ranks x v) || by_rank number (set ranks (number v) r) x v)
+        (λ x. ⊎_elim
+        (λ same. let same' : number x ≡ number v = sym (eqb-true (number v) (number x) same) in
+        rw same' (at_least_itself (rank_of (set ranks (number v) r) (number v)) (number v) (by_rank number ranks v v)))
+        (λ other. let apart : not (same_key number v x) ≡ true = ap not other in
+        rw (now, rank_of-other v x ranks r apart) (at_least_fallen (rank_of ranks (number v)) r (number v) (rank_of ranks (number x)) (number x) falls))
+        (cases_Bool (same_key number v x))) keys

@@ -2,10 +2,11 @@
 -- answer wrongly.
 use Rattle.std.specs.Prelude.{◌≡◌, ℕ, Bool, true, false, List, [], ◌∷◌, Some, None, refl}
 use Rattle.giputils_heap.specs.Comparers.{by_number, reverse_of, by_rank}
-use Rattle.giputils_heap.specs.Record.{Entry, start, answers_from, is_steady}
+use Rattle.giputils_heap.specs.Bounds.{floor_log2}
+use Rattle.giputils_heap.specs.Record.{Entry, start, answers_from, is_steady, keeps_counts_from}
 use Rattle.giputils_heap.specs.Laws.{is_descending}
 use Rattle.giputils_heap.specs.declared.run.HeapCall.{HeapCall}
-use Rattle.giputils_heap.specs.declared.run.HeapCall.TheVariants.{Push, Pop, Clear, Len, IsEmpty}
+use Rattle.giputils_heap.specs.declared.run.HeapCall.TheVariants.{Push, Pop, Up, Down, Update, Clear, Len, IsEmpty}
 use Rattle.giputils_heap.specs.declared.run.HeapReply.{HeapReply}
 use Rattle.giputils_heap.specs.declared.run.HeapReply.TheVariants.{Done, Refused, Skipped, Popped, Length, Empty}
 
@@ -126,6 +127,163 @@ is_empty_with_a_key = refl
 
 answers_another_call : answers (step greater Len Done ∷ []) ≡ false
 answers_another_call = refl
+
+-- ---- changed ranks
+
+-- the rank of key 0 falls from 5 to 1, and is made good by an Update
+abbrev updated : HeapReply ℕ → List (Entry ℕ Comparer)
+updated reply =
+    step (ranked (5 ∷ 3 ∷ 4 ∷ [])) (Push 0) Done ∷ step (ranked (5 ∷ 3 ∷ 4 ∷ [])) (Push 1) Done
+    ∷ step (ranked (5 ∷ 3 ∷ 4 ∷ [])) (Push 2) Done ∷ step (ranked (1 ∷ 3 ∷ 4 ∷ [])) (Update 0) Done
+    ∷ step (ranked (1 ∷ 3 ∷ 4 ∷ [])) Pop reply ∷ []
+
+pops_by_new_ranks_after_an_update : answers (updated (Popped (Some 2))) ≡ true
+pops_by_new_ranks_after_an_update = refl
+
+pops_a_smaller_key_after_an_update : answers (updated (Popped (Some 1))) ≡ false
+pops_a_smaller_key_after_an_update = refl
+
+pops_by_old_ranks_after_an_update : answers (updated (Popped (Some 0))) ≡ false
+pops_by_old_ranks_after_an_update = refl
+
+-- an Up or a Down of the changed key does not make its step steady: any held key may come
+abbrev changed_at : HeapCall ℕ → List (Entry ℕ Comparer)
+changed_at call =
+    step (ranked (5 ∷ 3 ∷ 4 ∷ [])) (Push 0) Done ∷ step (ranked (5 ∷ 3 ∷ 4 ∷ [])) (Push 1) Done
+    ∷ step (ranked (5 ∷ 3 ∷ 4 ∷ [])) (Push 2) Done ∷ step (ranked (1 ∷ 3 ∷ 4 ∷ [])) call Done
+    ∷ step (ranked (1 ∷ 3 ∷ 4 ∷ [])) Pop (Popped (Some 0)) ∷ []
+
+changed_at_an_up : answers (changed_at (Up 0)) ≡ true
+changed_at_an_up = refl
+
+changed_at_a_down : answers (changed_at (Down 0)) ≡ true
+changed_at_a_down = refl
+
+-- nor does an Update of another key
+updated_another_key : answers (changed_at (Update 1)) ≡ true
+updated_another_key = refl
+
+updated_that_key : answers (changed_at (Update 0)) ≡ false
+updated_that_key = refl
+
+-- four keys of ranks 10, 8, 2, 6
+abbrev four_keys : List (Entry ℕ Comparer) → List (Entry ℕ Comparer)
+four_keys steps =
+    step (ranked (10 ∷ 8 ∷ 2 ∷ 6 ∷ [])) (Push 0) Done ∷ step (ranked (10 ∷ 8 ∷ 2 ∷ 6 ∷ [])) (Push 1) Done
+    ∷ step (ranked (10 ∷ 8 ∷ 2 ∷ 6 ∷ [])) (Push 2) Done ∷ step (ranked (10 ∷ 8 ∷ 2 ∷ 6 ∷ [])) (Push 3) Done ∷ steps
+
+-- where two ranks change at once, updates of the two keys owe no order: key 2 of rank 2 may come before key 3 of rank 6
+two_keys_changed_at_once : answers (
+    four_keys (
+    step (ranked (1 ∷ 0 ∷ 2 ∷ 6 ∷ [])) (Update 0) Done ∷ step (ranked (1 ∷ 0 ∷ 2 ∷ 6 ∷ [])) (Update 1) Done
+    ∷ step (ranked (1 ∷ 0 ∷ 2 ∷ 6 ∷ [])) Pop (Popped (Some 2)) ∷ []
+    )
+    ) ≡ true
+two_keys_changed_at_once = refl
+
+-- changed one after the other they do
+abbrev two_keys_changed_in_turn : HeapReply ℕ → List (Entry ℕ Comparer)
+two_keys_changed_in_turn reply =
+    four_keys (
+    step (ranked (1 ∷ 8 ∷ 2 ∷ 6 ∷ [])) (Update 0) Done ∷ step (ranked (1 ∷ 0 ∷ 2 ∷ 6 ∷ [])) (Update 1) Done
+    ∷ step (ranked (1 ∷ 0 ∷ 2 ∷ 6 ∷ [])) Pop reply ∷ []
+    )
+
+pops_the_greatest_of_four : answers (two_keys_changed_in_turn (Popped (Some 3))) ≡ true
+pops_the_greatest_of_four = refl
+
+pops_another_of_four : answers (two_keys_changed_in_turn (Popped (Some 2))) ≡ false
+pops_another_of_four = refl
+
+-- a key that is not held may be handed in
+not_held_is_done : answers (step greater (Up 3) Done ∷ step greater (Down 3) Done ∷ step greater (Update 4294967295) Done ∷ []) ≡ true
+not_held_is_done = refl
+
+refuses_an_update : answers (step greater (Push 1) Done ∷ step greater (Update 1) Refused ∷ []) ≡ false
+refuses_an_update = refl
+
+pops_at_an_up : answers (step greater (Push 1) Done ∷ step greater (Up 1) (Popped (Some 1)) ∷ []) ≡ false
+pops_at_an_up = refl
+
+skips_a_down : answers (step greater (Down 4294967295) Skipped ∷ []) ≡ false
+skips_a_down = refl
+
+loses_a_key_at_an_up : answers (step either (Push 1) Done ∷ step either (Up 1) Done ∷ step either Len (Length 0) ∷ []) ≡ false
+loses_a_key_at_an_up = refl
+
+-- ---- counts: the bound of each call, and one comparison too many
+
+-- a step that compares so often
+abbrev counted : HeapCall ℕ → HeapReply ℕ → ℕ → Entry ℕ Comparer
+counted call reply n = record { call = call; comparer = greater; comparisons = n; reply = reply }
+
+-- whether a call that compares so often keeps the counts, where the keys 0 to 6 are held
+abbrev keeps_counts_at_seven : HeapCall ℕ → HeapReply ℕ → ℕ → Bool
+keeps_counts_at_seven call reply n =
+    keeps_counts_from number [] (
+    counted (Push 0) Done 0 ∷ counted (Push 1) Done 1 ∷ counted (Push 2) Done 1 ∷ counted (Push 3) Done 2
+    ∷ counted (Push 4) Done 2 ∷ counted (Push 5) Done 2 ∷ counted (Push 6) Done 2 ∷ counted call reply n ∷ []
+    )
+
+push_at_its_bound : keeps_counts_at_seven (Push 7) Done 3 ≡ true
+unfolding floor_log2
+push_at_its_bound = refl
+
+push_past_its_bound : keeps_counts_at_seven (Push 7) Done 4 ≡ false
+unfolding floor_log2
+push_past_its_bound = refl
+
+push_of_a_held_key_compares_nothing : keeps_counts_at_seven (Push 6) Done 1 ≡ false
+unfolding floor_log2
+push_of_a_held_key_compares_nothing = refl
+
+push_of_no_key_compares_nothing : keeps_counts_at_seven (Push 4294967295) Skipped 1 ≡ false
+unfolding floor_log2
+push_of_no_key_compares_nothing = refl
+
+pop_at_its_bound : keeps_counts_at_seven Pop (Popped (Some 6)) 4 ≡ true
+unfolding floor_log2
+pop_at_its_bound = refl
+
+pop_past_its_bound : keeps_counts_at_seven Pop (Popped (Some 6)) 5 ≡ false
+unfolding floor_log2
+pop_past_its_bound = refl
+
+up_at_its_bound : keeps_counts_at_seven (Up 6) Done 2 ≡ true
+unfolding floor_log2
+up_at_its_bound = refl
+
+up_past_its_bound : keeps_counts_at_seven (Up 6) Done 3 ≡ false
+unfolding floor_log2
+up_past_its_bound = refl
+
+down_at_its_bound : keeps_counts_at_seven (Down 6) Done 4 ≡ true
+unfolding floor_log2
+down_at_its_bound = refl
+
+down_past_its_bound : keeps_counts_at_seven (Down 6) Done 5 ≡ false
+unfolding floor_log2
+down_past_its_bound = refl
+
+update_at_its_bound : keeps_counts_at_seven (Update 6) Done 4 ≡ true
+unfolding floor_log2
+update_at_its_bound = refl
+
+update_past_its_bound : keeps_counts_at_seven (Update 6) Done 5 ≡ false
+unfolding floor_log2
+update_past_its_bound = refl
+
+update_of_a_key_not_held_compares_nothing : keeps_counts_at_seven (Update 7) Done 1 ≡ false
+unfolding floor_log2
+update_of_a_key_not_held_compares_nothing = refl
+
+len_compares_nothing : keeps_counts_at_seven Len (Length 7) 1 ≡ false
+unfolding floor_log2
+len_compares_nothing = refl
+
+pop_of_nothing_compares_nothing : keeps_counts_from number [] (counted Pop (Popped None) 1 ∷ []) ≡ false
+unfolding floor_log2
+pop_of_nothing_compares_nothing = refl
 
 -- ---- steady steps, and keys listed downward
 

@@ -1,3 +1,4 @@
+pub mod CallBounds
 pub mod Comparisons
 pub mod HoldAlike
 pub mod KeySets

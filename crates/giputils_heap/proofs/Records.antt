@@ -1,6 +1,6 @@
 -- Records that answer: step by step, while they pop until nothing is held, and under one order.
-use Rattle.std.proofs.Common.{◌≡◌, ℕ, zero, suc, ◌+◌, Bool, true, false, ◌&&◌, ◌||◌, not, List, [], ◌∷◌, ◌++◌, length, take, Option, Some, None, refl, ap, sym, ◌∙◌, subst, ⊎_elim, arith}
-use Rattle.std.specs.Prelude.{slice_get, if◌then◌else◌}
+use Rattle.std.proofs.Common.{◌≡◌, ℕ, zero, suc, ◌+◌, Bool, true, false, ◌&&◌, ◌||◌, not, List, [], ◌∷◌, ◌++◌, length, take, Option, Some, None, refl, ap, sym, ◌∙◌, subst, ⊎_elim, arith, cond, ltb}
+use Rattle.std.specs.Prelude.{slice_get, filter, if◌then◌else◌}
 use Rattle.std.specs.List.{All, list_all}
 use Rattle.std.proofs.Math.Path.{fun_ext}
 use Rattle.std.proofs.Math.Seq.{take-append_seam, take-append-add}
@@ -8,12 +8,12 @@ use Rattle.std.proofs.lemmas.Bool.{and_parts, and_from, cases_Bool, false≢true
 use Rattle.std.proofs.lemmas.Map.Steps.{list_any_congr}
 use Rattle.std.proofs.Math.Bool.{and-true, and-false}
 use Rattle.std.proofs.lemmas.List.Elements.{All-head, All-tail}
-use Rattle.giputils_heap.specs.Keys.{same_key, is_held, AreDistinct, HoldAlike, without}
+use Rattle.giputils_heap.specs.Keys.{same_key, is_held, AreDistinct, AreBelow, HoldAlike, without, key_limit}
 use Rattle.giputils_heap.specs.Relations.{is_lawful, IsLawful, agree_on, is_greatest}
 use Rattle.giputils_heap.specs.Record.{Entry, Progress, start, start_if_empty, is_nil, agrees_with_last, compared_keys, may_compare, held_after, after_call, may_answer, may_reply, progress_from, answers_from, held_from, held_before, Answers, is_steady_at, IsSteady}
 use Rattle.giputils_heap.specs.Laws.{IsTotalPreorder, Compares, PopUntilNone, is_descending, ListsDownward}
 use Rattle.giputils_heap.specs.declared.run.HeapCall.{HeapCall}
-use Rattle.giputils_heap.specs.declared.run.HeapCall.TheVariants.{Push, Pop, Clear}
+use Rattle.giputils_heap.specs.declared.run.HeapCall.TheVariants.{Push, Pop, Up, Down, Update, Clear, Len, IsEmpty}
 use Rattle.giputils_heap.specs.declared.run.HeapReply.{HeapReply}
 use Rattle.giputils_heap.specs.declared.run.HeapReply.TheVariants.{Done, Popped}
 use Rattle.giputils_heap.proofs.KeySets.{same_key-equiv, AreDistinct-nil, pass_at_held}
@@ -68,6 +68,34 @@ module _ {T C : Type 0} (number : T → ℕ) (at_least : C → T → T → Bool)
   pub AreDistinct-from : (held : List T) (es : List (Entry T C)) → AreDistinct number held → AreDistinct number (held_from number held es)
   AreDistinct-from held [] once = once
   AreDistinct-from held (e ∷ es) once = AreDistinct-from (held_after number held e.call e.reply) es (AreDistinct-after held e.call e.reply once)
+
+  list_all-filter : (q p : T → Bool) (keys : List T) → list_all q keys ≡ true → list_all q (filter p keys) ≡ true
+  list_all-filter q p [] all = refl
+  list_all-filter q p (k ∷ keys) all =
+      let parts = and_parts (q k) (list_all q keys) all in
+      let rest = list_all-filter q p keys parts.1 in
+      elim (p k) as (λ b. list_all q (cond b (k ∷ filter p keys) (filter p keys)) ≡ true) [ true ↦ and_from (q k) (list_all q (filter p keys)) parts.0 rest | false ↦ rest ]
+
+  -- and has a number below the limit
+  AreBelow-after : (p : Progress T C) (call : HeapCall T) (c : C) (reply : HeapReply T) → may_answer number at_least p call c reply ≡ true
+      → AreBelow number key_limit p.held → AreBelow number key_limit (held_after number p.held call reply)
+  AreBelow-after p (Push v) c Done may below =
+      let Passes : List T → Type 0 = λ held. AreBelow number key_limit held in
+      elim (is_held number p.held v) as (λ b. Passes (cond b p.held (v ∷ p.held))) [
+        | true ↦ below
+        | false ↦ and_from (ltb (number v) key_limit) (list_all (λ k. ltb (number k) key_limit) p.held) may below
+      ]
+  AreBelow-after p Pop c (Popped (Some k)) may below = list_all-filter (λ x. ltb (number x) key_limit) (λ x. not (same_key number k x)) p.held below
+  AreBelow-after p Clear c Done may below = refl
+  AreBelow-after p _ c _ may below = below
+
+  pub AreBelow-from : (p : Progress T C) (es : List (Entry T C)) → AreBelow number key_limit p.held → answers_from number at_least p es ≡ true
+      → AreBelow number key_limit (held_from number p.held es)
+  AreBelow-from p [] below answers = below
+  AreBelow-from p (e ∷ es) below answers =
+      let next : Progress T C = after_call number at_least p e.call e.comparer e.reply in
+      let parts = and_parts (may_answer number at_least p e.call e.comparer e.reply) (answers_from number at_least next es) answers in
+      AreBelow-from next es (AreBelow-after p e.call e.comparer e.reply parts.0 below) parts.1
 
 -- a test or that and not another
 joined : (a b : Bool) → (a ≡ true → b ≡ true) → (a || (b && not a)) ≡ b
@@ -191,10 +219,14 @@ module _ {T C : Type 0} (number : T → ℕ) (one_value : (x y : T) → number x
       ∙ ap (λ (q : Progress T C). q.steady) (progress_from-append number at_least start before (take 1 pops))) ∙ steady)))
 
 module _ {T C : Type 0} (number : T → ℕ) (at_least : C → T → T → Bool) (R : T → T → Bool) (order : IsTotalPreorder R) where
+  one_relation : (b c : C) (keys : List T) → at_least b ≡ R → at_least c ≡ R → agree_on (at_least b) (at_least c) keys ≡ true
+  one_relation b c keys was is = ap (λ Q. agree_on Q (at_least c) keys) was ∙ ap (λ Q. agree_on R Q keys) is ∙ agree_on-refl R keys
+
   agrees_under_one_order : (last : Option C) (call : HeapCall T) (c : C) (held : List T) → at_least c ≡ R → ((b : C) → last ≡ Some b → at_least b ≡ R)
       → agrees_with_last number at_least last call c held ≡ true
   agrees_under_one_order None call c held is was = refl
-  agrees_under_one_order (Some b) call c held is was = ap (λ Q. agree_on Q (at_least c) held) (was b refl) ∙ ap (λ Q. agree_on R Q held) is ∙ agree_on-refl R held
+  agrees_under_one_order (Some b) (Update v) c held is was = one_relation b c (without number held v) (was b refl) is
+  agrees_under_one_order (Some b) call c held is was = one_relation b c held (was b refl) is
 
   -- the comparer that was last lent since nothing was held has the relation too
   last_once_empty : (held : List T) (steady : Bool) (last : Option C) → ((b : C) → last ≡ Some b → at_least b ≡ R)

@@ -1,15 +1,18 @@
 -- A run that has come to a step, and its next step.
-use Rattle.std.proofs.Common.{◌≡◌, ℕ, ◌+◌, ◌-◌, ◌<◌, ◌≤◌, Bool, true, List, [], ◌∷◌, ◌++◌, length, take, drop, get_or, refl, ap, ◌∙◌, arith}
+use Rattle.std.proofs.Common.{◌≡◌, ℕ, ◌+◌, ◌-◌, ◌<◌, ◌≤◌, Bool, true, List, [], ◌∷◌, ◌++◌, length, take, drop, get_or, leb, refl, ap, ◌∙◌, arith, IsFalse}
 use Rattle.std.proofs.Math.ListN.{set}
-use Rattle.std.proofs.lemmas.Bool.{and_parts, and_from}
+use Rattle.std.proofs.lemmas.Bool.{and_parts, and_from, le-leb}
 use Rattle.std.proofs.lemmas.List.{take_more, take_more_set, take_all, get_or-drop, drop-set-lt, length-take-le, length-append, length-set}
 use Rattle.std.proofs.lemmas.Grind.{drop_more_same}
 use Rattle.std.proofs.Math.Nat.{add-zero}
 use Rattle.std.proofs.lemmas.List.Elements.{AllZip-push}
-use Rattle.giputils_heap.specs.Record.{Entry, Progress, start, after_call, may_answer, progress_from, answers_from, record_of, Answers, KeepsStep, KeepsSteps}
+use Rattle.giputils_heap.specs.Record.{Entry, Progress, start, may_compare, held_after, held_from, comparison_bound, after_call, may_answer, progress_from, answers_from, keeps_counts_from, record_of, Answers, KeepsCounts, KeepsStep, KeepsSteps}
 use Rattle.giputils_heap.specs.Counted.{Counted}
 use Rattle.giputils_heap.specs.InOrder.{IsInOrder}
-use Rattle.giputils_heap.proofs.KeySets.{AreDistinct-nil}
+use Rattle.giputils_heap.specs.Keys.{key_limit}
+use Rattle.giputils_heap.proofs.KeySets.{AreDistinct-nil, AreBelow-nil}
+use Rattle.giputils_heap.proofs.Records.{progress_from-held, AreDistinct-from, AreBelow-from}
+use Rattle.giputils_heap.proofs.CallBounds.{comparison_bound-most}
 use Rattle.giputils_heap.specs.Stands.{Stands}
 use Rattle.giputils_heap.specs.declared.run.HeapReply.{HeapReply}
 use Rattle.giputils_heap.specs.declared.run.HeapStep.{HeapStep}
@@ -47,11 +50,22 @@ module _ {T C : Type 0} (number : T → ℕ) (at_least : C → T → T → Bool)
       and_from (may_answer number at_least p x.call x.comparer x.reply) (answers_from number at_least (after_call number at_least p x.call x.comparer x.reply) (es ++ e ∷ []))
       parts.0 (answers_from-append (after_call number at_least p x.call x.comparer x.reply) es e parts.1 may)
 
+  keeps_counts_from-append : (held : List T) (es : List (Entry T C)) (e : Entry T C)
+      → keeps_counts_from number held es ≡ true → e.comparisons ≤ comparison_bound number (held_from number held es) e.call
+      → keeps_counts_from number held (es ++ e ∷ []) ≡ true
+  keeps_counts_from-append held [] e keeps within =
+      and_from (leb e.comparisons (comparison_bound number held e.call)) true (le-leb e.comparisons (comparison_bound number held e.call) within) refl
+  keeps_counts_from-append held (x ∷ es) e keeps within =
+      let parts = and_parts (leb x.comparisons (comparison_bound number held x.call)) (keeps_counts_from number (held_after number held x.call x.reply) es) keeps in
+      and_from (leb x.comparisons (comparison_bound number held x.call)) (keeps_counts_from number (held_after number held x.call x.reply) (es ++ e ∷ []))
+      parts.0 (keeps_counts_from-append (held_after number held x.call x.reply) es e parts.1 within)
+
   -- the first i steps were run
   pub record HasRun (old now : List (HeapStep T C)) (i : ℕ) (replies : List (HeapReply T)) (keys : List T) : Type 0 where
     pub replied : length replies ≡ i
     pub same_length : length now ≡ length old
     pub answers : answers_from number at_least start (record_of (take i old) (take i now) replies) ≡ true
+    pub counts : keeps_counts_from number [] (record_of (take i old) (take i now) replies) ≡ true
     pub stands : Stands number at_least (progress_from number at_least start (record_of (take i old) (take i now) replies)) keys
     pub kept : KeepsSteps (take i old) (take i now)
     pub rest : drop i now ≡ drop i old
@@ -64,6 +78,7 @@ module _ {T C : Type 0} (number : T → ℕ) (at_least : C → T → T → Bool)
         replied = ap length no_replies;
         same_length = refl;
         answers = refl;
+        counts = refl;
         stands = record {
           alike = rw no_keys (λ q. refl);
           keys_distinct = AreDistinct-nil number keys no_keys;
@@ -83,10 +98,12 @@ module _ {T C : Type 0} (number : T → ℕ) (at_least : C → T → T → Bool)
     pub HasRun-more : (cmp : Counted C) (r : HeapReply T) (keys' : List T)
         → ((p : Progress T C) → Stands number at_least p keys → may_answer number at_least p (get_or now i d).call (get_or now i d).cmp.comparer r ≡ true)
         → ((p : Progress T C) → Stands number at_least p keys → Stands number at_least (after_call number at_least p (get_or now i d).call (get_or now i d).cmp.comparer r) keys')
-        → KeepsStep (get_or now i d) record { call = (get_or now i d).call; cmp = cmp }
+        → ((p : Progress T C) → Stands number at_least p keys → cmp.count ≤ (get_or now i d).cmp.count + comparison_bound number p.held (get_or now i d).call)
+        → cmp.comparer ≡ (get_or now i d).cmp.comparer → (get_or now i d).cmp.count ≤ cmp.count
+        → (IsFalse (may_compare (get_or now i d).call) → cmp.count ≡ (get_or now i d).cmp.count)
         → HasRun old (set now i record { call = (get_or now i d).call; cmp = cmp }) (i + 1) (replies ++ r ∷ []) keys'
     unfolding entry_of
-    HasRun-more cmp r keys' may stands' keeps =
+    HasRun-more cmp r keys' may stands' within comparer rises uncompared =
         let s : HeapStep T C = get_or now i d in
         let t : HeapStep T C = record { call = s.call; cmp = cmp } in
         let now_inside : i < length now = omega (arith, run.same_length) in
@@ -98,12 +115,19 @@ module _ {T C : Type 0} (number : T → ℕ) (at_least : C → T → T → Bool)
         in
         let so_far : List (Entry T C) = record_of (take i old) (take i now) replies in
         let before : Progress T C = progress_from number at_least start so_far in
+        let few : cmp.count ≤ s.cmp.count + comparison_bound number before.held s.call = within before run.stands in
+        let held : before.held ≡ held_from number [] so_far = progress_from-held number at_least start so_far in
+        let flat = comparison_bound-most number before.held s.call
+        (rw held (AreDistinct-from number at_least [] so_far (AreDistinct-nil number [] refl)))
+        (rw held (AreBelow-from number at_least start so_far refl run.answers))
+        in
         record {
           replied = rw length-append (omega (arith, run.replied));
           same_length = rw length-set run.same_length;
           answers = rw recorded (answers_from-append start so_far (entry_of s t r) run.answers (may before run.stands));
+          counts = rw recorded (keeps_counts_from-append [] so_far (entry_of s t r) run.counts (rw (← held) (omega arith)));
           stands = rw (recorded, progress_from-append start so_far (entry_of s t r)) (stands' before run.stands);
-          kept = rw (old_more, now_more) (AllZip-push KeepsStep (take i old) (take i now) s t run.kept keeps);
+          kept = rw (old_more, now_more) (AllZip-push KeepsStep (take i old) (take i now) s t run.kept record { call = refl; comparer = comparer; rises = rises; comparisons = omega arith; uncompared = uncompared });
           rest = drop-set-lt (i + 1) now i t (omega arith) ∙ drop_more_same now old i run.rest;
         }
 
@@ -112,6 +136,11 @@ module _ {T C : Type 0} (number : T → ℕ) (at_least : C → T → T → Bool)
       → Answers number at_least (record_of old now replies)
   HasRun-answers old now i replies keys all run =
       rw (take_all i old all, take_all i now (omega (arith, run.same_length))) at run.answers
+
+  pub HasRun-counts : (old now : List (HeapStep T C)) (i : ℕ) (replies : List (HeapReply T)) (keys : List T) → length old ≤ i → HasRun old now i replies keys
+      → KeepsCounts number (record_of old now replies)
+  HasRun-counts old now i replies keys all run =
+      rw (take_all i old all, take_all i now (omega (arith, run.same_length))) at run.counts
 
   pub HasRun-kept : (old now : List (HeapStep T C)) (i : ℕ) (replies : List (HeapReply T)) (keys : List T) → length old ≤ i → HasRun old now i replies keys
       → KeepsSteps old now

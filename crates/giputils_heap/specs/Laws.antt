@@ -2,7 +2,7 @@
 use Rattle.std.specs.Prelude.{◌≡◌, ℕ, Bool, true, ◌&&◌, ◌||◌, List, [], ◌∷◌, ◌++◌, length, map, slice_get, IsTrue, Option, Some, None}
 use Rattle.std.specs.List.{All, AllZip}
 use Rattle.giputils_heap.specs.Keys.{AreDistinct, HoldAlike}
-use Rattle.giputils_heap.specs.Record.{Entry, Answers, AnswersAt, IsSteady, held_before}
+use Rattle.giputils_heap.specs.Record.{Entry, Answers, AnswersAt, KeepsCounts, KeepsCountAt, IsSteady, held_before}
 use Rattle.giputils_heap.specs.declared.run.HeapCall.TheVariants.{Pop}
 use Rattle.giputils_heap.specs.declared.run.HeapReply.TheVariants.{Popped}
 
@@ -42,6 +42,12 @@ abbrev pub AnswersAtEachStep : (T C : Type 0) → Type 0
 AnswersAtEachStep T C =
     (number : T → ℕ) (at_least : C → T → T → Bool) (entries : List (Entry T C)) → Answers number at_least entries
     → (i : ℕ) (e : Entry T C) → slice_get entries i ≡ Some e → AnswersAt number at_least entries i e
+
+-- a record that keeps its counts does so at each of its steps
+abbrev pub KeepsCountsAtEachStep : (T C : Type 0) → Type 0
+KeepsCountsAtEachStep T C =
+    (number : T → ℕ) (entries : List (Entry T C)) → KeepsCounts number entries
+    → (i : ℕ) (e : Entry T C) → slice_get entries i ≡ Some e → KeepsCountAt number entries i e
 
 -- popping by one relation until nothing is held gives every key that was held once, and each is at least the next, where
 -- the first of these pops is steady

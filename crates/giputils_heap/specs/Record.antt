@@ -1,12 +1,12 @@
--- The record of a run of a heap, and what its replies have to be.
-use Rattle.std.specs.Prelude.{◌≡◌, ℕ, ◌+◌, ◌-◌, ◌^◌, ◌≤◌, ◌==◌, nat_lt, Bool, true, false, ◌&&◌, ◌||◌, not, if◌then◌else◌, List, [], ◌∷◌, length, take, IsTrue, IsFalse, Option, Some, None}
+-- The record of a run of a heap, what its replies have to be, and how often its steps may compare.
+use Rattle.std.specs.Prelude.{◌≡◌, ℕ, ◌+◌, ◌-◌, ◌*◌, ◌^◌, ◌≤◌, ◌==◌, nat_lt, nat_le, Bool, true, false, ◌&&◌, ◌||◌, not, if◌then◌else◌, List, [], ◌∷◌, ◌++◌, length, take, map, slice_get, IsTrue, IsFalse, Option, Some, None}
 use Rattle.std.specs.Bool.{beq}
 use Rattle.std.specs.List.{All, AllZip}
-use Rattle.giputils_heap.specs.Keys.{is_held, without, key_limit}
-use Rattle.giputils_heap.specs.Relations.{is_lawful, agree_on, is_greatest}
-use Rattle.giputils_heap.specs.Bounds.{count_limit}
+use Rattle.giputils_heap.specs.Keys.{is_held, AreDistinct, HoldAlike, without, key_limit}
+use Rattle.giputils_heap.specs.Relations.{is_lawful, agree_on, agrees_except, is_greatest}
+use Rattle.giputils_heap.specs.Bounds.{count_limit, push_bound, pop_bound, up_bound, down_bound, update_bound}
 use Rattle.giputils_heap.specs.declared.run.HeapCall.{HeapCall}
-use Rattle.giputils_heap.specs.declared.run.HeapCall.TheVariants.{Push, Pop, Clear, Len, IsEmpty}
+use Rattle.giputils_heap.specs.declared.run.HeapCall.TheVariants.{Push, Pop, Up, Down, Update, Clear, Len, IsEmpty}
 use Rattle.giputils_heap.specs.declared.run.HeapReply.{HeapReply}
 use Rattle.giputils_heap.specs.declared.run.HeapReply.TheVariants.{Done, Refused, Skipped, Popped, Length, Empty}
 use Rattle.giputils_heap.specs.declared.run.HeapStep.{HeapStep}
@@ -47,6 +47,9 @@ module _ {T : Type 0} where
   -- the keys that a call may compare: those held, and the one handed in
   abbrev pub compared_keys : List T → HeapCall T → List T
   compared_keys held (Push v) = v ∷ held
+  compared_keys held (Up v) = v ∷ held
+  compared_keys held (Down v) = v ∷ held
+  compared_keys held (Update v) = v ∷ held
   compared_keys held _ = held
 
 module _ {T : Type 0} (number : T → ℕ) where
@@ -64,10 +67,23 @@ module _ {T : Type 0} (number : T → ℕ) where
   may_reply R steady held (Push v) Skipped = number v == key_limit
   may_reply R steady held Pop (Popped None) = is_nil held
   may_reply R steady held Pop (Popped (Some k)) = is_held number held k && (not steady || is_greatest number R held k)
+  may_reply R steady held (Up v) Done = true
+  may_reply R steady held (Down v) Done = true
+  may_reply R steady held (Update v) Done = true
   may_reply R steady held Clear Done = true
   may_reply R steady held Len (Length n) = n == length held
   may_reply R steady held IsEmpty (Empty b) = beq b (is_nil held)
   may_reply R steady held _ _ = false
+
+  -- the most comparisons of a call that finds these keys held
+  abbrev pub comparison_bound : List T → HeapCall T → ℕ
+  comparison_bound held (Push v) =
+      if nat_lt (number v) key_limit && not (is_held number held v) then push_bound (length held) else 0
+  comparison_bound held Pop = pop_bound (length held)
+  comparison_bound held (Up v) = if is_held number held v then up_bound (length held) else 0
+  comparison_bound held (Down v) = if is_held number held v then down_bound (length held) else 0
+  comparison_bound held (Update v) = if is_held number held v then update_bound (length held) else 0
+  comparison_bound held _ = 0
 
 module _ {T C : Type 0} where
   -- before the first step nothing is held
@@ -79,9 +95,11 @@ module _ {T C : Type 0} where
   start_if_empty p = if is_nil p.held then start else p
 
 module _ {T C : Type 0} (number : T → ℕ) (at_least : C → T → T → Bool) where
-  -- whether a call's comparer compares the held keys as the last comparer did, if there is one
+  -- whether a call's comparer compares the held keys as the last comparer did, if there is one; an Update may come with
+  -- other comparisons of its own key
   abbrev pub agrees_with_last : Option C → HeapCall T → C → List T → Bool
   agrees_with_last None call c held = true
+  agrees_with_last (Some b) (Update v) c held = agrees_except number v (at_least b) (at_least c) held
   agrees_with_last (Some b) call c held = agree_on (at_least b) (at_least c) held
 
   -- whether the comparisons stay steady at a step: lawful on the keys concerned, and as they were
@@ -120,7 +138,8 @@ module _ {T C : Type 0} (number : T → ℕ) (at_least : C → T → T → Bool)
   abbrev pub Answers : List (Entry T C) → Type 0
   Answers entries = IsTrue (answers_from start entries)
 
-  -- whether up to step i, since nothing was last held, the comparisons were lawful and unchanged
+  -- whether up to step i, since nothing was last held, the comparisons were lawful and changed for one key at a time, at
+  -- an Update of that key
   abbrev pub is_steady : List (Entry T C) → ℕ → Bool
   is_steady entries i = (progress_from start (take (i + 1) entries)).steady
 
@@ -138,11 +157,30 @@ module _ {T C : Type 0} (number : T → ℕ) where
   abbrev pub held_before : List (Entry T C) → ℕ → List T
   held_before entries i = held_from [] (take i entries)
 
+  -- whether every step compares no oftener than its bound
+  abbrev pub keeps_counts_from : List T → List (Entry T C) → Bool
+  keeps_counts_from held [] = true
+  keeps_counts_from held (e ∷ es) =
+      nat_le e.comparisons (comparison_bound number held e.call)
+      && keeps_counts_from (held_after number held e.call e.reply) es
+
+  -- every step compares no oftener than its bound in the number of keys held before it
+  abbrev pub KeepsCounts : List (Entry T C) → Type 0
+  KeepsCounts entries = IsTrue (keeps_counts_from [] entries)
+
+  -- step i of a record compares no oftener than its bound
+  abbrev pub KeepsCountAt : List (Entry T C) → ℕ → Entry T C → Type 0
+  KeepsCountAt entries i e = e.comparisons ≤ comparison_bound number (held_before entries i) e.call
+
 module _ {T C : Type 0} (number : T → ℕ) (at_least : C → T → T → Bool) where
   -- step i of a record may reply as it did to the keys that are held before it
   abbrev pub AnswersAt : List (Entry T C) → ℕ → Entry T C → Type 0
   AnswersAt entries i e =
       IsTrue (may_reply number (at_least e.comparer) (is_steady number at_least entries i) (held_before number entries i) e.call e.reply)
+
+-- no call compares oftener: fewer than 2^32 keys are held
+abbrev pub most_comparisons : ℕ
+most_comparisons = 2 * 31
 
 module _ {T C : Type 0} where
   -- a step keeps its call and its comparer, and its counter rises by what was compared
@@ -150,7 +188,7 @@ module _ {T C : Type 0} where
     pub call : new.call ≡ old.call
     pub comparer : new.cmp.comparer ≡ old.cmp.comparer
     pub rises : old.cmp.count ≤ new.cmp.count
-    pub comparisons : new.cmp.count ≤ old.cmp.count + 2 ^ 34
+    pub comparisons : new.cmp.count ≤ old.cmp.count + most_comparisons
     pub uncompared : IsFalse (may_compare old.call) → new.cmp.count ≡ old.cmp.count
 
   -- every step keeps its call and its comparer

@@ -9,15 +9,15 @@ pub mod run;
 mod sealed;
 mod sift;
 mod table;
-mod tree;
 #[cfg(test)]
 mod tests;
+mod tree;
 
 pub use comparers::{ByNumber, ByRank};
 pub use counting::Counting;
 pub use heap::{BinaryHeap, order_laws};
 pub use key::{BinaryHeapCmp, HeapKey};
 pub use run::{
-    HeapCall, HeapReply, HeapStep, answers_at_each_step, heap_run, one_order_is_steady,
-    pops_list_downward,
+    HeapCall, HeapReply, HeapStep, answers_at_each_step, heap_run, keeps_counts_at_each_step,
+    one_order_is_steady, pops_list_downward,
 };

@@ -1,14 +1,17 @@
 //! Lists of calls of one heap.
 ghost use Rattle.std.specs.Prelude.{◌≡◌, ◌+◌, ◌^◌, ◌≤◌, IsTrue, IsFalse, IfOk, OnErr, length};
-ghost use Rattle.giputils_heap.specs.Record.{Progress, may_compare, may_answer, after_call, record_of, Answers, KeepsSteps, CanCount};
+ghost use Rattle.giputils_heap.specs.Record.{Progress, may_compare, comparison_bound, may_answer, after_call, record_of, Answers, KeepsCounts, KeepsSteps, CanCount};
 ghost use Rattle.giputils_heap.specs.Bounds.{count_limit};
-ghost use Rattle.giputils_heap.specs.Laws.{AnswersAtEachStep, PopsListDownward, OneOrderIsSteady};
+ghost use Rattle.giputils_heap.specs.Laws.{AnswersAtEachStep, KeepsCountsAtEachStep, PopsListDownward, OneOrderIsSteady};
 ghost use Rattle.giputils_heap.specs.Stands.{Stands};
 
 use crate::counting::Counting;
 use crate::heap::BinaryHeap;
 use crate::key::{BinaryHeapCmp, HeapKey};
 use std::alloc::{AllocError, Allocator};
+
+#[cfg(test)]
+mod tests;
 
 /// A call of a heap.
 #[derive(Clone, Copy, PartialEq, Eq, Debug)]
@@ -17,6 +20,12 @@ pub enum HeapCall<T> {
     Push(T),
     /// Takes out a key, a greatest one where the heap is in order.
     Pop,
+    /// Repairs the order where the key has risen.
+    Up(T),
+    /// Repairs the order where the key has fallen.
+    Down(T),
+    /// Repairs the order where the key has changed.
+    Update(T),
     /// Holds nothing afterwards.
     Clear,
     /// Asks for the number of held keys.
@@ -69,6 +78,11 @@ pub const fn answers_at_each_step<T, C>()
     ensures { AnswersAtEachStep T C }
 {}
 
+/// A law of records: one that keeps its counts does so at each of its steps, by the number of keys that are held before it.
+pub const fn keeps_counts_at_each_step<T, C>()
+    ensures { KeepsCountsAtEachStep T C }
+{}
+
 /// A law of records: popping by one relation until nothing is held gives every key that was held once, and each is at
 /// least the next, where the first of these pops is steady.
 pub const fn pops_list_downward<T: HeapKey, C: BinaryHeapCmp<T>>()
@@ -94,6 +108,7 @@ pub fn heap_run<T: HeapKey, C: BinaryHeapCmp<T>, A: Allocator + Copy>(
 ) -> Result<Vec<HeapReply<T>, A>, AllocError>
     requires { CanCount steps.old }
     ensures record { IfOk result (λ replies. Answers T.number C.at_least (record_of steps.old steps.new replies.items)) }
+    ensures counts { IfOk result (λ replies. KeepsCounts T.number (record_of steps.old steps.new replies.items)) }
     ensures replies { IfOk result (λ replies. length replies.items ≡ length steps.old) }
     ensures kept { KeepsSteps steps.old steps.new }
     ensures refused { OnErr result (steps.new ≡ steps.old) }
@@ -119,11 +134,10 @@ fn make_call<T: HeapKey, C: BinaryHeapCmp<T>, A: Allocator>(
         Stands T.number C.at_least (after_call T.number C.at_least p call cmp.old.comparer result) heap.new }
     ensures comparer { cmp.new.comparer ≡ cmp.old.comparer }
     ensures rises { cmp.old.count ≤ cmp.new.count }
-    ensures comparisons { cmp.new.count ≤ cmp.old.count + 2 ^ 34 }
+    ensures comparisons { (p : Progress T C) → Stands T.number C.at_least p heap.old →
+        cmp.new.count ≤ cmp.old.count + comparison_bound T.number p.held call }
     ensures uncompared { IsFalse (may_compare call) → (cmp.new.count ≡ cmp.old.count) }
 {
-    // No more keys are held than there are numbers below `u32::MAX`, which bounds what a call may compare.
-    let _held = heap.len();
     match call {
         HeapCall::Push(v) if v.key() == u32::MAX => HeapReply::Skipped,
         HeapCall::Push(v) => match heap.push_counted(v, cmp) {
@@ -131,6 +145,18 @@ fn make_call<T: HeapKey, C: BinaryHeapCmp<T>, A: Allocator>(
             Err(AllocError) => HeapReply::Refused,
         },
         HeapCall::Pop => HeapReply::Popped(heap.pop_counted(cmp)),
+        HeapCall::Up(v) => {
+            heap.up_counted(v, cmp);
+            HeapReply::Done
+        }
+        HeapCall::Down(v) => {
+            heap.down_counted(v, cmp);
+            HeapReply::Done
+        }
+        HeapCall::Update(v) => {
+            heap.update_counted(v, cmp);
+            HeapReply::Done
+        }
         HeapCall::Clear => {
             heap.clear();
             HeapReply::Done

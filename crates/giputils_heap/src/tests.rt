@@ -1,10 +1,7 @@
 // The calls once each at concrete types.
 ghost use Rattle.std.specs.Prelude.{true};
 
-use super::{
-    BinaryHeap, BinaryHeapCmp, ByNumber, ByRank, Counting, HeapCall, HeapKey, HeapReply, HeapStep,
-    heap_run,
-};
+use super::{BinaryHeap, BinaryHeapCmp, ByNumber, ByRank, Counting, HeapKey, HeapStep, heap_run};
 use std::cmp::Reverse;
 use std::test::Fail;
 
@@ -42,24 +39,6 @@ fn an_empty_heap_pops_nothing_and_asks_nothing(rt: HostRuntime) -> Result<(), Fa
     assert_eq!(rt; counter.count(), 2);
     let mut steps: [HeapStep<u32, ByNumber>; 0] = [];
     assert_eq!(rt; heap_run(rt.alloc(), &mut steps)?.len(), 0);
-    Ok(())
-}
-
-#[test]
-fn a_key_pushed_twice_is_held_once(rt: HostRuntime) -> Result<(), Fail> {
-    let mut steps = [
-        HeapStep::new(HeapCall::Push(0u32), &ByNumber),
-        HeapStep::new(HeapCall::Push(1), &ByNumber),
-        HeapStep::new(HeapCall::Push(0), &ByNumber),
-        HeapStep::new(HeapCall::Len, &ByNumber),
-    ];
-    let replies = heap_run(rt.alloc(), &mut steps)?;
-    let done = HeapReply::Done;
-    assert_eq!(rt;
-        replies.as_slice(),
-        [done, done, done, HeapReply::Length(2)].as_slice()
-    );
-    assert_eq!(rt; steps[2].cmp.count(), 0);
     Ok(())
 }
 
@@ -104,27 +83,6 @@ fn elements_has_each_held_key_once(rt: HostRuntime) -> Result<(), Fail> {
     let mut elements = Vec::from_slice(rt.alloc(), heap.elements())?;
     elements.sort()?;
     assert_eq!(rt; elements.as_slice(), [0, 200, 254].as_slice());
-    Ok(())
-}
-
-#[test]
-fn a_run_skips_what_is_no_key(rt: HostRuntime) -> Result<(), Fail> {
-    let mut steps = [
-        HeapStep::new(HeapCall::Push(u32::MAX), &ByNumber),
-        HeapStep::new(HeapCall::IsEmpty, &ByNumber),
-        HeapStep::new(HeapCall::Push(65535), &ByNumber),
-        HeapStep::new(HeapCall::Pop, &ByNumber),
-        HeapStep::new(HeapCall::Clear, &ByNumber),
-    ];
-    let replies = heap_run(rt.alloc(), &mut steps)?;
-    let wanted = [
-        HeapReply::Skipped,
-        HeapReply::Empty(true),
-        HeapReply::Done,
-        HeapReply::Popped(Some(65535)),
-        HeapReply::Done,
-    ];
-    assert_eq!(rt; replies.as_slice(), wanted.as_slice());
     Ok(())
 }
 

@@ -1,7 +1,7 @@
 use Rattle.std.proofs.Common.{◌≤◌, refl, arith}
 use Rattle.std.proofs.lemmas.List.Elements.{All-get_or}
 use Rattle.giputils_heap.specs.Bounds.{count_limit}
-use Rattle.giputils_heap.proofs.Runs.{HasRun-start, HasRun-more, HasRun-answers, HasRun-kept, KeepsSteps-refl, next_is_old}
+use Rattle.giputils_heap.proofs.Runs.{HasRun-start, HasRun-more, HasRun-answers, HasRun-counts, HasRun-kept, KeepsSteps-refl, next_is_old}
 use Rattle.giputils_heap.proofs.run.heap_run.Goals as goal
 
 pub returns-in_err-replies-clause-kept : goal.returns-in_err-replies-clause-kept
@@ -24,7 +24,7 @@ loop-step-preserved g c = (
   rw c.push_reserved.ensures.items
       (HasRun-more g.T.HeapKey.number g.C.BinaryHeapCmp.at_least c.args.steps.now c.loop-step.steps c.loop-step.step-index c.loop-step.replies.items c.loop-step.heap c.loop-step-test.true c.loop-step.invariant.0 c.step-item.result
       c.make_call.new.cmp c.make_call.result c.make_call.new.heap c.make_call.ensures.reply c.make_call.ensures.stands
-      record { call = refl; comparer = c.make_call.ensures.comparer; rises = c.make_call.ensures.rises; comparisons = c.make_call.ensures.comparisons; uncompared = c.make_call.ensures.uncompared }),
+      c.make_call.ensures.comparisons c.make_call.ensures.comparer c.make_call.ensures.rises c.make_call.ensures.uncompared),
   omega (arith, c.push_reserved.ensures.len, c.loop-step.invariant.1),
   omega (arith, c.push_reserved.ensures.capacity, c.loop-step.invariant.2),
 )
@@ -32,6 +32,10 @@ loop-step-preserved g c = (
 pub returns-clause-record : goal.returns-clause-record
 returns-clause-record g c =
     HasRun-answers g.T.HeapKey.number g.C.BinaryHeapCmp.at_least c.args.steps.now c.loop-step.steps c.loop-step.step-index c.loop-step.replies.items c.loop-step.heap c.loop-step-test.false c.loop-step.invariant.0
+
+pub returns-clause-counts : goal.returns-clause-counts
+returns-clause-counts g c =
+    HasRun-counts g.T.HeapKey.number g.C.BinaryHeapCmp.at_least c.args.steps.now c.loop-step.steps c.loop-step.step-index c.loop-step.replies.items c.loop-step.heap c.loop-step-test.false c.loop-step.invariant.0
 
 pub returns-clause-replies : goal.returns-clause-replies
 returns-clause-replies g c = omega (arith, c.loop-step.invariant.0.replied, c.loop-step-test.false)

@@ -1,0 +1,116 @@
+//! Runs at concrete types.
+ghost use Rattle.std.specs.Prelude.{◌&&◌, nat_le};
+
+use super::{HeapCall, HeapReply, HeapStep, heap_run};
+use crate::comparers::{ByNumber, ByRank};
+use crate::key::BinaryHeapCmp;
+use std::test::Fail;
+
+#[test]
+fn a_key_pushed_twice_is_held_once(rt: HostRuntime) -> Result<(), Fail> {
+    let mut steps = [
+        HeapStep::new(HeapCall::Push(0u32), &ByNumber),
+        HeapStep::new(HeapCall::Push(1), &ByNumber),
+        HeapStep::new(HeapCall::Push(0), &ByNumber),
+        HeapStep::new(HeapCall::Len, &ByNumber),
+    ];
+    let replies = heap_run(rt.alloc(), &mut steps)?;
+    let done = HeapReply::Done;
+    assert_eq!(rt;
+        replies.as_slice(),
+        [done, done, done, HeapReply::Length(2)].as_slice()
+    );
+    assert_eq!(rt; steps[2].cmp.count(), 0);
+    Ok(())
+}
+
+#[test]
+fn a_run_skips_what_is_no_key(rt: HostRuntime) -> Result<(), Fail> {
+    let mut steps = [
+        HeapStep::new(HeapCall::Push(u32::MAX), &ByNumber),
+        HeapStep::new(HeapCall::IsEmpty, &ByNumber),
+        HeapStep::new(HeapCall::Up(u32::MAX), &ByNumber),
+        HeapStep::new(HeapCall::Push(u32::MAX - 1), &ByNumber),
+        HeapStep::new(HeapCall::Pop, &ByNumber),
+        HeapStep::new(HeapCall::Clear, &ByNumber),
+    ];
+    let replies = heap_run(rt.alloc(), &mut steps)?;
+    let wanted = [
+        HeapReply::Skipped,
+        HeapReply::Empty(true),
+        HeapReply::Done,
+        HeapReply::Done,
+        HeapReply::Popped(Some(u32::MAX - 1)),
+        HeapReply::Done,
+    ];
+    assert_eq!(rt; replies.as_slice(), wanted.as_slice());
+    Ok(())
+}
+
+#[test]
+fn a_run_repairs_a_changed_rank(rt: HostRuntime) -> Result<(), Fail> {
+    let (before, after) = (ByRank(&[5, 3, 4]), ByRank(&[1, 3, 4]));
+    let mut steps = [
+        HeapStep::new(HeapCall::Push(0u8), &before),
+        HeapStep::new(HeapCall::Push(1), &before),
+        HeapStep::new(HeapCall::Push(2), &before),
+        HeapStep::new(HeapCall::Update(0), &after),
+        HeapStep::new(HeapCall::Pop, &after),
+        HeapStep::new(HeapCall::Pop, &after),
+        HeapStep::new(HeapCall::Pop, &after),
+    ];
+    let replies = heap_run(rt.alloc(), &mut steps)?;
+    let done = HeapReply::Done;
+    let wanted = [
+        done,
+        done,
+        done,
+        done,
+        HeapReply::Popped(Some(2)),
+        HeapReply::Popped(Some(1)),
+        HeapReply::Popped(Some(0)),
+    ];
+    assert_eq!(rt; replies.as_slice(), wanted.as_slice());
+    assert!(rt; steps[3].cmp.count() <= 2);
+    Ok(())
+}
+
+// Compares by number, or says that no key is at least any.
+struct Switched {
+    on: bool,
+}
+
+impl BinaryHeapCmp<u8> for Switched {
+    ghost at_least = { λ c s o. c.on && nat_le o s };
+
+    fn gte(&self, s: u8, o: u8) -> bool {
+        self.on && s >= o
+    }
+}
+
+#[test]
+fn a_comparer_without_laws_is_forgotten_once_nothing_is_held(rt: HostRuntime) -> Result<(), Fail> {
+    let (off, on) = (Switched { on: false }, Switched { on: true });
+    let mut steps = [
+        HeapStep::new(HeapCall::Push(0u8), &off),
+        HeapStep::new(HeapCall::Push(1), &off),
+        HeapStep::new(HeapCall::Push(2), &off),
+        HeapStep::new(HeapCall::Clear, &off),
+        HeapStep::new(HeapCall::Push(1), &on),
+        HeapStep::new(HeapCall::Push(2), &on),
+        HeapStep::new(HeapCall::Pop, &on),
+    ];
+    let replies = heap_run(rt.alloc(), &mut steps)?;
+    let done = HeapReply::Done;
+    let wanted = [
+        done,
+        done,
+        done,
+        done,
+        done,
+        done,
+        HeapReply::Popped(Some(2)),
+    ];
+    assert_eq!(rt; replies.as_slice(), wanted.as_slice());
+    Ok(())
+}
