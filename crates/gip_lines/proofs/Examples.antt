@@ -1,8 +1,10 @@
 -- The definitions on worked examples, computed by the check.
 use Rattle.std.specs.Prelude.{◌≡◌, ℕ, List, [], ◌∷◌, ◌++◌, codes, Some, None, refl, true, false}
 use Rattle.std.specs.Fmt.{digits}
+use Rattle.gip_lines.specs.Fault.{fault_text, fault_status}
 use Rattle.gip_lines.specs.Lines.{line_feed, space, pieces, script_lines, number_up_to, line_of, lines_of, first_other_line}
 use Rattle.gip_lines.specs.Script.{start_ranks, greatest, without, script_text}
+use Rattle.gip_lines.specs.declared.fault.GipFault.TheVariants as fault
 use Rattle.gip_lines.specs.declared.lines.Line.TheVariants.{Push, Pop, Len, Clear, Rank, Up, Down}
 
 -- a text of some lines, each with a line feed
@@ -151,3 +153,15 @@ clear_keeps_the_ranks : script_text (Rank 0 5 ∷ Clear ∷ Push 0 ∷ Push 1 �
     ≡ text_of (codes "ok" ∷ codes "ok" ∷ codes "ok" ∷ codes "ok" ∷ codes "0" ∷ [])
 unfolding digits
 clear_keeps_the_ranks = refl
+
+-- ---- the faults
+
+a_fault_of_a_line_tells_its_number : fault_text (fault.Line 12) ≡ codes "line 12: refused"
+unfolding digits
+a_fault_of_a_line_tells_its_number = refl
+
+a_fault_of_the_input_tells_no_line : fault_text fault.Input ≡ codes "input: refused"
+a_fault_of_the_input_tells_no_line = refl
+
+the_status_tells_what_was_given_from_the_machine : (fault_status (fault.Line 12) ≡ 2) × (fault_status fault.Memory ≡ 1)
+the_status_tells_what_was_given_from_the_machine = (refl, refl)

@@ -1,4 +1,4 @@
-//! Scripts from memory to memory, and what their faults say.
+//! Scripts from memory to memory.
 
 use gip_lines::watched::Watched;
 use gip_lines::{GipFault, INPUT_LIMIT, script};
@@ -84,19 +84,4 @@ fn refuses_an_input_that_is_too_long(rt: HostRuntime) {
         assert!(rt; !reader.failed());
         assert!(rt; writer.device().is_empty());
     }
-}
-
-#[test]
-fn faults_have_texts_and_statuses(rt: HostRuntime) -> Result<(), Fail> {
-    let table = [
-        (GipFault::Input, "input: refused", 2),
-        (GipFault::Line(12), "line 12: refused", 2),
-        (GipFault::Memory, "memory: refused", 1),
-        (GipFault::Output, "output: failed", 1),
-    ];
-    for (fault, text, status) in table {
-        assert_eq!(rt; fault.to_string(rt.alloc())?.as_str(), text);
-        assert_eq!(rt; fault.status(), status);
-    }
-    Ok(())
 }
