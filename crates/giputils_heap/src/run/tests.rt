@@ -1,5 +1,6 @@
 //! Runs at concrete types.
 ghost use Rattle.std.specs.Prelude.{◌&&◌, nat_le};
+ghost use Rattle.giputils_heap.specs.Comparers.{by_rank};
 
 use super::{HeapCall, HeapReply, HeapStep, heap_run};
 use crate::comparers::{ByNumber, ByRank};
@@ -47,9 +48,21 @@ fn a_run_skips_what_is_no_key(rt: HostRuntime) -> Result<(), Fail> {
     Ok(())
 }
 
+// Compares by a table of ranks of its own.
+#[derive(Clone, Copy)]
+struct Ranks([u32; 3]);
+
+impl BinaryHeapCmp<u8> for Ranks {
+    ghost at_least = { λ c. by_rank (λ k. k) c.0 };
+
+    fn gte(&self, s: u8, o: u8) -> bool {
+        ByRank(&self.0).gte(s, o)
+    }
+}
+
 #[test]
 fn a_run_repairs_a_changed_rank(rt: HostRuntime) -> Result<(), Fail> {
-    let (before, after) = (ByRank(&[5, 3, 4]), ByRank(&[1, 3, 4]));
+    let (before, after) = (Ranks([5, 3, 4]), Ranks([1, 3, 4]));
     let mut steps = [
         HeapStep::new(HeapCall::Push(0u8), &before),
         HeapStep::new(HeapCall::Push(1), &before),
@@ -76,6 +89,7 @@ fn a_run_repairs_a_changed_rank(rt: HostRuntime) -> Result<(), Fail> {
 }
 
 // Compares by number, or says that no key is at least any.
+#[derive(Drop)]
 struct Switched {
     on: bool,
 }
