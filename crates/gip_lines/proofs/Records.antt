@@ -1,11 +1,11 @@
 -- A record of a heap that answers, each step by the ranks as its line leaves them, has the replies of the script.
-use Rattle.std.proofs.Common.{◌≡◌, ℕ, suc, Bool, true, ◌&&◌, cond, List, [], ◌∷◌, ◌++◌, length, refl, ap, sym, subst, ◌∙◌, arith, Option, Some, None, append_assoc}
+use Rattle.std.proofs.Common.{◌≡◌, ℕ, suc, Bool, true, List, [], ◌∷◌, ◌++◌, length, refl, ap, sym, subst, ◌∙◌, arith, Option, Some, None, append_assoc}
 use Rattle.std.specs.Prelude.{slice_set}
 use Rattle.std.proofs.lemmas.Bool.{and_parts, and_from, cond_both}
 use Rattle.std.specs.List.{flat_map, list_all}
 use Rattle.gip_lines.specs.Lines.{line_feed, has_small_key}
-use Rattle.gip_lines.specs.Replies.{call_of, step_of, steps_from, reply_text, reply_line, is_line_reply}
-use Rattle.gip_lines.specs.Script.{ranks_after, goes_before, held_after, reply_to, text_from}
+use Rattle.gip_lines.specs.Replies.{call_of, steps_from, reply_text, reply_line, is_line_reply}
+use Rattle.gip_lines.specs.Script.{ranks_after, held_after, reply_to, text_from}
 use Rattle.gip_lines.specs.declared.lines.Line.{Line}
 use Rattle.gip_lines.specs.declared.lines.Line.TheVariants as line
 use Rattle.gip_lines.specs.declared.replies.Ranks.{Ranks}

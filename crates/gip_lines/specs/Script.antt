@@ -4,7 +4,7 @@ use Rattle.std.specs.List.{list_any}
 use Rattle.std.specs.Option.{option_map_or}
 use Rattle.gip_lines.specs.Lines.{line_feed}
 use Rattle.gip_lines.specs.declared.lines.Line.{Line}
-use Rattle.gip_lines.specs.declared.lines.Line.TheVariants.{Push, Pop, Len, Clear, Rank, Up, Down}
+use Rattle.gip_lines.specs.declared.lines.Line.TheVariants.{Push, Pop, Len, Clear, Rank}
 
 -- the key is held
 abbrev pub is_held : ℕ → List ℕ → Bool
