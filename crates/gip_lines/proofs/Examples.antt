@@ -1,9 +1,11 @@
 -- The definitions on worked examples, computed by the check.
 use Rattle.std.specs.Prelude.{◌≡◌, ℕ, List, [], ◌∷◌, ◌++◌, codes, Some, None, refl, true, false}
 use Rattle.std.specs.Fmt.{digits}
+use Rattle.gip_lines.specs.Fault.{fault_text, fault_status}
 use Rattle.gip_lines.specs.Lines.{line_feed, space, pieces, script_lines, number_up_to, line_of, lines_of, first_other_line}
-use Rattle.gip_lines.specs.Script.{greatest, without, script_text}
-use Rattle.gip_lines.specs.declared.lines.Line.TheVariants.{Push, Pop, Len, Clear}
+use Rattle.gip_lines.specs.Script.{start_ranks, greatest, without, script_text}
+use Rattle.gip_lines.specs.declared.fault.GipFault.TheVariants as fault
+use Rattle.gip_lines.specs.declared.lines.Line.TheVariants.{Push, Pop, Len, Clear, Rank, Up, Down}
 
 -- a text of some lines, each with a line feed
 abbrev text_of : List (List ℕ) → List ℕ
@@ -47,6 +49,21 @@ a_number_may_be_the_greatest = refl
 a_number_is_not_above_the_greatest : number_up_to 15 (codes "16") ≡ None
 a_number_is_not_above_the_greatest = refl
 
+rank_names_a_key_and_its_rank : line_of (codes "rank 15 4294967295") ≡ Some (Rank 15 4294967295)
+rank_names_a_key_and_its_rank = refl
+
+up_and_down_name_their_key : lines_of (text_of (codes "up 3" ∷ codes "down 4" ∷ [])) ≡ Up 3 ∷ Down 4 ∷ []
+up_and_down_name_their_key = refl
+
+a_rank_past_the_greatest_is_refused : line_of (codes "rank 0 4294967296") ≡ None
+a_rank_past_the_greatest_is_refused = refl
+
+rank_without_a_rank_is_refused : line_of (codes "rank 0") ≡ None
+rank_without_a_rank_is_refused = refl
+
+rank_of_two_ranks_is_refused : line_of (codes "rank 0 1 2") ≡ None
+rank_of_two_ranks_is_refused = refl
+
 two_spaces_are_refused : line_of (codes "push  3") ≡ None
 two_spaces_are_refused = refl
 
@@ -76,10 +93,10 @@ capital_letters_are_refused = refl
 
 -- ---- the replies
 
-no_key_is_the_greatest_of_none : greatest [] ≡ None
+no_key_is_the_greatest_of_none : greatest start_ranks [] ≡ None
 no_key_is_the_greatest_of_none = refl
 
-the_greatest_key_may_stand_anywhere : greatest (2 ∷ 5 ∷ 3 ∷ []) ≡ Some 5
+the_greatest_key_may_stand_anywhere : greatest start_ranks (2 ∷ 5 ∷ 3 ∷ []) ≡ Some 5
 the_greatest_key_may_stand_anywhere = refl
 
 the_other_keys_stay_in_order : without 5 (2 ∷ 5 ∷ 3 ∷ []) ≡ 2 ∷ 3 ∷ []
@@ -112,3 +129,39 @@ a_push_of_a_held_key_asks_for_nothing = refl
 no_keys_are_counted_at_first : script_text (Len ∷ []) [] ≡ text_of (codes "0" ∷ [])
 unfolding digits
 no_keys_are_counted_at_first = refl
+
+-- ---- ranks
+
+the_greatest_rank_goes_first : greatest (5 ∷ 9 ∷ 4 ∷ []) (0 ∷ 1 ∷ 2 ∷ []) ≡ Some 1
+the_greatest_rank_goes_first = refl
+
+of_one_rank_the_greatest_goes_first : greatest (5 ∷ 0 ∷ 5 ∷ []) (0 ∷ 1 ∷ 2 ∷ []) ≡ Some 2
+of_one_rank_the_greatest_goes_first = refl
+
+a_changed_rank_counts_at_once : script_text (Rank 0 5 ∷ Push 0 ∷ Push 1 ∷ Rank 1 9 ∷ Pop ∷ Pop ∷ []) []
+    ≡ text_of (codes "ok" ∷ codes "ok" ∷ codes "ok" ∷ codes "ok" ∷ codes "1" ∷ codes "0" ∷ [])
+unfolding digits
+a_changed_rank_counts_at_once = refl
+
+-- a rank may be given to a key that is not held, and counts once it is
+ranks_outlast_their_keys : script_text (Up 3 ∷ Down 3 ∷ Rank 3 7 ∷ Len ∷ Push 3 ∷ Push 4 ∷ Pop ∷ []) []
+    ≡ text_of (codes "ok" ∷ codes "ok" ∷ codes "ok" ∷ codes "0" ∷ codes "ok" ∷ codes "ok" ∷ codes "3" ∷ [])
+unfolding digits
+ranks_outlast_their_keys = refl
+
+clear_keeps_the_ranks : script_text (Rank 0 5 ∷ Clear ∷ Push 0 ∷ Push 1 ∷ Pop ∷ []) []
+    ≡ text_of (codes "ok" ∷ codes "ok" ∷ codes "ok" ∷ codes "ok" ∷ codes "0" ∷ [])
+unfolding digits
+clear_keeps_the_ranks = refl
+
+-- ---- the faults
+
+a_fault_of_a_line_tells_its_number : fault_text (fault.Line 12) ≡ codes "line 12: refused"
+unfolding digits
+a_fault_of_a_line_tells_its_number = refl
+
+a_fault_of_the_input_tells_no_line : fault_text fault.Input ≡ codes "input: refused"
+a_fault_of_the_input_tells_no_line = refl
+
+the_status_tells_what_was_given_from_the_machine : (fault_status (fault.Line 12) ≡ 2) × (fault_status fault.Memory ≡ 1)
+the_status_tells_what_was_given_from_the_machine = (refl, refl)

@@ -1,8 +1,9 @@
-mod ByNumber
 mod Digits
 mod Examples
+mod Greatest
 mod MatchingReplies
 mod Pieces
 mod Readings
 mod Records
+mod Tables
 mod WholeInput

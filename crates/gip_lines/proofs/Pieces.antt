@@ -5,7 +5,7 @@ use Rattle.std.proofs.lemmas.List.Splits.{slice_split_first, slice_split_none}
 use Rattle.std.proofs.lemmas.List.Sums.{fails_before_first, position_or_len_is}
 use Rattle.std.proofs.lemmas.List.Quantifiers.{position-Some}
 use Rattle.std.specs.List.{onto_first, position, position_or_len}
-use Rattle.gip_lines.specs.Lines.{line_feed, space, pieces, script_lines, line_of}
+use Rattle.gip_lines.specs.Lines.{line_feed, space, pieces, script_lines, line_of_words}
 
 -- a text has a first piece
 pub pieces-cons : (byte : ℕ) (text : List ℕ) → (first : List ℕ) × (more : List (List ℕ)) × (pieces byte text ≡ first ∷ more)
@@ -42,8 +42,9 @@ script_lines-at text line rest e =
     let (first, more, f) = pieces-cons line_feed rest in
     rw (e, f) refl
 
--- a line of three words or more has another form
-pub line_of-three : (line name rest key more : List ℕ) → pieces space line ≡ name ∷ pieces space rest → pieces space rest ≡ key ∷ pieces space more → line_of line ≡ None
-line_of-three line name rest key more e f =
-    let (first, others, h) = pieces-cons space more in
+-- a line of four words or more has another form
+pub line_of_words-four : (name rest key more rank others : List ℕ) → pieces space rest ≡ key ∷ pieces space more → pieces space more ≡ rank ∷ pieces space others
+    → line_of_words (name ∷ pieces space rest) ≡ None
+line_of_words-four name rest key more rank others e f =
+    let (first, last, h) = pieces-cons space others in
     rw (e, f, h) refl

@@ -3,8 +3,8 @@ use Rattle.std.proofs.Common.{◌≡◌, ℕ, ◌+◌, List, [], ◌∷◌, ◌+
 use Rattle.std.proofs.lemmas.List.{length-map}
 use Rattle.std.specs.Option.{option_map}
 use Rattle.std.specs.List.{position, prefix_len, filter_map, list_all}
-use Rattle.gip_lines.specs.Lines.{readings, script_lines, line_of, first_other_line, lines_of, IsScript, pieces, line_of_words, number_up_to, greatest_key, space, has_small_key}
-use Rattle.gip_lines.specs.declared.lines.Line.TheVariants.{Push, Pop, Len, Clear}
+use Rattle.gip_lines.specs.Lines.{readings, script_lines, line_of, first_other_line, lines_of, IsScript, pieces, line_of_words, number_up_to, greatest_key, greatest_rank, rank_line, space, has_small_key}
+use Rattle.gip_lines.specs.declared.lines.Line.TheVariants.{Push, Pop, Len, Clear, Rank, Up, Down}
 use Rattle.std.specs.Str.{bytes_eq}
 use Rattle.std.specs.Prelude.{codes, Bool, false, if◌then◌else◌, nat_le}
 use Rattle.gip_lines.specs.declared.lines.Line.{Line}
@@ -63,12 +63,27 @@ small_name false true clear said e = let same : said ≡ Len = cc in ap has_smal
 small_name false false true said e = let same : said ≡ Clear = cc in ap has_small_key same
 small_name false false false said e = cc
 
--- a line with one
-small_push : (push : Bool) (key : Option ℕ) (said : Line) → ((k : ℕ) → key ≡ Some k → nat_le k greatest_key ≡ true)
-    → (if push then option_map Push key else None) ≡ Some said → has_small_key said ≡ true
-small_push true None said small e = cc
-small_push true (Some k) said small e = let same : said ≡ Push k = cc in ap has_small_key same ∙ small k refl
-small_push false key said small e = cc
+-- a line that names a key alone
+small_named : (Named : ℕ → Line) (key : Option ℕ) (said : Line) → ((k : ℕ) → key ≡ Some k → has_small_key (Named k) ≡ true)
+    → option_map Named key ≡ Some said → has_small_key said ≡ true
+small_named Named None said small e = cc
+small_named Named (Some k) said small e = let same : said ≡ Named k = cc in ap has_small_key same ∙ small k refl
+
+small_key_line : (push up down : Bool) (key : Option ℕ) (said : Line) → ((k : ℕ) → key ≡ Some k → nat_le k greatest_key ≡ true)
+    → (if push then option_map Push key else (if up then option_map Up key else (if down then option_map Down key else None))) ≡ Some said
+    → has_small_key said ≡ true
+small_key_line true up down key said small e = small_named (λ k. Push k) key said small e
+small_key_line false true down key said small e = small_named (λ k. Up k) key said small e
+small_key_line false false true key said small e = small_named (λ k. Down k) key said small e
+small_key_line false false false key said small e = cc
+
+-- a line that gives a key a rank
+small_rank_line : (rank : Bool) (key given : Option ℕ) (said : Line) → ((k : ℕ) → key ≡ Some k → nat_le k greatest_key ≡ true)
+    → (if rank then rank_line key given else None) ≡ Some said → has_small_key said ≡ true
+small_rank_line true (Some k) (Some r) said small e = let same : said ≡ Rank k r = cc in ap has_small_key same ∙ small k refl
+small_rank_line true (Some k) None said small e = cc
+small_rank_line true None given said small e = cc
+small_rank_line false key given said small e = cc
 
 -- so has every line
 small_words : (words : List (List ℕ)) (said : Line) → line_of_words words ≡ Some said → has_small_key said ≡ true
@@ -76,8 +91,12 @@ small_words [] said e = cc
 small_words (name ∷ []) said e =
     small_name (bytes_eq name (codes "pop")) (bytes_eq name (codes "len")) (bytes_eq name (codes "clear")) said e
 small_words (name ∷ key ∷ []) said e =
-    small_push (bytes_eq name (codes "push")) (number_up_to greatest_key key) said (λ k f. le-leb k greatest_key (number_up_to-small greatest_key key k f)) e
-small_words (name ∷ key ∷ other ∷ more) said e = cc
+    small_key_line (bytes_eq name (codes "push")) (bytes_eq name (codes "up")) (bytes_eq name (codes "down")) (number_up_to greatest_key key) said
+    (λ k f. le-leb k greatest_key (number_up_to-small greatest_key key k f)) e
+small_words (name ∷ key ∷ rank ∷ []) said e =
+    small_rank_line (bytes_eq name (codes "rank")) (number_up_to greatest_key key) (number_up_to greatest_rank rank) said
+    (λ k f. le-leb k greatest_key (number_up_to-small greatest_key key k f)) e
+small_words (name ∷ key ∷ rank ∷ other ∷ more) said e = cc
 
 -- the lines of a script name small keys
 pub small_keys : (lines : List (List ℕ)) (said : List Line) → map line_of lines ≡ map Some said → list_all has_small_key said ≡ true

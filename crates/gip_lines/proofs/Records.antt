@@ -1,94 +1,107 @@
--- A record of a heap that answers, under the comparer by number, has the replies of the script.
-use Rattle.std.proofs.Common.{◌≡◌, ℕ, Bool, true, List, [], ◌∷◌, ◌++◌, length, map, refl, ap, subst, ◌∙◌, arith, Option, Some, None, append_assoc}
+-- A record of a heap that answers, each step by the ranks as its line leaves them, has the replies of the script.
+use Rattle.std.proofs.Common.{◌≡◌, ℕ, suc, Bool, true, ◌&&◌, cond, List, [], ◌∷◌, ◌++◌, length, refl, ap, sym, subst, ◌∙◌, arith, Option, Some, None, append_assoc}
+use Rattle.std.specs.Prelude.{slice_set}
 use Rattle.std.proofs.lemmas.Bool.{and_parts, and_from, cond_both}
-use Rattle.std.proofs.lemmas.Simd.{map-map}
 use Rattle.std.specs.List.{flat_map, list_all}
 use Rattle.gip_lines.specs.Lines.{line_feed, has_small_key}
-use Rattle.gip_lines.specs.Replies.{call_of, step_of, reply_text, reply_line, is_line_reply}
-use Rattle.gip_lines.specs.Script.{held_after, reply_to, text_from}
+use Rattle.gip_lines.specs.Replies.{call_of, step_of, steps_from, reply_text, reply_line, is_line_reply}
+use Rattle.gip_lines.specs.Script.{ranks_after, goes_before, held_after, reply_to, text_from}
 use Rattle.gip_lines.specs.declared.lines.Line.{Line}
-use Rattle.gip_lines.proofs.ByNumber.{at_least, is_lawful-by_number, agree_on-by_number}
+use Rattle.gip_lines.specs.declared.lines.Line.TheVariants as line
+use Rattle.gip_lines.specs.declared.replies.Ranks.{Ranks}
 use Rattle.gip_lines.proofs.MatchingReplies.{number, matches}
 use Rattle.giputils_heap.specs.Record as run
-use Rattle.giputils_heap.specs.declared.run.HeapCall.{HeapCall}
+use Rattle.giputils_heap.specs.Comparers.{by_rank}
+use Rattle.giputils_heap.specs.Keys.{without}
+use Rattle.giputils_heap.specs.Relations.{agree_on}
 use Rattle.giputils_heap.specs.declared.run.HeapReply.{HeapReply}
 use Rattle.giputils_heap.specs.declared.run.HeapStep.{HeapStep}
-
--- the calls of a record, and its replies
-abbrev calls_of : {C : Type 0} → List (run.Entry ℕ C) → List (HeapCall ℕ)
-calls_of entries = map (λ e. e.call) entries
-
-abbrev replies_of : {C : Type 0} → List (run.Entry ℕ C) → List (HeapReply ℕ)
-replies_of entries = map (λ e. e.reply) entries
+use Rattle.giputils_heap.proofs.Preorders.{agree_on-refl, IsLawful-everywhere}
+use Rattle.giputils_heap.proofs.Comparisons.{IsTotalPreorder-by_rank, AgreesExcept-by_rank}
 
 -- the replies are the script's for some refusals, and each is one that a line can have
-abbrev pub Match : List ℕ → List Line → List (HeapReply ℕ) → Type 0
-Match held lines replies =
-    (refusals : List Bool) × (flat_map reply_line replies ≡ text_from held lines refusals) × (list_all is_line_reply replies ≡ true)
+abbrev pub Match : List ℕ → List ℕ → List Line → List (HeapReply ℕ) → Type 0
+Match ranks held lines replies =
+    (refusals : List Bool) × (flat_map reply_line replies ≡ text_from ranks held lines refusals) × (list_all is_line_reply replies ≡ true)
 
--- the progress of a record under the comparer by number: nothing that is held is forgotten, and it stays steady
-module _ {C : Type 0} where
-  abbrev by_number : C → ℕ → ℕ → Bool
-  by_number c = at_least
+-- tables compare by rank and number
+abbrev at_least : Ranks → ℕ → ℕ → Bool
+at_least c = by_rank number c.0
 
-  steady-if_empty : (p : run.Progress ℕ C) → p.steady ≡ true → (run.start_if_empty p).steady ≡ true
-  steady-if_empty p steady = cond_both (run.is_nil p.held) run.start p (λ q. q.steady ≡ true) (λ _. refl) (λ _. steady)
+-- a comparer that was lent last has these ranks
+abbrev HasRanks : List ℕ → Option Ranks → Type 0
+HasRanks ranks None = Unit {0}
+HasRanks ranks (Some c) = c.0 ≡ ranks
 
-  agrees-last : (last : Option C) (call : HeapCall ℕ) (c : C) (held : List ℕ) → run.agrees_with_last number by_number last call c held ≡ true
-  agrees-last None call c held = refl
-  agrees-last (Some b) call c held = agree_on-by_number held
+HasRanks-if_empty : (ranks held : List ℕ) (steady : Bool) (last : Option Ranks) → HasRanks ranks last
+    → HasRanks ranks (run.start_if_empty record { held = held; steady = steady; last = last }).last
+HasRanks-if_empty ranks [] steady last has = tt
+HasRanks-if_empty ranks (k ∷ held) steady last has = has
 
-  steady-after : (p : run.Progress ℕ C) (e : run.Entry ℕ C) → p.steady ≡ true → (run.after_call number by_number p e.call e.comparer e.reply).steady ≡ true
-  steady-after p e steady =
-      let q : run.Progress ℕ C = run.start_if_empty p in
-      let before : q.steady ≡ true = steady-if_empty p steady in
-      let compared = and_from _ _ (is_lawful-by_number (run.compared_keys p.held e.call)) (agrees-last q.last e.call e.comparer p.held) in
-      cond_both (run.may_compare e.call) _ _ (λ b. b ≡ true) (λ _. and_from _ _ before compared) (λ _. before)
+steady-if_empty : (held : List ℕ) (steady : Bool) (last : Option Ranks) → steady ≡ true
+    → (run.start_if_empty record { held = held; steady = steady; last = last }).steady ≡ true
+steady-if_empty [] steady last so_far = refl
+steady-if_empty (k ∷ held) steady last so_far = so_far
 
-  answered_from : (entries : List (run.Entry ℕ C)) (lines : List Line) (p : run.Progress ℕ C) → p.steady ≡ true
-      → calls_of entries ≡ map call_of lines → list_all has_small_key lines ≡ true
-      → run.answers_from number by_number p entries ≡ true → Match p.held lines (replies_of entries)
-  answered_from [] [] p steady calls small answers = ([], refl, refl)
-  answered_from [] (said ∷ lines) p steady calls small answers = cc
-  answered_from (e ∷ entries) [] p steady calls small answers = cc
-  answered_from (e ∷ entries) (said ∷ lines) p steady calls small answers =
-      let call : e.call ≡ call_of said = cc in
-      let calls' : calls_of entries ≡ map call_of lines = cc in
-      let q : run.Progress ℕ C = run.after_call number by_number p e.call e.comparer e.reply in
-      let q_steady : q.steady ≡ true = steady-after p e steady in
-      let (reply, rest) = and_parts (run.may_reply number at_least q.steady p.held e.call e.reply) (run.answers_from number by_number q entries) answers in
-      let (small', smaller) = and_parts (has_small_key said) (list_all has_small_key lines) small in
-      let m = matches said p.held e.reply q.steady q_steady small' (subst (λ c. run.may_reply number at_least q.steady p.held c e.reply ≡ true) call reply) in
-      let held : q.held ≡ held_after said m.refused p.held =
-      ap (λ c. run.held_after number p.held c e.reply) call ∙ m.after in
-      let (refusals, text, known) = answered_from entries lines q q_steady calls' smaller rest in
-      let later = flat_map reply_line (replies_of entries) in (
-        m.refused ∷ refusals,
-        append_assoc (reply_text e.reply) (line_feed ∷ []) later ∙ ap (λ t. t ++ line_feed ∷ later) m.text
-            ∙ ap (λ t. reply_to said m.refused p.held ++ line_feed ∷ t) (text ∙ ap (λ h. text_from h lines refusals) held),
-        and_from _ _ m.is_known known,
-      )
+-- the ranks that a line leaves differ from those before it at the key of an Update alone
+agrees_after : (last : Option Ranks) (ranks : List ℕ) (said : Line) (held : List ℕ) → HasRanks ranks last
+    → run.agrees_with_last number at_least last (call_of said) record { 0 = ranks_after said ranks } held ≡ true
+agrees_after None ranks said held has = refl
+agrees_after (Some c) ranks (line.Rank key rank) held has =
+    ap (λ rs. agree_on (by_rank number rs) (by_rank number (slice_set ranks key rank)) (without number held key)) has ∙ AgreesExcept-by_rank number key ranks rank held
+agrees_after (Some c) ranks said held has =
+    ap (λ rs. agree_on (by_rank number rs) (by_rank number ranks) held) has ∙ agree_on-refl (by_rank number ranks) held
 
-  calls_of-record_of : (before after : List (HeapStep ℕ C)) (replies : List (HeapReply ℕ)) → length after ≡ length before → length replies ≡ length before
-      → calls_of (run.record_of before after replies) ≡ map (λ s. s.call) before
-  calls_of-record_of [] after replies same one_each = refl
-  calls_of-record_of (s ∷ before) (t ∷ after) (r ∷ replies) same one_each =
-      ap (λ calls. s.call ∷ calls) (calls_of-record_of before after replies (omega arith) (omega arith))
-  calls_of-record_of (s ∷ before) after replies same one_each = absurd (omega arith)
+-- so the steps of a script are steady
+steady_at : (p : run.Progress ℕ Ranks) (ranks : List ℕ) (said : Line) → p.steady ≡ true → HasRanks ranks p.last
+    → run.is_steady_at number at_least p (call_of said) record { 0 = ranks_after said ranks } ≡ true
+steady_at p ranks said steady has =
+    let q : run.Progress ℕ Ranks = run.start_if_empty p in
+    let after : List ℕ = ranks_after said ranks in
+    let so_far : q.steady ≡ true = steady-if_empty p.held p.steady p.last steady in
+    let lawful = IsLawful-everywhere (by_rank number after) (IsTotalPreorder-by_rank number after) (run.compared_keys p.held (call_of said)) in
+    let agrees = agrees_after q.last ranks said p.held (HasRanks-if_empty ranks p.held p.steady p.last has) in
+    cond_both (run.may_compare (call_of said)) _ _ (λ b. b ≡ true) (λ _. and_from _ _ so_far (and_from _ _ lawful agrees)) (λ _. so_far)
 
-  replies_of-record_of : (before after : List (HeapStep ℕ C)) (replies : List (HeapReply ℕ)) → length after ≡ length before → length replies ≡ length before
-      → replies_of (run.record_of before after replies) ≡ replies
-  replies_of-record_of [] after [] same one_each = refl
-  replies_of-record_of (s ∷ before) (t ∷ after) (r ∷ replies) same one_each =
-      ap (λ rs. r ∷ rs) (replies_of-record_of before after replies (omega arith) (omega arith))
-  replies_of-record_of before after replies same one_each = absurd (omega arith)
+-- and the comparer that was lent last has the ranks that the line leaves
+ranks_at : (p : run.Progress ℕ Ranks) (ranks : List ℕ) (said : Line) (reply : HeapReply ℕ) → HasRanks ranks p.last
+    → HasRanks (ranks_after said ranks) (run.after_call number at_least p (call_of said) record { 0 = ranks_after said ranks } reply).last
+ranks_at p ranks line.Len reply has = HasRanks-if_empty ranks p.held p.steady p.last has
+ranks_at p ranks line.Clear reply has = HasRanks-if_empty ranks p.held p.steady p.last has
+ranks_at p ranks said reply has = refl
 
-  -- a run of a script's lines on a heap answers the script's text
-  pub run_of_lines : (comparer : C) (lines : List Line) (before after : List (HeapStep ℕ C)) (replies : List (HeapReply ℕ))
-      → before ≡ map (step_of comparer) lines → length after ≡ length before → length replies ≡ length before
-      → list_all has_small_key lines ≡ true → run.Answers number by_number (run.record_of before after replies)
-      → Match [] lines replies
-  run_of_lines comparer lines before after replies steps same one_each small answers =
-      let calls = calls_of-record_of before after replies same one_each ∙ ap (map (λ s. s.call)) steps ∙ map-map (λ (s : HeapStep ℕ C). s.call) (step_of comparer) lines in
-      subst (Match [] lines) (replies_of-record_of before after replies same one_each)
-      (answered_from (run.record_of before after replies) lines run.start refl calls small answers)
+answered_from : (lines : List Line) (ranks : List ℕ) (after : List (HeapStep ℕ Ranks)) (replies : List (HeapReply ℕ)) (p : run.Progress ℕ Ranks)
+    → length after ≡ length lines → length replies ≡ length lines → p.steady ≡ true → HasRanks ranks p.last → list_all has_small_key lines ≡ true
+    → run.answers_from number at_least p (run.record_of (steps_from ranks lines) after replies) ≡ true → Match ranks p.held lines replies
+answered_from [] ranks after [] p same one_each steady has small answers = ([], refl, refl)
+answered_from (said ∷ lines) ranks (t ∷ after) (reply ∷ replies) p same one_each steady has small answers =
+    let left : List ℕ = ranks_after said ranks in
+    let c : Ranks = record { 0 = left } in
+    let q : run.Progress ℕ Ranks = run.after_call number at_least p (call_of said) c reply in
+    let now = steady_at p ranks said steady has in
+    let (may, rest) = and_parts (run.may_answer number at_least p (call_of said) c reply) (run.answers_from number at_least q (run.record_of (steps_from left lines) after replies)) answers in
+    let (small', smaller) = and_parts (has_small_key said) (list_all has_small_key lines) small in
+    let m = matches said left p.held reply small' (subst (λ b. run.may_reply number (by_rank number left) b p.held (call_of said) reply ≡ true) now may) in
+    let (refusals, text, known) = answered_from lines left after replies q (omega arith) (omega arith) now (ranks_at p ranks said reply has) smaller rest in
+    let later = flat_map reply_line replies in
+    let held : q.held ≡ held_after said m.refused left p.held = m.after in (
+      m.refused ∷ refusals,
+      append_assoc (reply_text reply) (line_feed ∷ []) later ∙ ap (λ t. t ++ line_feed ∷ later) m.text
+          ∙ ap (λ t. reply_to said m.refused left p.held ++ line_feed ∷ t) (text ∙ ap (λ h. text_from left h lines refusals) held),
+      and_from _ _ m.is_known known,
+    )
+answered_from lines ranks after replies p same one_each steady has small answers = absurd (omega arith)
+
+length-steps_from : (ranks : List ℕ) (lines : List Line) → length (steps_from ranks lines) ≡ length lines
+length-steps_from ranks [] = refl
+length-steps_from ranks (said ∷ lines) = ap suc (length-steps_from (ranks_after said ranks) lines)
+
+-- a run of a script's lines on a heap answers the script's text
+pub run_of_lines : (ranks : List ℕ) (lines : List Line) (before after : List (HeapStep ℕ Ranks)) (replies : List (HeapReply ℕ))
+    → before ≡ steps_from ranks lines → length after ≡ length before → length replies ≡ length before
+    → list_all has_small_key lines ≡ true → run.Answers number at_least (run.record_of before after replies)
+    → Match ranks [] lines replies
+run_of_lines ranks lines before after replies steps same one_each small answers =
+    let long : length before ≡ length lines = ap length steps ∙ length-steps_from ranks lines in
+    answered_from lines ranks after replies run.start (same ∙ long) (one_each ∙ long) refl tt small
+    (ap (λ ss. run.answers_from number at_least run.start (run.record_of ss after replies)) (sym steps) ∙ answers)

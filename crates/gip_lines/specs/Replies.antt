@@ -1,6 +1,8 @@
 -- How a script is run on a heap: a call for each line, and a line of text for each reply.
-use Rattle.std.specs.Prelude.{ℕ, Bool, true, false, List, [], ◌∷◌, ◌++◌, codes, decimal, Some, None}
+use Rattle.std.specs.Prelude.{ℕ, Bool, true, false, List, [], ◌∷◌, ◌++◌, codes, decimal, slice_set, Some, None}
 use Rattle.gip_lines.specs.Lines.{line_feed}
+use Rattle.gip_lines.specs.Script.{ranks_after}
+use Rattle.gip_lines.specs.declared.replies.Ranks.{Ranks}
 use Rattle.gip_lines.specs.declared.lines.Line.{Line}
 use Rattle.gip_lines.specs.declared.lines.Line.TheVariants as line
 use Rattle.giputils_heap.specs.declared.run.HeapCall.{HeapCall}
@@ -15,6 +17,9 @@ call_of (line.Push key) = call.Push key
 call_of line.Pop = call.Pop
 call_of line.Len = call.Len
 call_of line.Clear = call.Clear
+call_of (line.Rank key rank) = call.Update key
+call_of (line.Up key) = call.Up key
+call_of (line.Down key) = call.Down key
 
 -- whether a line's call can have this reply
 abbrev pub is_line_reply : HeapReply ℕ → Bool
@@ -39,6 +44,28 @@ reply_text (Empty b) = []
 abbrev pub reply_line : HeapReply ℕ → List ℕ
 reply_line reply = reply_text reply ++ line_feed ∷ []
 
--- the step of a line, lent a comparer that was not yet asked
-abbrev pub step_of : {C : Type 0} → C → Line → HeapStep ℕ C
-step_of comparer said = record { call = call_of said; cmp = record { comparer = comparer; count = 0 } }
+-- whether a line gives a rank
+abbrev pub gives_rank : Line → Bool
+gives_rank (line.Rank key rank) = true
+gives_rank said = false
+
+-- the step of a line, lent a comparer by these ranks that was not yet asked
+abbrev pub step_of : List ℕ → Line → HeapStep ℕ Ranks
+step_of ranks said = record { call = call_of said; cmp = record { comparer = record { 0 = ranks }; count = 0 } }
+
+-- the steps of some lines: each compares by the ranks as its line leaves them
+abbrev pub steps_from : List ℕ → List Line → List (HeapStep ℕ Ranks)
+steps_from ranks [] = []
+steps_from ranks (said ∷ lines) = step_of (ranks_after said ranks) said ∷ steps_from (ranks_after said ranks) lines
+
+-- the tables that the `rank` lines leave, one after another
+abbrev pub tables_from : List ℕ → List Line → List Ranks
+tables_from ranks [] = []
+tables_from ranks (line.Rank key rank ∷ lines) =
+    record { 0 = slice_set ranks key rank } ∷ tables_from (slice_set ranks key rank) lines
+tables_from ranks (said ∷ lines) = tables_from ranks lines
+
+-- the ranks after some lines
+abbrev pub ranks_from : List ℕ → List Line → List ℕ
+ranks_from ranks [] = ranks
+ranks_from ranks (said ∷ lines) = ranks_from (ranks_after said ranks) lines

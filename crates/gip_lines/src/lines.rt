@@ -2,7 +2,7 @@
 ghost use Rattle.std.specs.Prelude.{◌≡◌, ◌<◌, ◌∷◌, [], length, map, IfSome, IfNone, MatchOption, IfOk, IfErr};
 ghost use Rattle.std.specs.Option.{option_map_or};
 ghost use Rattle.gip_lines.specs.Fault.{StopsParsing};
-ghost use Rattle.gip_lines.specs.Lines.{pieces, script_lines, number_up_to, line_of, line_of_words, readings};
+ghost use Rattle.gip_lines.specs.Lines.{space, pieces, script_lines, greatest_key, number_up_to, line_of, line_of_words, readings};
 
 use crate::fault::GipFault;
 use std::alloc::Allocator;
@@ -18,6 +18,12 @@ pub enum Line {
     Len,
     /// `clear`: lets all held keys go.
     Clear,
+    /// `rank K R`: gives the key K the rank R.
+    Rank(u8, u32),
+    /// `up K`: the key K may have risen.
+    Up(u8),
+    /// `down K`: the key K may have fallen.
+    Down(u8),
 }
 
 impl Line {
@@ -31,8 +37,18 @@ impl Line {
         let (name, rest) = split_once(line, b' ');
         match rest {
             None => Line::without_key(name),
+            Some(rest) => Line::with_more(name, rest),
+        }
+    }
+
+    fn with_more(name: &[u8], rest: &[u8]) -> Option<Line>
+        ensures { result ≡ line_of_words (name.now ∷ pieces space rest.now) }
+    {
+        let (key, rest) = split_once(rest, b' ');
+        match rest {
+            None => Line::with_key(name, key),
             Some(rest) => match split_once(rest, b' ') {
-                (key, None) => Line::with_key(name, key),
+                (rank, None) => Line::with_rank(name, key, rank),
                 (_, Some(_)) => None,
             },
         }
@@ -55,10 +71,28 @@ impl Line {
     fn with_key(name: &[u8], key: &[u8]) -> Option<Line>
         ensures { result ≡ line_of_words (name.now ∷ key.now ∷ []) }
     {
-        if name != b"push".as_slice() {
-            return None;
+        let key = key_number(key)?;
+        if name == b"push".as_slice() {
+            Some(Line::Push(key))
+        } else if name == b"up".as_slice() {
+            Some(Line::Up(key))
+        } else if name == b"down".as_slice() {
+            Some(Line::Down(key))
+        } else {
+            None
         }
-        number(key, Line::GREATEST_KEY).map(|key| Line::Push(key))
+    }
+
+    fn with_rank(name: &[u8], key: &[u8], rank: &[u8]) -> Option<Line>
+        ensures { result ≡ line_of_words (name.now ∷ key.now ∷ rank.now ∷ []) }
+    {
+        let key = key_number(key)?;
+        let rank = number(rank, u32::MAX)?;
+        if name == b"rank".as_slice() {
+            Some(Line::Rank(key, rank))
+        } else {
+            None
+        }
     }
 }
 
@@ -108,21 +142,31 @@ pub(crate) fn split_once(text: &[u8], byte: u8) -> (&[u8], Option<&[u8]>)
 }
 
 // The number that a word of decimal digits alone writes, where it is no greater than `greatest`.
-fn number(word: &[u8], greatest: u8) -> Option<u8>
+fn number(word: &[u8], greatest: u32) -> Option<u32>
     ensures { result ≡ number_up_to greatest word.now }
 {
     if word.is_empty() {
         return None;
     }
-    let mut value: u16 = 0;
+    let mut value: u64 = 0;
     for digit in word {
         if !digit.is_ascii_digit() {
             return None;
         }
-        value = value * 10 + u16::from(*digit - b'0');
-        if value > u16::from(greatest) {
+        value = value * 10 + u64::from(*digit - b'0');
+        if value > u64::from(greatest) {
             return None;
         }
     }
-    Some(value as u8)
+    Some(value as u32)
+}
+
+// The key that a word writes, where a line can name it.
+fn key_number(word: &[u8]) -> Option<u8>
+    ensures { result ≡ number_up_to greatest_key word.now }
+{
+    match number(word, u32::from(Line::GREATEST_KEY)) {
+        Some(key) => Some(key as u8),
+        None => None,
+    }
 }

@@ -1,25 +1,29 @@
 //! The lines of a script as calls of a heap, and its replies as text.
-ghost use Rattle.std.specs.Prelude.{◌≡◌, ◌++◌, ◌∷◌, [], ℕ, Bool, List, nat_le, decimal, map, IsTrue, IfOk, IfErr, OnOk};
+ghost use Rattle.std.specs.Prelude.{◌≡◌, ◌++◌, ◌∷◌, [], ℕ, Bool, List, decimal, if◌then◌else◌, IsTrue, IfOk, IfErr, OnOk};
 ghost use Rattle.std.specs.List.{list_all, flat_map};
+ghost use Rattle.giputils_heap.specs.Comparers.{by_rank};
 ghost use Rattle.gip_lines.specs.Lines.{line_feed, has_small_key};
-ghost use Rattle.gip_lines.specs.Replies.{call_of, step_of, is_line_reply, reply_line};
-ghost use Rattle.gip_lines.specs.Script.{script_text};
+ghost use Rattle.gip_lines.specs.Replies.{call_of, gives_rank, steps_from, tables_from, is_line_reply, reply_line};
+ghost use Rattle.gip_lines.specs.Script.{start_ranks, script_text};
 
 use crate::fault::GipFault;
 use crate::lines::Line;
-use giputils_heap::{BinaryHeapCmp, Counting, HeapCall, HeapReply, HeapStep, heap_run};
+use giputils_heap::{BinaryHeapCmp, ByRank, HeapCall, HeapReply, HeapStep, heap_run};
 use std::alloc::{AllocError, Allocator};
 use std::io::Write;
 
-// Compares keys by their numbers.
-#[derive(Clone, Copy)]
-pub(crate) struct ByNumber;
+// How many keys a line can name.
+const KEYS: usize = Line::GREATEST_KEY as usize + 1;
 
-impl BinaryHeapCmp<u8> for ByNumber {
-    ghost at_least = { λ _ s o. nat_le o s };
+// A table of the keys' ranks, by which they are compared.
+#[derive(Clone, Copy)]
+pub(crate) struct Ranks([u32; KEYS]);
+
+impl BinaryHeapCmp<u8> for Ranks {
+    ghost at_least = { λ c. by_rank (λ k. k) c.0 };
 
     fn gte(&self, s: u8, o: u8) -> bool {
-        s >= o
+        ByRank(&self.0).gte(s, o)
     }
 }
 
@@ -32,28 +36,52 @@ pub(crate) fn run_lines<A: Allocator + Copy>(
     ensures text { IfOk result (λ text. (refusals : List Bool) × (text.items ≡ script_text lines.now refusals)) }
     ensures err { IfErr result (λ fault. fault ≡ GipFault.Memory) }
 {
-    let by_number = ByNumber;
-    let mut steps = steps_of(alloc, lines, &by_number)?;
+    let tables = tables_of(alloc, lines)?;
+    let mut steps = steps_of(alloc, lines, &tables)?;
     let replies = heap_run(alloc, &mut steps)?;
     text_of(alloc, &replies)
 }
 
-// A step for each line, all lent one comparer.
+// The table of ranks at the start, and one for each `rank` line, as that line leaves the ranks.
+fn tables_of<A: Allocator>(alloc: A, lines: &[Line]) -> Result<Vec<Ranks, A>, AllocError>
+    requires { IsTrue (list_all has_small_key lines.now) }
+    ensures { IfOk result (λ tables. tables.items ≡ record { 0 = start_ranks } ∷ tables_from start_ranks lines.now) }
+{
+    let mut tables = Vec::new(alloc);
+    let mut ranks = [0; KEYS];
+    tables.push(Ranks(ranks))?;
+    for line in lines {
+        if let Line::Rank(key, rank) = *line {
+            ranks[key as usize] = rank;
+            tables.push(Ranks(ranks))?;
+        }
+    }
+    Ok(tables)
+}
+
+// A step for each line, which compares by the table of ranks that the line leaves.
 fn steps_of<'a, A: Allocator>(
     alloc: A,
     lines: &[Line],
-    cmp: &'a ByNumber,
-) -> Result<Vec<HeapStep<'a, u8, ByNumber>, A>, AllocError>
-    ensures { IfOk result (λ steps. steps.items ≡ map (step_of cmp.now) lines.now) }
+    tables: &'a [Ranks],
+) -> Result<Vec<HeapStep<'a, u8, Ranks>, A>, AllocError>
+    requires { tables.now ≡ record { 0 = start_ranks } ∷ tables_from start_ranks lines.now }
+    ensures { IfOk result (λ steps. steps.items ≡ steps_from start_ranks lines.now) }
 {
     let mut steps = Vec::with_capacity(alloc, lines.len())?;
+    let mut table = 0;
     for line in lines {
-        steps.push(HeapStep {
-            call: heap_call(*line),
-            cmp: Counting::new(cmp),
-        })?;
+        table += added_tables(*line);
+        steps.push(HeapStep::new(heap_call(*line), &tables[table]))?;
     }
     Ok(steps)
+}
+
+// How many tables of ranks a line adds: one where it gives a rank.
+fn added_tables(line: Line) -> usize
+    ensures { result ≡ (if gives_rank line then 1 else 0) }
+{
+    usize::from(matches!(line, Line::Rank(_, _)))
 }
 
 fn heap_call(line: Line) -> HeapCall<u8>
@@ -64,6 +92,9 @@ fn heap_call(line: Line) -> HeapCall<u8>
         Line::Pop => HeapCall::Pop,
         Line::Len => HeapCall::Len,
         Line::Clear => HeapCall::Clear,
+        Line::Rank(key, _) => HeapCall::Update(key),
+        Line::Up(key) => HeapCall::Up(key),
+        Line::Down(key) => HeapCall::Down(key),
     }
 }
 

@@ -1,4 +1,4 @@
-//! Scripts from memory to memory, and what their faults say.
+//! Scripts from memory to memory.
 
 use gip_lines::watched::Watched;
 use gip_lines::{GipFault, INPUT_LIMIT, script};
@@ -14,13 +14,26 @@ pub const README_REPLIES: &[u8] = b"ok\nok\nok\nok\nok\n5\n4\n3\nok\nnone\n";
 
 #[test]
 fn answers_scripts(rt: HostRuntime) -> Result<(), Fail> {
-    let table: [(&[u8], &[u8]); 6] = [
+    let table: [(&[u8], &[u8]); 10] = [
         (README_SCRIPT, README_REPLIES),
         (b"", b""),
         (b"push 003\npop", b"ok\n3\n"),
         (b"len", b"0\n"),
         (b"push 7\nclear\npush 7\npop\npop", b"ok\nok\nok\n7\nnone\n"),
         (b"push 0\npush 1\npush 0\nlen\n", b"ok\nok\nok\n2\n"),
+        (
+            b"rank 0 5\nrank 1 3\nrank 2 4\npush 0\npush 1\npush 2\nrank 1 9\npop\npop\npop\npop\n",
+            b"ok\nok\nok\nok\nok\nok\nok\n1\n0\n2\nnone\n",
+        ),
+        (
+            b"push 0\npush 1\npush 2\nrank 0 5\nrank 2 5\npop\npop\npop\n",
+            b"ok\nok\nok\nok\nok\n2\n0\n1\n",
+        ),
+        (
+            b"up 3\ndown 3\nrank 3 7\nlen\npush 3\npush 4\npop\n",
+            b"ok\nok\nok\n0\nok\nok\n3\n",
+        ),
+        (b"rank 15 4294967295\npush 15\npop", b"ok\nok\n15\n"),
     ];
     for (input, replies) in table {
         let mut reader = Watched::new(input);
@@ -33,7 +46,7 @@ fn answers_scripts(rt: HostRuntime) -> Result<(), Fail> {
 
 #[test]
 fn refuses_the_first_line_of_another_form(rt: HostRuntime) {
-    let table: [(&[u8], usize); 12] = [
+    let table: [(&[u8], usize); 16] = [
         (b"push 1\npush 16\n", 2),
         (b"push  3", 1),
         (b"pop ", 1),
@@ -44,7 +57,11 @@ fn refuses_the_first_line_of_another_form(rt: HostRuntime) {
         (b"len\npop\n\xff\nlen\n\n", 3),
         (b"\n", 1),
         (b"push", 1),
-        (b"rank 1 2", 1),
+        (b"rank 0 4294967296", 1),
+        (b"rank 16 0", 1),
+        (b"rank 1", 1),
+        (b"rank 1 2 3", 1),
+        (b"up 16", 1),
         (b"push 18446744073709551617", 1),
     ];
     for (input, number) in table {
@@ -67,19 +84,4 @@ fn refuses_an_input_that_is_too_long(rt: HostRuntime) {
         assert!(rt; !reader.failed());
         assert!(rt; writer.device().is_empty());
     }
-}
-
-#[test]
-fn faults_have_texts_and_statuses(rt: HostRuntime) -> Result<(), Fail> {
-    let table = [
-        (GipFault::Input, "input: refused", 2),
-        (GipFault::Line(12), "line 12: refused", 2),
-        (GipFault::Memory, "memory: refused", 1),
-        (GipFault::Output, "output: failed", 1),
-    ];
-    for (fault, text, status) in table {
-        assert_eq!(rt; fault.to_string(rt.alloc())?.as_str(), text);
-        assert_eq!(rt; fault.status(), status);
-    }
-    Ok(())
 }

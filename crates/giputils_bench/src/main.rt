@@ -12,11 +12,12 @@ mod heap;
 
 use anyhow::{Context, bail};
 use common::{Checksum, Generator};
+use heap::Repair;
 use std::alloc::{AllocError, Global};
 use std::env;
 use std::process::ExitCode;
 
-const WORKLOADS: [&str; 2] = ["heapsort", "galloc"];
+const WORKLOADS: [&str; 5] = ["heapsort", "vsids", "vsids_up", "decrease", "galloc"];
 
 fn main(rt: HostRuntime) -> anyhow::Result<ExitCode> {
     let alloc = rt.alloc();
@@ -58,6 +59,9 @@ fn repeat(
         let mut rng = Generator::new(seed.wrapping_add(rep));
         match workload {
             "heapsort" => heap::heapsort(alloc, size, &mut rng, &mut checksum)?,
+            "vsids" => heap::vsids(alloc, size, Repair::Update, &mut rng, &mut checksum)?,
+            "vsids_up" => heap::vsids(alloc, size, Repair::Up, &mut rng, &mut checksum)?,
+            "decrease" => heap::decrease(alloc, size, &mut rng, &mut checksum)?,
             "galloc" => galloc::galloc(alloc, size, &mut rng, &mut checksum)?,
             _ => return Ok(None),
         }

@@ -1,30 +1,7 @@
-//! Comparers of keys by their numbers.
+//! Comparers without laws.
 ghost use Rattle.std.specs.Prelude.{◌+◌, ◌-◌, ◌%◌, nat_le};
 
 use giputils_heap::BinaryHeapCmp;
-use std::cell::Cell;
-
-/// The greater number is at least the smaller.
-pub struct ByNumber;
-
-impl BinaryHeapCmp<u32> for ByNumber {
-    ghost at_least = { λ _ s o. nat_le o s };
-
-    fn gte(&self, s: u32, o: u32) -> bool {
-        s >= o
-    }
-}
-
-/// The smaller number is at least the greater.
-pub struct Reversed;
-
-impl BinaryHeapCmp<u32> for Reversed {
-    ghost at_least = { λ _ s o. nat_le s o };
-
-    fn gte(&self, s: u32, o: u32) -> bool {
-        s <= o
-    }
-}
 
 /// One answer to all questions. No order: either every key is at least every other, or no key is even at least itself.
 #[derive(Clone, Copy)]
@@ -46,33 +23,5 @@ impl BinaryHeapCmp<u32> for Circle {
 
     fn gte(&self, s: u32, o: u32) -> bool {
         (s % 3 + 3 - o % 3) % 3 <= 1
-    }
-}
-
-/// By number, with a count of its own of how often it was asked.
-#[derive(Drop)]
-pub struct Asked {
-    times: Cell<u64>,
-}
-
-impl Asked {
-    pub fn new() -> Self {
-        Asked {
-            times: Cell::new(0),
-        }
-    }
-
-    /// How often it was asked since this was last called.
-    pub fn take(&self) -> u64 {
-        self.times.replace(0)
-    }
-}
-
-impl BinaryHeapCmp<u32> for Asked {
-    ghost at_least = { λ _ s o. nat_le o s };
-
-    fn gte(&self, s: u32, o: u32) -> bool {
-        self.times.set(self.times.get().saturating_add(1));
-        s >= o
     }
 }

@@ -1,9 +1,9 @@
-//! The heap beside the plain one, and how often it asks its comparer.
+//! The heap beside the plain one.
 
-use crate::comparers::{Asked, ByNumber, Reversed};
 use crate::list_heap::ListHeap;
-use giputils_heap::{BinaryHeap, BinaryHeapCmp, Counting};
+use giputils_heap::{BinaryHeap, BinaryHeapCmp, ByNumber, ByRank};
 use std::alloc::{AllocError, Global};
+use std::cmp::Reverse;
 use std::test::Fail;
 
 // Makes a list of calls on both heaps, drawn from `seed`: pushes of keys below 16 mostly, pops, and a `clear` now and
@@ -38,6 +38,34 @@ fn reply_alike<C: BinaryHeapCmp<u32>>(
     Ok(true)
 }
 
+// The same under ranks that change for one key at a time, which is updated then, be it held or not.
+fn reply_alike_by_rank(alloc: Global, mut seed: u32) -> Result<bool, AllocError> {
+    let mut ranks = [0; 16];
+    let mut heap = BinaryHeap::new(alloc);
+    let mut plain = ListHeap::new(alloc);
+    for _ in 0..40 {
+        seed = seed.wrapping_mul(1_664_525).wrapping_add(1_013_904_223);
+        let key = (seed >> 28) % 16;
+        let alike = match (seed >> 20) % 8 {
+            0 | 1 => heap.pop(&ByRank(&ranks)) == plain.pop(&ByRank(&ranks)),
+            2..=4 => {
+                ranks[key as usize] = (seed >> 12) % 8;
+                heap.update(key, &ByRank(&ranks));
+                true
+            }
+            _ => {
+                heap.push(key, &ByRank(&ranks))?;
+                plain.push(key, &ByRank(&ranks))?;
+                true
+            }
+        };
+        if !alike || heap.len() != plain.len() {
+            return Ok(false);
+        }
+    }
+    Ok(true)
+}
+
 #[test]
 fn replies_as_the_plain_heap_under_orders_without_ties(rt: HostRuntime) -> Result<(), Fail> {
     for seed in 0..500 {
@@ -46,30 +74,13 @@ fn replies_as_the_plain_heap_under_orders_without_ties(rt: HostRuntime) -> Resul
             "by number, seed {seed}"
         );
         assert!(rt;
-            reply_alike(rt.alloc(), seed, &Reversed)?,
+            reply_alike(rt.alloc(), seed, &Reverse(ByNumber))?,
             "reversed, seed {seed}"
         );
-    }
-    Ok(())
-}
-
-#[test]
-fn plain_calls_ask_as_often_as_counted_ones(rt: HostRuntime) -> Result<(), Fail> {
-    let (asked, asked_by_counter) = (Asked::new(), Asked::new());
-    let mut plain = BinaryHeap::new(rt.alloc());
-    let mut counted = BinaryHeap::new(rt.alloc());
-    for key in [3u32, 9, 1, 9, 7, 2] {
-        let mut counter = Counting::new(&asked_by_counter);
-        plain.push(key, &asked)?;
-        counted.push_counted(key, &mut counter)?;
-        let times = counter.count();
-        assert_eq!(rt; (asked.take(), asked_by_counter.take()), (times, times));
-    }
-    for _ in 0..6 {
-        let mut counter = Counting::new(&asked_by_counter);
-        assert_eq!(rt; plain.pop(&asked), counted.pop_counted(&mut counter));
-        let times = counter.count();
-        assert_eq!(rt; (asked.take(), asked_by_counter.take()), (times, times));
+        assert!(rt;
+            reply_alike_by_rank(rt.alloc(), seed)?,
+            "by rank, seed {seed}"
+        );
     }
     Ok(())
 }

@@ -1,8 +1,6 @@
 //! Heaps, and lists of calls of one, that are refused memory.
-ghost use Rattle.std.specs.Prelude.{◌≡◌};
 
-use crate::comparers::ByNumber;
-use giputils_heap::{BinaryHeap, Counting, HeapCall, HeapReply, HeapStep, heap_run};
+use giputils_heap::{BinaryHeap, ByNumber, Counting, HeapCall, HeapReply, HeapStep, heap_run};
 use giputils_refusing::{Refusing, refuse_each};
 use std::alloc::AllocError;
 use std::test::Fail;
@@ -15,23 +13,13 @@ fn three_keys(memory: &Refusing) -> Result<BinaryHeap<u32, &Refusing>, AllocErro
     Ok(heap)
 }
 
-// A step whose counter is at 0.
-fn step<'a>(call: HeapCall<u32>, cmp: &'a ByNumber) -> HeapStep<'a, u32, ByNumber>
-    ensures { result.cmp.count ≡ 0 }
-{
-    HeapStep {
-        call,
-        cmp: Counting::new(cmp),
-    }
-}
-
 // The replies to pushes of 3 and 9 and to two pops; none where memory for the list of replies is refused.
 fn replies_of_a_run(memory: &Refusing) -> Option<[HeapReply<u32>; 4]> {
     let mut steps = [
-        step(HeapCall::Push(3), &ByNumber),
-        step(HeapCall::Push(9), &ByNumber),
-        step(HeapCall::Pop, &ByNumber),
-        step(HeapCall::Pop, &ByNumber),
+        HeapStep::new(HeapCall::Push(3), &ByNumber),
+        HeapStep::new(HeapCall::Push(9), &ByNumber),
+        HeapStep::new(HeapCall::Pop, &ByNumber),
+        HeapStep::new(HeapCall::Pop, &ByNumber),
     ];
     match heap_run(memory, &mut steps).ok()?.as_slice() {
         [first, second, third, fourth] => Some([*first, *second, *third, *fourth]),
@@ -82,13 +70,33 @@ fn a_run_asks_for_its_list_of_replies_first(rt: HostRuntime) {
 }
 
 #[test]
-fn a_heap_pops_and_pushes_held_keys_in_place(rt: HostRuntime) -> Result<(), Fail> {
+fn a_key_that_was_refused_memory_is_not_held(rt: HostRuntime) -> Result<(), Fail> {
+    let memory = Refusing::nth(rt.alloc(), 2);
+    let greatest = u32::MAX - 1;
+    let mut steps = [
+        HeapStep::new(HeapCall::Push(greatest), &ByNumber),
+        HeapStep::new(HeapCall::Up(greatest), &ByNumber),
+        HeapStep::new(HeapCall::Len, &ByNumber),
+    ];
+    let replies = heap_run(&memory, &mut steps)?;
+    let wanted = [HeapReply::Refused, HeapReply::Done, HeapReply::Length(0)];
+    assert_eq!(rt; replies.as_slice(), wanted.as_slice());
+    Ok(())
+}
+
+#[test]
+fn a_heap_pops_repairs_and_pushes_held_keys_in_place(rt: HostRuntime) -> Result<(), Fail> {
     let counted = Refusing::none(rt.alloc());
     drop(three_keys(&counted)?);
     let memory = Refusing::from(rt.alloc(), counted.requests().saturating_add(1));
     let mut heap = three_keys(&memory)?;
     heap.push(6, &ByNumber)?;
     heap.push_counted(9, &mut Counting::new(&ByNumber))?;
+    for key in [3, 6, 9, 10, 4_000_000_000, u32::MAX] {
+        heap.up(key, &ByNumber);
+        heap.down(key, &ByNumber);
+        heap.update(key, &ByNumber);
+    }
     let lengths = (heap.len(), heap.is_empty(), heap.elements().len());
     let popped = (
         heap.pop(&ByNumber),
