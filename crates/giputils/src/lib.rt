@@ -7,11 +7,12 @@ pub use giputils_base::others::{OptionU8, OptionU32};
 pub use giputils_base::{allocator, grc, gvec, hash, others};
 pub use giputils_stat::{logger, statistic};
 
-/// A set of small keys with a greatest member, lent its comparer at each call.
+/// A set of small keys that gives up a greatest one and repairs a changed one, lent its comparer at each call.
 pub mod heap {
     pub use giputils_heap::{
-        BinaryHeap, BinaryHeapCmp, Counting, HeapCall, HeapKey, HeapReply, HeapStep,
-        answers_at_each_step, heap_run, order_laws,
+        BinaryHeap, BinaryHeapCmp, ByNumber, ByRank, Counting, HeapCall, HeapKey, HeapReply,
+        HeapStep, answers_at_each_step, heap_run, keeps_counts_at_each_step, one_order_is_steady,
+        order_laws, pops_list_downward,
     };
 }
 

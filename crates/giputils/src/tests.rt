@@ -1,12 +1,11 @@
 // The examples of the README.
-ghost use Rattle.std.specs.Prelude.{nat_le};
 
 use crate::OptionU8;
 use crate::allocator::Gallocator;
 use crate::grc::Grc;
 use crate::gvec::Gvec;
 use crate::hash::GHashMap;
-use crate::heap::{BinaryHeap, BinaryHeapCmp};
+use crate::heap::{BinaryHeap, ByRank};
 use crate::logger::IntervalLogger;
 use crate::statistic::Average;
 use log::Level;
@@ -14,23 +13,16 @@ use log::sink::Memory;
 use std::test::Fail;
 use std::time::Duration;
 
-struct Reversed;
-
-impl BinaryHeapCmp<u32> for Reversed {
-    ghost at_least = { λ _ s o. nat_le s o };
-
-    fn gte(&self, s: u32, o: u32) -> bool {
-        s <= o
-    }
-}
-
 #[test]
 fn a_heap(rt: HostRuntime) -> Result<(), Fail> {
-    let mut heap: BinaryHeap<u32> = BinaryHeap::new(rt.alloc());
-    for key in [3, 2, 4, 5, 1] {
-        heap.push(key, &Reversed)?;
+    let mut ranks = [5, 3, 4];
+    let mut heap: BinaryHeap<u8> = BinaryHeap::new(rt.alloc());
+    for key in [0, 1, 2] {
+        heap.push(key, &ByRank(&ranks))?;
     }
-    assert_eq!(rt; heap.pop(&Reversed), Some(1));
+    ranks[0] = 1;
+    heap.update(0, &ByRank(&ranks));
+    assert_eq!(rt; heap.pop(&ByRank(&ranks)), Some(2));
     Ok(())
 }
 
@@ -53,7 +45,7 @@ fn option_numbers(rt: HostRuntime) {
 
 #[test]
 fn a_hashed_map(rt: HostRuntime) -> Result<(), Fail> {
-    let map = GHashMap::from_iter(rt.alloc(), [(1u8, 5u8), (2, 6), (1, 7)])?;
+    let map: GHashMap<u8, u8> = [(1, 5), (2, 6), (1, 7)].into_iter().collect(rt.alloc())?;
     assert_eq!(rt; map.get(&1).copied(), Some(7));
     assert_eq!(rt; map.get(&2).copied(), Some(6));
     Ok(())
