@@ -62,9 +62,73 @@ def galloc_list(rng):
             yield name
 
 
+# How often each call of a bit vector comes.
+BITS_WEIGHTS = {
+    "push": 20,
+    "push_word": 10,
+    "extend": 12,
+    "set": 12,
+    "get": 10,
+    "make": 6,
+    "clear": 2,
+    "iter": 6,
+    "ask": 22,
+}
+
+BITS_QUESTIONS = ["len", "word_len", "to_usize", "is_empty", "is_zero", "is_one", "is_ones", "try_bool"]
+
+# Lengths at the ends of words.
+BITS_LENGTHS = [1, 2, 63, 64, 65, 127, 128, 129, 200]
+
+
+def bits_list(rng):
+    """Calls of a bit vector. It keeps track of the length, so that most indexes are in range and words are pushed where
+    the Rust crate takes them."""
+    length = 0
+    yield "new bits"
+    for _ in range(rng.randint(1, 40)):
+        (name,) = rng.choices(list(BITS_WEIGHTS), list(BITS_WEIGHTS.values()))
+        bit = rng.randrange(2)
+        index = rng.randrange(length + 2) if rng.random() < 0.1 or not length else rng.randrange(length)
+        if name == "push_word" and length % 64 == 0:
+            length += 64
+            yield f"push_word {rng.choice([0, 1, rng.randrange(2**64), 2**64 - 1])}"
+        elif name in ("push", "push_word"):
+            length += 1
+            yield f"push {bit}"
+        elif name == "extend":
+            items = rng.choices("01", k=rng.choice([1, 3, 20, 64 - length % 64, 70, 130]))
+            length += len(items)
+            yield f"extend {''.join(items)}"
+        elif name == "set":
+            yield f"set {index} {bit}"
+        elif name == "get":
+            yield f"get {index}"
+        elif name == "make":
+            length = rng.choice(BITS_LENGTHS)
+            yield rng.choice(
+                [
+                    f"from_elem {length} {bit}",
+                    f"zero {length}",
+                    f"ones {length}",
+                    f"one {length}",
+                    f"from_usize {length} {rng.choice([0, 1, 12345, 2**64 - 1])}",
+                    f"from {''.join(rng.choices('01', k=length))}",
+                ]
+            )
+        elif name == "clear":
+            length = 0
+            yield "clear"
+        elif name == "iter":
+            yield f"iter {''.join(rng.choices('nb', k=rng.randint(1, 12)))}"
+        else:
+            yield rng.choice(BITS_QUESTIONS)
+
+
 # For each container what makes one list, how many lists, and the seed.
 CONTAINERS = [
     (galloc_list, 300, 36),
+    (bits_list, 300, 64),
 ]
 
 

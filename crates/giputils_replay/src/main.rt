@@ -6,6 +6,7 @@
 //! `tests/make_lists.py`.
 #![tactic(auto)]
 
+mod bits;
 mod calls;
 mod galloc;
 
@@ -53,6 +54,7 @@ fn replay<W: Write>(alloc: Global, out: &mut W, list: &List) -> anyhow::Result<(
     writeln!(out, "{}", list.header)?;
     let words: Vec<&str> = list.header.split(' ').collect(alloc)?;
     let outcome = match *words {
+        ["new", "bits"] => bits::replay(alloc, out, &list.calls),
         ["new", "galloc"] => galloc::replay(alloc, out, &list.calls),
         _ => bail!("line {}: no container has this name", list.first),
     };

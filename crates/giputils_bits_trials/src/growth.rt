@@ -1,0 +1,76 @@
+//! How many requests a vector of more than 64 bits makes.
+
+use giputils_bits::bitvec::BitVec;
+use giputils_refusing::{Refusing, refuse_each};
+use rand_pcg::Pcg32;
+
+fn is_filled(memory: &Refusing) -> bool {
+    BitVec::from_elem(memory, 129, true).is_ok()
+}
+
+fn is_numbered(memory: &Refusing) -> bool {
+    BitVec::from_usize(memory, 70, 5).is_ok()
+}
+
+fn is_drawn(memory: &Refusing) -> bool {
+    BitVec::new_rand(memory, 2, &mut Pcg32::new(42, 54)).is_ok()
+}
+
+fn is_cloned(memory: &Refusing) -> bool {
+    let Ok(bits) = BitVec::ones(memory, 65) else {
+        return false;
+    };
+    bits.clone().is_ok()
+}
+
+// A vector of one full word is extended by a bit.
+fn is_extended(memory: &Refusing) -> bool {
+    let mut bits = BitVec::new(memory);
+    bits.push_word(7).is_ok() && bits.extend([true]).is_ok()
+}
+
+// A vector of one full word is followed by a bit.
+fn is_bit_pushed(memory: &Refusing) -> bool {
+    let mut bits = BitVec::new(memory);
+    bits.push_word(7).is_ok() && bits.push(true).is_ok()
+}
+
+// A bit is followed by a word.
+fn is_word_pushed(memory: &Refusing) -> bool {
+    let mut bits = BitVec::new(memory);
+    bits.push(true).is_ok() && bits.push_word(7).is_ok()
+}
+
+#[test]
+fn each_request_of_a_bit_vector_is_refused_in_turn(rt: HostRuntime) {
+    let alloc = rt.alloc();
+    let outcomes = [
+        ("from_elem", refuse_each(alloc, is_filled), 1),
+        ("from_usize", refuse_each(alloc, is_numbered), 1),
+        ("new_rand", refuse_each(alloc, is_drawn), 1),
+        ("clone", refuse_each(alloc, is_cloned), 2),
+        ("extend", refuse_each(alloc, is_extended), 1),
+        ("push", refuse_each(alloc, is_bit_pushed), 1),
+        ("push_word", refuse_each(alloc, is_word_pushed), 1),
+    ];
+    for (call, outcome, requests) in outcomes {
+        assert_eq!(rt; outcome, Ok(requests), "{call}");
+    }
+}
+
+#[test]
+fn the_greatest_length_is_one_request(rt: HostRuntime) {
+    let memory = Refusing::from(rt.alloc(), 1);
+    let is_made = BitVec::from_elem(&memory, usize::MAX, true).is_ok();
+    assert_eq!(rt;
+        (is_made, memory.requests(), memory.largest()),
+        (false, 1, 1 << 61)
+    );
+}
+
+#[test]
+fn a_length_that_no_usize_is_asks_for_nothing(rt: HostRuntime) {
+    let memory = Refusing::from(rt.alloc(), 1);
+    let is_made = BitVec::new_rand(&memory, 1 << 58, &mut Pcg32::new(42, 54)).is_ok();
+    assert_eq!(rt; (is_made, memory.requests()), (false, 0));
+}

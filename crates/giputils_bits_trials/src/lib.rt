@@ -1,0 +1,12 @@
+//! Tests in which the vectors of `giputils_bits` are refused memory, request by request, and tests of which calls ask for
+//! none.
+//!
+//! They hold what no clause can say: that a call answers want of memory only where a request was refused, how many
+//! requests it makes, and that some calls make none. What a refused call leaves is proved, and not tested again. They
+//! stand apart from the library, so that it is not proved twice for them.
+#![tactic(auto)]
+
+#[cfg(test)]
+mod growth;
+#[cfg(test)]
+mod in_place;
