@@ -5,6 +5,7 @@
 
 pub use giputils_base::others::{OptionU8, OptionU32};
 pub use giputils_base::{allocator, grc, gvec, hash, others};
+pub use giputils_bits::bitvec;
 pub use giputils_stat::{logger, statistic};
 
 /// A set of small keys that gives up a greatest one and repairs a changed one, lent its comparer at each call.

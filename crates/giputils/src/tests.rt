@@ -2,6 +2,7 @@
 
 use crate::OptionU8;
 use crate::allocator::Gallocator;
+use crate::bitvec::BitVec;
 use crate::grc::Grc;
 use crate::gvec::Gvec;
 use crate::hash::GHashMap;
@@ -33,6 +34,15 @@ fn a_vector(rt: HostRuntime) -> Result<(), Fail> {
     g.swap_remove(1);
     g.reserve(5)?;
     assert_eq!(rt; g.as_slice(), [4, 1, 3, 0, 0].as_slice());
+    Ok(())
+}
+
+#[test]
+fn a_vector_of_bits(rt: HostRuntime) -> Result<(), Fail> {
+    let mut bits = BitVec::from(rt.alloc(), [true, false, true])?;
+    bits.push_word(u64::MAX)?;
+    assert_eq!(rt; bits.words(), [18446744073709551613, 7].as_slice());
+    assert_eq!(rt; bits.len(), 67);
     Ok(())
 }
 
