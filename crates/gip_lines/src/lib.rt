@@ -5,8 +5,6 @@ mod fault;
 pub mod lines;
 mod replies;
 mod scripts;
-#[cfg(test)]
-mod tests;
 mod transfer;
 pub mod watched;
 
