@@ -8,6 +8,7 @@
 
 mod calls;
 mod galloc;
+mod heap;
 
 use anyhow::{Context, bail};
 use std::alloc::Global;
@@ -54,6 +55,7 @@ fn replay<W: Write>(alloc: Global, out: &mut W, list: &List) -> anyhow::Result<(
     let words: Vec<&str> = list.header.split(' ').collect(alloc)?;
     let outcome = match *words {
         ["new", "galloc"] => galloc::replay(alloc, out, &list.calls),
+        ["new", "heap"] => heap::replay(alloc, out, &list.calls),
         _ => bail!("line {}: no container has this name", list.first),
     };
     outcome.context(format_args!("the list at line {}", list.first))
