@@ -125,10 +125,64 @@ def bits_list(rng):
             yield rng.choice(BITS_QUESTIONS)
 
 
+HEAP_KEYS = 64
+
+# How often each call of the heap comes. After `rank KEY RANK` comes `update KEY`.
+HEAP_WEIGHTS = {
+    "push": 34,
+    "pop": 16,
+    "rank": 14,
+    "update": 4,
+    "up": 4,
+    "down": 4,
+    "clear": 2,
+    "len": 5,
+    "is_empty": 5,
+    "elements": 6,
+}
+
+
+def heap_list(rng):
+    """Calls of a heap. It keeps track of the held keys, so that most calls name one of them.
+
+    Keys are compared by rank and then by number, so no two are alike; and each `rank KEY RANK` is followed by
+    `update KEY`, so that the heap stays in order. So each pop has one right answer.
+    """
+    ranks = [0] * HEAP_KEYS
+    held = set()
+    calls_left = rng.randint(5, 30)
+    yield "new heap"
+    while calls_left > 0:
+        (name,) = rng.choices(list(HEAP_WEIGHTS), list(HEAP_WEIGHTS.values()))
+        if name == "rank" and calls_left == 1:
+            name = "pop"
+        if name != "push" and held and rng.random() < 0.7:
+            key = rng.choice(sorted(held))
+        else:
+            key = rng.randrange(HEAP_KEYS)
+        calls_left -= 1
+        if name == "rank":
+            ranks[key] = rng.randrange(LARGEST_VALUE + 1) if rng.random() < 0.5 else rng.randrange(4)
+            calls_left -= 1
+            yield f"rank {key} {ranks[key]}"
+            yield f"update {key}"
+        elif name in ("push", "update", "up", "down"):
+            if name == "push":
+                held.add(key)
+            yield f"{name} {key}"
+        else:
+            if name == "pop" and held:
+                held.remove(max(held, key=lambda held_key: (ranks[held_key], held_key)))
+            elif name == "clear":
+                held.clear()
+            yield name
+
+
 # For each container what makes one list, how many lists, and the seed.
 CONTAINERS = [
     (galloc_list, 300, 36),
     (bits_list, 300, 64),
+    (heap_list, 300, 64),
 ]
 
 

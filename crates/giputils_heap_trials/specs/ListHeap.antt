@@ -1,6 +1,6 @@
 -- What a pop of the plain heap answers.
 use Rattle.std.specs.Prelude.{ℕ, Bool, List}
-use Rattle.giputils_heap.specs.Order.{IsGreatest}
+use Rattle.giputils_heap.specs.Relations.{IsGreatest}
 
 -- k is a greatest key, where there is one; under a relation that is no order there may be none
 abbrev pub IsGreatestIfAny : {T : Type 0} → (T → ℕ) → (T → T → Bool) → List T → T → Type 0

@@ -1,2 +1,3 @@
 pub mod Galloc
+pub mod Heap
 pub mod Words

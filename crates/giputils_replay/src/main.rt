@@ -9,6 +9,7 @@
 mod bits;
 mod calls;
 mod galloc;
+mod heap;
 
 use anyhow::{Context, bail};
 use std::alloc::Global;
@@ -56,6 +57,7 @@ fn replay<W: Write>(alloc: Global, out: &mut W, list: &List) -> anyhow::Result<(
     let outcome = match *words {
         ["new", "bits"] => bits::replay(alloc, out, &list.calls),
         ["new", "galloc"] => galloc::replay(alloc, out, &list.calls),
+        ["new", "heap"] => heap::replay(alloc, out, &list.calls),
         _ => bail!("line {}: no container has this name", list.first),
     };
     outcome.context(format_args!("the list at line {}", list.first))
