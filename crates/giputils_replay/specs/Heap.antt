@@ -3,6 +3,7 @@ use Rattle.std.specs.Prelude.{◌≡◌, ℕ, ◌<◌, ◌⊎◌, List, codes, R
 use Rattle.std.specs.Result.{OkIff}
 use Rattle.std.specs.Str.Parse.{IsNumeral, digits_value, without_leading_plus}
 use Rattle.giputils_replay.specs.declared.heap.Call.{Call}
+use Rattle.giputils_replay.specs.declared.heap.TheConstants.{KEYS}
 use Rattle.giputils_replay.specs.declared.heap.Call.TheVariants.{Push, Pop, Up, Down, Update, Rank, Clear, Len, IsEmpty, Elements}
 use Rattle.giputils_replay.specs.Words.{Words, HasForm, IsNumber, number, word}
 use Rattle.giputils_replay.specs.declared.calls.NotACall.{NotACall}
@@ -11,11 +12,11 @@ use Rattle.giputils_replay.specs.declared.calls.NotACall.{NotACall}
 abbrev pub key_number : List ℕ → ℕ
 key_number text = digits_value 10 (without_leading_plus text)
 
--- the word is a key: a number below 64
+-- the word is a key: a number below KEYS
 abbrev pub IsKeyText : List ℕ → Type 0
-IsKeyText text = IsNumeral 10 (without_leading_plus text) × (key_number text < 64)
+IsKeyText text = IsNumeral 10 (without_leading_plus text) × (key_number text < KEYS)
 
--- `NAME KEY` is the call of the key, and is refused where that is no key
+-- `NAME KEY` is the call of the key, and is refused where the word is no key
 abbrev pub ReadsKey : Words → Result Call NotACall → List ℕ → (ℕ → Call) → Type 0
 ReadsKey words r name call = HasForm words name 1 → OkIff r (IsKeyText (word words 1)) (call (number words 1))
 
