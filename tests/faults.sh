@@ -87,5 +87,18 @@ else
     fail "262144 lines within 2 seconds (status $status)"
 fi
 
+# As many bytes of other lines as an input may have.
+yes 'rank 0 5' | head -n 116508 > "$work/ranks"
+yes "$(printf 'push 3\npop')" | head -n 190650 > "$work/mixed"
+for input in ranks mixed; do
+    timeout 2 "$gip" < "$work/$input" > "$work/out" 2> "$work/err"
+    status=$?
+    if [ "$status" = 0 ] && [ "$(wc -l < "$work/out")" = "$(wc -l < "$work/$input")" ]; then
+        pass "a largest input of $input within 2 seconds"
+    else
+        fail "a largest input of $input within 2 seconds (status $status)"
+    fi
+done
+
 echo "$passed passed, $failed failed"
 [ "$failed" -eq 0 ]
