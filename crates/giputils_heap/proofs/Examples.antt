@@ -1,10 +1,12 @@
 -- The definitions of a run on short records, computed by the check: records that a heap may have, and one for each way to
 -- answer wrongly.
-use Rattle.std.specs.Prelude.{◌≡◌, ℕ, Bool, true, false, List, [], ◌∷◌, Some, None, refl}
+use Rattle.std.specs.Prelude.{◌≡◌, ℕ, ◌+◌, Bool, true, false, List, [], ◌∷◌, Some, None, refl}
+use Rattle.std.proofs.lemmas.Bool.{false≢true}
 use Rattle.giputils_heap.specs.Comparers.{by_number, reverse_of, by_rank}
 use Rattle.giputils_heap.specs.Bounds.{floor_log2}
 use Rattle.giputils_heap.specs.Record.{Entry, start, answers_from, is_steady, keeps_counts_from}
 use Rattle.giputils_heap.specs.Laws.{is_descending}
+use Rattle.giputils_heap.specs.Relations.{agrees_except, HasRisen, HasFallen}
 use Rattle.giputils_heap.specs.declared.run.HeapCall.{HeapCall}
 use Rattle.giputils_heap.specs.declared.run.HeapCall.TheVariants.{Push, Pop, Up, Down, Update, Rebuild, Clear, Len, IsEmpty}
 use Rattle.giputils_heap.specs.declared.run.HeapReply.{HeapReply}
@@ -346,6 +348,42 @@ len_compares_nothing = refl
 pop_of_nothing_compares_nothing : keeps_counts_from number [] (counted Pop (Popped None) 1 ∷ []) ≡ false
 unfolding floor_log2
 pop_of_nothing_compares_nothing = refl
+
+-- the whole logarithm rounds down: 2^3 is at most 15, and 2^4 at most 16
+below_a_power : floor_log2 15 ≡ 3
+unfolding floor_log2
+below_a_power = refl
+
+at_a_power : floor_log2 16 ≡ 4
+unfolding floor_log2
+at_a_power = refl
+
+of_one_and_of_nothing : floor_log2 1 + floor_log2 0 ≡ 0
+unfolding floor_log2
+of_one_and_of_nothing = refl
+
+-- ---- one changed key
+
+-- the rank of key 0 falls from 5 to 1: the relations agree but for it, and not but for another
+agrees_except_the_changed_key : agrees_except number 0 (at_least (ranked (5 ∷ 3 ∷ 4 ∷ []))) (at_least (ranked (1 ∷ 3 ∷ 4 ∷ []))) (0 ∷ 1 ∷ 2 ∷ []) ≡ true
+agrees_except_the_changed_key = refl
+
+differs_at_another_key : agrees_except number 1 (at_least (ranked (5 ∷ 3 ∷ 4 ∷ []))) (at_least (ranked (1 ∷ 3 ∷ 4 ∷ []))) (0 ∷ 1 ∷ 2 ∷ []) ≡ false
+differs_at_another_key = refl
+
+-- it has fallen, and has not risen
+has_fallen : HasFallen 0 (at_least (ranked (5 ∷ 3 ∷ 4 ∷ []))) (at_least (ranked (1 ∷ 3 ∷ 4 ∷ []))) (0 ∷ 1 ∷ 2 ∷ [])
+has_fallen = refl
+
+has_not_risen : HasRisen 0 (at_least (ranked (5 ∷ 3 ∷ 4 ∷ []))) (at_least (ranked (1 ∷ 3 ∷ 4 ∷ []))) (0 ∷ 1 ∷ 2 ∷ []) → ⊥
+has_not_risen risen = false≢true risen
+
+-- the other way round
+has_risen : HasRisen 0 (at_least (ranked (1 ∷ 3 ∷ 4 ∷ []))) (at_least (ranked (5 ∷ 3 ∷ 4 ∷ []))) (0 ∷ 1 ∷ 2 ∷ [])
+has_risen = refl
+
+has_not_fallen : HasFallen 0 (at_least (ranked (1 ∷ 3 ∷ 4 ∷ []))) (at_least (ranked (5 ∷ 3 ∷ 4 ∷ []))) (0 ∷ 1 ∷ 2 ∷ []) → ⊥
+has_not_fallen fallen = false≢true fallen
 
 -- ---- steady steps, and keys listed downward
 

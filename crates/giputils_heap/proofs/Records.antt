@@ -16,8 +16,8 @@ use Rattle.giputils_heap.specs.declared.run.HeapCall.{HeapCall}
 use Rattle.giputils_heap.specs.declared.run.HeapCall.TheVariants.{Push, Pop, Up, Down, Update, Rebuild, Clear, Len, IsEmpty}
 use Rattle.giputils_heap.specs.declared.run.HeapReply.{HeapReply}
 use Rattle.giputils_heap.specs.declared.run.HeapReply.TheVariants.{Done, Popped}
-use Rattle.giputils_heap.proofs.KeySets.{same_key-equiv, AreDistinct-nil, pass_at_held}
-use Rattle.giputils_heap.proofs.HoldAlike.{is_held-head, AreDistinct-cons, AreDistinct-filter, HoldsWithin-without, is_held-without, IsLawful-fewer}
+use Rattle.giputils_heap.proofs.KeySets.{is_held-head, same_key-equiv, AreDistinct-nil, pass_at_held}
+use Rattle.giputils_heap.proofs.HoldAlike.{AreDistinct-cons, AreDistinct-filter, HoldsWithin-without, is_held-without, IsLawful-fewer}
 use Rattle.giputils_heap.proofs.Preorders.{agree_on-refl, IsLawful-everywhere}
 
 module _ {T C : Type 0} (at_least : C → T → T → Bool) where

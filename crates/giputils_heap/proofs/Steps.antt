@@ -16,9 +16,9 @@ use Rattle.giputils_heap.specs.declared.run.HeapCall.{HeapCall}
 use Rattle.giputils_heap.specs.declared.run.HeapCall.TheVariants.{Push, Pop, Up, Down, Update, Rebuild, Clear, Len, IsEmpty}
 use Rattle.giputils_heap.specs.declared.run.HeapReply.TheVariants.{Done, Popped}
 use Rattle.giputils_heap.specs.Stands.{Stands, IsInOrderSince}
-use Rattle.giputils_heap.proofs.KeySets.{AreDistinct-nil, AreDistinct-IsPermutation}
+use Rattle.giputils_heap.proofs.KeySets.{is_held-head, AreDistinct-nil, AreDistinct-IsPermutation}
 use Rattle.giputils_heap.proofs.Preorders.{agree_on-refl}
-use Rattle.giputils_heap.proofs.HoldAlike.{is_held-head, nil_from_alike, is_nil-HoldAlike, length-HoldAlike, HoldAlike-cons, HoldAlike-IsPermutation, HoldAlike-taken, AreDistinct-cons, AreDistinct-filter, HoldsWithin, HoldsWithin-alike, HoldsWithin-cons, HoldAlike-without, all_pairs-fewer, IsLawful-fewer, IsGreatest-HoldAlike}
+use Rattle.giputils_heap.proofs.HoldAlike.{nil_from_alike, is_nil-HoldAlike, length-HoldAlike, HoldAlike-cons, HoldAlike-IsPermutation, HoldAlike-taken, AreDistinct-cons, AreDistinct-filter, HoldsWithin, HoldsWithin-alike, HoldsWithin-cons, HoldAlike-without, all_pairs-fewer, IsLawful-fewer, IsGreatest-HoldAlike}
 
 -- what follows from a fact that may fail
 implies_from : (a b : Bool) → (a ≡ true → b ≡ true) → (not a || b) ≡ true

@@ -54,7 +54,7 @@ pub enum HeapReply<T> {
 }
 
 /// A step of a run: a call, and the comparer that it is lent.
-#[derive(Drop)]
+#[derive(Drop, Debug)]
 pub struct HeapStep<'a, T, C> {
     pub call: HeapCall<T>,
     pub cmp: Counting<'a, C>,
