@@ -7,13 +7,13 @@ use Rattle.std.proofs.lemmas.Bool.{and_parts, and_from, cases_Bool, false≢true
 use Rattle.std.proofs.lemmas.List.Sorted.{IsPermutation-sym}
 use Rattle.std.proofs.lemmas.Map.Keys.{IsDistinct-tail}
 use Rattle.giputils_heap.specs.Keys.{same_key, is_held, AreDistinct, HoldAlike, without, key_limit}
-use Rattle.giputils_heap.specs.Relations.{is_lawful, IsLawful, agree_on, agrees_except, AgreesExcept, is_greatest, IsGreatest}
+use Rattle.giputils_heap.specs.Relations.{is_lawful, IsLawful, agree_on, AgreesExcept, is_greatest, IsGreatest}
 use Rattle.giputils_heap.specs.InOrder.{IsInOrder}
 use Rattle.giputils_heap.proofs.OrderLaws.{IsInOrder-empty, IsInOrder-agree}
 use Rattle.giputils_heap.specs.Bounds.{floor_log2}
 use Rattle.giputils_heap.specs.Record.{Progress, start_if_empty, agrees_with_last, is_nil, is_steady_at, after_call, may_answer, comparison_bound}
 use Rattle.giputils_heap.specs.declared.run.HeapCall.{HeapCall}
-use Rattle.giputils_heap.specs.declared.run.HeapCall.TheVariants.{Push, Pop, Up, Down, Update, Rebuild, Clear, Len, IsEmpty}
+use Rattle.giputils_heap.specs.declared.run.HeapCall.TheVariants.{Push, Pop, Up, Down, Update, Rebuild, Clear}
 use Rattle.giputils_heap.specs.declared.run.HeapReply.TheVariants.{Done, Popped}
 use Rattle.giputils_heap.specs.Stands.{Stands, IsInOrderSince}
 use Rattle.giputils_heap.proofs.KeySets.{is_held-head, AreDistinct-nil, AreDistinct-IsPermutation}

@@ -1,8 +1,8 @@
 -- The record of a run of a heap, what its replies have to be, and how often its steps may compare.
-use Rattle.std.specs.Prelude.{◌≡◌, ℕ, ◌+◌, ◌-◌, ◌*◌, ◌^◌, ◌≤◌, ◌==◌, nat_lt, nat_le, Bool, true, false, ◌&&◌, ◌||◌, not, if◌then◌else◌, List, [], ◌∷◌, ◌++◌, length, take, map, slice_get, IsTrue, IsFalse, Option, Some, None}
+use Rattle.std.specs.Prelude.{◌≡◌, ℕ, ◌+◌, ◌-◌, ◌*◌, ◌≤◌, ◌==◌, nat_lt, nat_le, Bool, true, false, ◌&&◌, ◌||◌, not, if◌then◌else◌, List, [], ◌∷◌, length, take, IsTrue, IsFalse, Option, Some, None}
 use Rattle.std.specs.Bool.{beq}
 use Rattle.std.specs.List.{All, AllZip}
-use Rattle.giputils_heap.specs.Keys.{is_held, AreDistinct, HoldAlike, without, key_limit}
+use Rattle.giputils_heap.specs.Keys.{is_held, without, key_limit}
 use Rattle.giputils_heap.specs.Relations.{is_lawful, agree_on, agrees_except, is_greatest}
 use Rattle.giputils_heap.specs.Bounds.{count_limit, push_bound, pop_bound, up_bound, down_bound, update_bound, rebuild_bound}
 use Rattle.giputils_heap.specs.declared.run.HeapCall.{HeapCall}

@@ -1,13 +1,9 @@
-use Rattle.std.proofs.Common.{◌≡◌, ◌<◌, ◌∷◌, sym, ◌∙◌, subst, refl, arith, rules}
-use Rattle.giputils_heap.specs.Keys.{key_limit}
-use Rattle.giputils_heap.specs.declared.run.HeapCall.{HeapCall}
-use Rattle.giputils_heap.specs.declared.run.HeapCall.TheVariants.{Push}
+use Rattle.std.proofs.Common.{◌∙◌, rules}
 use Rattle.std.proofs.lemmas.Bool.{eq-eqb}
 use Rattle.giputils_heap.specs.Bounds.{up_bound, down_bound, update_bound}
 use Rattle.giputils_heap.proofs.Steps.{stands_where_push_fails, stands_pushed, stands_after_pop, may_pop_so, stands_at_up, stands_at_down, stands_updated, stands_rebuilt, stands_cleared, stands_unchanged, length_of_held, is_nil_of_held, is_nil-iff, push_within, pop_within, rebuild_within, key_within}
 use Rattle.giputils_heap.proofs.Preorders.{beq-refl}
 use Rattle.giputils_heap.proofs.run.make_call.Goals as goal
-use Rattle.giputils_heap.proofs.run.make_call.Given.{Over}
 
 pub returns-in-Push-clause-stands : goal.returns-in-Push-clause-stands
 returns-in-Push-clause-stands g c p stands =
