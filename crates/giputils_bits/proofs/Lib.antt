@@ -10,5 +10,6 @@ mod Places
 mod Rewritten
 mod Replies
 pub mod Runs
+mod SameWords
 mod Taken
 pub mod Words

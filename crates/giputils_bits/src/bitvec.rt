@@ -1,6 +1,7 @@
 //! A vector of bits.
 //!
 //! A vector of at most 64 bits keeps them in itself, and takes no memory. A longer one keeps its words in a `Gvec`.
+mod blocks;
 mod compare;
 mod error;
 mod growth;

@@ -4,6 +4,7 @@ ghost use Rattle.std.specs.Cmp.{bool_eq_equiv, partial_equiv_from_equiv};
 ghost use Rattle.std.specs.Cmp.Lexicographic.{pointwise, lists_equiv};
 
 use super::BitVec;
+use super::blocks::same_words;
 use std::alloc::Allocator;
 use std::hash::{Hash, Hasher};
 
@@ -14,7 +15,7 @@ impl<A: Allocator> PartialEq for BitVec<A> {
     ghost laws = { partial_equiv_from_equiv (lists_equiv bool_eq_equiv) };
 
     fn eq(&self, other: &Self) -> bool {
-        self.len() == other.len() && self.words() == other.words()
+        self.len() == other.len() && same_words(self.words(), other.words())
     }
 }
 
