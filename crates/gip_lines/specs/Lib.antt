@@ -3,4 +3,5 @@ pub mod Input
 pub mod Lines
 pub mod Replies
 pub mod Script
+pub mod Texts
 pub mod Watch

@@ -5,6 +5,7 @@ mod fault;
 pub mod lines;
 mod replies;
 mod scripts;
+mod texts;
 mod transfer;
 pub mod watched;
 
