@@ -2,6 +2,7 @@
 use Rattle.std.specs.Prelude.{◌≡◌, ℕ, List, [], ◌∷◌, ◌++◌, codes, Option, Some, None, refl, true, false}
 use Rattle.std.specs.Fmt.{digits}
 use Rattle.gip_lines.specs.Fault.{fault_text, fault_status}
+use Rattle.gip_lines.specs.BitLines.{bits_of_line, bits_of_lines, first_line_without_bits}
 use Rattle.gip_lines.specs.Lines.{number_up_to, pairs_of, line_of, lines_of, first_other_line}
 use Rattle.gip_lines.specs.Texts.{line_feed, space, pieces, text_lines}
 use Rattle.gip_lines.specs.Script.{start_ranks, ranks_with, greatest, without, script_text}
@@ -204,6 +205,38 @@ ranks_script_has_its_replies : script_text (lines_of ranks_script) []
     ∷ codes "3" ∷ codes "2" ∷ codes "0" ∷ codes "1" ∷ [])
 unfolding digits
 ranks_script_has_its_replies = refl
+
+-- ---- lines of bits
+
+the_last_bit_is_written_first : bits_of_line (codes "01101") ≡ Some (true ∷ false ∷ true ∷ true ∷ false ∷ [])
+the_last_bit_is_written_first = refl
+
+brackets_write_no_bit : bits_of_line (codes "[]") ≡ Some []
+brackets_write_no_bit = refl
+
+zeros_in_front_count : bits_of_line (codes "000") ≡ Some (false ∷ false ∷ false ∷ [])
+zeros_in_front_count = refl
+
+an_empty_line_writes_no_bits : bits_of_line [] ≡ None
+an_empty_line_writes_no_bits = refl
+
+another_digit_is_refused : bits_of_line (codes "012") ≡ None
+another_digit_is_refused = refl
+
+a_space_is_refused : bits_of_line (codes "0 1") ≡ None
+a_space_is_refused = refl
+
+digits_in_brackets_are_refused : bits_of_line (codes "[0]") ≡ None
+digits_in_brackets_are_refused = refl
+
+a_prefix_is_refused : bits_of_line (codes "0b1") ≡ None
+a_prefix_is_refused = refl
+
+the_first_line_without_bits_is_told : first_line_without_bits (text_of (codes "0" ∷ codes "012" ∷ codes "x" ∷ [])) ≡ Some 2
+the_first_line_without_bits_is_told = refl
+
+each_line_writes_its_bits : bits_of_lines (text_of (codes "10" ∷ codes "[]" ∷ [])) ≡ (false ∷ true ∷ []) ∷ [] ∷ []
+each_line_writes_its_bits = refl
 
 -- ---- the faults
 

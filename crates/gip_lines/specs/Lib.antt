@@ -1,3 +1,4 @@
+pub mod BitLines
 pub mod Fault
 pub mod Input
 pub mod Lines

@@ -1,6 +1,7 @@
 //! The program part of `gip`: a script of lines over a set of keys with its greatest member.
 #![tactic(auto)]
 
+mod bit_lines;
 mod fault;
 pub mod lines;
 mod replies;
