@@ -1,11 +1,13 @@
 -- The definitions on worked examples, computed by the check.
-use Rattle.std.specs.Prelude.{◌≡◌, ℕ, List, [], ◌∷◌, ◌++◌, codes, Some, None, refl, true, false}
+use Rattle.std.specs.Prelude.{◌≡◌, ℕ, List, [], ◌∷◌, ◌++◌, codes, Option, Some, None, refl, true, false}
 use Rattle.std.specs.Fmt.{digits}
 use Rattle.gip_lines.specs.Fault.{fault_text, fault_status}
-use Rattle.gip_lines.specs.Lines.{line_feed, space, pieces, script_lines, number_up_to, line_of, lines_of, first_other_line}
-use Rattle.gip_lines.specs.Script.{start_ranks, greatest, without, script_text}
+use Rattle.gip_lines.specs.BitLines.{bits_of_line, bits_of_lines, first_line_without_bits}
+use Rattle.gip_lines.specs.Lines.{number_up_to, pairs_of, line_of, lines_of, first_other_line}
+use Rattle.gip_lines.specs.Texts.{line_feed, space, pieces, text_lines}
+use Rattle.gip_lines.specs.Script.{start_ranks, ranks_with, greatest, without, script_text}
 use Rattle.gip_lines.specs.declared.fault.GipFault.TheVariants as fault
-use Rattle.gip_lines.specs.declared.lines.Line.TheVariants.{Push, Pop, Len, Clear, Rank, Up, Down}
+use Rattle.gip_lines.specs.declared.lines.Line.TheVariants.{Push, Pop, Len, Clear, Rank, Ranks, Up, Down}
 
 -- a text of some lines, each with a line feed
 abbrev text_of : List (List ℕ) → List ℕ
@@ -17,10 +19,10 @@ text_of (line ∷ lines) = line ++ line_feed ∷ text_of lines
 a_space_at_the_end_begins_an_empty_piece : pieces space (codes "a ") ≡ codes "a" ∷ [] ∷ []
 a_space_at_the_end_begins_an_empty_piece = refl
 
-a_line_feed_at_the_end_begins_no_line : script_lines (codes "a" ++ line_feed ∷ []) ≡ codes "a" ∷ []
+a_line_feed_at_the_end_begins_no_line : text_lines (codes "a" ++ line_feed ∷ []) ≡ codes "a" ∷ []
 a_line_feed_at_the_end_begins_no_line = refl
 
-a_last_line_needs_no_line_feed : script_lines (codes "a" ++ line_feed ∷ codes "b") ≡ codes "a" ∷ codes "b" ∷ []
+a_last_line_needs_no_line_feed : text_lines (codes "a" ++ line_feed ∷ codes "b") ≡ codes "a" ∷ codes "b" ∷ []
 a_last_line_needs_no_line_feed = refl
 
 an_empty_text_has_no_line : lines_of [] ≡ []
@@ -63,6 +65,42 @@ rank_without_a_rank_is_refused = refl
 
 rank_of_two_ranks_is_refused : line_of (codes "rank 0 1 2") ≡ None
 rank_of_two_ranks_is_refused = refl
+
+pairs_stand_in_order : pairs_of (codes "0" ∷ codes "7" ∷ codes "1" ∷ codes "8" ∷ []) ≡ Some ((0, 7) ∷ (1, 8) ∷ [])
+pairs_stand_in_order = refl
+
+a_key_without_its_rank_is_no_pair : pairs_of (codes "0" ∷ codes "7" ∷ codes "1" ∷ []) ≡ None
+a_key_without_its_rank_is_no_pair = refl
+
+-- the ranks given by `ranks 0 1 1 0`
+abbrev given_to_two : List (Option ℕ)
+given_to_two = Some 1 ∷ Some 0 ∷ None ∷ None ∷ None ∷ None ∷ None ∷ None ∷ None ∷ None ∷ None ∷ None ∷ None ∷ None ∷ None ∷ None ∷ []
+
+ranks_gives_each_key_its_rank : line_of (codes "ranks 0 1 1 0") ≡ Some (Ranks given_to_two)
+ranks_gives_each_key_its_rank = refl
+
+of_one_key_the_last_pair_stands : line_of (codes "ranks 1 9 0 1 1 0") ≡ Some (Ranks given_to_two)
+of_one_key_the_last_pair_stands = refl
+
+ranks_names_sixteen_pairs : line_of (codes "ranks 0 9 1 9 2 9 3 9 4 9 5 9 6 9 7 9 8 9 9 9 10 9 11 9 12 9 13 9 0 1 1 0")
+    ≡ Some (Ranks (Some 1 ∷ Some 0 ∷ Some 9 ∷ Some 9 ∷ Some 9 ∷ Some 9 ∷ Some 9 ∷ Some 9 ∷ Some 9 ∷ Some 9 ∷ Some 9 ∷ Some 9 ∷ Some 9
+    ∷ Some 9 ∷ None ∷ None ∷ []))
+ranks_names_sixteen_pairs = refl
+
+seventeen_pairs_are_refused : line_of (codes "ranks 0 9 1 9 2 9 3 9 4 9 5 9 6 9 7 9 8 9 9 9 10 9 11 9 12 9 13 9 14 9 0 1 1 0") ≡ None
+seventeen_pairs_are_refused = refl
+
+ranks_without_a_pair_is_refused : line_of (codes "ranks") ≡ None
+ranks_without_a_pair_is_refused = refl
+
+ranks_of_a_key_alone_is_refused : line_of (codes "ranks 1") ≡ None
+ranks_of_a_key_alone_is_refused = refl
+
+ranks_of_three_numbers_is_refused : line_of (codes "ranks 1 2 3") ≡ None
+ranks_of_three_numbers_is_refused = refl
+
+ranks_of_a_greater_key_is_refused : line_of (codes "ranks 0 1 16 0") ≡ None
+ranks_of_a_greater_key_is_refused = refl
 
 two_spaces_are_refused : line_of (codes "push  3") ≡ None
 two_spaces_are_refused = refl
@@ -153,6 +191,52 @@ clear_keeps_the_ranks : script_text (Rank 0 5 ∷ Clear ∷ Push 0 ∷ Push 1 �
     ≡ text_of (codes "ok" ∷ codes "ok" ∷ codes "ok" ∷ codes "ok" ∷ codes "0" ∷ [])
 unfolding digits
 clear_keeps_the_ranks = refl
+
+ranks_are_given_in_their_places : ranks_with (Some 9 ∷ None ∷ Some 0 ∷ []) (1 ∷ 2 ∷ 3 ∷ []) ≡ 9 ∷ 2 ∷ 0 ∷ []
+ranks_are_given_in_their_places = refl
+
+-- two ranks change at once, and all keys come out by the new ones
+abbrev ranks_script : List ℕ
+ranks_script = text_of (codes "rank 0 10" ∷ codes "rank 1 8" ∷ codes "rank 2 2" ∷ codes "rank 3 6" ∷ codes "push 0" ∷ codes "push 1"
+    ∷ codes "push 2" ∷ codes "push 3" ∷ codes "ranks 0 1 1 0" ∷ codes "pop" ∷ codes "pop" ∷ codes "pop" ∷ codes "pop" ∷ [])
+
+ranks_script_has_its_replies : script_text (lines_of ranks_script) []
+    ≡ text_of (codes "ok" ∷ codes "ok" ∷ codes "ok" ∷ codes "ok" ∷ codes "ok" ∷ codes "ok" ∷ codes "ok" ∷ codes "ok" ∷ codes "ok"
+    ∷ codes "3" ∷ codes "2" ∷ codes "0" ∷ codes "1" ∷ [])
+unfolding digits
+ranks_script_has_its_replies = refl
+
+-- ---- lines of bits
+
+the_last_bit_is_written_first : bits_of_line (codes "01101") ≡ Some (true ∷ false ∷ true ∷ true ∷ false ∷ [])
+the_last_bit_is_written_first = refl
+
+brackets_write_no_bit : bits_of_line (codes "[]") ≡ Some []
+brackets_write_no_bit = refl
+
+zeros_in_front_count : bits_of_line (codes "000") ≡ Some (false ∷ false ∷ false ∷ [])
+zeros_in_front_count = refl
+
+an_empty_line_writes_no_bits : bits_of_line [] ≡ None
+an_empty_line_writes_no_bits = refl
+
+another_digit_is_refused : bits_of_line (codes "012") ≡ None
+another_digit_is_refused = refl
+
+a_space_is_refused : bits_of_line (codes "0 1") ≡ None
+a_space_is_refused = refl
+
+digits_in_brackets_are_refused : bits_of_line (codes "[0]") ≡ None
+digits_in_brackets_are_refused = refl
+
+a_prefix_is_refused : bits_of_line (codes "0b1") ≡ None
+a_prefix_is_refused = refl
+
+the_first_line_without_bits_is_told : first_line_without_bits (text_of (codes "0" ∷ codes "012" ∷ codes "x" ∷ [])) ≡ Some 2
+the_first_line_without_bits_is_told = refl
+
+each_line_writes_its_bits : bits_of_lines (text_of (codes "10" ∷ codes "[]" ∷ [])) ≡ (false ∷ true ∷ []) ∷ [] ∷ []
+each_line_writes_its_bits = refl
 
 -- ---- the faults
 

@@ -2,8 +2,10 @@ mod Digits
 mod Examples
 mod Greatest
 mod MatchingReplies
+mod Pairs
 mod Pieces
 mod Readings
 mod Records
+mod SmallKeys
 mod Tables
 mod WholeInput

@@ -82,6 +82,7 @@ matches line.Len ranks held (Length n) small e =
     }
 matches line.Clear ranks held Done small e = record { refused = false; text = refl; after = refl; is_known = refl }
 matches (line.Rank k r) ranks held Done small e = record { refused = false; text = refl; after = refl; is_known = refl }
+matches (line.Ranks given) ranks held Done small e = record { refused = false; text = refl; after = refl; is_known = refl }
 matches (line.Up k) ranks held Done small e = record { refused = false; text = refl; after = refl; is_known = refl }
 matches (line.Down k) ranks held Done small e = record { refused = false; text = refl; after = refl; is_known = refl }
 matches said ranks held reply small e = cc

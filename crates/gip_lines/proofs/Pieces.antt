@@ -5,7 +5,7 @@ use Rattle.std.proofs.lemmas.List.Splits.{slice_split_first, slice_split_none}
 use Rattle.std.proofs.lemmas.List.Sums.{fails_before_first, position_or_len_is}
 use Rattle.std.proofs.lemmas.List.Quantifiers.{position-Some}
 use Rattle.std.specs.List.{onto_first, position, position_or_len}
-use Rattle.gip_lines.specs.Lines.{line_feed, space, pieces, script_lines, line_of_words}
+use Rattle.gip_lines.specs.Texts.{line_feed, pieces, text_lines}
 
 -- a text has a first piece
 pub pieces-cons : (byte : ℕ) (text : List ℕ) → (first : List ℕ) × (more : List (List ℕ)) × (pieces byte text ≡ first ∷ more)
@@ -37,14 +37,7 @@ pieces-none byte text e =
     slice_split_none p text (All-from_get_or (λ x. p x ≡ false) text 0 (λ k within. fails_before_first p text k 0 (omega arith)))
 
 -- a text with some byte begins with its first piece as a line, where a line feed ends it
-pub script_lines-at : (text line rest : List ℕ) → pieces line_feed text ≡ line ∷ pieces line_feed rest → script_lines text ≡ line ∷ script_lines rest
-script_lines-at text line rest e =
+pub text_lines-at : (text line rest : List ℕ) → pieces line_feed text ≡ line ∷ pieces line_feed rest → text_lines text ≡ line ∷ text_lines rest
+text_lines-at text line rest e =
     let (first, more, f) = pieces-cons line_feed rest in
     rw (e, f) refl
-
--- a line of four words or more has another form
-pub line_of_words-four : (name rest key more rank others : List ℕ) → pieces space rest ≡ key ∷ pieces space more → pieces space more ≡ rank ∷ pieces space others
-    → line_of_words (name ∷ pieces space rest) ≡ None
-line_of_words-four name rest key more rank others e f =
-    let (first, last, h) = pieces-cons space others in
-    rw (e, f, h) refl

@@ -3,9 +3,10 @@ use Rattle.std.proofs.Common.{◌≡◌, ℕ, suc, Bool, true, List, [], ◌∷�
 use Rattle.std.specs.Prelude.{slice_set}
 use Rattle.std.proofs.lemmas.Bool.{and_parts, and_from, cond_both}
 use Rattle.std.specs.List.{flat_map, list_all}
-use Rattle.gip_lines.specs.Lines.{line_feed, has_small_key}
+use Rattle.gip_lines.specs.Lines.{has_small_key}
 use Rattle.gip_lines.specs.Replies.{call_of, steps_from, reply_text, reply_line, is_line_reply}
 use Rattle.gip_lines.specs.Script.{ranks_after, held_after, reply_to, text_from}
+use Rattle.gip_lines.specs.Texts.{line_feed}
 use Rattle.gip_lines.specs.declared.lines.Line.{Line}
 use Rattle.gip_lines.specs.declared.lines.Line.TheVariants as line
 use Rattle.gip_lines.specs.declared.replies.Ranks.{Ranks}
@@ -14,6 +15,8 @@ use Rattle.giputils_heap.specs.Record as run
 use Rattle.giputils_heap.specs.Comparers.{by_rank}
 use Rattle.giputils_heap.specs.Keys.{without}
 use Rattle.giputils_heap.specs.Relations.{agree_on}
+use Rattle.giputils_heap.specs.declared.run.HeapCall.{HeapCall}
+use Rattle.giputils_heap.specs.declared.run.HeapCall.TheVariants as call
 use Rattle.giputils_heap.specs.declared.run.HeapReply.{HeapReply}
 use Rattle.giputils_heap.specs.declared.run.HeapStep.{HeapStep}
 use Rattle.giputils_heap.proofs.Preorders.{agree_on-refl, IsLawful-everywhere}
@@ -43,24 +46,43 @@ steady-if_empty : (held : List ℕ) (steady : Bool) (last : Option Ranks) → st
 steady-if_empty [] steady last so_far = refl
 steady-if_empty (k ∷ held) steady last so_far = so_far
 
--- the ranks that a line leaves differ from those before it at the key of an Update alone
-agrees_after : (last : Option Ranks) (ranks : List ℕ) (said : Line) (held : List ℕ) → HasRanks ranks last
-    → run.agrees_with_last number at_least last (call_of said) record { 0 = ranks_after said ranks } held ≡ true
-agrees_after None ranks said held has = refl
-agrees_after (Some c) ranks (line.Rank key rank) held has =
-    ap (λ rs. agree_on (by_rank number rs) (by_rank number (slice_set ranks key rank)) (without number held key)) has ∙ AgreesExcept-by_rank number key ranks rank held
-agrees_after (Some c) ranks said held has =
+-- a call that is lent the ranks of the last one agrees with it
+agrees_unchanged : (last : Option Ranks) (ranks : List ℕ) (made : HeapCall ℕ) (held : List ℕ) → HasRanks ranks last
+    → run.agrees_with_last number at_least last made record { 0 = ranks } held ≡ true
+agrees_unchanged None ranks made held has = refl
+agrees_unchanged (Some c) ranks (call.Update key) held has =
+    ap (λ rs. agree_on (by_rank number rs) (by_rank number ranks) (without number held key)) has ∙ agree_on-refl (by_rank number ranks) (without number held key)
+agrees_unchanged (Some c) ranks made held has =
     ap (λ rs. agree_on (by_rank number rs) (by_rank number ranks) held) has ∙ agree_on-refl (by_rank number ranks) held
+
+-- and so does an Update of the key whose rank has changed
+agrees_changed : (last : Option Ranks) (ranks : List ℕ) (key rank : ℕ) (held : List ℕ) → HasRanks ranks last
+    → run.agrees_with_last number at_least last (call.Update key) record { 0 = slice_set ranks key rank } held ≡ true
+agrees_changed None ranks key rank held has = refl
+agrees_changed (Some c) ranks key rank held has =
+    ap (λ rs. agree_on (by_rank number rs) (by_rank number (slice_set ranks key rank)) (without number held key)) has ∙ AgreesExcept-by_rank number key ranks rank held
+
+-- each line's call agrees with those before it, as far as they count
+agrees_at : (p : run.Progress ℕ Ranks) (ranks : List ℕ) (said : Line) → HasRanks ranks p.last
+    → run.agrees_with_last number at_least (run.start_anew p (call_of said)).last (call_of said) record { 0 = ranks_after said ranks } p.held ≡ true
+agrees_at p ranks (line.Ranks given) has = refl
+agrees_at p ranks (line.Rank key rank) has =
+    agrees_changed (run.start_if_empty p).last ranks key rank p.held (HasRanks-if_empty ranks p.held p.steady p.last has)
+agrees_at p ranks said has =
+    agrees_unchanged (run.start_if_empty p).last ranks (call_of said) p.held (HasRanks-if_empty ranks p.held p.steady p.last has)
+
+steady-anew : (p : run.Progress ℕ Ranks) (made : HeapCall ℕ) → p.steady ≡ true → (run.start_anew p made).steady ≡ true
+steady-anew p call.Rebuild steady = refl
+steady-anew p made steady = steady-if_empty p.held p.steady p.last steady
 
 -- so the steps of a script are steady
 steady_at : (p : run.Progress ℕ Ranks) (ranks : List ℕ) (said : Line) → p.steady ≡ true → HasRanks ranks p.last
     → run.is_steady_at number at_least p (call_of said) record { 0 = ranks_after said ranks } ≡ true
 steady_at p ranks said steady has =
-    let q : run.Progress ℕ Ranks = run.start_if_empty p in
     let after : List ℕ = ranks_after said ranks in
-    let so_far : q.steady ≡ true = steady-if_empty p.held p.steady p.last steady in
+    let so_far = steady-anew p (call_of said) steady in
     let lawful = IsLawful-everywhere (by_rank number after) (IsTotalPreorder-by_rank number after) (run.compared_keys p.held (call_of said)) in
-    let agrees = agrees_after q.last ranks said p.held (HasRanks-if_empty ranks p.held p.steady p.last has) in
+    let agrees = agrees_at p ranks said has in
     cond_both (run.may_compare (call_of said)) _ _ (λ b. b ≡ true) (λ _. and_from _ _ so_far (and_from _ _ lawful agrees)) (λ _. so_far)
 
 -- and the comparer that was lent last has the ranks that the line leaves

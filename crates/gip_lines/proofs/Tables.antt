@@ -1,11 +1,10 @@
 -- The tables of ranks that a script's lines leave, and the steps that compare by them.
-use Rattle.std.proofs.Common.{◌≡◌, ℕ, zero, suc, ◌+◌, ◌<◌, ◌≤◌, Bool, true, false, cond, List, [], ◌∷◌, ◌++◌, length, drop, get_or, refl, ap, sym, ◌∙◌, subst, arith, take}
+use Rattle.std.proofs.Common.{◌≡◌, ℕ, zero, suc, ◌+◌, ◌<◌, ◌≤◌, Bool, true, false, cond, List, [], ◌∷◌, ◌++◌, length, drop, get_or, refl, ap, sym, ◌∙◌, subst, arith, take, append-nil, Option, Some, None}
 use Rattle.std.proofs.lemmas.List.{take_more}
 use Rattle.std.proofs.Math.Seq.{drop-cons}
 use Rattle.std.proofs.Math.Nat.{add-zero}
 use Rattle.std.proofs.lemmas.List.{get_or-drop, length-drop}
-use Rattle.std.specs.Prelude.{slice_set}
-use Rattle.gip_lines.specs.Replies.{call_of, gives_rank, step_of, steps_from, tables_from, ranks_from}
+use Rattle.gip_lines.specs.Replies.{call_of, gives_ranks, step_of, steps_from, tables_from, ranks_from}
 use Rattle.std.proofs.lemmas.List.Elements.{All-nil, All-cons}
 use Rattle.giputils_heap.specs.Bounds.{count_limit}
 use Rattle.giputils_heap.specs.Record.{CanCount}
@@ -26,31 +25,25 @@ pub ranks_from-append : (ranks : List ℕ) (lines : List Line) (said : Line) →
 ranks_from-append ranks [] said = refl
 ranks_from-append ranks (first ∷ lines) said = ranks_from-append (ranks_after first ranks) lines said
 
--- of one more line that gives a rank there is one more table
-pub tables_from-append_rank : (ranks : List ℕ) (lines : List Line) (key rank : ℕ)
-    → tables_from ranks (lines ++ line.Rank key rank ∷ []) ≡ tables_from ranks lines ++ record { 0 = slice_set (ranks_from ranks lines) key rank } ∷ []
-tables_from-append_rank ranks [] key rank = refl
-tables_from-append_rank ranks (line.Rank k r ∷ lines) key rank =
-    ap (λ tables. record { 0 = slice_set ranks k r } ∷ tables) (tables_from-append_rank (slice_set ranks k r) lines key rank)
-tables_from-append_rank ranks (line.Push k ∷ lines) key rank = tables_from-append_rank ranks lines key rank
-tables_from-append_rank ranks (line.Pop ∷ lines) key rank = tables_from-append_rank ranks lines key rank
-tables_from-append_rank ranks (line.Len ∷ lines) key rank = tables_from-append_rank ranks lines key rank
-tables_from-append_rank ranks (line.Clear ∷ lines) key rank = tables_from-append_rank ranks lines key rank
-tables_from-append_rank ranks (line.Up k ∷ lines) key rank = tables_from-append_rank ranks lines key rank
-tables_from-append_rank ranks (line.Down k ∷ lines) key rank = tables_from-append_rank ranks lines key rank
+-- one more line adds a table where it gives ranks
+pub tables_from-append : (ranks : List ℕ) (lines : List Line) (said : Line)
+    → tables_from ranks (lines ++ said ∷ []) ≡ tables_from ranks lines ++ cond (gives_ranks said) (record { 0 = ranks_after said (ranks_from ranks lines) } ∷ []) []
+tables_from-append ranks [] said = refl
+tables_from-append ranks (first ∷ lines) said =
+    let left : List ℕ = ranks_after first ranks in
+    let more = tables_from-append left lines said in
+    let added : List Ranks = cond (gives_ranks said) (record { 0 = ranks_after said (ranks_from left lines) } ∷ []) [] in
+    elim (gives_ranks first) as (λ b. cond b (record { 0 = left } ∷ tables_from left (lines ++ said ∷ [])) (tables_from left (lines ++ said ∷ []))
+    ≡ cond b (record { 0 = left } ∷ tables_from left lines) (tables_from left lines) ++ added) [
+      | true ↦ ap (λ tables. record { 0 = left } ∷ tables) more
+      | false ↦ more
+    ]
 
--- any other line leaves the ranks, and so the tables
-pub ranks_after-other : (said : Line) (ranks : List ℕ) → gives_rank said ≡ false → ranks_after said ranks ≡ ranks
+-- any other line leaves the ranks
+pub ranks_after-other : (said : Line) (ranks : List ℕ) → gives_ranks said ≡ false → ranks_after said ranks ≡ ranks
 ranks_after-other (line.Rank k r) ranks other = cc
+ranks_after-other (line.Ranks given) ranks other = cc
 ranks_after-other said ranks other = refl
-
-pub tables_from-append_other : (ranks : List ℕ) (lines : List Line) (said : Line) → gives_rank said ≡ false
-    → tables_from ranks (lines ++ said ∷ []) ≡ tables_from ranks lines
-tables_from-append_other ranks [] (line.Rank k r) other = cc
-tables_from-append_other ranks [] said other = refl
-tables_from-append_other ranks (line.Rank k r ∷ lines) said other =
-    ap (λ tables. record { 0 = slice_set ranks k r } ∷ tables) (tables_from-append_other (slice_set ranks k r) lines said other)
-tables_from-append_other ranks (first ∷ lines) said other = tables_from-append_other ranks lines said other
 
 -- the tables from place t on are that of these ranks, and those that the lines still to come leave
 pub record IsAtTable (tables : List Ranks) (t : ℕ) (ranks : List ℕ) (lines : List Line) : Type 0 where
@@ -83,15 +76,27 @@ added-le_one n false is = omega (arith, is)
 
 -- one line on
 pub IsAtTable-next : (tables : List Ranks) (t : ℕ) (ranks : List ℕ) (said : Line) (lines : List Line) → IsAtTable tables t ranks (said ∷ lines)
-    → IsAtTable tables (t + cond (gives_rank said) 1 0) (ranks_after said ranks) lines
-IsAtTable-next tables t ranks (line.Rank k r) lines at =
-    record { rest = step_rest tables t record { 0 = ranks } (record { 0 = slice_set ranks k r } ∷ tables_from (slice_set ranks k r) lines) at.rest }
-IsAtTable-next tables t ranks (line.Push k) lines at = rw add-zero record { rest = at.rest }
-IsAtTable-next tables t ranks line.Pop lines at = rw add-zero record { rest = at.rest }
-IsAtTable-next tables t ranks line.Len lines at = rw add-zero record { rest = at.rest }
-IsAtTable-next tables t ranks line.Clear lines at = rw add-zero record { rest = at.rest }
-IsAtTable-next tables t ranks (line.Up k) lines at = rw add-zero record { rest = at.rest }
-IsAtTable-next tables t ranks (line.Down k) lines at = rw add-zero record { rest = at.rest }
+    → IsAtTable tables (t + cond (gives_ranks said) 1 0) (ranks_after said ranks) lines
+IsAtTable-next tables t ranks said lines at =
+    let left : List ℕ = ranks_after said ranks in
+    let AtNext : Bool → Type 0 = λ b. gives_ranks said ≡ b
+    → drop t tables ≡ record { 0 = ranks } ∷ cond b (record { 0 = left } ∷ tables_from left lines) (tables_from left lines)
+    → IsAtTable tables (t + cond b 1 0) left lines in
+    let by_case : (b : Bool) → AtNext b =
+    elim [
+      | true ↦ λ _ rest. record { rest = step_rest tables t record { 0 = ranks } (record { 0 = left } ∷ tables_from left lines) rest }
+      | false ↦ λ other rest.
+          rw add-zero record { rest = rest ∙ ap (λ (rs : List ℕ). record { 0 = rs } ∷ tables_from left lines) (sym (ranks_after-other said ranks other)) }
+    ] in
+    by_case (gives_ranks said) refl at.rest
+
+if_some : (b : Bool) (x y : Ranks) → ◌≡◌ {A = Option Ranks} (cond b (Some x) None) (Some y) → (b ≡ true) × (y ≡ x)
+if_some true x y e = let same : y ≡ x = cc in (refl, same)
+if_some false x y e = cc
+
+if_none : (b : Bool) (x : Ranks) → ◌≡◌ {A = Option Ranks} (cond b (Some x) None) None → b ≡ false
+if_none true x e = cc
+if_none false x e = refl
 
 module _ (lines : List Line) (i : ℕ) (d : Line) (inside : i < length lines) where
   -- the ranks after one more line
@@ -99,7 +104,7 @@ module _ (lines : List Line) (i : ℕ) (d : Line) (inside : i < length lines) wh
   ranks_from-more ranks = rw (take_more lines i d inside) (ranks_from-append ranks (take i lines) (get_or lines i d))
 
   -- the place of its table
-  pub IsAtTable-more : (tables : List Ranks) (t n : ℕ) (ranks : List ℕ) → n ≡ cond (gives_rank (get_or lines i d)) 1 0
+  pub IsAtTable-more : (tables : List Ranks) (t n : ℕ) (ranks : List ℕ) → n ≡ cond (gives_ranks (get_or lines i d)) 1 0
       → IsAtTable tables t (ranks_from ranks (take i lines)) (drop i lines)
       → IsAtTable tables (t + n) (ranks_from ranks (take (i + 1) lines)) (drop (i + 1) lines)
   IsAtTable-more tables t n ranks is at =
@@ -124,26 +129,40 @@ module _ (lines : List Line) (i : ℕ) (d : Line) (inside : i < length lines) wh
       in
       rw (take_more lines i d inside, so_far, same_step s _ _ _ is_call left is_count) (sym (steps_from-append ranks (take i lines) (get_or lines i d)))
 
-  -- and the table that it adds
-  pub tables_from-more_rank : (first : Ranks) (start ranks : List ℕ) (tables : List Ranks) (key rank : ℕ) → get_or lines i d ≡ line.Rank key rank
-      → tables ≡ first ∷ tables_from start (take i lines) → ranks ≡ ranks_from start (take i lines)
-      → tables ++ record { 0 = slice_set ranks key rank } ∷ [] ≡ first ∷ tables_from start (take (i + 1) lines)
-  tables_from-more_rank first start ranks tables key rank is so_far are =
-      rw (take_more lines i d inside, is, so_far, are) (ap (λ more. first ∷ more) (sym (tables_from-append_rank start (take i lines) key rank)))
+  -- and the table that it adds, if any
+  tables_from-more : (start : List ℕ) (first : Ranks) (tables : List Ranks) → tables ≡ first ∷ tables_from start (take i lines)
+      → first ∷ tables_from start (take (i + 1) lines)
+      ≡ tables ++ cond (gives_ranks (get_or lines i d)) (record { 0 = ranks_after (get_or lines i d) (ranks_from start (take i lines)) } ∷ []) []
+  tables_from-more start first tables so_far =
+      rw (take_more lines i d inside, so_far) (ap (λ more. first ∷ more) (tables_from-append start (take i lines) (get_or lines i d)))
 
-  pub ranks_from-more_rank : (start ranks : List ℕ) (key rank : ℕ) → get_or lines i d ≡ line.Rank key rank → ranks ≡ ranks_from start (take i lines)
-      → slice_set ranks key rank ≡ ranks_from start (take (i + 1) lines)
-  ranks_from-more_rank start ranks key rank is are = rw (ranks_from-more start, is, are) refl
+  -- a line that gives ranks leaves them, and their table
+  pub given_ranks : (start : List ℕ) (first : Ranks) (tables : List Ranks) (ranks left : Ranks)
+      → tables ≡ first ∷ tables_from start (take i lines) → ranks ≡ record { 0 = ranks_from start (take i lines) }
+      → ◌≡◌ {A = Option Ranks} (cond (gives_ranks (get_or lines i d)) (Some record { 0 = ranks_after (get_or lines i d) ranks.0 }) None) (Some left)
+      → (tables ++ left ∷ [] ≡ first ∷ tables_from start (take (i + 1) lines)) × (left ≡ record { 0 = ranks_from start (take (i + 1) lines) })
+  given_ranks start first tables ranks left so_far are e =
+      let said : Line = get_or lines i d in
+      let before : List ℕ = ranks_from start (take i lines) in
+      let (gives, is) = if_some (gives_ranks said) record { 0 = ranks_after said ranks.0 } left e in
+      let left_is : left ≡ record { 0 = ranks_after said before } = is ∙ ap (λ (r : Ranks). record { 0 = ranks_after said r.0 }) are in
+      let more : first ∷ tables_from start (take (i + 1) lines) ≡ tables ++ record { 0 = ranks_after said before } ∷ [] =
+      rw gives at (tables_from-more start first tables so_far)
+      in
+      (rw left_is (sym more), left_is ∙ ap (λ (rs : List ℕ). record { 0 = rs }) (sym (ranks_from-more start)))
 
-  pub tables_from-more_other : (first : Ranks) (start : List ℕ) (tables : List Ranks) → gives_rank (get_or lines i d) ≡ false
-      → tables ≡ first ∷ tables_from start (take i lines) → tables ≡ first ∷ tables_from start (take (i + 1) lines)
-  tables_from-more_other first start tables other so_far =
-      rw (take_more lines i d inside, tables_from-append_other start (take i lines) (get_or lines i d) other) so_far
-
-  pub ranks_from-more_other : (start ranks : List ℕ) → gives_rank (get_or lines i d) ≡ false → ranks ≡ ranks_from start (take i lines)
-      → ranks ≡ ranks_from start (take (i + 1) lines)
-  ranks_from-more_other start ranks other are =
-      rw (ranks_from-more start, ranks_after-other (get_or lines i d) (ranks_from start (take i lines)) other) are
+  -- another one leaves both
+  pub other_ranks : (start : List ℕ) (first : Ranks) (tables : List Ranks) (ranks : Ranks)
+      → tables ≡ first ∷ tables_from start (take i lines) → ranks ≡ record { 0 = ranks_from start (take i lines) }
+      → ◌≡◌ {A = Option Ranks} (cond (gives_ranks (get_or lines i d)) (Some record { 0 = ranks_after (get_or lines i d) ranks.0 }) None) None
+      → (tables ≡ first ∷ tables_from start (take (i + 1) lines)) × (ranks ≡ record { 0 = ranks_from start (take (i + 1) lines) })
+  other_ranks start first tables ranks so_far are e =
+      let said : Line = get_or lines i d in
+      let before : List ℕ = ranks_from start (take i lines) in
+      let other = if_none (gives_ranks said) record { 0 = ranks_after said ranks.0 } e in
+      let more : first ∷ tables_from start (take (i + 1) lines) ≡ tables ++ [] = rw other at (tables_from-more start first tables so_far) in
+      let same : ranks_from start (take (i + 1) lines) ≡ before = ranks_from-more start ∙ ranks_after-other said before other in
+      (sym (more ∙ append-nil tables), are ∙ ap (λ (rs : List ℕ). record { 0 = rs }) (sym same))
 
 -- no step's counter was asked yet
 pub CanCount-steps_from : (ranks : List ℕ) (lines : List Line) → CanCount (steps_from ranks lines)
@@ -151,8 +170,3 @@ CanCount-steps_from ranks [] = All-nil (λ s. s.cmp.count ≤ count_limit)
 CanCount-steps_from ranks (said ∷ lines) =
     All-cons (λ s. s.cmp.count ≤ count_limit) (step_of (ranks_after said ranks) said) (steps_from (ranks_after said ranks) lines) (omega arith)
     (CanCount-steps_from (ranks_after said ranks) lines)
-
--- a line that matches no rank gives none
-pub gives_rank-other : (said : Line) → ((key rank : ℕ) → said ≡ line.Rank key rank → ⊥) → gives_rank said ≡ false
-gives_rank-other (line.Rank key rank) other = absurd (other key rank refl)
-gives_rank-other said other = refl

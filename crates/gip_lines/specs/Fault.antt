@@ -1,6 +1,6 @@
 -- What the program says and how it ends when it stops early.
-use Rattle.std.specs.Prelude.{◌≡◌, ℕ, List, ◌++◌, codes, decimal, Some, ⊤}
-use Rattle.gip_lines.specs.Lines.{first_other_line}
+use Rattle.std.specs.Prelude.{◌≡◌, ℕ, List, ◌++◌, codes, decimal, Option, Some, ⊤}
+use Rattle.gip_lines.specs.Texts.{first_other}
 use Rattle.gip_lines.specs.declared.fault.GipFault.{GipFault}
 use Rattle.gip_lines.specs.declared.fault.GipFault.TheVariants.{Input, Line, Memory, Output}
 
@@ -18,9 +18,9 @@ fault_status (Line number) = 2
 fault_status Memory = 1
 fault_status Output = 1
 
--- the fault may end the reading of a text's lines
-abbrev pub StopsParsing : List ℕ → GipFault → Type 0
-StopsParsing text Input = ⊥
-StopsParsing text (Line number) = first_other_line text ≡ Some number
-StopsParsing text Memory = ⊤
-StopsParsing text Output = ⊥
+-- the fault may end the reading of a text's lines, each of some form
+abbrev pub StopsParsing : {L : Type 0} → (List ℕ → Option L) → List ℕ → GipFault → Type 0
+StopsParsing form text Input = ⊥
+StopsParsing form text (Line number) = first_other form text ≡ Some number
+StopsParsing form text Memory = ⊤
+StopsParsing form text Output = ⊥

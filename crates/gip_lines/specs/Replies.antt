@@ -1,6 +1,6 @@
 -- How a script is run on a heap: a call for each line, and a line of text for each reply.
-use Rattle.std.specs.Prelude.{ℕ, Bool, true, false, List, [], ◌∷◌, ◌++◌, codes, decimal, slice_set, Some, None}
-use Rattle.gip_lines.specs.Lines.{line_feed}
+use Rattle.std.specs.Prelude.{ℕ, Bool, true, false, List, [], ◌∷◌, ◌++◌, codes, decimal, if◌then◌else◌, Some, None}
+use Rattle.gip_lines.specs.Texts.{line_feed}
 use Rattle.gip_lines.specs.Script.{ranks_after}
 use Rattle.gip_lines.specs.declared.replies.Ranks.{Ranks}
 use Rattle.gip_lines.specs.declared.lines.Line.{Line}
@@ -18,6 +18,7 @@ call_of line.Pop = call.Pop
 call_of line.Len = call.Len
 call_of line.Clear = call.Clear
 call_of (line.Rank key rank) = call.Update key
+call_of (line.Ranks given) = call.Rebuild
 call_of (line.Up key) = call.Up key
 call_of (line.Down key) = call.Down key
 
@@ -44,10 +45,11 @@ reply_text (Empty b) = []
 abbrev pub reply_line : HeapReply ℕ → List ℕ
 reply_line reply = reply_text reply ++ line_feed ∷ []
 
--- whether a line gives a rank
-abbrev pub gives_rank : Line → Bool
-gives_rank (line.Rank key rank) = true
-gives_rank said = false
+-- whether a line gives ranks
+abbrev pub gives_ranks : Line → Bool
+gives_ranks (line.Rank key rank) = true
+gives_ranks (line.Ranks given) = true
+gives_ranks said = false
 
 -- the step of a line, lent a comparer by these ranks that was not yet asked
 abbrev pub step_of : List ℕ → Line → HeapStep ℕ Ranks
@@ -58,12 +60,12 @@ abbrev pub steps_from : List ℕ → List Line → List (HeapStep ℕ Ranks)
 steps_from ranks [] = []
 steps_from ranks (said ∷ lines) = step_of (ranks_after said ranks) said ∷ steps_from (ranks_after said ranks) lines
 
--- the tables that the `rank` lines leave, one after another
+-- the tables that the lines which give ranks leave, one after another
 abbrev pub tables_from : List ℕ → List Line → List Ranks
 tables_from ranks [] = []
-tables_from ranks (line.Rank key rank ∷ lines) =
-    record { 0 = slice_set ranks key rank } ∷ tables_from (slice_set ranks key rank) lines
-tables_from ranks (said ∷ lines) = tables_from ranks lines
+tables_from ranks (said ∷ lines) =
+    let left : List ℕ = ranks_after said ranks in
+    if gives_ranks said then record { 0 = left } ∷ tables_from left lines else tables_from left lines
 
 -- the ranks after some lines
 abbrev pub ranks_from : List ℕ → List Line → List ℕ

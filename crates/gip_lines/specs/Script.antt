@@ -2,9 +2,9 @@
 use Rattle.std.specs.Prelude.{ℕ, ◌==◌, nat_lt, nat_le, ◌&&◌, ◌||◌, Bool, false, not, List, [], ◌∷◌, ◌++◌, length, filter, slice_index, slice_set, codes, decimal, if◌then◌else◌, Option, Some, None}
 use Rattle.std.specs.List.{list_any}
 use Rattle.std.specs.Option.{option_map_or}
-use Rattle.gip_lines.specs.Lines.{line_feed}
+use Rattle.gip_lines.specs.Texts.{line_feed}
 use Rattle.gip_lines.specs.declared.lines.Line.{Line}
-use Rattle.gip_lines.specs.declared.lines.Line.TheVariants.{Push, Pop, Len, Clear, Rank}
+use Rattle.gip_lines.specs.declared.lines.Line.TheVariants.{Push, Pop, Len, Clear, Rank, Ranks}
 
 -- the key is held
 abbrev pub is_held : ℕ → List ℕ → Bool
@@ -14,9 +14,15 @@ is_held key held = list_any (λ x. key == x) held
 abbrev pub start_ranks : List ℕ
 start_ranks = 0 ∷ 0 ∷ 0 ∷ 0 ∷ 0 ∷ 0 ∷ 0 ∷ 0 ∷ 0 ∷ 0 ∷ 0 ∷ 0 ∷ 0 ∷ 0 ∷ 0 ∷ 0 ∷ []
 
+-- the ranks, where each key that is given one has that in the place of its old one
+abbrev pub ranks_with : List (Option ℕ) → List ℕ → List ℕ
+ranks_with (given ∷ more) (old ∷ ranks) = option_map_or (λ rank. rank) given old ∷ ranks_with more ranks
+ranks_with given ranks = ranks
+
 -- the ranks after a line
 abbrev pub ranks_after : Line → List ℕ → List ℕ
 ranks_after (Rank key rank) ranks = slice_set ranks key rank
+ranks_after (Ranks given) ranks = ranks_with given ranks
 ranks_after line ranks = ranks
 
 -- whether key x goes before key y: its rank is greater, or it has the same rank and is no smaller number

@@ -1,11 +1,14 @@
-//! The lines of a script: what each says, and the list of them.
-ghost use Rattle.std.specs.Prelude.{◌≡◌, ◌<◌, ◌∷◌, [], length, map, IfSome, IfNone, MatchOption, IfOk, IfErr};
+//! The lines of a script, and what each says.
+ghost use Rattle.std.specs.Prelude.{◌≡◌, ◌<◌, ◌≤◌, ◌∷◌, [], List, ℕ, length, IfSome, MatchOption};
 ghost use Rattle.std.specs.Option.{option_map_or};
-ghost use Rattle.gip_lines.specs.Fault.{StopsParsing};
-ghost use Rattle.gip_lines.specs.Lines.{space, pieces, script_lines, greatest_key, number_up_to, line_of, line_of_words, readings};
+ghost use Rattle.gip_lines.specs.Lines.{greatest_key, number_up_to, alone, only_key, with_pair, pairs_of, rank_line, ranks_line, line_of};
+ghost use Rattle.gip_lines.specs.Texts.{space, pieces};
 
-use crate::fault::GipFault;
-use std::alloc::Allocator;
+use crate::texts::{Said, split_once};
+use std::alloc::{AllocError, Allocator};
+
+/// How many keys a line can name.
+pub const KEYS: usize = Line::GREATEST_KEY as usize + 1;
 
 /// One line of a script.
 #[derive(Clone, Copy, Debug, PartialEq, Eq)]
@@ -20,6 +23,9 @@ pub enum Line {
     Clear,
     /// `rank K R`: gives the key K the rank R.
     Rank(u8, u32),
+    /// `ranks K R ..`: gives each key K of some pairs its rank R. At the place of each key stands the rank that it is
+    /// given, if any.
+    Ranks([Option<u32>; KEYS]),
     /// `up K`: the key K may have risen.
     Up(u8),
     /// `down K`: the key K may have fallen.
@@ -30,115 +36,106 @@ impl Line {
     /// The greatest key.
     pub const GREATEST_KEY: u8 = 15;
 
+    /// The most pairs of a key and its rank in one line.
+    pub const MOST_PAIRS: usize = 16;
+
     /// What a line says, without its line feed. There is none where it has another form.
     pub fn parse(line: &[u8]) -> Option<Line>
         ensures { result ≡ line_of line.now }
     {
-        let (name, rest) = split_once(line, b' ');
-        match rest {
-            None => Line::without_key(name),
-            Some(rest) => Line::with_more(name, rest),
-        }
-    }
-
-    fn with_more(name: &[u8], rest: &[u8]) -> Option<Line>
-        ensures { result ≡ line_of_words (name.now ∷ pieces space rest.now) }
-    {
-        let (key, rest) = split_once(rest, b' ');
-        match rest {
-            None => Line::with_key(name, key),
-            Some(rest) => match split_once(rest, b' ') {
-                (rank, None) => Line::with_rank(name, key, rank),
-                (_, Some(_)) => None,
-            },
-        }
-    }
-
-    fn without_key(name: &[u8]) -> Option<Line>
-        ensures { result ≡ line_of_words (name.now ∷ []) }
-    {
-        if name == b"pop".as_slice() {
-            Some(Line::Pop)
-        } else if name == b"len".as_slice() {
-            Some(Line::Len)
-        } else if name == b"clear".as_slice() {
-            Some(Line::Clear)
-        } else {
-            None
-        }
-    }
-
-    fn with_key(name: &[u8], key: &[u8]) -> Option<Line>
-        ensures { result ≡ line_of_words (name.now ∷ key.now ∷ []) }
-    {
-        let key = key_number(key)?;
+        let (name, words) = split_once(line, b' ');
         if name == b"push".as_slice() {
-            Some(Line::Push(key))
+            Some(Line::Push(sole_key(words)?))
+        } else if name == b"pop".as_slice() {
+            without_words(Line::Pop, words)
+        } else if name == b"len".as_slice() {
+            without_words(Line::Len, words)
+        } else if name == b"clear".as_slice() {
+            without_words(Line::Clear, words)
+        } else if name == b"rank".as_slice() {
+            rank(words?)
+        } else if name == b"ranks".as_slice() {
+            ranks(words?)
         } else if name == b"up".as_slice() {
-            Some(Line::Up(key))
+            Some(Line::Up(sole_key(words)?))
         } else if name == b"down".as_slice() {
-            Some(Line::Down(key))
-        } else {
-            None
-        }
-    }
-
-    fn with_rank(name: &[u8], key: &[u8], rank: &[u8]) -> Option<Line>
-        ensures { result ≡ line_of_words (name.now ∷ key.now ∷ rank.now ∷ []) }
-    {
-        let key = key_number(key)?;
-        let rank = number(rank, u32::MAX)?;
-        if name == b"rank".as_slice() {
-            Some(Line::Rank(key, rank))
+            Some(Line::Down(sole_key(words)?))
         } else {
             None
         }
     }
 }
 
-// What the lines of a text say, line by line.
-pub(crate) fn parse<A: Allocator>(alloc: A, text: &[u8]) -> Result<Vec<Line, A>, GipFault>
-    ensures ok { IfOk result (λ lines. readings text.now ≡ map Some lines.items) }
-    ensures err { IfErr result (StopsParsing text.now) }
+impl<A: Allocator> Said<A> for Line {
+    ghost form = { line_of };
+
+    fn read(_alloc: A, line: &[u8]) -> Result<Option<Line>, AllocError> {
+        Ok(Line::parse(line))
+    }
+}
+
+// The line, where no words follow its name.
+fn without_words(line: Line, words: Option<&[u8]>) -> Option<Line>
+    ensures { result ≡ alone line (option_map_or (λ words. pieces space words.now) words.entry []) }
 {
-    let mut lines = Vec::new(alloc);
-    let mut rest = text;
-    while let Some((line, after)) = split_line(rest) {
-        match Line::parse(line) {
-            Some(line) => lines.push(line)?,
-            None => return Err(GipFault::Line(lines.len() + 1)),
+    match words {
+        None => Some(line),
+        Some(_) => None,
+    }
+}
+
+// The key that the words are, where they are one word.
+fn sole_key(words: Option<&[u8]>) -> Option<u8>
+    ensures { result ≡ only_key (option_map_or (λ words. pieces space words.now) words.entry []) }
+{
+    let (key, more) = split_once(words?, b' ');
+    match more {
+        None => key_number(key),
+        Some(_) => None,
+    }
+}
+
+// The line `rank` with these words.
+fn rank(words: &[u8]) -> Option<Line>
+    ensures { result ≡ rank_line (pairs_of (pieces space words.now)) }
+{
+    let ((key, rank), more) = split_pair(words)?;
+    match more {
+        None => Some(Line::Rank(key, rank)),
+        Some(_) => None,
+    }
+}
+
+// The line `ranks` with these words.
+fn ranks(words: &[u8]) -> Option<Line>
+    ensures { result ≡ ranks_line (pairs_of (pieces space words.now)) }
+{
+    let mut given = [None; KEYS];
+    let mut pairs = 0;
+    let mut rest = Some(words);
+    while let Some(words) = rest {
+        let ((key, rank), more) = split_pair(words)?;
+        if pairs == Line::MOST_PAIRS {
+            return None;
         }
-        rest = after;
+        given[key as usize] = Some(rank);
+        pairs += 1;
+        rest = more;
     }
-    Ok(lines)
+    Some(Line::Ranks(given))
 }
 
-// The first line of a text and what comes after it. An empty text has none.
-fn split_line(text: &[u8]) -> Option<(&[u8], &[u8])>
-    ensures lines { MatchOption result (script_lines text.now ≡ [])
-        (λ split. script_lines text.now ≡ split.0.now ∷ script_lines split.1.now) }
-    ensures shorter { IfSome result (λ split. length split.1.now < length text.now) }
+// The first two of some words as a key and its rank, and the words after them.
+fn split_pair(words: &[u8]) -> Option<((u8, u32), Option<&[u8]>)>
+    ensures parts { MatchOption result (pairs_of (pieces space words.now) ≡ None) (λ split.
+        pairs_of (pieces space words.now)
+        ≡ with_pair (Some split.0.0) (Some split.0.1) (pairs_of (option_map_or (λ more. pieces space more.now) split.1 []))) }
+    ensures key { IfSome result (λ split. split.0.0 ≤ greatest_key) }
+    ensures shorter { IfSome result (λ split. IfSome split.1 (λ more. length more.now < length words.now)) }
 {
-    if text.is_empty() {
-        return None;
-    }
-    let (line, rest) = split_once(text, b'\n');
-    match rest {
-        Some(rest) => Some((line, rest)),
-        None => Some((line, &[])),
-    }
-}
-
-// What stands before the first `byte` of a text, and what comes after it where there is one.
-pub(crate) fn split_once(text: &[u8], byte: u8) -> (&[u8], Option<&[u8]>)
-    ensures parts { pieces byte text.now ≡ result.0.now ∷ option_map_or (λ rest. pieces byte rest.now) result.1 [] }
-    ensures shorter { IfSome result.1 (λ rest. length rest.now < length text.now) }
-    ensures whole { IfNone result.1 (result.0.now ≡ text.now) }
-{
-    match text.iter().position(|b| *b == byte) {
-        Some(at) => (&text[..at], Some(&text[at + 1..])),
-        None => (text, None),
-    }
+    let (key, more) = split_once(words, b' ');
+    let (rank, more) = split_once(more?, b' ');
+    Some(((key_number(key)?, number(rank, u32::MAX)?), more))
 }
 
 // The number that a word of decimal digits alone writes, where it is no greater than `greatest`.

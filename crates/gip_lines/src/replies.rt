@@ -2,18 +2,16 @@
 ghost use Rattle.std.specs.Prelude.{◌≡◌, ◌++◌, ◌∷◌, [], ℕ, Bool, List, decimal, if◌then◌else◌, IsTrue, IfOk, IfErr, OnOk};
 ghost use Rattle.std.specs.List.{list_all, flat_map};
 ghost use Rattle.giputils_heap.specs.Comparers.{by_rank};
-ghost use Rattle.gip_lines.specs.Lines.{line_feed, has_small_key};
-ghost use Rattle.gip_lines.specs.Replies.{call_of, gives_rank, steps_from, tables_from, is_line_reply, reply_line};
-ghost use Rattle.gip_lines.specs.Script.{start_ranks, script_text};
+ghost use Rattle.gip_lines.specs.Lines.{has_small_key};
+ghost use Rattle.gip_lines.specs.Replies.{call_of, gives_ranks, steps_from, tables_from, is_line_reply, reply_line};
+ghost use Rattle.gip_lines.specs.Script.{start_ranks, ranks_after, ranks_with, script_text};
+ghost use Rattle.gip_lines.specs.Texts.{line_feed};
 
 use crate::fault::GipFault;
-use crate::lines::Line;
+use crate::lines::{KEYS, Line};
 use giputils_heap::{BinaryHeapCmp, ByRank, HeapCall, HeapReply, HeapStep, heap_run};
 use std::alloc::{AllocError, Allocator};
 use std::io::Write;
-
-// How many keys a line can name.
-const KEYS: usize = Line::GREATEST_KEY as usize + 1;
 
 // A table of the keys' ranks, by which they are compared.
 #[derive(Clone, Copy)]
@@ -24,6 +22,37 @@ impl BinaryHeapCmp<u8> for Ranks {
 
     fn gte(&self, s: u8, o: u8) -> bool {
         ByRank(&self.0).gte(s, o)
+    }
+}
+
+impl Ranks {
+    // The ranks that a line leaves, where it gives any.
+    fn changed_by(self, line: Line) -> Option<Ranks>
+        requires { IsTrue (has_small_key line) }
+        ensures { result ≡ (if gives_ranks line then Some record { 0 = ranks_after line self.0 } else None) }
+    {
+        match line {
+            Line::Rank(key, rank) => {
+                let mut ranks = self.0;
+                ranks[key as usize] = rank;
+                Some(Ranks(ranks))
+            }
+            Line::Ranks(given) => Some(self.with(&given)),
+            _ => None,
+        }
+    }
+
+    // The ranks, where each key that is given one has that.
+    fn with(self, given: &[Option<u32>; KEYS]) -> Ranks
+        ensures { result ≡ record { 0 = ranks_with given.now self.0 } }
+    {
+        let mut ranks = self.0;
+        for key in 0..KEYS {
+            if let Some(rank) = given[key] {
+                ranks[key] = rank;
+            }
+        }
+        Ranks(ranks)
     }
 }
 
@@ -42,18 +71,18 @@ pub(crate) fn run_lines<A: Allocator + Copy>(
     text_of(alloc, &replies)
 }
 
-// The table of ranks at the start, and one for each `rank` line, as that line leaves the ranks.
+// The table of ranks at the start, and one for each line that gives ranks, as that line leaves them.
 fn tables_of<A: Allocator>(alloc: A, lines: &[Line]) -> Result<Vec<Ranks, A>, AllocError>
     requires { IsTrue (list_all has_small_key lines.now) }
     ensures { IfOk result (λ tables. tables.items ≡ record { 0 = start_ranks } ∷ tables_from start_ranks lines.now) }
 {
     let mut tables = Vec::new(alloc);
-    let mut ranks = [0; KEYS];
-    tables.push(Ranks(ranks))?;
+    let mut ranks = Ranks([0; KEYS]);
+    tables.push(ranks)?;
     for line in lines {
-        if let Line::Rank(key, rank) = *line {
-            ranks[key as usize] = rank;
-            tables.push(Ranks(ranks))?;
+        if let Some(left) = ranks.changed_by(*line) {
+            ranks = left;
+            tables.push(ranks)?;
         }
     }
     Ok(tables)
@@ -77,11 +106,11 @@ fn steps_of<'a, A: Allocator>(
     Ok(steps)
 }
 
-// How many tables of ranks a line adds: one where it gives a rank.
+// How many tables of ranks a line adds: one where it gives ranks.
 fn added_tables(line: Line) -> usize
-    ensures { result ≡ (if gives_rank line then 1 else 0) }
+    ensures { result ≡ (if gives_ranks line then 1 else 0) }
 {
-    usize::from(matches!(line, Line::Rank(_, _)))
+    usize::from(matches!(line, Line::Rank(_, _) | Line::Ranks(_)))
 }
 
 fn heap_call(line: Line) -> HeapCall<u8>
@@ -93,6 +122,7 @@ fn heap_call(line: Line) -> HeapCall<u8>
         Line::Len => HeapCall::Len,
         Line::Clear => HeapCall::Clear,
         Line::Rank(key, _) => HeapCall::Update(key),
+        Line::Ranks(_) => HeapCall::Rebuild,
         Line::Up(key) => HeapCall::Up(key),
         Line::Down(key) => HeapCall::Down(key),
     }

@@ -6,8 +6,9 @@ ghost use Rattle.gip_lines.specs.Lines.{IsScript, lines_of, first_other_line};
 ghost use Rattle.gip_lines.specs.Script.{script_text};
 
 use crate::fault::GipFault;
-use crate::lines;
+use crate::lines::Line;
 use crate::replies::run_lines;
+use crate::texts;
 use crate::transfer::{read_all, write_all};
 use crate::watched::Watched;
 use std::alloc::Allocator;
@@ -50,7 +51,7 @@ pub fn script<A: Allocator + Copy, R: Read, W: Write>(
     ensures unwritten { IfErr result (λ fault. fault ≢ GipFault.Output → writer.new ≡ writer.old) }
 {
     let input = read_all(alloc, reader)?;
-    let lines = lines::parse(alloc, &input)?;
+    let lines: Vec<Line, A> = texts::parse(alloc, &input)?;
     let text = run_lines(alloc, &lines)?;
     write_all(writer, &text)
 }

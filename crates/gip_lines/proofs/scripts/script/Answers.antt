@@ -2,22 +2,24 @@
 use Rattle.std.proofs.Common.{◌≡◌, Bool, List, sym, ap, ◌∙◌, subst}
 use Rattle.std.proofs.lemmas.Result.{on_ok_weaker}
 use Rattle.std.specs.Io.KnownBytes.{Appends}
-use Rattle.gip_lines.specs.Lines.{IsScript, lines_of, script_lines}
+use Rattle.gip_lines.specs.Lines.{line_of, IsScript, lines_of}
+use Rattle.gip_lines.specs.Texts.{text_lines}
 use Rattle.gip_lines.specs.Script.{script_text}
-use Rattle.gip_lines.proofs.Readings.{IsScript-read, lines_of-read, small_keys}
+use Rattle.gip_lines.proofs.Readings.{HasForm-read, said_in-read}
+use Rattle.gip_lines.proofs.SmallKeys.{small_keys}
 use Rattle.gip_lines.proofs.WholeInput.{whole_input}
 use Rattle.gip_lines.proofs.scripts.script.Goals as goal
 
 pub run_lines-requires : goal.run_lines-requires
 run_lines-requires g c =
     let read = rw c.deref.ensures.value at c.in_ok-lines.ensures.ok in
-    record { keys = rw c.deref-2.ensures.value (small_keys (script_lines c.in_ok-input.input.items) c.in_ok-lines.lines.items read) }
+    record { keys = rw c.deref-2.ensures.value (small_keys (text_lines c.in_ok-input.input.items) c.in_ok-lines.lines.items read) }
 
 pub returns-clause-is_script : goal.returns-clause-is_script
 returns-clause-is_script g c =
     let read = rw c.deref.ensures.value at c.in_ok-lines.ensures.ok in
     on_ok_weaker _
-    (λ _. whole_input IsScript _ _ _ c.in_ok-input.ensures.input c.in_ok-input.ensures.end (IsScript-read c.in_ok-input.input.items c.in_ok-lines.lines.items read))
+    (λ _. whole_input IsScript _ _ _ c.in_ok-input.ensures.input c.in_ok-input.ensures.end (HasForm-read line_of c.in_ok-input.input.items c.in_ok-lines.lines.items read))
     c.write_all.ensures.ok
 
 pub returns-clause-written : goal.returns-clause-written
@@ -25,7 +27,7 @@ returns-clause-written g c =
     let old = g.W.Write.contents c.args.writer.now.device in
     let new = g.W.Write.contents c.write_all.new.writer.device in
     let read = rw c.deref.ensures.value at c.in_ok-lines.ensures.ok in
-    let said = lines_of-read c.in_ok-input.input.items c.in_ok-lines.lines.items read in
+    let said = said_in-read line_of c.in_ok-input.input.items c.in_ok-lines.lines.items read in
     let (refusals, text) = c.in_ok-text.ensures.text in
     let same : c.deref-3.result.now ≡ script_text (lines_of c.in_ok-input.input.items) refusals =
     c.deref-3.ensures.value ∙ text ∙ ap (λ lines. script_text lines refusals) (c.deref-2.ensures.value ∙ sym said) in

@@ -5,7 +5,7 @@ use Rattle.std.proofs.lemmas.Iterator.Search.{position_from_yields_List}
 use Rattle.std.specs.List.{position}
 use borrow.Author.Tests.{tests}
 use Rattle.gip_lines.proofs.Pieces.{pieces-at, pieces-none}
-use Rattle.gip_lines.proofs.lines.split_once.Goals as goal
+use Rattle.gip_lines.proofs.texts.split_once.Goals as goal
 
 pub returns-in-Some-clause-parts : goal.returns-in-Some-clause-parts
 returns-in-Some-clause-parts c =
