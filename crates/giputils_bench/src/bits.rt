@@ -94,7 +94,11 @@ fn vector(alloc: Global, size: u32, rng: &mut Generator) -> Result<BitVec, BitVe
 fn count_true(bits: &BitVec) -> u64
     requires { length bits.now < 2 ^ 32 }
 {
-    bits.iter().filter(|bit| *bit).count() as u64
+    let mut count = 0;
+    for bit in bits {
+        count += u64::from(bit);
+    }
+    count
 }
 
 fn mix_words(bits: &BitVec, checksum: &mut Checksum) {
