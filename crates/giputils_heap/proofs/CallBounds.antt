@@ -1,12 +1,12 @@
 -- How often the calls of a run compare.
-use Rattle.std.proofs.Common.{◌≡◌, ℕ, zero, suc, ◌+◌, ◌*◌, ◌^◌, ◌<◌, ◌≤◌, Bool, true, false, ◌&&◌, not, cond, ltb, leb, List, [], ◌∷◌, length, take, Some, arith}
+use Rattle.std.proofs.Common.{◌≡◌, ℕ, zero, suc, ◌+◌, ◌*◌, ◌≤◌, Bool, true, false, ◌&&◌, not, cond, ltb, leb, List, [], ◌∷◌, length, take, Some, arith}
 use Rattle.std.specs.Prelude.{slice_get}
 use Rattle.std.proofs.lemmas.Bool.{and_parts, leb-true}
 use Rattle.giputils_heap.specs.Keys.{is_held, AreDistinct, AreBelow, key_limit}
 use Rattle.giputils_heap.specs.Bounds.{floor_log2, update_bound}
 use Rattle.giputils_heap.specs.Record.{Entry, comparison_bound, most_comparisons, held_after, held_from, keeps_counts_from}
 use Rattle.giputils_heap.specs.declared.run.HeapCall.{HeapCall}
-use Rattle.giputils_heap.specs.declared.run.HeapCall.TheVariants.{Push, Pop, Up, Down, Update, Clear, Len, IsEmpty}
+use Rattle.giputils_heap.specs.declared.run.HeapCall.TheVariants.{Push, Pop, Up, Down, Update, Rebuild, Clear, Len, IsEmpty}
 use Rattle.giputils_heap.proofs.KeySets.{length-le_limit}
 use Rattle.giputils_heap.proofs.Levels.{floor_log2-below}
 
@@ -20,24 +20,25 @@ within_either true m most within = within
 within_either false m most within = omega arith
 
 module _ {T : Type 0} (number : T → ℕ) where
-  -- no call compares oftener than that: fewer than 2^32 keys are held
+  -- no call compares oftener than its kind can: fewer than 2^32 keys are held
   pub comparison_bound-most : (held : List T) (call : HeapCall T) → AreDistinct number held → AreBelow number key_limit held
-      → comparison_bound number held call ≤ most_comparisons
+      → comparison_bound number held call ≤ most_comparisons call
   comparison_bound-most held call distinct below =
       let few : length held ≤ 4294967295 = length-le_limit number key_limit held distinct below in
       let log : floor_log2 (length held) ≤ 31 = floor_log2-below 31 (length held) (omega arith) in
       let log_next : floor_log2 (length held + 1) ≤ 32 = floor_log2-below 32 (length held + 1) (omega arith) in
-      within call log log_next
+      within call few log log_next
     where
-      within : (c : HeapCall T) → floor_log2 (length held) ≤ 31 → floor_log2 (length held + 1) ≤ 32 → comparison_bound number held c ≤ most_comparisons
-      within (Push v) log log_next = within_either (ltb (number v) key_limit && not (is_held number held v)) (floor_log2 (length held + 1)) most_comparisons (omega arith)
-      within Pop log log_next = omega arith
-      within (Up v) log log_next = within_either (is_held number held v) (floor_log2 (length held)) most_comparisons (omega arith)
-      within (Down v) log log_next = within_either (is_held number held v) (2 * floor_log2 (length held)) most_comparisons (omega arith)
-      within (Update v) log log_next = within_either (is_held number held v) (2 * floor_log2 (length held)) most_comparisons (omega arith)
-      within Clear log log_next = omega arith
-      within Len log log_next = omega arith
-      within IsEmpty log log_next = omega arith
+      within : (c : HeapCall T) → length held ≤ key_limit → floor_log2 (length held) ≤ 31 → floor_log2 (length held + 1) ≤ 32 → comparison_bound number held c ≤ most_comparisons c
+      within (Push v) few log log_next = within_either (ltb (number v) key_limit && not (is_held number held v)) (floor_log2 (length held + 1)) 62 (omega arith)
+      within Pop few log log_next = omega arith
+      within (Up v) few log log_next = within_either (is_held number held v) (floor_log2 (length held)) 62 (omega arith)
+      within (Down v) few log log_next = within_either (is_held number held v) (2 * floor_log2 (length held)) 62 (omega arith)
+      within (Update v) few log log_next = within_either (is_held number held v) (2 * floor_log2 (length held)) 62 (omega arith)
+      within Rebuild few log log_next = omega arith
+      within Clear few log log_next = omega arith
+      within Len few log log_next = omega arith
+      within IsEmpty few log log_next = omega arith
 
   module _ {C : Type 0} where
     -- a step of a record that keeps its counts compares no oftener than its bound

@@ -1,5 +1,5 @@
 -- The relations of the library's comparers: they order all keys, and a changed rank changes one key.
-use Rattle.std.proofs.Common.{◌≡◌, ◌≢◌, ℕ, ◌<◌, ◌≤◌, Bool, true, false, ◌&&◌, ◌||◌, not, List, [], ◌∷◌, length, refl, ap, sym, ◌∙◌, ⊎_elim, arith, IsTrue, eqb, ltb, leb}
+use Rattle.std.proofs.Common.{◌≡◌, ◌≢◌, ℕ, ◌<◌, ◌≤◌, Bool, true, ◌&&◌, ◌||◌, not, List, [], ◌∷◌, length, refl, ap, sym, ◌∙◌, ⊎_elim, arith, IsTrue, eqb, ltb, leb}
 use Rattle.std.specs.Prelude.{filter, slice_set}
 use Rattle.std.proofs.Math.ListN.{set}
 use Rattle.std.specs.Bool.{beq}
@@ -7,7 +7,7 @@ use Rattle.std.specs.List.{list_all}
 use Rattle.std.proofs.lemmas.Bool.{and_from, cases_Bool, false≢true, eqb-true, eq-eqb}
 use Rattle.std.proofs.lemmas.Bool.Decides.{nat_tests}
 use Rattle.std.proofs.lemmas.List.{get_or-set_other, get_or-set_same}
-use Rattle.giputils_heap.specs.Keys.{same_key, without}
+use Rattle.giputils_heap.specs.Keys.{same_key}
 use Rattle.giputils_heap.specs.Relations.{AgreesExcept, HasRisen, HasFallen}
 use Rattle.giputils_heap.specs.Comparers.{reverse_of, rank_of, by_number, by_rank}
 use Rattle.giputils_heap.specs.Laws.{IsTotalPreorder}

@@ -1,18 +1,21 @@
 -- The definitions of a run on short records, computed by the check: records that a heap may have, and one for each way to
 -- answer wrongly.
-use Rattle.std.specs.Prelude.{◌≡◌, ℕ, Bool, true, false, List, [], ◌∷◌, Some, None, refl}
+use Rattle.std.specs.Prelude.{◌≡◌, ℕ, ◌+◌, Bool, true, false, List, [], ◌∷◌, Some, None, refl}
+use Rattle.std.proofs.lemmas.Bool.{false≢true}
 use Rattle.giputils_heap.specs.Comparers.{by_number, reverse_of, by_rank}
 use Rattle.giputils_heap.specs.Bounds.{floor_log2}
 use Rattle.giputils_heap.specs.Record.{Entry, start, answers_from, is_steady, keeps_counts_from}
 use Rattle.giputils_heap.specs.Laws.{is_descending}
+use Rattle.giputils_heap.specs.Relations.{agrees_except, HasRisen, HasFallen}
 use Rattle.giputils_heap.specs.declared.run.HeapCall.{HeapCall}
-use Rattle.giputils_heap.specs.declared.run.HeapCall.TheVariants.{Push, Pop, Up, Down, Update, Clear, Len, IsEmpty}
+use Rattle.giputils_heap.specs.declared.run.HeapCall.TheVariants.{Push, Pop, Up, Down, Update, Rebuild, Clear, Len, IsEmpty}
 use Rattle.giputils_heap.specs.declared.run.HeapReply.{HeapReply}
 use Rattle.giputils_heap.specs.declared.run.HeapReply.TheVariants.{Done, Refused, Skipped, Popped, Length, Empty}
 
--- comparers of numbers: the greater is at least the smaller, the other way round, any is at least any, and by ranks
+-- comparers of numbers: the greater is at least the smaller, the other way round, any is at least any, none is at least any,
+-- and by ranks
 data Comparer : Type 0 where
-  greater smaller either : Comparer
+  greater smaller either neither : Comparer
   ranked : List ℕ → Comparer
 
 abbrev number : ℕ → ℕ
@@ -22,6 +25,7 @@ abbrev at_least : Comparer → ℕ → ℕ → Bool
 at_least greater = by_number number
 at_least smaller = reverse_of (by_number number)
 at_least either = λ s o. true
+at_least neither = λ s o. false
 at_least (ranked ranks) = by_rank number ranks
 
 -- a step under a comparer that compares nothing, with its reply
@@ -195,6 +199,54 @@ pops_the_greatest_of_four = refl
 pops_another_of_four : answers (two_keys_changed_in_turn (Popped (Some 2))) ≡ false
 pops_another_of_four = refl
 
+-- a Rebuild makes good what changed before it, however many keys it was
+abbrev rebuilt : List (Entry ℕ Comparer) → HeapReply ℕ → List (Entry ℕ Comparer)
+rebuilt steps reply =
+    four_keys (
+    step (ranked (1 ∷ 0 ∷ 2 ∷ 6 ∷ [])) (Update 0) Done ∷ step (ranked (1 ∷ 0 ∷ 2 ∷ 6 ∷ [])) (Update 1) Done
+    ∷ step (ranked (1 ∷ 0 ∷ 2 ∷ 6 ∷ [])) Rebuild Done ∷ step (ranked (1 ∷ 0 ∷ 2 ∷ 6 ∷ [])) Pop reply ∷ steps
+    )
+
+pops_the_greatest_after_a_rebuild : answers (rebuilt [] (Popped (Some 3))) ≡ true
+pops_the_greatest_after_a_rebuild = refl
+
+pops_a_smaller_key_after_a_rebuild : answers (rebuilt [] (Popped (Some 2))) ≡ false
+pops_a_smaller_key_after_a_rebuild = refl
+
+-- it is steady, though the step before it is not
+steady_at_a_rebuild : is_steady number at_least (rebuilt [] (Popped (Some 3))) 6 ≡ true
+steady_at_a_rebuild = refl
+
+unsteady_before_a_rebuild : is_steady number at_least (rebuilt [] (Popped (Some 3))) 5 ≡ false
+unsteady_before_a_rebuild = refl
+
+-- ranks that change after it are not made good
+changed_after_a_rebuild : answers (rebuilt (step (ranked (5 ∷ 7 ∷ 6 ∷ [])) Pop (Popped (Some 0)) ∷ []) (Popped (Some 3))) ≡ true
+changed_after_a_rebuild = refl
+
+unchanged_after_a_rebuild : answers (rebuilt (step (ranked (1 ∷ 0 ∷ 2 ∷ 6 ∷ [])) Pop (Popped (Some 0)) ∷ []) (Popped (Some 3))) ≡ false
+unchanged_after_a_rebuild = refl
+
+-- nor does it owe order under a comparer without laws
+rebuilt_without_laws : answers (
+    step greater (Push 1) Done ∷ step greater (Push 2) Done ∷ step neither Rebuild Done ∷ step neither Pop (Popped (Some 1)) ∷ []
+    ) ≡ true
+rebuilt_without_laws = refl
+
+rebuilt_with_laws : answers (
+    step neither (Push 1) Done ∷ step neither (Push 2) Done ∷ step greater Rebuild Done ∷ step greater Pop (Popped (Some 1)) ∷ []
+    ) ≡ false
+rebuilt_with_laws = refl
+
+rebuild_of_nothing : answers (step greater Rebuild Done ∷ step greater Len (Length 0) ∷ []) ≡ true
+rebuild_of_nothing = refl
+
+loses_a_key_at_a_rebuild : answers (step either (Push 1) Done ∷ step either Rebuild Done ∷ step either Len (Length 0) ∷ []) ≡ false
+loses_a_key_at_a_rebuild = refl
+
+refuses_a_rebuild : answers (step greater (Push 1) Done ∷ step greater Rebuild Refused ∷ []) ≡ false
+refuses_a_rebuild = refl
+
 -- a key that is not held may be handed in
 not_held_is_done : answers (step greater (Up 3) Done ∷ step greater (Down 3) Done ∷ step greater (Update 4294967295) Done ∷ []) ≡ true
 not_held_is_done = refl
@@ -277,6 +329,18 @@ update_of_a_key_not_held_compares_nothing : keeps_counts_at_seven (Update 7) Don
 unfolding floor_log2
 update_of_a_key_not_held_compares_nothing = refl
 
+rebuild_at_its_bound : keeps_counts_at_seven Rebuild Done 14 ≡ true
+unfolding floor_log2
+rebuild_at_its_bound = refl
+
+rebuild_past_its_bound : keeps_counts_at_seven Rebuild Done 15 ≡ false
+unfolding floor_log2
+rebuild_past_its_bound = refl
+
+rebuild_of_nothing_compares_nothing : keeps_counts_from number [] (counted Rebuild Done 1 ∷ []) ≡ false
+unfolding floor_log2
+rebuild_of_nothing_compares_nothing = refl
+
 len_compares_nothing : keeps_counts_at_seven Len (Length 7) 1 ≡ false
 unfolding floor_log2
 len_compares_nothing = refl
@@ -284,6 +348,42 @@ len_compares_nothing = refl
 pop_of_nothing_compares_nothing : keeps_counts_from number [] (counted Pop (Popped None) 1 ∷ []) ≡ false
 unfolding floor_log2
 pop_of_nothing_compares_nothing = refl
+
+-- the whole logarithm rounds down: 2^3 is at most 15, and 2^4 at most 16
+below_a_power : floor_log2 15 ≡ 3
+unfolding floor_log2
+below_a_power = refl
+
+at_a_power : floor_log2 16 ≡ 4
+unfolding floor_log2
+at_a_power = refl
+
+of_one_and_of_nothing : floor_log2 1 + floor_log2 0 ≡ 0
+unfolding floor_log2
+of_one_and_of_nothing = refl
+
+-- ---- one changed key
+
+-- the rank of key 0 falls from 5 to 1: the relations agree but for it, and not but for another
+agrees_except_the_changed_key : agrees_except number 0 (at_least (ranked (5 ∷ 3 ∷ 4 ∷ []))) (at_least (ranked (1 ∷ 3 ∷ 4 ∷ []))) (0 ∷ 1 ∷ 2 ∷ []) ≡ true
+agrees_except_the_changed_key = refl
+
+differs_at_another_key : agrees_except number 1 (at_least (ranked (5 ∷ 3 ∷ 4 ∷ []))) (at_least (ranked (1 ∷ 3 ∷ 4 ∷ []))) (0 ∷ 1 ∷ 2 ∷ []) ≡ false
+differs_at_another_key = refl
+
+-- it has fallen, and has not risen
+has_fallen : HasFallen 0 (at_least (ranked (5 ∷ 3 ∷ 4 ∷ []))) (at_least (ranked (1 ∷ 3 ∷ 4 ∷ []))) (0 ∷ 1 ∷ 2 ∷ [])
+has_fallen = refl
+
+has_not_risen : HasRisen 0 (at_least (ranked (5 ∷ 3 ∷ 4 ∷ []))) (at_least (ranked (1 ∷ 3 ∷ 4 ∷ []))) (0 ∷ 1 ∷ 2 ∷ []) → ⊥
+has_not_risen risen = false≢true risen
+
+-- the other way round
+has_risen : HasRisen 0 (at_least (ranked (1 ∷ 3 ∷ 4 ∷ []))) (at_least (ranked (5 ∷ 3 ∷ 4 ∷ []))) (0 ∷ 1 ∷ 2 ∷ [])
+has_risen = refl
+
+has_not_fallen : HasFallen 0 (at_least (ranked (1 ∷ 3 ∷ 4 ∷ []))) (at_least (ranked (5 ∷ 3 ∷ 4 ∷ []))) (0 ∷ 1 ∷ 2 ∷ []) → ⊥
+has_not_fallen fallen = false≢true fallen
 
 -- ---- steady steps, and keys listed downward
 

@@ -10,14 +10,14 @@ use Rattle.std.proofs.Math.Bool.{and-true, and-false}
 use Rattle.std.proofs.lemmas.List.Elements.{All-head, All-tail}
 use Rattle.giputils_heap.specs.Keys.{same_key, is_held, AreDistinct, AreBelow, HoldAlike, without, key_limit}
 use Rattle.giputils_heap.specs.Relations.{is_lawful, IsLawful, agree_on, is_greatest}
-use Rattle.giputils_heap.specs.Record.{Entry, Progress, start, start_if_empty, is_nil, agrees_with_last, compared_keys, may_compare, held_after, after_call, may_answer, may_reply, progress_from, answers_from, held_from, held_before, Answers, is_steady_at, IsSteady}
+use Rattle.giputils_heap.specs.Record.{Entry, Progress, start, start_if_empty, start_anew, is_nil, agrees_with_last, compared_keys, may_compare, held_after, after_call, may_answer, may_reply, progress_from, answers_from, held_from, held_before, Answers, is_steady_at, IsSteady}
 use Rattle.giputils_heap.specs.Laws.{IsTotalPreorder, Compares, PopUntilNone, is_descending, ListsDownward}
 use Rattle.giputils_heap.specs.declared.run.HeapCall.{HeapCall}
-use Rattle.giputils_heap.specs.declared.run.HeapCall.TheVariants.{Push, Pop, Up, Down, Update, Clear, Len, IsEmpty}
+use Rattle.giputils_heap.specs.declared.run.HeapCall.TheVariants.{Push, Pop, Update, Rebuild, Clear}
 use Rattle.giputils_heap.specs.declared.run.HeapReply.{HeapReply}
 use Rattle.giputils_heap.specs.declared.run.HeapReply.TheVariants.{Done, Popped}
-use Rattle.giputils_heap.proofs.KeySets.{same_key-equiv, AreDistinct-nil, pass_at_held}
-use Rattle.giputils_heap.proofs.HoldAlike.{is_held-head, AreDistinct-cons, AreDistinct-filter, HoldsWithin-without, is_held-without, IsLawful-fewer}
+use Rattle.giputils_heap.proofs.KeySets.{is_held-head, same_key-equiv, AreDistinct-nil, pass_at_held}
+use Rattle.giputils_heap.proofs.HoldAlike.{AreDistinct-cons, AreDistinct-filter, HoldsWithin-without, is_held-without, IsLawful-fewer}
 use Rattle.giputils_heap.proofs.Preorders.{agree_on-refl, IsLawful-everywhere}
 
 module _ {T C : Type 0} (at_least : C → T → T → Bool) where
@@ -238,13 +238,23 @@ module _ {T C : Type 0} (number : T → ℕ) (at_least : C → T → T → Bool)
   steady_once_empty [] steady last was = refl
   steady_once_empty (k ∷ held) steady last was = was
 
+  -- so has the one that a call goes on from
+  last_anew : (p : Progress T C) (call : HeapCall T) → ((b : C) → p.last ≡ Some b → at_least b ≡ R)
+      → (b : C) → (start_anew p call).last ≡ Some b → at_least b ≡ R
+  last_anew p Rebuild was b is = cc
+  last_anew p call was b is = last_once_empty p.held p.steady p.last was b is
+
+  steady_anew : (p : Progress T C) (call : HeapCall T) → p.steady ≡ true → (start_anew p call).steady ≡ true
+  steady_anew p Rebuild was = refl
+  steady_anew p call was = steady_once_empty p.held p.steady p.last was
+
   -- one more call is steady under the one order, and so is the comparer that it was lent
   steady_after : (p : Progress T C) (call : HeapCall T) (c : C) (reply : HeapReply T) → at_least c ≡ R → p.steady ≡ true → ((b : C) → p.last ≡ Some b → at_least b ≡ R)
       → ((after_call number at_least p call c reply).steady ≡ true) × ((b : C) → (after_call number at_least p call c reply).last ≡ Some b → at_least b ≡ R)
   steady_after p call c reply is steady was =
-      let q : Progress T C = start_if_empty p in
-      let q_steady : q.steady ≡ true = steady_once_empty p.held p.steady p.last steady in
-      let q_last : (b : C) → q.last ≡ Some b → at_least b ≡ R = last_once_empty p.held p.steady p.last was in
+      let q : Progress T C = start_anew p call in
+      let q_steady : q.steady ≡ true = steady_anew p call steady in
+      let q_last : (b : C) → q.last ≡ Some b → at_least b ≡ R = last_anew p call was in
       let lawful : is_lawful (at_least c) (compared_keys p.held call) ≡ true =
       ap (λ Q. is_lawful Q (compared_keys p.held call)) is ∙ IsLawful-everywhere R order (compared_keys p.held call)
       in

@@ -7,18 +7,18 @@ use Rattle.std.proofs.lemmas.Bool.{and_parts, and_from, cases_Bool, false≢true
 use Rattle.std.proofs.lemmas.List.Sorted.{IsPermutation-sym}
 use Rattle.std.proofs.lemmas.Map.Keys.{IsDistinct-tail}
 use Rattle.giputils_heap.specs.Keys.{same_key, is_held, AreDistinct, HoldAlike, without, key_limit}
-use Rattle.giputils_heap.specs.Relations.{is_lawful, IsLawful, agree_on, agrees_except, AgreesExcept, is_greatest, IsGreatest}
+use Rattle.giputils_heap.specs.Relations.{is_lawful, IsLawful, agree_on, AgreesExcept, is_greatest, IsGreatest}
 use Rattle.giputils_heap.specs.InOrder.{IsInOrder}
 use Rattle.giputils_heap.proofs.OrderLaws.{IsInOrder-empty, IsInOrder-agree}
 use Rattle.giputils_heap.specs.Bounds.{floor_log2}
 use Rattle.giputils_heap.specs.Record.{Progress, start_if_empty, agrees_with_last, is_nil, is_steady_at, after_call, may_answer, comparison_bound}
 use Rattle.giputils_heap.specs.declared.run.HeapCall.{HeapCall}
-use Rattle.giputils_heap.specs.declared.run.HeapCall.TheVariants.{Push, Pop, Up, Down, Update, Clear, Len, IsEmpty}
+use Rattle.giputils_heap.specs.declared.run.HeapCall.TheVariants.{Push, Pop, Up, Down, Update, Rebuild, Clear}
 use Rattle.giputils_heap.specs.declared.run.HeapReply.TheVariants.{Done, Popped}
 use Rattle.giputils_heap.specs.Stands.{Stands, IsInOrderSince}
-use Rattle.giputils_heap.proofs.KeySets.{AreDistinct-nil, AreDistinct-IsPermutation}
+use Rattle.giputils_heap.proofs.KeySets.{is_held-head, AreDistinct-nil, AreDistinct-IsPermutation}
 use Rattle.giputils_heap.proofs.Preorders.{agree_on-refl}
-use Rattle.giputils_heap.proofs.HoldAlike.{is_held-head, nil_from_alike, is_nil-HoldAlike, length-HoldAlike, HoldAlike-cons, HoldAlike-IsPermutation, HoldAlike-taken, AreDistinct-cons, AreDistinct-filter, HoldsWithin, HoldsWithin-alike, HoldsWithin-cons, HoldAlike-without, all_pairs-fewer, IsLawful-fewer, IsGreatest-HoldAlike}
+use Rattle.giputils_heap.proofs.HoldAlike.{nil_from_alike, is_nil-HoldAlike, length-HoldAlike, HoldAlike-cons, HoldAlike-IsPermutation, HoldAlike-taken, AreDistinct-cons, AreDistinct-filter, HoldsWithin, HoldsWithin-alike, HoldsWithin-cons, HoldAlike-without, all_pairs-fewer, IsLawful-fewer, IsGreatest-HoldAlike}
 
 -- what follows from a fact that may fail
 implies_from : (a b : Bool) → (a ≡ true → b ≡ true) → (not a || b) ≡ true
@@ -221,6 +221,15 @@ module _ {T C : Type 0} {number : T → ℕ} (one_value : (x y : T) → number x
       let lawful : IsLawful (at_least c) keys = IsLawful-fewer number one_value (at_least c) keys (v ∷ p.held) (HoldsWithin-cons number v keys p.held held_within) laws.0 in
       (repaired_from_last number one_value at_least last v c keys p.held new stands.alike lawful (stands.in_order parts.0) laws.1 repaired, lawful))
 
+  -- a Rebuild needs no order to begin with
+  pub stands_rebuilt : (new : List T) → IsPermutation keys new → (IsLawful (at_least c) keys → IsInOrder (at_least c) new)
+      → Stands number at_least (after_call number at_least p Rebuild c Done) new
+  stands_rebuilt new moved ordered =
+      stands_moved Rebuild new moved (λ steady.
+      let laws = and_parts (is_lawful (at_least c) p.held) true steady in
+      let lawful : IsLawful (at_least c) keys = IsLawful-fewer number one_value (at_least c) keys p.held held_within laws.0 in
+      (ordered lawful, lawful))
+
   -- the number of keys is that of the held ones
   pub length_of_held : length keys ≡ length p.held
   length_of_held = length-HoldAlike number keys p.held stands.alike stands.keys_distinct stands.held_distinct
@@ -257,6 +266,9 @@ module _ {T C : Type 0} {number : T → ℕ} (one_value : (x y : T) → number x
 
   pub pop_within : (old new : ℕ) → new ≤ old + 2 * floor_log2 (length keys) → new ≤ old + comparison_bound number p.held Pop
   pop_within old new within = rw (← length_of_held) within
+
+  pub rebuild_within : (old new : ℕ) → new ≤ old + 2 * length keys → new ≤ old + comparison_bound number p.held Rebuild
+  rebuild_within old new within = rw (← length_of_held) within
 
   -- the comparisons of a call on one key
   pub key_within : (v : T) (old new : ℕ) (bound : ℕ → ℕ) → (is_held number keys v ≡ false → new ≡ old)

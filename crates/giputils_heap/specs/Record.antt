@@ -1,12 +1,12 @@
 -- The record of a run of a heap, what its replies have to be, and how often its steps may compare.
-use Rattle.std.specs.Prelude.{◌≡◌, ℕ, ◌+◌, ◌-◌, ◌*◌, ◌^◌, ◌≤◌, ◌==◌, nat_lt, nat_le, Bool, true, false, ◌&&◌, ◌||◌, not, if◌then◌else◌, List, [], ◌∷◌, ◌++◌, length, take, map, slice_get, IsTrue, IsFalse, Option, Some, None}
+use Rattle.std.specs.Prelude.{◌≡◌, ℕ, ◌+◌, ◌-◌, ◌*◌, ◌≤◌, ◌==◌, nat_lt, nat_le, Bool, true, false, ◌&&◌, ◌||◌, not, if◌then◌else◌, List, [], ◌∷◌, length, take, IsTrue, IsFalse, Option, Some, None}
 use Rattle.std.specs.Bool.{beq}
 use Rattle.std.specs.List.{All, AllZip}
-use Rattle.giputils_heap.specs.Keys.{is_held, AreDistinct, HoldAlike, without, key_limit}
+use Rattle.giputils_heap.specs.Keys.{is_held, without, key_limit}
 use Rattle.giputils_heap.specs.Relations.{is_lawful, agree_on, agrees_except, is_greatest}
-use Rattle.giputils_heap.specs.Bounds.{count_limit, push_bound, pop_bound, up_bound, down_bound, update_bound}
+use Rattle.giputils_heap.specs.Bounds.{count_limit, push_bound, pop_bound, up_bound, down_bound, update_bound, rebuild_bound}
 use Rattle.giputils_heap.specs.declared.run.HeapCall.{HeapCall}
-use Rattle.giputils_heap.specs.declared.run.HeapCall.TheVariants.{Push, Pop, Up, Down, Update, Clear, Len, IsEmpty}
+use Rattle.giputils_heap.specs.declared.run.HeapCall.TheVariants.{Push, Pop, Up, Down, Update, Rebuild, Clear, Len, IsEmpty}
 use Rattle.giputils_heap.specs.declared.run.HeapReply.{HeapReply}
 use Rattle.giputils_heap.specs.declared.run.HeapReply.TheVariants.{Done, Refused, Skipped, Popped, Length, Empty}
 use Rattle.giputils_heap.specs.declared.run.HeapStep.{HeapStep}
@@ -19,7 +19,7 @@ pub record Entry (T C : Type 0) : Type 0 where
   pub reply : HeapReply T
 
 -- what a record's steps so far have come to: the held keys, each once; whether the comparisons have been steady since
--- nothing was last held; and the comparer that was last lent since then to a step that may compare
+-- nothing was last held or all was last rebuilt; and the comparer that was last lent since then to a step that may compare
 pub record Progress (T C : Type 0) : Type 0 where
   pub held : List T
   pub steady : Bool
@@ -70,6 +70,7 @@ module _ {T : Type 0} (number : T → ℕ) where
   may_reply R steady held (Up v) Done = true
   may_reply R steady held (Down v) Done = true
   may_reply R steady held (Update v) Done = true
+  may_reply R steady held Rebuild Done = true
   may_reply R steady held Clear Done = true
   may_reply R steady held Len (Length n) = n == length held
   may_reply R steady held IsEmpty (Empty b) = beq b (is_nil held)
@@ -83,6 +84,7 @@ module _ {T : Type 0} (number : T → ℕ) where
   comparison_bound held (Up v) = if is_held number held v then up_bound (length held) else 0
   comparison_bound held (Down v) = if is_held number held v then down_bound (length held) else 0
   comparison_bound held (Update v) = if is_held number held v then update_bound (length held) else 0
+  comparison_bound held Rebuild = rebuild_bound (length held)
   comparison_bound held _ = 0
 
 module _ {T C : Type 0} where
@@ -93,6 +95,11 @@ module _ {T C : Type 0} where
   -- where nothing is held, no comparison made so far counts any more
   abbrev pub start_if_empty : Progress T C → Progress T C
   start_if_empty p = if is_nil p.held then start else p
+
+  -- the progress that a call goes on from: at a Rebuild, too, no comparison made so far counts any more
+  abbrev pub start_anew : Progress T C → HeapCall T → Progress T C
+  start_anew p Rebuild = start
+  start_anew p _ = start_if_empty p
 
 module _ {T C : Type 0} (number : T → ℕ) (at_least : C → T → T → Bool) where
   -- whether a call's comparer compares the held keys as the last comparer did, if there is one; an Update may come with
@@ -105,7 +112,7 @@ module _ {T C : Type 0} (number : T → ℕ) (at_least : C → T → T → Bool)
   -- whether the comparisons stay steady at a step: lawful on the keys concerned, and as they were
   abbrev pub is_steady_at : Progress T C → HeapCall T → C → Bool
   is_steady_at p call c =
-      let before : Progress T C = start_if_empty p in
+      let before : Progress T C = start_anew p call in
       if may_compare call
       then (before.steady && (is_lawful (at_least c) (compared_keys p.held call) && agrees_with_last before.last call c p.held))
       else before.steady
@@ -116,7 +123,7 @@ module _ {T C : Type 0} (number : T → ℕ) (at_least : C → T → T → Bool)
       record {
         held = held_after number p.held call reply;
         steady = is_steady_at p call c;
-        last = if may_compare call then Some c else (start_if_empty p).last;
+        last = if may_compare call then Some c else (start_anew p call).last;
       }
 
   -- whether a call that is lent this comparer may have this reply after this progress
@@ -138,8 +145,8 @@ module _ {T C : Type 0} (number : T → ℕ) (at_least : C → T → T → Bool)
   abbrev pub Answers : List (Entry T C) → Type 0
   Answers entries = IsTrue (answers_from start entries)
 
-  -- whether up to step i, since nothing was last held, the comparisons were lawful and changed for one key at a time, at
-  -- an Update of that key
+  -- whether up to step i, since nothing was last held or all was last rebuilt, the comparisons were lawful and changed for
+  -- one key at a time, at an Update of that key
   abbrev pub is_steady : List (Entry T C) → ℕ → Bool
   is_steady entries i = (progress_from start (take (i + 1) entries)).steady
 
@@ -178,9 +185,10 @@ module _ {T C : Type 0} (number : T → ℕ) (at_least : C → T → T → Bool)
   AnswersAt entries i e =
       IsTrue (may_reply number (at_least e.comparer) (is_steady number at_least entries i) (held_before number entries i) e.call e.reply)
 
--- no call compares oftener: fewer than 2^32 keys are held
-abbrev pub most_comparisons : ℕ
-most_comparisons = 2 * 31
+-- a call compares no oftener, whatever is held: fewer than 2^32 keys are
+abbrev pub most_comparisons : {T : Type 0} → HeapCall T → ℕ
+most_comparisons Rebuild = 2 * key_limit
+most_comparisons _ = 2 * 31
 
 module _ {T C : Type 0} where
   -- a step keeps its call and its comparer, and its counter rises by what was compared
@@ -188,7 +196,7 @@ module _ {T C : Type 0} where
     pub call : new.call ≡ old.call
     pub comparer : new.cmp.comparer ≡ old.cmp.comparer
     pub rises : old.cmp.count ≤ new.cmp.count
-    pub comparisons : new.cmp.count ≤ old.cmp.count + most_comparisons
+    pub comparisons : new.cmp.count ≤ old.cmp.count + most_comparisons old.call
     pub uncompared : IsFalse (may_compare old.call) → new.cmp.count ≡ old.cmp.count
 
   -- every step keeps its call and its comparer

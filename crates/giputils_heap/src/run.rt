@@ -26,6 +26,8 @@ pub enum HeapCall<T> {
     Down(T),
     /// Repairs the order where the key has changed.
     Update(T),
+    /// Repairs the order, however the keys have changed.
+    Rebuild,
     /// Holds nothing afterwards.
     Clear,
     /// Asks for the number of held keys.
@@ -37,7 +39,7 @@ pub enum HeapCall<T> {
 /// The answer to a [`HeapCall`].
 #[derive(Clone, Copy, PartialEq, Eq, Debug)]
 pub enum HeapReply<T> {
-    /// The key is held, or was held already; or nothing is held after a `Clear`.
+    /// The key is held, or was held already; the order was repaired; or nothing is held after a `Clear`.
     Done,
     /// A key that was not held is not held now either: memory was refused.
     Refused,
@@ -52,7 +54,7 @@ pub enum HeapReply<T> {
 }
 
 /// A step of a run: a call, and the comparer that it is lent.
-#[derive(Drop)]
+#[derive(Drop, Debug)]
 pub struct HeapStep<'a, T, C> {
     pub call: HeapCall<T>,
     pub cmp: Counting<'a, C>,
@@ -155,6 +157,10 @@ fn make_call<T: HeapKey, C: BinaryHeapCmp<T>, A: Allocator>(
         }
         HeapCall::Update(v) => {
             heap.update_counted(v, cmp);
+            HeapReply::Done
+        }
+        HeapCall::Rebuild => {
+            heap.rebuild_counted(cmp);
             HeapReply::Done
         }
         HeapCall::Clear => {

@@ -1,13 +1,9 @@
-use Rattle.std.proofs.Common.{◌≡◌, ◌<◌, ◌∷◌, sym, ◌∙◌, subst, refl, arith, rules}
-use Rattle.giputils_heap.specs.Keys.{key_limit}
-use Rattle.giputils_heap.specs.declared.run.HeapCall.{HeapCall}
-use Rattle.giputils_heap.specs.declared.run.HeapCall.TheVariants.{Push}
+use Rattle.std.proofs.Common.{◌∙◌, rules}
 use Rattle.std.proofs.lemmas.Bool.{eq-eqb}
 use Rattle.giputils_heap.specs.Bounds.{up_bound, down_bound, update_bound}
-use Rattle.giputils_heap.proofs.Steps.{stands_where_push_fails, stands_pushed, stands_after_pop, may_pop_so, stands_at_up, stands_at_down, stands_updated, stands_cleared, stands_unchanged, length_of_held, is_nil_of_held, is_nil-iff, push_within, pop_within, key_within}
+use Rattle.giputils_heap.proofs.Steps.{stands_where_push_fails, stands_pushed, stands_after_pop, may_pop_so, stands_at_up, stands_at_down, stands_updated, stands_rebuilt, stands_cleared, stands_unchanged, length_of_held, is_nil_of_held, is_nil-iff, push_within, pop_within, rebuild_within, key_within}
 use Rattle.giputils_heap.proofs.Preorders.{beq-refl}
 use Rattle.giputils_heap.proofs.run.make_call.Goals as goal
-use Rattle.giputils_heap.proofs.run.make_call.Given.{Over}
 
 pub returns-in-Push-clause-stands : goal.returns-in-Push-clause-stands
 returns-in-Push-clause-stands g c p stands =
@@ -85,6 +81,16 @@ returns-in-Update-clause-comparisons g c p stands =
     rw c.in-Update.is
     (key_within g.met.T.HeapKey.one_value stands c.args.cmp.now.comparer c.in-Update.v c.args.cmp.now.count c.update_counted.new.cmp.count update_bound
     c.update_counted.ensures.absent_uncompared c.update_counted.ensures.comparisons)
+
+pub returns-in-Rebuild-clause-stands : goal.returns-in-Rebuild-clause-stands
+returns-in-Rebuild-clause-stands g c p stands =
+    rw c.in-Rebuild.is
+    (stands_rebuilt g.met.T.HeapKey.one_value stands c.args.cmp.now.comparer c.rebuild_counted.new.self c.rebuild_counted.ensures.moved c.rebuild_counted.ensures.in_order)
+
+pub returns-in-Rebuild-clause-comparisons : goal.returns-in-Rebuild-clause-comparisons
+returns-in-Rebuild-clause-comparisons g c p stands =
+    rw c.in-Rebuild.is
+    (rebuild_within g.met.T.HeapKey.one_value stands c.args.cmp.now.comparer c.args.cmp.now.count c.rebuild_counted.new.cmp.count c.rebuild_counted.ensures.comparisons)
 
 pub returns-in-Clear-clause-stands : goal.returns-in-Clear-clause-stands
 returns-in-Clear-clause-stands g c p stands =

@@ -1,4 +1,4 @@
-use Rattle.std.proofs.Common.{◌≡◌, ◌≢◌, ℕ, ◌+◌, ◌<◌, ◌≤◌, length, get_or, Option, Some, None, refl, ap, sym, ◌∙◌, arith}
+use Rattle.std.proofs.Common.{◌≡◌, ◌≢◌, ℕ, get_or, Option, Some, None, refl, ap, sym, ◌∙◌, arith}
 use Rattle.giputils_heap.specs.Table.{place_in}
 use Rattle.giputils_heap.proofs.Places.{number-within, none≢some}
 use Rattle.giputils_heap.proofs.table.forget_all.Goals as goal

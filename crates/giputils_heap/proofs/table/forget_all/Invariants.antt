@@ -1,4 +1,4 @@
-use Rattle.std.proofs.Common.{◌≡◌, ℕ, ◌<◌, ◌≤◌, length, get_or, Some}
+use Rattle.std.proofs.Common.{◌≡◌, ℕ, ◌≤◌, length, Some}
 use Rattle.giputils_heap.specs.Table.{place_in}
 use Rattle.giputils_heap.proofs.table.forget_all.Given as goal
 
