@@ -8,9 +8,10 @@ use Rattle.std.proofs.lemmas.Bool.{and_from, cases_Bool, false≢true, eqb-true,
 use Rattle.std.proofs.lemmas.Bool.Decides.{nat_tests}
 use Rattle.std.proofs.lemmas.List.{get_or-set_other, get_or-set_same}
 use Rattle.giputils_heap.specs.Keys.{same_key}
-use Rattle.giputils_heap.specs.Relations.{AgreesExcept, HasRisen, HasFallen}
+use Rattle.giputils_heap.specs.Relations.{AgreesExcept, HasRisen, HasFallen, HasNoTies}
 use Rattle.giputils_heap.specs.Comparers.{reverse_of, rank_of, by_number, by_rank}
 use Rattle.giputils_heap.specs.Laws.{IsTotalPreorder}
+use Rattle.giputils_heap.proofs.Greatest.{HasNoTies-everywhere}
 use Rattle.giputils_heap.proofs.Preorders.{beq-refl, list_all-always}
 
 -- a pair of a rank and a number is at least another still where its rank rises, or where the other's falls
@@ -45,6 +46,13 @@ module _ {T : Type 0} where
     -- nor are there by rank
     pub by_rank-tie : (ranks : List ℕ) (x y : T) → IsTrue (by_rank number ranks x y) → IsTrue (by_rank number ranks y x) → number x ≡ number y
     by_rank-tie ranks x y xy yx = grind (arith, nat_tests)
+
+    -- so on no keys
+    pub HasNoTies-by_number : (keys : List T) → HasNoTies number (by_number number) keys
+    HasNoTies-by_number keys = HasNoTies-everywhere number (by_number number) by_number-tie keys
+
+    pub HasNoTies-by_rank : (ranks : List ℕ) (keys : List T) → HasNoTies number (by_rank number ranks) keys
+    HasNoTies-by_rank ranks keys = HasNoTies-everywhere number (by_rank number ranks) (by_rank-tie ranks) keys
 
     -- what follows of each key that is kept
     list_all-kept : (p q : T → Bool) → ((k : T) → p k ≡ true → q k ≡ true) → (keys : List T) → list_all q (filter p keys) ≡ true

@@ -6,7 +6,7 @@ use Rattle.giputils_heap.specs.Comparers.{by_number, reverse_of, by_rank}
 use Rattle.giputils_heap.specs.Bounds.{floor_log2}
 use Rattle.giputils_heap.specs.Record.{Entry, start, answers_from, is_steady, keeps_counts_from}
 use Rattle.giputils_heap.specs.Laws.{is_descending}
-use Rattle.giputils_heap.specs.Relations.{agrees_except, HasRisen, HasFallen}
+use Rattle.giputils_heap.specs.Relations.{agrees_except, has_no_ties, HasRisen, HasFallen}
 use Rattle.giputils_heap.specs.declared.run.HeapCall.{HeapCall}
 use Rattle.giputils_heap.specs.declared.run.HeapCall.TheVariants.{Push, Pop, Up, Down, Update, Rebuild, Clear, Len, IsEmpty}
 use Rattle.giputils_heap.specs.declared.run.HeapReply.{HeapReply}
@@ -384,6 +384,13 @@ has_risen = refl
 
 has_not_fallen : HasFallen 0 (at_least (ranked (1 ∷ 3 ∷ 4 ∷ []))) (at_least (ranked (5 ∷ 3 ∷ 4 ∷ []))) (0 ∷ 1 ∷ 2 ∷ []) → ⊥
 has_not_fallen fallen = false≢true fallen
+
+-- of keys 0 to 2 no two tie by number, and any two where each is at least any
+no_ties_by_number : has_no_ties number (at_least greater) (0 ∷ 1 ∷ 2 ∷ []) ≡ true
+no_ties_by_number = refl
+
+all_tie : has_no_ties number (at_least either) (0 ∷ 1 ∷ 2 ∷ []) ≡ false
+all_tie = refl
 
 -- ---- steady steps, and keys listed downward
 

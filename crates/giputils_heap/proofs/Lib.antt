@@ -1,5 +1,6 @@
 pub mod CallBounds
 pub mod Comparisons
+pub mod Greatest
 pub mod HoldAlike
 pub mod KeySets
 pub mod Levels

@@ -12,7 +12,7 @@ beq-refl true = refl
 beq-refl false = refl
 
 -- what two facts give
-chain_of : (a b c : Bool) → (a ≡ true → b ≡ true → c ≡ true) → (not (a && b) || c) ≡ true
+pub chain_of : (a b c : Bool) → (a ≡ true → b ≡ true → c ≡ true) → (not (a && b) || c) ≡ true
 chain_of true true c follows = follows refl refl
 chain_of true false c follows = refl
 chain_of false b c follows = refl
