@@ -23,6 +23,13 @@ impl Generator {
         self.0.next_u32()
     }
 
+    /// A word, made of the next two numbers, the first of them above the second.
+    #[inline]
+    pub fn draw_word(&mut self) -> u64 {
+        let high = u64::from(self.draw());
+        (high << 32) | u64::from(self.draw())
+    }
+
     /// A number below `bound`, made of the next one.
     #[inline]
     pub fn below(&mut self, bound: usize) -> usize
@@ -30,8 +37,18 @@ impl Generator {
         requires fits { bound ≤ 2 ^ 32 }
         ensures { result < bound }
     {
-        ((u64::from(self.draw()) * bound as u64) >> 32) as usize
+        scaled(self.draw(), bound)
     }
+}
+
+/// A drawn number as one below `bound`.
+#[inline]
+pub fn scaled(drawn: u32, bound: usize) -> usize
+    requires positive { 0 < bound }
+    requires fits { bound ≤ 2 ^ 32 }
+    ensures { result < bound }
+{
+    ((u64::from(drawn) * bound as u64) >> 32) as usize
 }
 
 /// A checksum of 64-bit words, FNV-1a taken a word at a time. `{}` writes 16 hexadecimal digits.

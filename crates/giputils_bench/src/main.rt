@@ -6,6 +6,7 @@
 //! status 3.
 #![tactic(auto)]
 
+mod bits;
 mod common;
 mod galloc;
 mod heap;
@@ -13,11 +14,20 @@ mod heap;
 use anyhow::{Context, bail};
 use common::{Checksum, Generator};
 use heap::Repair;
-use std::alloc::{AllocError, Global};
+use std::alloc::Global;
 use std::env;
 use std::process::ExitCode;
 
-const WORKLOADS: [&str; 5] = ["heapsort", "vsids", "vsids_up", "decrease", "galloc"];
+const WORKLOADS: [&str; 8] = [
+    "heapsort",
+    "vsids",
+    "vsids_up",
+    "decrease",
+    "galloc",
+    "bits_push",
+    "bits_eq",
+    "bits_get",
+];
 
 fn main(rt: HostRuntime) -> anyhow::Result<ExitCode> {
     let alloc = rt.alloc();
@@ -53,7 +63,7 @@ fn repeat(
     size: u32,
     seed: u64,
     reps: u64,
-) -> Result<Option<Checksum>, AllocError> {
+) -> anyhow::Result<Option<Checksum>> {
     let mut checksum = Checksum::new();
     for rep in 0..reps {
         let mut rng = Generator::new(seed.wrapping_add(rep));
@@ -63,6 +73,9 @@ fn repeat(
             "vsids_up" => heap::vsids(alloc, size, Repair::Up, &mut rng, &mut checksum)?,
             "decrease" => heap::decrease(alloc, size, &mut rng, &mut checksum)?,
             "galloc" => galloc::galloc(alloc, size, &mut rng, &mut checksum)?,
+            "bits_push" => bits::push(alloc, size, &mut rng, &mut checksum)?,
+            "bits_eq" => bits::eq(alloc, size, &mut rng, &mut checksum)?,
+            "bits_get" => bits::get(alloc, size, &mut rng, &mut checksum)?,
             _ => return Ok(None),
         }
     }

@@ -2,18 +2,40 @@
 
 use giputils_bits::bitvec::BitVec;
 use giputils_refusing::{Refusing, refuse_each};
+use rand_core::Rng;
 use rand_pcg::Pcg32;
+
+// The first number of the generator with seed 42 and stream 54.
+const FIRST_DRAWN: u32 = 0xa15c_02b7;
 
 fn is_filled(memory: &Refusing) -> bool {
     BitVec::from_elem(memory, 129, true).is_ok()
+}
+
+fn is_zero_made(memory: &Refusing) -> bool {
+    BitVec::zero(memory, 65).is_ok()
+}
+
+fn is_ones_made(memory: &Refusing) -> bool {
+    BitVec::ones(memory, 65).is_ok()
+}
+
+fn is_one_made(memory: &Refusing) -> bool {
+    BitVec::one(memory, 65).is_ok()
 }
 
 fn is_numbered(memory: &Refusing) -> bool {
     BitVec::from_usize(memory, 70, 5).is_ok()
 }
 
+// Where memory is refused, tells so only if nothing was drawn.
 fn is_drawn(memory: &Refusing) -> bool {
-    BitVec::new_rand(memory, 2, &mut Pcg32::new(42, 54)).is_ok()
+    let mut rng = Pcg32::new(42, 54);
+    BitVec::new_rand(memory, 2, &mut rng).is_ok() || rng.next_u32() != FIRST_DRAWN
+}
+
+fn is_collected(memory: &Refusing) -> bool {
+    BitVec::from(memory, [true; 65]).is_ok()
 }
 
 fn is_cloned(memory: &Refusing) -> bool {
@@ -46,8 +68,12 @@ fn each_request_of_a_bit_vector_is_refused_in_turn(rt: HostRuntime) {
     let alloc = rt.alloc();
     let outcomes = [
         ("from_elem", refuse_each(alloc, is_filled), 1),
+        ("zero", refuse_each(alloc, is_zero_made), 1),
+        ("ones", refuse_each(alloc, is_ones_made), 1),
+        ("one", refuse_each(alloc, is_one_made), 1),
         ("from_usize", refuse_each(alloc, is_numbered), 1),
         ("new_rand", refuse_each(alloc, is_drawn), 1),
+        ("from", refuse_each(alloc, is_collected), 1),
         ("clone", refuse_each(alloc, is_cloned), 2),
         ("extend", refuse_each(alloc, is_extended), 1),
         ("push", refuse_each(alloc, is_bit_pushed), 1),

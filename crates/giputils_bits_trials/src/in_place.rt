@@ -39,19 +39,40 @@ fn up_to_64_bits_are_pushed_without_memory(rt: HostRuntime) -> Result<(), Fail> 
     Ok(())
 }
 
-#[test]
-fn a_longer_vector_is_used_in_place(rt: HostRuntime) -> Result<(), Fail> {
-    let memory = Refusing::from(rt.alloc(), 2);
-    let mut bits = BitVec::ones(&memory, 65)?;
-    assert!(rt; bits.is_ones() && bits.get(64) && bits == bits);
-    bits.set(64, false);
+// Makes a vector of `len` times true, and then each call on it that takes no memory. Tells whether the answers were right.
+fn is_used(memory: &Refusing, len: usize) -> bool {
+    let Ok(mut bits) = BitVec::from_elem(memory, len, true) else {
+        return false;
+    };
+    let first = (len > 0).then_some(true);
+    let mut right = bits.len() == len
+        && bits.words().len() == bits.word_len()
+        && bits.is_empty() == (len == 0)
+        && bits.try_bool().is_some() == (len == 1)
+        && bits == bits
+        && bits.iter().len() == len
+        && bits.iter().next() == first
+        && bits.iter().next_back() == first;
     bits.hash(&mut DefaultHasher::new());
-    assert_eq!(rt; (bits.words().len(), bits.to_usize()), (2, usize::MAX));
-    assert!(rt; !bits.is_empty() && !bits.is_zero() && !bits.is_one() && bits.try_bool().is_none());
-    assert_eq!(rt; bits.iter().rev().count(), 65);
-    assert_eq!(rt; bits.into_iter().count(), 65);
-    assert_eq!(rt; memory.requests(), 1);
-    Ok(())
+    if len > 0 {
+        right &= bits.is_ones() && !bits.is_zero() && bits.is_one() == (len == 1);
+        bits.set(len - 1, false);
+        right &= !bits.get(len - 1);
+    }
+    bits.clear();
+    right
+        && bits.push_word(7).is_ok()
+        && bits.to_usize() == 7
+        && bits.into_iter().next() == Some(true)
+}
+
+#[test]
+fn a_vector_is_used_in_place(rt: HostRuntime) {
+    for (len, requests) in [(0, 0), (1, 0), (64, 0), (65, 1)] {
+        let memory = Refusing::from(rt.alloc(), requests + 1);
+        let outcome = (is_used(&memory, len), memory.requests());
+        assert_eq!(rt; outcome, (true, requests), "{len} bits");
+    }
 }
 
 #[test]

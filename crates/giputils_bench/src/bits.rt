@@ -1,0 +1,108 @@
+//! Workloads of the bit vectors.
+ghost use Rattle.std.specs.Prelude.{◌≡◌, ◌<◌, ◌^◌, length, IfOk};
+
+use crate::common::{Checksum, Generator, scaled};
+use giputils_bits::bitvec::{BitVec, BitVecError};
+use std::alloc::Global;
+
+// How often two vectors are compared.
+const COMPARISONS: u32 = 64;
+
+/// Pushes `size` drawn bits one at a time, and mixes how many are true.
+pub fn push(
+    alloc: Global,
+    size: u32,
+    rng: &mut Generator,
+    checksum: &mut Checksum,
+) -> Result<(), BitVecError> {
+    let mut bits = BitVec::new(alloc);
+    let mut drawn = 0;
+    for i in 0..size {
+        if i % 32 == 0 {
+            drawn = rng.draw();
+        }
+        bits.push(drawn % 2 == 1)?;
+        drawn >>= 1;
+    }
+    checksum.mix(count_true(&bits));
+    Ok(())
+}
+
+/// Compares a drawn vector with a copy, turns one bit of the copy, compares again and turns it back, and mixes which bit
+/// and both answers.
+pub fn eq(
+    alloc: Global,
+    size: u32,
+    rng: &mut Generator,
+    checksum: &mut Checksum,
+) -> Result<(), BitVecError> {
+    let bits = vector(alloc, size, rng)?;
+    let mut copy = bits.clone()?;
+    if size == 0 {
+        return Ok(());
+    }
+    for _ in 0..COMPARISONS {
+        let i = rng.below(size as usize);
+        let equal = bits == copy;
+        copy.set(i, !copy.get(i));
+        let still_equal = bits == copy;
+        copy.set(i, !copy.get(i));
+        checksum.mix(4 * i as u64 + 2 * u64::from(equal) + u64::from(still_equal));
+    }
+    Ok(())
+}
+
+/// Reads a drawn bit and sets another, four times as often as there are bits, and mixes what was read and the words.
+pub fn get(
+    alloc: Global,
+    size: u32,
+    rng: &mut Generator,
+    checksum: &mut Checksum,
+) -> Result<(), BitVecError> {
+    let mut bits = vector(alloc, size, rng)?;
+    let mut read: u64 = 0;
+    for _ in 0..4 * u64::from(size) {
+        let (first, second) = (rng.draw(), rng.draw());
+        let bit = bits.get(scaled(first, size as usize));
+        read = read.rotate_left(1) ^ u64::from(bit);
+        bits.set(scaled(second, size as usize), (first ^ second) % 2 == 1);
+    }
+    checksum.mix(read);
+    mix_words(&bits, checksum);
+    Ok(())
+}
+
+// A vector of `size` drawn bits. The last word is drawn whole.
+fn vector(alloc: Global, size: u32, rng: &mut Generator) -> Result<BitVec, BitVecError>
+    ensures { IfOk result (λ bits. length bits ≡ size) }
+{
+    let mut bits = BitVec::new(alloc);
+    for _ in 0..size / 64 {
+        bits.push_word(rng.draw_word())?;
+    }
+    if size % 64 > 0 {
+        let mut word = rng.draw_word();
+        for _ in 0..size % 64 {
+            bits.push(word % 2 == 1)?;
+            word >>= 1;
+        }
+    }
+    Ok(bits)
+}
+
+// How many bits are true.
+fn count_true(bits: &BitVec) -> u64
+    requires { length bits.now < 2 ^ 32 }
+{
+    let mut count = 0;
+    for bit in bits {
+        count += u64::from(bit);
+    }
+    count
+}
+
+fn mix_words(bits: &BitVec, checksum: &mut Checksum) {
+    for word in bits.words() {
+        checksum.mix(*word);
+    }
+}

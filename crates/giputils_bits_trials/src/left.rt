@@ -1,0 +1,105 @@
+//! What stands in a vector that was refused memory as it grew.
+
+use giputils_bits::bitvec::BitVec;
+use giputils_refusing::{Refusing, refuse_each};
+use std::test::Fail;
+
+// The three bits that a vector begins with.
+const FIRST: usize = 0b101;
+
+// Then come these 64 bits, again and again, whose last three are the first three: so each full word is `FULL`.
+const ITEMS: usize = 0xa123_4567_89ab_cdef;
+
+const FULL: u64 = 0x091a_2b3c_4d5e_6f7d;
+
+// How often the 64 bits come.
+const TIMES: usize = 9;
+
+// The vector that has the first three bits alone.
+fn first(memory: &Refusing) -> BitVec<&Refusing> {
+    let mut bits = BitVec::new(memory);
+    for bit in [true, false, true] {
+        if bits.push(bit).is_err() {
+            break;
+        }
+    }
+    bits
+}
+
+// Whether these are the first `len` of the bits.
+fn stands(bits: &BitVec<&Refusing>, len: usize) -> bool {
+    if bits.len() != len {
+        return false;
+    }
+    for (k, word) in bits.words().iter().enumerate() {
+        let wanted = if k < len / 64 { FULL } else { FIRST as u64 };
+        if *word != wanted {
+            return false;
+        }
+    }
+    true
+}
+
+// Where a bit is refused, tells so only if those before it stand.
+fn is_pushed(memory: &Refusing) -> bool {
+    let mut bits = first(memory);
+    for time in 0..TIMES {
+        for i in 0..64_u32 {
+            if bits.push((ITEMS >> i) % 2 == 1).is_err() {
+                return i != 61 || !stands(&bits, 64 * time + 64);
+            }
+        }
+    }
+    stands(&bits, 64 * TIMES + 3)
+}
+
+// Where a word is refused, tells so only if the words before it stand.
+fn is_word_pushed(memory: &Refusing) -> bool {
+    let mut bits = first(memory);
+    for time in 0..TIMES {
+        if bits.push_word(ITEMS as u64).is_err() {
+            return !stands(&bits, 64 * time + 3);
+        }
+    }
+    stands(&bits, 64 * TIMES + 3)
+}
+
+// Where the items of an `extend` are refused, tells so only if those stand that fill the last word.
+fn is_extended(memory: &Refusing) -> bool {
+    let Ok(items) = BitVec::from_usize(memory, 64, ITEMS) else {
+        return false;
+    };
+    let mut bits = first(memory);
+    for time in 0..TIMES {
+        if bits.extend(&items).is_err() {
+            return !stands(&bits, 64 * time + 64);
+        }
+    }
+    stands(&bits, 64 * TIMES + 3)
+}
+
+// How often a growing vector asks is open, but it is oftener than once.
+#[test]
+fn what_came_before_a_refusal_stands(rt: HostRuntime) {
+    let alloc = rt.alloc();
+    let outcomes = [
+        ("push", refuse_each(alloc, is_pushed)),
+        ("push_word", refuse_each(alloc, is_word_pushed)),
+        ("extend", refuse_each(alloc, is_extended)),
+    ];
+    for (call, outcome) in outcomes {
+        assert!(rt;
+            outcome.is_ok_and(|requests| requests > 1),
+            "{call}: {outcome:?}"
+        );
+    }
+}
+
+#[test]
+fn a_vector_stands_where_its_clone_is_refused(rt: HostRuntime) -> Result<(), Fail> {
+    let memory = Refusing::from(rt.alloc(), 2);
+    let bits = BitVec::ones(&memory, 65)?;
+    assert_eq!(rt; (bits.clone().is_ok(), memory.requests()), (false, 2));
+    assert_eq!(rt; bits.words(), [u64::MAX, 1].as_slice());
+    Ok(())
+}
