@@ -1,0 +1,4 @@
+mod Falling
+mod Outcomes
+mod Pushes
+mod Renamed
