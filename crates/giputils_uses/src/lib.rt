@@ -2,9 +2,11 @@
 //! run by a test.
 #![tactic(auto)]
 
+pub mod activity;
 pub mod compaction;
 pub mod drain;
 pub mod last;
 pub mod look;
 pub mod report;
 pub mod sorting;
+pub mod timers;

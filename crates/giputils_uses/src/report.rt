@@ -16,6 +16,7 @@ use std::fmt;
 use std::time::Duration;
 
 /// An average with its name.
+#[derive(Clone, Copy)]
 pub struct Labelled<'a> {
     /// What the numbers are.
     pub label: &'a str,
