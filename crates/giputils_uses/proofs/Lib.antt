@@ -1,6 +1,7 @@
 mod Actives
 mod Deadlines
 mod Falling
+mod Multiples
 mod Outcomes
 mod Pushes
 mod Renamed

@@ -8,5 +8,6 @@ pub mod drain;
 pub mod last;
 pub mod look;
 pub mod report;
+pub mod sieve;
 pub mod sorting;
 pub mod timers;
