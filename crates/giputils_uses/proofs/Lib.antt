@@ -1,0 +1,8 @@
+mod Actives
+mod Deadlines
+mod Falling
+mod Multiples
+mod Outcomes
+mod Pushes
+mod Renamed
+mod Ranks

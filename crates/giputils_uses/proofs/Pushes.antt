@@ -1,0 +1,27 @@
+-- What a push leaves held.
+use Rattle.std.proofs.Common.{◌≡◌, ℕ, List, ◌∷◌, refl, sym, subst, ◌∙◌, ⊎_elim}
+use Rattle.std.specs.List.Sorted.{IsPermutation}
+use Rattle.std.proofs.lemmas.Bool.{cases_Bool}
+use Rattle.std.proofs.lemmas.Map.Steps.{list_any_congr}
+use Rattle.giputils_heap.specs.Keys.{same_key, is_held, IsHeld, IsAbsent, AreDistinct, HoldAlike}
+use Rattle.giputils_heap.proofs.HoldAlike.{HoldAlike-IsPermutation, AreDistinct-cons}
+use Rattle.giputils_heap.proofs.KeySets.{same_key-equiv, AreDistinct-IsPermutation}
+
+module _ {T : Type 0} (number : T → ℕ) where
+  -- a held key adds none
+  HoldAlike-held : (v : T) (keys : List T) → IsHeld number keys v → HoldAlike number keys (v ∷ keys)
+  HoldAlike-held v keys held q =
+      ⊎_elim (λ same. rw same (list_any_congr (same_key-equiv number) q v keys same ∙ held)) (λ other. rw other refl) (cases_Bool (same_key number q v))
+
+  module _ (v : T) (old new : List T) (stays : IsHeld number old v → new ≡ old) (added : IsAbsent number old v → IsPermutation (v ∷ old) new) where
+    -- an accepted push leaves the held keys and v
+    pub HoldAlike-pushed : HoldAlike number new (v ∷ old)
+    HoldAlike-pushed =
+        ⊎_elim (λ held. subst (λ keys. HoldAlike number keys (v ∷ old)) (sym (stays held)) (HoldAlike-held v old held))
+        (λ absent. λ q. sym (HoldAlike-IsPermutation number (v ∷ old) new (added absent) q)) (cases_Bool (is_held number old v))
+
+    -- each once
+    pub AreDistinct-pushed : AreDistinct number old → AreDistinct number new
+    AreDistinct-pushed distinct =
+        ⊎_elim (λ held. subst (AreDistinct number) (sym (stays held)) distinct)
+        (λ absent. AreDistinct-IsPermutation number (v ∷ old) new (added absent) (AreDistinct-cons number v old distinct absent)) (cases_Bool (is_held number old v))

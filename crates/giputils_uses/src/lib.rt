@@ -1,0 +1,13 @@
+//! Uses of the libraries, as a caller writes them: a module a topic, each use proved on their public contracts alone and
+//! run by a test.
+#![tactic(auto)]
+
+pub mod activity;
+pub mod compaction;
+pub mod drain;
+pub mod last;
+pub mod look;
+pub mod report;
+pub mod sieve;
+pub mod sorting;
+pub mod timers;

@@ -1,0 +1,73 @@
+//! A queue of timers: the earliest deadline first.
+ghost use Rattle.std.specs.Prelude.{◌≡◌, ◌<◌, [], ◌∷◌, length, replicate, slice_set, IfSome, IfNone, IfOk, OnOk, OnErr};
+ghost use Rattle.std.specs.List.Sorted.{IsPermutation};
+ghost use Rattle.giputils_heap.specs.Keys.{HoldAlike};
+ghost use Rattle.giputils_uses.specs.Clock.{IsEarliest};
+
+#[cfg(test)]
+mod tests;
+
+use giputils_heap::{BinaryHeap, ByRank};
+use std::alloc::{AllocError, Allocator, Global};
+use std::cmp::Reverse;
+use std::marker::Model;
+
+/// Timers by their numbers, each with a deadline.
+///
+/// Shows a queue whose least rank goes first (`Reverse(ByRank(..))`), and a key whose rank is set to anything: `update` puts
+/// it where it belongs.
+#[derive(Drop)]
+pub struct Timers<A: Allocator = Global> {
+    running: BinaryHeap<u16, A>,
+    deadlines: Vec<u32, A>,
+}
+
+impl<A: Allocator> Model for Timers<A> {
+    ghost use Rattle.giputils_heap.specs.Comparers.{by_rank, reverse_of};
+    ghost use Rattle.giputils_heap.specs.InOrder.{IsInOrder};
+    ghost use Rattle.giputils_uses.specs.Clock.{Clock};
+
+    ghost Value = { Clock };
+
+    ghost view = { λ t. record { running = t.running; deadlines = t.deadlines.items } };
+
+    ghost invariant = { λ t. IsInOrder (reverse_of (by_rank (λ k. k) t.deadlines.items)) t.running };
+}
+
+impl<A: Allocator + Copy> Timers<A> {
+    /// So many timers, none of which runs.
+    pub fn new(alloc: A, count: usize) -> Result<Self, AllocError>
+        ensures running { IfOk result (λ t. t.running ≡ []) }
+        ensures deadlines { IfOk result (λ t. t.deadlines ≡ replicate count 0) }
+    {
+        let deadlines = vec![in alloc; 0; count]?;
+        let running = BinaryHeap::new(alloc);
+        Ok(Timers { running, deadlines })
+    }
+
+    /// Sets the deadline of a timer, which runs from then on. One that runs is moved to the new deadline.
+    ///
+    /// # Errors
+    /// `AllocError` where memory for a timer that did not run is refused. It does not run then, and the others do as before.
+    pub fn set(&mut self, timer: u16, deadline: u32) -> Result<(), AllocError>
+        requires { timer < length self.old.deadlines }
+        ensures runs { OnOk result (HoldAlike (λ k. k) self.new.running (timer ∷ self.old.running)) }
+        ensures deadline { self.new.deadlines ≡ slice_set self.old.deadlines timer deadline }
+        ensures refused { OnErr result (IsPermutation self.old.running self.new.running) }
+    {
+        self.deadlines[usize::from(timer)] = deadline;
+        let earliest = Reverse(ByRank(&self.deadlines));
+        self.running.update(timer, &earliest);
+        self.running.push(timer, &earliest)
+    }
+
+    /// Stops a timer with the earliest deadline, and answers it. `None` where none runs.
+    pub fn next(&mut self) -> Option<u16>
+        ensures earliest { IfSome result (IsEarliest self.old) }
+        ensures left { IfSome result (λ timer. IsPermutation self.old.running (timer ∷ self.new.running)) }
+        ensures none { IfNone result (self.old.running ≡ []) }
+        ensures deadlines { self.new.deadlines ≡ self.old.deadlines }
+    {
+        self.running.pop(&Reverse(ByRank(&self.deadlines)))
+    }
+}
