@@ -87,6 +87,28 @@ fn elements_has_each_held_key_once(rt: HostRuntime) -> Result<(), Fail> {
 }
 
 #[test]
+fn no_key_is_not_held(rt: HostRuntime) -> Result<(), Fail> {
+    let mut heap: BinaryHeap<u32> = BinaryHeap::new(rt.alloc());
+    heap.push(7, &ByNumber)?;
+    for key in [6, 8, u32::MAX] {
+        assert!(rt; !heap.contains(key));
+        assert!(rt; !heap.remove(key, &ByNumber));
+    }
+    assert!(rt; heap.contains(7));
+    Ok(())
+}
+
+#[test]
+fn a_heap_shows_as_a_set(rt: HostRuntime) -> Result<(), Fail> {
+    let mut heap: BinaryHeap<u8> = BinaryHeap::new(rt.alloc());
+    for key in [9, 3, 8] {
+        heap.push(key, &ByNumber)?;
+    }
+    assert_eq!(rt; format!(in rt.alloc(); "{heap:?}")?.as_str(), "{9, 3, 8}");
+    Ok(())
+}
+
+#[test]
 fn the_shipped_comparers_tell_the_greater_key(rt: HostRuntime) {
     assert!(rt; ByNumber.gte(2u8, 1));
     assert!(rt; !Reverse(ByNumber).gte(2u8, 1));

@@ -50,7 +50,7 @@ fn a_run_skips_what_is_no_key(rt: HostRuntime) -> Result<(), Fail> {
 
 // Compares by a table of ranks of its own.
 #[derive(Clone, Copy)]
-struct Ranks([u32; 3]);
+struct Ranks([u32; 4]);
 
 impl BinaryHeapCmp<u8> for Ranks {
     ghost at_least = { λ c. by_rank (λ k. k) c.0 };
@@ -62,7 +62,7 @@ impl BinaryHeapCmp<u8> for Ranks {
 
 #[test]
 fn a_run_repairs_a_changed_rank(rt: HostRuntime) -> Result<(), Fail> {
-    let (before, after) = (Ranks([5, 3, 4]), Ranks([1, 3, 4]));
+    let (before, after) = (Ranks([5, 3, 4, 0]), Ranks([1, 3, 4, 0]));
     let mut steps = [
         HeapStep::new(HeapCall::Push(0u8), &before),
         HeapStep::new(HeapCall::Push(1), &before),
@@ -85,6 +85,44 @@ fn a_run_repairs_a_changed_rank(rt: HostRuntime) -> Result<(), Fail> {
     ];
     assert_eq!(rt; replies.as_slice(), wanted.as_slice());
     assert!(rt; steps[3].cmp.count() <= 2);
+    Ok(())
+}
+
+#[test]
+fn a_run_puts_two_changed_ranks_right_by_a_rebuild(rt: HostRuntime) -> Result<(), Fail> {
+    let (before, after) = (Ranks([10, 8, 2, 6]), Ranks([1, 0, 2, 6]));
+    let mut steps = [
+        HeapStep::new(HeapCall::Push(0u8), &before),
+        HeapStep::new(HeapCall::Push(1), &before),
+        HeapStep::new(HeapCall::Push(2), &before),
+        HeapStep::new(HeapCall::Push(3), &before),
+        HeapStep::new(HeapCall::Update(0), &after),
+        HeapStep::new(HeapCall::Update(1), &after),
+        HeapStep::new(HeapCall::Rebuild, &after),
+        HeapStep::new(HeapCall::Pop, &after),
+        HeapStep::new(HeapCall::Pop, &after),
+        HeapStep::new(HeapCall::Pop, &after),
+        HeapStep::new(HeapCall::Pop, &after),
+        HeapStep::new(HeapCall::Pop, &after),
+    ];
+    let replies = heap_run(rt.alloc(), &mut steps)?;
+    let done = HeapReply::Done;
+    let wanted = [
+        done,
+        done,
+        done,
+        done,
+        done,
+        done,
+        done,
+        HeapReply::Popped(Some(3)),
+        HeapReply::Popped(Some(2)),
+        HeapReply::Popped(Some(0)),
+        HeapReply::Popped(Some(1)),
+        HeapReply::Popped(None),
+    ];
+    assert_eq!(rt; replies.as_slice(), wanted.as_slice());
+    assert!(rt; steps[6].cmp.count() <= 8);
     Ok(())
 }
 
