@@ -5,14 +5,19 @@ mod compare;
 mod error;
 mod growth;
 mod iter;
+mod logic;
 mod make;
 mod queries;
+mod run;
 mod storage;
 #[cfg(test)]
 mod tests;
+mod words;
 
 pub use error::BitVecError;
 pub use iter::{IntoIter, Iter};
+pub use logic::{de_morgan, double_not, xor_with_itself};
+pub use run::{BitCall, BitReply, bit_run};
 use std::alloc::{Allocator, Global};
 use std::marker::Model;
 use storage::Storage;
