@@ -13,16 +13,19 @@ mod heap;
 
 use anyhow::{Context, bail};
 use common::{Checksum, Generator};
-use heap::Repair;
+use heap::{Renewal, Repair};
 use std::alloc::Global;
 use std::env;
 use std::process::ExitCode;
 
-const WORKLOADS: [&str; 8] = [
+const WORKLOADS: [&str; 11] = [
     "heapsort",
     "vsids",
     "vsids_up",
     "decrease",
+    "rebuild",
+    "rebuild_by_update",
+    "rebuild_std",
     "galloc",
     "bits_push",
     "bits_eq",
@@ -72,6 +75,13 @@ fn repeat(
             "vsids" => heap::vsids(alloc, size, Repair::Update, &mut rng, &mut checksum)?,
             "vsids_up" => heap::vsids(alloc, size, Repair::Up, &mut rng, &mut checksum)?,
             "decrease" => heap::decrease(alloc, size, &mut rng, &mut checksum)?,
+            "rebuild" => {
+                heap::renewals(alloc, size, Renewal::Rebuild, &mut rng, &mut checksum)?;
+            }
+            "rebuild_by_update" => {
+                heap::renewals(alloc, size, Renewal::Update, &mut rng, &mut checksum)?;
+            }
+            "rebuild_std" => heap::renewals_of_std(alloc, size, &mut rng, &mut checksum)?,
             "galloc" => galloc::galloc(alloc, size, &mut rng, &mut checksum)?,
             "bits_push" => bits::push(alloc, size, &mut rng, &mut checksum)?,
             "bits_eq" => bits::eq(alloc, size, &mut rng, &mut checksum)?,

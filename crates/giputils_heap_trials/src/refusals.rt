@@ -1,5 +1,6 @@
 //! Heaps, and lists of calls of one, that are refused memory.
 
+use crate::comparers::Ranks;
 use giputils_heap::{BinaryHeap, ByNumber, Counting, HeapCall, HeapReply, HeapStep, heap_run};
 use giputils_refusing::{Refusing, refuse_each};
 use std::alloc::AllocError;
@@ -34,17 +35,84 @@ fn is_run(memory: &Refusing) -> bool {
     }
 }
 
+// How many keys are pushed until both the keys and the table of places have grown several times.
+const MANY: u32 = 100;
+
+// Takes all keys out, and tells whether they are those below `count`, greatest first.
+fn pops_all_below(heap: &mut BinaryHeap<u32, &Refusing>, count: u32) -> bool {
+    let mut right = heap.len() == count as usize;
+    for key in (0..count).rev() {
+        right &= heap.contains(key) && heap.pop(&ByNumber) == Some(key);
+    }
+    right && heap.is_empty()
+}
+
+// Where a key is refused, tells so only if those before it are held, in order.
+fn is_filled(memory: &Refusing) -> bool {
+    let mut heap = BinaryHeap::new(memory);
+    for key in 0..MANY {
+        if heap.push(key, &ByNumber).is_err() {
+            return heap.contains(key) || !pops_all_below(&mut heap, key);
+        }
+    }
+    pops_all_below(&mut heap, MANY)
+}
+
+// Pushes four keys, changes the ranks of two of them, and updates these and rebuilds before five pops.
+fn replies_under_changed_ranks(memory: &Refusing) -> Option<Vec<HeapReply<u32>, &Refusing>> {
+    let (before, after) = (Ranks([10, 8, 2, 6]), Ranks([1, 0, 2, 6]));
+    let mut steps = [
+        HeapStep::new(HeapCall::Push(0), &before),
+        HeapStep::new(HeapCall::Push(1), &before),
+        HeapStep::new(HeapCall::Push(2), &before),
+        HeapStep::new(HeapCall::Push(3), &before),
+        HeapStep::new(HeapCall::Update(0), &after),
+        HeapStep::new(HeapCall::Update(1), &after),
+        HeapStep::new(HeapCall::Rebuild, &after),
+        HeapStep::new(HeapCall::Pop, &after),
+        HeapStep::new(HeapCall::Pop, &after),
+        HeapStep::new(HeapCall::Pop, &after),
+        HeapStep::new(HeapCall::Pop, &after),
+        HeapStep::new(HeapCall::Pop, &after),
+    ];
+    heap_run(memory, &mut steps).ok()
+}
+
+// Whether the keys that were not refused come out by the later ranks, and then nothing.
+fn pop_by_later_ranks(replies: &[HeapReply<u32>]) -> bool {
+    let [pushes @ .., _, _, _, first, second, third, fourth, fifth] = replies else {
+        return false;
+    };
+    let mut pops = [first, second, third, fourth, fifth].into_iter();
+    for key in [3, 2, 0, 1] {
+        let is_held = pushes.get(key as usize) == Some(&HeapReply::Done);
+        if is_held && pops.next() != Some(&HeapReply::Popped(Some(key))) {
+            return false;
+        }
+    }
+    pops.all(|reply| *reply == HeapReply::Popped(None))
+}
+
+// Where a key is refused, tells so only if the others come out as they should.
+fn is_run_under_changed_ranks(memory: &Refusing) -> bool {
+    let Some(replies) = replies_under_changed_ranks(memory) else {
+        return false;
+    };
+    replies.contains(&HeapReply::Refused) != pop_by_later_ranks(replies.as_slice())
+}
+
 // How many requests a key takes is open.
 #[test]
 fn each_request_of_a_heap_is_refused_in_turn(rt: HostRuntime) {
     let alloc = rt.alloc();
     let outcomes = [
-        (
-            "push",
-            refuse_each(alloc, |memory| three_keys(memory).is_ok()),
-            1,
-        ),
+        ("push", refuse_each(alloc, is_filled), 4),
         ("heap_run", refuse_each(alloc, is_run), 2),
+        (
+            "heap_run under changed ranks",
+            refuse_each(alloc, is_run_under_changed_ranks),
+            2,
+        ),
     ];
     for (call, outcome, least) in outcomes {
         assert!(rt;
@@ -97,11 +165,20 @@ fn a_heap_pops_repairs_and_pushes_held_keys_in_place(rt: HostRuntime) -> Result<
         heap.down(key, &ByNumber);
         heap.update(key, &ByNumber);
     }
+    heap.rebuild(&ByNumber);
+    heap.rebuild_counted(&mut Counting::new(&ByNumber));
+    let found = (heap.contains(9), heap.contains(u32::MAX), heap.peek());
+    assert_eq!(rt; found, (true, false, Some(9)));
     let lengths = (heap.len(), heap.is_empty(), heap.elements().len());
     let popped = (
         heap.pop(&ByNumber),
         heap.pop_counted(&mut Counting::new(&ByNumber)),
     );
+    let removed = (
+        heap.remove(6, &ByNumber),
+        heap.remove_counted(3, &mut Counting::new(&ByNumber)),
+    );
+    assert_eq!(rt; removed, (false, true));
     heap.clear();
     assert_eq!(rt; (lengths, popped), ((3, false, 3), (Some(9), Some(6))));
     assert_eq!(rt; BinaryHeap::<u32, &Refusing>::new(&memory).len(), 0);
