@@ -5,9 +5,9 @@ use std::test::Fail;
 #[test]
 fn picks_the_most_active(rt: HostRuntime) -> Result<(), Fail> {
     let mut activity = Activity::new(rt.alloc(), 4)?;
-    for variable in [0, 1, 2, 3] {
-        activity.put_back(variable)?;
-    }
+    activity.put_back(0)?;
+    activity.put_back(1)?;
+    activity.put_back(2)?;
     activity.bump(1);
     activity.bump(2);
     activity.bump(1);
