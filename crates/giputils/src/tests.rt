@@ -24,6 +24,12 @@ fn a_heap(rt: HostRuntime) -> Result<(), Fail> {
     ranks[0] = 1;
     heap.update(0, &ByRank(&ranks));
     assert_eq!(rt; heap.pop(&ByRank(&ranks)), Some(2));
+    heap.push(2, &ByRank(&ranks))?;
+    ranks = [7, 9, 2];
+    heap.rebuild(&ByRank(&ranks));
+    assert_eq!(rt; heap.peek(), Some(1));
+    assert!(rt; heap.remove(1, &ByRank(&ranks)));
+    assert!(rt; !heap.contains(1));
     Ok(())
 }
 
@@ -43,6 +49,15 @@ fn a_vector_of_bits(rt: HostRuntime) -> Result<(), Fail> {
     bits.push_word(u64::MAX)?;
     assert_eq!(rt; bits.words(), [18446744073709551613, 7].as_slice());
     assert_eq!(rt; bits.len(), 67);
+    Ok(())
+}
+
+#[test]
+fn logic_of_bits(rt: HostRuntime) -> Result<(), Fail> {
+    let mut twelve = BitVec::from_usize(rt.alloc(), 4, 12)?;
+    let ten = BitVec::from_usize(rt.alloc(), 4, 10)?;
+    twelve &= &ten;
+    assert_eq!(rt; format!(in rt.alloc(); "{twelve} {twelve:x}")?.as_str(), "1000 0x8");
     Ok(())
 }
 
