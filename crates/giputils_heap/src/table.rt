@@ -7,6 +7,7 @@ use crate::key::HeapKey;
 use giputils_base::others::OptionU32;
 
 // The place that the table has of a key.
+#[inline]
 pub fn place_of<T: HeapKey>(places: &[OptionU32], key: T) -> Option<usize>
     ensures { result ≡ place_in places.now (T.number key) }
 {
@@ -17,6 +18,7 @@ pub fn place_of<T: HeapKey>(places: &[OptionU32], key: T) -> Option<usize>
 }
 
 // Writes a key into a place, and the place into the table.
+#[inline]
 pub fn put<T: HeapKey>(keys: &mut [T], places: &mut [OptionU32], place: usize, key: T)
     requires inside { place < length keys.old }
     requires number { T.number key < length places.old }
@@ -30,6 +32,7 @@ pub fn put<T: HeapKey>(keys: &mut [T], places: &mut [OptionU32], place: usize, k
 }
 
 // Writes the place of a key into the table.
+#[inline]
 pub fn remember<T: HeapKey>(places: &mut [OptionU32], key: T, place: usize)
     requires number { T.number key < length places.old }
     requires limit { place < key_limit }
@@ -40,6 +43,7 @@ pub fn remember<T: HeapKey>(places: &mut [OptionU32], key: T, place: usize)
 }
 
 // Takes a key out of the table.
+#[inline]
 pub fn forget<T: HeapKey>(places: &mut [OptionU32], key: T)
     requires number { T.number key < length places.old }
     ensures places { SaysNothing (place_in places.old) (place_in places.new) (T.number key) }
