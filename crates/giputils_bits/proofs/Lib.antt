@@ -12,4 +12,6 @@ mod Replies
 pub mod Runs
 mod SameWords
 mod Taken
+mod Text
 pub mod Words
+mod Writes
