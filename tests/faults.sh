@@ -33,26 +33,34 @@ expect() {
     fi
 }
 
+# NAME STATUS ERROR OUTPUT [ARGUMENT..]: runs the program with these arguments on standard input, and expects this.
+try() {
+    local name=$1 wanted=$2 error=$3 output=$4
+    shift 4
+    "$gip" "$@" > "$work/out" 2> "$work/err"
+    status=$?
+    expect "$name" "$wanted" "$error" "$output"
+}
+
+# NAME LINES [ARGUMENT..]: runs the program on standard input for two seconds at most, and expects so many lines.
+try_large() {
+    local name=$1 lines=$2
+    shift 2
+    timeout 2 "$gip" "$@" > "$work/out" 2> "$work/err"
+    status=$?
+    if [ "$status" = 0 ] && [ "$(wc -l < "$work/out")" = "$lines" ]; then
+        pass "$name within 2 seconds"
+    else
+        fail "$name within 2 seconds (status $status)"
+    fi
+}
+
 printf 'push 1\npush 16\n' > "$work/other_form"
-"$gip" < "$work/other_form" > "$work/out" 2> "$work/err"
-status=$?
-expect "the first line of another form" 2 "line 2: refused" ""
-
-"$gip" < /dev/null > "$work/out" 2> "$work/err"
-status=$?
-expect "an empty input" 0 "" ""
-
-"$gip" < / > "$work/out" 2> "$work/err"
-status=$?
-expect "a read that fails" 2 "input: refused" ""
-
-head -c 1048577 /dev/zero | "$gip" > "$work/out" 2> "$work/err"
-status=$?
-expect "an input of 1048577 bytes" 2 "input: refused" ""
-
-head -c 1048576 /dev/zero | "$gip" > "$work/out" 2> "$work/err"
-status=$?
-expect "an input of 1048576 bytes in one line" 2 "line 1: refused" ""
+try "the first line of another form" 2 "line 2: refused" "" < "$work/other_form"
+try "an empty input" 0 "" "" < /dev/null
+try "a read that fails" 2 "input: refused" "" < /
+try "an input of 1048577 bytes" 2 "input: refused" "" < <(head -c 1048577 /dev/zero)
+try "an input of 1048576 bytes in one line" 2 "line 1: refused" "" < <(head -c 1048576 /dev/zero)
 
 : > "$work/out"
 echo pop | "$gip" > /dev/full 2> "$work/err"
@@ -70,35 +78,40 @@ for limit in $(seq 2000 50 8000); do
 done
 expect "want of memory" 1 "memory: refused" ""
 
-for argument in bits other $'\xff'; do
-    "$gip" "$argument" < "$work/other_form" > "$work/out" 2> "$work/err"
-    status=$?
-    expect "an argument" 2 "usage: gip [bits]" ""
+for argument in other Bits '' $'\xff'; do
+    try "another argument" 2 "usage: gip [bits]" "" "$argument" < "$work/other_form"
+done
+try "an argument more" 2 "usage: gip [bits]" "" bits bits < "$work/other_form"
+
+# Ranks that change at once.
+pushes=$(printf 'rank 0 10\nrank 1 8\nrank 2 2\nrank 3 6\npush 0\npush 1\npush 2\npush 3')
+replies=$(yes ok | head -n 9; printf '3\n2\n0\n1\n')
+try "two ranks that change at once" 0 "" "$replies" < <(printf '%s\nranks 0 1 1 0\npop\npop\npop\npop\n' "$pushes")
+for line in 'ranks' 'ranks 1' 'ranks 1 2 3'; do
+    try "the line $line" 2 "line 1: refused" "" <<< "$line"
 done
 
-# The largest input: as many lines as there can be.
-yes pop | head -n 262144 > "$work/largest"
-yes none | head -n 262144 > "$work/replies"
-timeout 2 "$gip" < "$work/largest" > "$work/out" 2> "$work/err"
-status=$?
-if [ "$status" = 0 ] && cmp -s "$work/out" "$work/replies"; then
-    pass "262144 lines within 2 seconds"
+# Lines of bits.
+try "lines of bits" 0 "" "$(printf '01101 0xd 5\n[] [] 0\n000 0x0 3')" bits < <(printf '01101\n[]\n000\n')
+digits=1$(printf '0%.0s' {1..64})
+try "more bits than a word has" 0 "" "$digits 0x10000000000000000 65" bits <<< "$digits"
+try "the first line without bits" 2 "line 2: refused" "" bits < <(printf '0\n012\n')
+try "no line of bits" 0 "" "" bits < /dev/null
+try "a script as lines of bits" 2 "line 1: refused" "" bits < "$work/other_form"
+try "an input of 1048577 digits" 2 "input: refused" "" bits < <(yes 1 | tr -d '\n' | head -c 1048577)
+
+# The largest inputs: as many lines as there can be, and as many bytes of other lines.
+try_large "262144 lines" 262144 < <(yes pop | head -n 262144)
+if [ "$(sort -u "$work/out")" = none ]; then
+    pass "each reply to them"
 else
-    fail "262144 lines within 2 seconds (status $status)"
+    fail "each reply to them"
 fi
-
-# As many bytes of other lines as an input may have.
-yes 'rank 0 5' | head -n 116508 > "$work/ranks"
-yes "$(printf 'push 3\npop')" | head -n 190650 > "$work/mixed"
-for input in ranks mixed; do
-    timeout 2 "$gip" < "$work/$input" > "$work/out" 2> "$work/err"
-    status=$?
-    if [ "$status" = 0 ] && [ "$(wc -l < "$work/out")" = "$(wc -l < "$work/$input")" ]; then
-        pass "a largest input of $input within 2 seconds"
-    else
-        fail "a largest input of $input within 2 seconds (status $status)"
-    fi
-done
+try_large "a largest input of rank" 116508 < <(yes 'rank 0 5' | head -n 116508)
+try_large "a largest input of ranks" 95325 < <(yes 'ranks 0 50' | head -n 95325)
+try_large "a largest input of mixed lines" 190650 < <(yes "$(printf 'push 3\npop')" | head -n 190650)
+try_large "524288 lines of bits" 524288 bits < <(yes 1 | head -n 524288)
+try_large "1048576 bits" 1 bits < <(yes 1 | tr -d '\n' | head -c 1048576)
 
 echo "$passed passed, $failed failed"
 [ "$failed" -eq 0 ]

@@ -1,7 +1,9 @@
 -- The definitions on worked examples, computed by the check.
-use Rattle.std.specs.Prelude.{◌≡◌, ℕ, List, [], ◌∷◌, ◌++◌, codes, Option, Some, None, refl, true, false}
+use Rattle.std.specs.Prelude.{◌≡◌, ℕ, List, [], ◌∷◌, ◌++◌, codes, Option, Some, None, refl, true, false, replicate}
 use Rattle.std.specs.Fmt.{digits}
 use Rattle.gip_lines.specs.Fault.{fault_text, fault_status}
+use Rattle.std.specs.Str.{bytes_eq}
+use Rattle.gip_lines.specs.BitText.{bits_reply, bits_text}
 use Rattle.gip_lines.specs.BitLines.{bits_of_line, bits_of_lines, first_line_without_bits}
 use Rattle.gip_lines.specs.Lines.{number_up_to, pairs_of, line_of, lines_of, first_other_line}
 use Rattle.gip_lines.specs.Texts.{line_feed, space, pieces, text_lines}
@@ -237,6 +239,33 @@ the_first_line_without_bits_is_told = refl
 
 each_line_writes_its_bits : bits_of_lines (text_of (codes "10" ∷ codes "[]" ∷ [])) ≡ (false ∷ true ∷ []) ∷ [] ∷ []
 each_line_writes_its_bits = refl
+
+-- ---- the texts of bits
+
+bits_have_their_texts_and_their_number : bits_text (bits_of_lines (text_of (codes "01101" ∷ codes "[]" ∷ codes "000" ∷ [])))
+    ≡ text_of (codes "01101 0xd 5" ∷ codes "[] [] 0" ∷ codes "000 0x0 3" ∷ [])
+unfolding digits
+bits_have_their_texts_and_their_number = refl
+
+-- a 1 and 64 zeros
+abbrev long_line : List ℕ
+long_line = codes "1" ++ replicate 64 48
+
+a_bit_past_a_word_counts : bits_text (bits_of_lines long_line) ≡ text_of ((long_line ++ codes " 0x10000000000000000 65") ∷ [])
+unfolding digits
+a_bit_past_a_word_counts = refl
+
+bits_from_first_to_last_are_refused : bytes_eq (bits_reply (true ∷ false ∷ [])) (codes "10 0x1 2") ≡ false
+unfolding digits
+bits_from_first_to_last_are_refused = refl
+
+capital_digits_are_refused : bytes_eq (bits_reply (false ∷ true ∷ false ∷ true ∷ [])) (codes "1010 0xA 4") ≡ false
+unfolding digits
+capital_digits_are_refused = refl
+
+a_reply_left_out_is_refused : bytes_eq (bits_text ((true ∷ []) ∷ [] ∷ [])) (text_of (codes "1 0x1 1" ∷ [])) ≡ false
+unfolding digits
+a_reply_left_out_is_refused = refl
 
 -- ---- the faults
 

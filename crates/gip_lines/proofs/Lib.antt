@@ -1,3 +1,4 @@
+mod BinaryTexts
 mod Digits
 mod Examples
 mod Greatest

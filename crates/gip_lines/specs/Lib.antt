@@ -1,4 +1,5 @@
 pub mod BitLines
+pub mod BitText
 pub mod Fault
 pub mod Input
 pub mod Lines

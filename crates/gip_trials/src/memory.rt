@@ -1,25 +1,32 @@
-//! Scripts that are refused memory.
+//! Both tasks with each request for memory refused in turn.
 
 use gip_lines::watched::Watched;
-use gip_lines::{GipFault, script};
-use giputils_refusing::{Refusing, refuse_each};
+use gip_lines::{GipFault, bits, script};
+use giputils_refusing::{Refusing, refuse_each, refuse_from_each};
 use std::alloc::Global;
 use std::test::Fail;
 
-const SCRIPT: &[u8] = b"push 3\npush 9\nlen\npop\npop\n";
+const SCRIPT: &[u8] = b"rank 9 5\npush 3\npush 9\nranks 9 1 3 2\nlen\npop\npop\n";
 
-const REPLIES: &[u8] = b"ok\nok\n2\n9\n3\n";
+const REPLIES: &[u8] = b"ok\nok\nok\nok\n2\n3\n9\n";
 
-const REPLIES_WITHOUT_3: &[u8] = b"memory\nok\n1\n9\nnone\n";
+const REPLIES_WITHOUT_3: &[u8] = b"ok\nmemory\nok\nok\n1\n9\nnone\n";
 
-const REPLIES_WITHOUT_9: &[u8] = b"ok\nmemory\n1\n3\nnone\n";
+const REPLIES_WITHOUT_9: &[u8] = b"ok\nok\nmemory\nok\n1\n3\nnone\n";
 
-// How a run of the script ends.
+// A line of bits that are kept in memory, and two of others.
+const BITS: &[u8] =
+    b"10000000000000000000000000000000000000000000000000000000000000000\n[]\n01101\n";
+
+const TEXTS: &[u8] =
+    b"10000000000000000000000000000000000000000000000000000000000000000 0x10000000000000000 65\n[] [] 0\n01101 0xd 5\n";
+
+// How a run ends.
 #[derive(Clone, Copy, PartialEq, Debug)]
 enum Ending {
-    // With the replies to a script that is refused nothing.
+    // With the output where nothing is refused.
     Served,
-    // With the replies to one that is refused the first key, or the second.
+    // With the replies to a script that is refused the first key, or the second.
     WithoutKey,
     // With want of memory, and nothing written.
     Unwritten,
@@ -56,5 +63,39 @@ fn a_refusal_stops_a_script_unwritten_or_costs_one_key(rt: HostRuntime) -> Resul
         );
     }
     assert!(rt; costs_a_key && stops);
+    Ok(())
+}
+
+// Shows the bits. Their texts are written to memory that is not refused.
+fn ending_of_bits(alloc: Global, memory: &Refusing) -> Ending {
+    let mut reader = Watched::new(BITS);
+    let mut writer = Watched::new(Vec::new(alloc));
+    let outcome = bits(memory, &mut reader, &mut writer);
+    let written = writer.device().as_slice();
+    match outcome {
+        Ok(()) if written == TEXTS => Ending::Served,
+        Err(GipFault::Memory) if written.is_empty() => Ending::Unwritten,
+        _ => Ending::Other,
+    }
+}
+
+// Bits are collected, which asks again where a request is refused: so each run is refused the later requests too.
+#[test]
+fn a_refusal_stops_bits_unwritten(rt: HostRuntime) -> Result<(), Fail> {
+    let alloc = rt.alloc();
+    let refused = refuse_from_each(
+        alloc,
+        |memory| ending_of_bits(alloc, memory) == Ending::Served,
+    )?;
+    for n in 1..=refused {
+        let ending = ending_of_bits(alloc, &Refusing::from(alloc, n));
+        assert_eq!(rt; ending, Ending::Unwritten, "from request {n} on");
+        let ending = ending_of_bits(alloc, &Refusing::nth(alloc, n));
+        assert!(rt;
+            ending == Ending::Unwritten || ending == Ending::Served,
+            "request {n}: {ending:?}"
+        );
+    }
+    assert!(rt; refused > 0);
     Ok(())
 }

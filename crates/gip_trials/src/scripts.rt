@@ -1,20 +1,13 @@
 //! Scripts from memory to memory.
 
+use crate::tasks::{README_REPLIES, README_SCRIPT};
 use gip_lines::watched::Watched;
-use gip_lines::{GipFault, INPUT_LIMIT, script};
-use std::io::{self, Read};
+use gip_lines::{GipFault, script};
 use std::test::Fail;
-
-/// The script that the README shows.
-pub const README_SCRIPT: &[u8] =
-    b"push 3\npush 2\npush 4\npush 5\npush 1\npop\npop\nlen\nclear\npop\n";
-
-/// Its replies.
-pub const README_REPLIES: &[u8] = b"ok\nok\nok\nok\nok\n5\n4\n3\nok\nnone\n";
 
 #[test]
 fn answers_scripts(rt: HostRuntime) -> Result<(), Fail> {
-    let table: [(&[u8], &[u8]); 10] = [
+    let table: [(&[u8], &[u8]); 13] = [
         (README_SCRIPT, README_REPLIES),
         (b"", b""),
         (b"push 003\npop", b"ok\n3\n"),
@@ -34,6 +27,19 @@ fn answers_scripts(rt: HostRuntime) -> Result<(), Fail> {
             b"ok\nok\nok\n0\nok\nok\n3\n",
         ),
         (b"rank 15 4294967295\npush 15\npop", b"ok\nok\n15\n"),
+        (
+            b"rank 0 10\nrank 1 8\nrank 2 2\nrank 3 6\npush 0\npush 1\npush 2\npush 3\nranks 0 1 1 0\npop\npop\npop\npop\n",
+            b"ok\nok\nok\nok\nok\nok\nok\nok\nok\n3\n2\n0\n1\n",
+        ),
+        // Of one key the last pair stands, and a later `rank` counts on.
+        (
+            b"push 0\npush 1\npush 2\nranks 1 9 2 4 1 3\nrank 0 5\npop\npop\npop\nranks 0 0\n",
+            b"ok\nok\nok\nok\nok\n0\n2\n1\nok\n",
+        ),
+        (
+            b"push 14\npush 15\nranks 0 0 1 0 2 0 3 0 4 0 5 0 6 0 7 0 8 0 9 0 10 0 11 0 12 0 13 0 14 2 15 1\npop\npop",
+            b"ok\nok\nok\n14\n15\n",
+        ),
     ];
     for (input, replies) in table {
         let mut reader = Watched::new(input);
@@ -46,7 +52,7 @@ fn answers_scripts(rt: HostRuntime) -> Result<(), Fail> {
 
 #[test]
 fn refuses_the_first_line_of_another_form(rt: HostRuntime) {
-    let table: [(&[u8], usize); 16] = [
+    let table: [(&[u8], usize); 23] = [
         (b"push 1\npush 16\n", 2),
         (b"push  3", 1),
         (b"pop ", 1),
@@ -63,25 +69,22 @@ fn refuses_the_first_line_of_another_form(rt: HostRuntime) {
         (b"rank 1 2 3", 1),
         (b"up 16", 1),
         (b"push 18446744073709551617", 1),
+        (b"ranks", 1),
+        (b"ranks 1", 1),
+        (b"ranks 1 2 3", 1),
+        (b"ranks 1 2 ", 1),
+        (b"ranks 1 2 16 0", 1),
+        (b"ranks 1 4294967296", 1),
+        (
+            b"pop\nranks 0 0 1 0 2 0 3 0 4 0 5 0 6 0 7 0 8 0 9 0 10 0 11 0 12 0 13 0 14 2 15 1 0 0",
+            2,
+        ),
     ];
     for (input, number) in table {
         let mut reader = Watched::new(input);
         let mut writer = Watched::new(Vec::new(rt.alloc()));
         let outcome = script(rt.alloc(), &mut reader, &mut writer);
         assert_eq!(rt; outcome, Err(GipFault::Line(number)), "at {input:?}");
-        assert!(rt; writer.device().is_empty());
-    }
-}
-
-#[test]
-fn refuses_an_input_that_is_too_long(rt: HostRuntime) {
-    let limit = INPUT_LIMIT as u64;
-    for (len, fault) in [(limit, GipFault::Line(1)), (limit + 1, GipFault::Input)] {
-        let mut reader = Watched::new(io::repeat(b'0').take(len));
-        let mut writer = Watched::new(Vec::new(rt.alloc()));
-        let outcome = script(rt.alloc(), &mut reader, &mut writer);
-        assert_eq!(rt; outcome, Err(fault), "{len} bytes");
-        assert!(rt; !reader.failed());
         assert!(rt; writer.device().is_empty());
     }
 }

@@ -1,0 +1,28 @@
+-- The input is what the reader had left, and its lines are those that were answered.
+use Rattle.std.proofs.Common.{sym, ap, ◌∙◌, subst}
+use Rattle.std.proofs.lemmas.Result.{on_ok_weaker}
+use Rattle.std.specs.Io.KnownBytes.{Appends}
+use Rattle.gip_lines.specs.BitLines.{bits_of_line, AreBits, bits_of_lines}
+use Rattle.gip_lines.specs.BitText.{bits_text}
+use Rattle.gip_lines.proofs.Readings.{HasForm-read, said_in-read}
+use Rattle.gip_lines.proofs.WholeInput.{whole_input}
+use Rattle.gip_lines.proofs.vectors.bits.Goals as goal
+
+pub returns-clause-are_bits : goal.returns-clause-are_bits
+returns-clause-are_bits g c =
+    let read = rw c.deref.ensures.value at c.in_ok-lines.ensures.ok in
+    on_ok_weaker _
+    (λ _. whole_input AreBits _ _ _ c.in_ok-input.ensures.input c.in_ok-input.ensures.end (HasForm-read bits_of_line c.in_ok-input.input.items c.in_ok-lines.lines.items read))
+    c.write_all.ensures.ok
+
+pub returns-clause-written : goal.returns-clause-written
+returns-clause-written g c =
+    let old = g.W.Write.contents c.args.writer.now.device in
+    let new = g.W.Write.contents c.write_all.new.writer.device in
+    let read = rw c.deref.ensures.value at c.in_ok-lines.ensures.ok in
+    let said = said_in-read bits_of_line c.in_ok-input.input.items c.in_ok-lines.lines.items read in
+    let same = c.deref-3.ensures.value ∙ c.in_ok-text.ensures.ok ∙ ap bits_text (c.deref-2.ensures.value ∙ sym said) in
+    on_ok_weaker _
+    (λ appended. whole_input (λ input. Appends old new (bits_text (bits_of_lines input))) _ _ _
+    c.in_ok-input.ensures.input c.in_ok-input.ensures.end (subst (Appends old new) same appended))
+    c.write_all.ensures.ok

@@ -1,0 +1,66 @@
+//! The vectors of bits that lines write, as text.
+ghost use Rattle.std.specs.Prelude.{◌≡◌, ◌++◌, ◌∷◌, [], length, false, Some, IfOk, IfErr, OnOk};
+ghost use Rattle.giputils_bits.specs.Text.{hex_text};
+ghost use Rattle.gip_lines.specs.BitText.{bits_reply, bits_text};
+ghost use Rattle.gip_lines.specs.Texts.{line_feed};
+
+use crate::bit_lines::BitLine;
+use crate::fault::GipFault;
+use giputils_bits::bitvec::{BitCall, BitReply, BitVec, bit_run};
+use std::alloc::Allocator;
+use std::fmt;
+use std::io::Write;
+
+// The replies to some lines, a line each.
+pub(crate) fn text_of<A: Allocator + Copy>(
+    alloc: A,
+    lines: &[BitLine<A>],
+) -> Result<Vec<u8, A>, GipFault>
+    ensures ok { IfOk result (λ text. text.items ≡ bits_text lines.now) }
+    ensures err { IfErr result (λ fault. fault ≡ GipFault.Memory) }
+{
+    let mut text = Vec::new(alloc);
+    for line in lines {
+        let (vector, len) = vector_of(alloc, line.as_slice())?;
+        write_vector(&mut text, &vector, len)?;
+    }
+    Ok(text)
+}
+
+// The vector of some bits, and how many they are.
+fn vector_of<A: Allocator + Copy>(alloc: A, bits: &[bool]) -> Result<(BitVec<A>, usize), GipFault>
+    ensures ok { IfOk result (λ made. (made.0 ≡ bits.now) × (made.1 ≡ length bits.now)) }
+    ensures err { IfErr result (λ fault. fault ≡ GipFault.Memory) }
+{
+    let calls: [BitCall<'_, A>; 2] = [BitCall::Extend(bits), BitCall::Len];
+    let (vector, replies) = bit_run(alloc, &calls)?;
+    match (replies[0], replies[1]) {
+        (BitReply::Done, BitReply::Number(len)) => Ok((vector, len)),
+        _ => Err(GipFault::Memory),
+    }
+}
+
+// Writes the texts of a vector and its length, in a line.
+fn write_vector<A: Allocator>(
+    text: &mut Vec<u8, A>,
+    vector: &BitVec<A>,
+    len: usize,
+) -> Result<(), GipFault>
+    requires { len ≡ length vector.now }
+    ensures ok { OnOk result (text.new.items ≡ text.old.items ++ (bits_reply vector.now ++ line_feed ∷ [])) }
+    ensures err { IfErr result (λ fault. fault ≡ GipFault.Memory) }
+{
+    writeln!(text, "{vector} {} {len}", Hex(vector)).map_err(|_| GipFault::Memory)
+}
+
+// The hexadecimal text of a vector, for a format string.
+#[derive(Drop)]
+struct Hex<'a, A: Allocator>(&'a BitVec<A>);
+
+impl<A: Allocator> fmt::Display for Hex<'_, A> {
+    ghost output = { λ hex. Some (hex_text false hex.0.now) };
+
+    fn fmt<W: fmt::Write>(&self, f: &mut fmt::Formatter<W>) -> fmt::Result {
+        fmt::LowerHex::fmt(self.0, f)
+    }
+}

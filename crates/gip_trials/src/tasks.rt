@@ -1,0 +1,51 @@
+//! The two tasks of the program, and an input of each with its output.
+ghost use Rattle.std.specs.Prelude.{◌≡◌, false};
+
+use gip_lines::watched::Watched;
+use gip_lines::{GipFault, bits, script};
+use std::alloc::Allocator;
+use std::io::{Read, Write};
+
+/// What the program is asked for.
+#[derive(Clone, Copy, Debug)]
+pub enum Task {
+    Script,
+    Bits,
+}
+
+impl Task {
+    /// Does the task.
+    pub fn run<A: Allocator + Copy, R: Read, W: Write>(
+        self,
+        alloc: A,
+        reader: &mut Watched<R>,
+        writer: &mut Watched<W>,
+    ) -> Result<(), GipFault>
+        requires reader { reader.old.has_failed ≡ false }
+        requires writer { writer.old.has_failed ≡ false }
+    {
+        match self {
+            Task::Script => script(alloc, reader, writer),
+            Task::Bits => bits(alloc, reader, writer),
+        }
+    }
+}
+
+/// The script that the README shows.
+pub const README_SCRIPT: &[u8] =
+    b"push 3\npush 2\npush 4\npush 5\npush 1\npop\npop\nlen\nclear\npop\n";
+
+/// Its replies.
+pub const README_REPLIES: &[u8] = b"ok\nok\nok\nok\nok\n5\n4\n3\nok\nnone\n";
+
+/// Some lines of bits.
+pub const BITS: &[u8] = b"01101\n[]\n000\n";
+
+/// Their texts.
+pub const BITS_TEXTS: &[u8] = b"01101 0xd 5\n[] [] 0\n000 0x0 3\n";
+
+/// Each task with its input and its output.
+pub const TASKS: [(Task, &[u8], &[u8]); 2] = [
+    (Task::Script, README_SCRIPT, README_REPLIES),
+    (Task::Bits, BITS, BITS_TEXTS),
+];
