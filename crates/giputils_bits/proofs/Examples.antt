@@ -1,12 +1,14 @@
 -- The definitions, computed on worked examples.
-use Rattle.std.specs.Prelude.{◌≡◌, ◌≢◌, ℕ, ◌+◌, ◌^◌, Bool, true, false, List, [], ◌∷◌, ◌++◌, length, replicate, None, refl}
+use Rattle.std.specs.Prelude.{◌≡◌, ◌≢◌, ℕ, ◌+◌, ◌^◌, Bool, true, false, List, [], ◌∷◌, ◌++◌, length, replicate, codes, None, refl}
 use Rattle.std.specs.Borrow.{Bor}
-use Rattle.std.proofs.Common.{arith, ap}
+use Rattle.std.proofs.Common.{arith, ap, get_or}
 use Rattle.giputils_bits.specs.declared.bitvec.error.BitVecError.TheVariants.{Memory}
 use Rattle.giputils_bits.specs.declared.bitvec.run.BitCall.TheVariants.{Push, PushWord, SetBit, GetBit, Clear, Extend, Len, ToUsize, IsZero, IsOne, Bool as BoolCall, TryBool}
 use Rattle.giputils_bits.specs.declared.bitvec.run.BitReply.TheVariants.{Done, Refused, Skipped, Bit, MaybeBit, Number}
 use Rattle.giputils_bits.specs.BitRun.{Answers}
 use Rattle.giputils_bits.specs.Bits.{digits_of, value_of, words_of, one_of}
+use Rattle.giputils_bits.specs.Text.{binary_text, hex_text}
+use Rattle.std.specs.Fmt.{digits}
 use Rattle.giputils_bits.specs.Logic.{and_of, or_of, xor_of, not_of}
 
 -- a list, lent
@@ -135,3 +137,54 @@ not_all_items_are_kept_at_a_refusal run = absurd (omega (arith, run.0.0))
 
 a_reply_too_few : ¬ (Answers {A = ℕ} [] (Push true ∷ Len ∷ []) (Done ∷ []) (true ∷ []))
 a_reply_too_few run = run.1
+
+-- texts
+
+no_place_has_brackets : binary_text [] ≡ codes "[]"
+no_place_has_brackets = refl
+
+the_last_place_comes_first : binary_text (true ∷ false ∷ true ∷ true ∷ false ∷ []) ≡ codes "01101"
+the_last_place_comes_first = refl
+
+no_place_has_brackets_in_hexadecimal : hex_text false [] ≡ codes "[]"
+no_place_has_brackets_in_hexadecimal = refl
+
+zeros_have_one_digit : hex_text false (replicate 65 false) ≡ codes "0x0"
+zeros_have_one_digit = refl
+
+ten_places : hex_text false (digits_of 10 12345) ≡ codes "0x39"
+unfolding digits_of digits
+ten_places = refl
+
+a_zero_last_word_has_a_digit : hex_text false (digits_of 128 12345) ≡ codes "0x00000000000003039"
+unfolding digits_of digits
+a_zero_last_word_has_a_digit = refl
+
+inner_words_have_sixteen_digits : hex_text false (digits_of 64 7 ++ digits_of 64 1) ≡ codes "0x10000000000000007"
+unfolding digits_of digits
+inner_words_have_sixteen_digits = refl
+
+small_letters : hex_text false (replicate 65 true) ≡ codes "0x1ffffffffffffffff"
+unfolding digits
+small_letters = refl
+
+capital_letters : hex_text true (replicate 65 true) ≡ codes "0x1FFFFFFFFFFFFFFFF"
+unfolding digits
+capital_letters = refl
+
+two_lists_of_one_text : hex_text false (digits_of 128 18446744073709551615) ≡ hex_text false (digits_of 70 18446744073709551615)
+unfolding digits_of digits
+two_lists_of_one_text = refl
+
+-- what is no text
+
+the_first_place_first : binary_text (true ∷ false ∷ true ∷ true ∷ false ∷ []) ≢ codes "10110"
+the_first_place_first e = absurd (omega (arith, ap (λ t. get_or t 0 0) e))
+
+inner_words_without_zeros : hex_text false (digits_of 64 7 ++ digits_of 64 1) ≢ codes "0x17"
+unfolding digits_of digits
+inner_words_without_zeros e = cc
+
+a_leading_zero : hex_text false (digits_of 10 12345) ≢ codes "0x039"
+unfolding digits_of digits
+a_leading_zero e = cc

@@ -11,4 +11,6 @@ mod Rewritten
 mod Replies
 pub mod Runs
 mod Taken
+mod Text
 pub mod Words
+mod Writes

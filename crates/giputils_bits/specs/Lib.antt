@@ -5,3 +5,5 @@ pub mod Extended
 pub mod Hashed
 pub mod Logic
 pub mod Places
+pub mod Spelt
+pub mod Text

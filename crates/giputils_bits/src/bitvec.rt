@@ -12,6 +12,7 @@ mod run;
 mod storage;
 #[cfg(test)]
 mod tests;
+mod text;
 mod words;
 
 pub use error::BitVecError;
@@ -21,6 +22,7 @@ pub use run::{BitCall, BitReply, bit_run};
 use std::alloc::{Allocator, Global};
 use std::marker::Model;
 use storage::Storage;
+pub use text::{Hex, binary_texts_tell, hex_texts_do_not_tell};
 
 /// A vector of bits, seen as a list of truth values.
 ///

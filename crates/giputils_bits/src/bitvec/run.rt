@@ -9,7 +9,7 @@ use super::{BitVec, BitVecError};
 use std::alloc::{AllocError, Allocator, Global};
 
 /// A call on a bit vector, with its arguments. What it borrows may be of another allocator.
-#[derive_where(Clone, Copy)]
+#[derive_where(Clone, Copy, Debug)]
 pub enum BitCall<'a, A: Allocator = Global> {
     /// [`BitVec::push`] of this bit.
     Push(bool),
