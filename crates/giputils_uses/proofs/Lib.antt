@@ -4,5 +4,6 @@ mod Falling
 mod Multiples
 mod Outcomes
 mod Pushes
-mod Renamed
 mod Ranks
+mod Renamed
+mod Searches

@@ -7,6 +7,7 @@ pub mod compaction;
 pub mod drain;
 pub mod last;
 pub mod look;
+pub mod paths;
 pub mod report;
 pub mod sieve;
 pub mod sorting;
