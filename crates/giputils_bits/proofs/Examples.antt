@@ -1,7 +1,19 @@
 -- The definitions, computed on worked examples.
-use Rattle.std.specs.Prelude.{◌≡◌, ◌≢◌, ◌+◌, ◌^◌, true, false, [], ◌∷◌, ◌++◌, length, replicate, refl}
-use Rattle.std.proofs.Common.{arith, ap}
+use Rattle.std.specs.Prelude.{◌≡◌, ◌≢◌, ℕ, ◌+◌, ◌^◌, Bool, true, false, List, [], ◌∷◌, ◌++◌, length, replicate, codes, None, refl}
+use Rattle.std.specs.Borrow.{Bor}
+use Rattle.std.proofs.Common.{arith, ap, get_or}
+use Rattle.giputils_bits.specs.declared.bitvec.error.BitVecError.TheVariants.{Memory}
+use Rattle.giputils_bits.specs.declared.bitvec.run.BitCall.TheVariants.{Push, PushWord, SetBit, GetBit, Clear, Extend, Len, ToUsize, IsZero, IsOne, Bool as BoolCall, TryBool}
+use Rattle.giputils_bits.specs.declared.bitvec.run.BitReply.TheVariants.{Done, Refused, Skipped, Bit, MaybeBit, Number}
+use Rattle.giputils_bits.specs.BitRun.{Answers}
 use Rattle.giputils_bits.specs.Bits.{digits_of, value_of, words_of, one_of}
+use Rattle.giputils_bits.specs.Text.{binary_text, hex_text}
+use Rattle.std.specs.Fmt.{digits}
+use Rattle.giputils_bits.specs.Logic.{and_of, or_of, xor_of, not_of}
+
+-- a list, lent
+abbrev lent : List Bool → Bor (List Bool)
+lent bits = record { ref_ptr = (0, 0); now = bits }
 
 -- numbers of lists
 
@@ -78,3 +90,101 @@ a_true_place_past_the_length e = cc
 words_in_the_other_order : words_of (digits_of 64 7 ++ digits_of 64 9) ≢ 9 ∷ 7 ∷ []
 unfolding words_of digits_of
 words_in_the_other_order e = cc
+
+-- logic
+
+and_of_five : and_of (true ∷ false ∷ true ∷ true ∷ false ∷ []) (true ∷ true ∷ true ∷ false ∷ false ∷ []) ≡ true ∷ false ∷ true ∷ false ∷ false ∷ []
+and_of_five = refl
+
+or_of_five : or_of (true ∷ false ∷ true ∷ true ∷ false ∷ []) (true ∷ true ∷ true ∷ false ∷ false ∷ []) ≡ true ∷ true ∷ true ∷ true ∷ false ∷ []
+or_of_five = refl
+
+xor_of_five : xor_of (true ∷ false ∷ true ∷ true ∷ false ∷ []) (true ∷ true ∷ true ∷ false ∷ false ∷ []) ≡ false ∷ true ∷ false ∷ true ∷ false ∷ []
+xor_of_five = refl
+
+not_of_five : not_of (true ∷ false ∷ true ∷ true ∷ false ∷ []) ≡ false ∷ true ∷ false ∷ false ∷ true ∷ []
+not_of_five = refl
+
+not_of_ones_has_no_true_place : not_of (replicate 65 true) ≡ replicate 65 false
+not_of_ones_has_no_true_place = refl
+
+-- runs
+
+a_run : Answers {A = ℕ} [] (Push true ∷ BoolCall ∷ GetBit 1 ∷ Clear ∷ PushWord 5 ∷ Len ∷ ToUsize ∷ IsOne ∷ TryBool ∷ SetBit 0 false ∷ IsZero ∷ BoolCall ∷ []) (Done ∷ Bit true ∷ Skipped ∷ Done ∷ Done ∷ Number 64 ∷ Number 5 ∷ Bit false ∷ MaybeBit None ∷ Done ∷ Bit false ∷ Skipped ∷ []) (digits_of 64 4)
+unfolding digits_of words_of
+a_run = (omega arith, (refl, (refl, (refl, (omega arith, (refl, (refl, (refl, (refl, (refl, (refl, (refl, refl))))))))))))
+
+a_word_wherever_the_bits_end : Answers {A = ℕ} [] (Push true ∷ PushWord 5 ∷ Len ∷ ToUsize ∷ []) (Done ∷ Done ∷ Number 65 ∷ Number 11 ∷ []) (true ∷ digits_of 64 5)
+unfolding digits_of words_of
+a_word_wherever_the_bits_end = (omega arith, (omega arith, (refl, (refl, refl))))
+
+some_items_are_kept : Answers {A = ℕ} (replicate 64 false) (Extend (lent (true ∷ true ∷ [])) ∷ []) (Refused Memory 0 ∷ []) (replicate 64 false)
+some_items_are_kept = ((omega arith, (omega arith, omega arith)), refl)
+
+-- what is no run
+
+a_read_past_the_end_is_skipped : ¬ (Answers {A = ℕ} [] (GetBit 0 ∷ []) (Bit false ∷ []) [])
+a_read_past_the_end_is_skipped run = let never = run.0 in cc
+
+a_call_whose_condition_holds_is_made : ¬ (Answers {A = ℕ} (true ∷ []) (BoolCall ∷ []) (Skipped ∷ []) (true ∷ []))
+a_call_whose_condition_holds_is_made run = let never = run.0 in cc
+
+nothing_is_refused_within_a_word : ¬ (Answers {A = ℕ} [] (Push true ∷ []) (Refused Memory 0 ∷ []) [])
+nothing_is_refused_within_a_word run = absurd (omega (arith, run.0.0.0))
+
+not_all_items_are_kept_at_a_refusal : ¬ (Answers {A = ℕ} (replicate 64 false) (Extend (lent (true ∷ [])) ∷ []) (Refused Memory 1 ∷ []) (replicate 64 false ++ true ∷ []))
+not_all_items_are_kept_at_a_refusal run = absurd (omega (arith, run.0.0))
+
+a_reply_too_few : ¬ (Answers {A = ℕ} [] (Push true ∷ Len ∷ []) (Done ∷ []) (true ∷ []))
+a_reply_too_few run = run.1
+
+-- texts
+
+no_place_has_brackets : binary_text [] ≡ codes "[]"
+no_place_has_brackets = refl
+
+the_last_place_comes_first : binary_text (true ∷ false ∷ true ∷ true ∷ false ∷ []) ≡ codes "01101"
+the_last_place_comes_first = refl
+
+no_place_has_brackets_in_hexadecimal : hex_text false [] ≡ codes "[]"
+no_place_has_brackets_in_hexadecimal = refl
+
+zeros_have_one_digit : hex_text false (replicate 65 false) ≡ codes "0x0"
+zeros_have_one_digit = refl
+
+ten_places : hex_text false (digits_of 10 12345) ≡ codes "0x39"
+unfolding digits_of digits
+ten_places = refl
+
+a_zero_last_word_has_a_digit : hex_text false (digits_of 128 12345) ≡ codes "0x00000000000003039"
+unfolding digits_of digits
+a_zero_last_word_has_a_digit = refl
+
+inner_words_have_sixteen_digits : hex_text false (digits_of 64 7 ++ digits_of 64 1) ≡ codes "0x10000000000000007"
+unfolding digits_of digits
+inner_words_have_sixteen_digits = refl
+
+small_letters : hex_text false (replicate 65 true) ≡ codes "0x1ffffffffffffffff"
+unfolding digits
+small_letters = refl
+
+capital_letters : hex_text true (replicate 65 true) ≡ codes "0x1FFFFFFFFFFFFFFFF"
+unfolding digits
+capital_letters = refl
+
+two_lists_of_one_text : hex_text false (digits_of 128 18446744073709551615) ≡ hex_text false (digits_of 70 18446744073709551615)
+unfolding digits_of digits
+two_lists_of_one_text = refl
+
+-- what is no text
+
+the_first_place_first : binary_text (true ∷ false ∷ true ∷ true ∷ false ∷ []) ≢ codes "10110"
+the_first_place_first e = absurd (omega (arith, ap (λ t. get_or t 0 0) e))
+
+inner_words_without_zeros : hex_text false (digits_of 64 7 ++ digits_of 64 1) ≢ codes "0x17"
+unfolding digits_of digits
+inner_words_without_zeros e = cc
+
+a_leading_zero : hex_text false (digits_of 10 12345) ≢ codes "0x039"
+unfolding digits_of digits
+a_leading_zero e = cc

@@ -4,6 +4,13 @@ mod Errors
 mod Examples
 mod Gathered
 mod Kept
+pub mod Logic
 mod Patterns
 mod Places
+mod Rewritten
+mod Replies
+pub mod Runs
+mod Taken
+mod Text
 pub mod Words
+mod Writes

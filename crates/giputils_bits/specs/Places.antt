@@ -46,3 +46,9 @@ pub record AppendsWord (n : ℕ) (old new : List ℕ) (word : ℕ) : Type 0 wher
   pub count : length new ≡ word_count (n + 64)
   pub before : (j : ℕ) → j < n → place new j ≡ place old j
   pub after : (j : ℕ) → n ≤ j → place new j ≡ place (word ∷ []) (j - n)
+
+-- each of the first n words has become what f makes of its index and of it
+pub record Rewrites (f : ℕ → ℕ → ℕ) (old new : List ℕ) (n : ℕ) : Type 0 where
+  pub count : length new ≡ length old
+  pub done : (k : ℕ) → k < n → slice_index new k ≡ f k (slice_index old k)
+  pub rest : (k : ℕ) → n ≤ k → slice_index new k ≡ slice_index old k

@@ -5,17 +5,24 @@ mod compare;
 mod error;
 mod growth;
 mod iter;
+mod logic;
 mod make;
 mod queries;
+mod run;
 mod storage;
 #[cfg(test)]
 mod tests;
+mod text;
+mod words;
 
 pub use error::BitVecError;
 pub use iter::{IntoIter, Iter};
+pub use logic::{de_morgan, double_not, xor_with_itself};
+pub use run::{BitCall, BitReply, bit_run};
 use std::alloc::{Allocator, Global};
 use std::marker::Model;
 use storage::Storage;
+pub use text::{Hex, binary_texts_tell, hex_texts_do_not_tell};
 
 /// A vector of bits, seen as a list of truth values.
 ///

@@ -1,6 +1,9 @@
 //! The words of a bit vector: one in the value itself, or several in a `Gvec`.
-ghost use Rattle.std.specs.Prelude.{◌≡◌, ◌<◌, [], ◌∷◌, ◌++◌, length, slice_set, OnErr, OnOk, IfOk, IsOk};
+ghost use Rattle.std.specs.Prelude.{◌≡◌, ◌<◌, [], ◌∷◌, ◌++◌, length, slice_index, slice_set, OnErr, OnOk, IfOk, IsOk};
+ghost use Rattle.std.specs.Int.{bit_not, w64};
+ghost use Rattle.giputils_bits.specs.Places.{Rewrites};
 
+use super::words::{WordOp, join_words, negate_words};
 use giputils_base::gvec::Gvec;
 use std::alloc::{AllocError, Allocator};
 use std::marker::Model;
@@ -98,6 +101,33 @@ impl<A: Allocator> Storage<A> {
             heap.push(word)?;
         }
         Ok(())
+    }
+
+    // Joins each word with the other at its place.
+    #[inline]
+    pub fn join<O: WordOp>(&mut self, others: &[u64])
+        requires { length self.old ≡ length others.now }
+        ensures { Rewrites (λ k word. O.made word (slice_index others.now k)) self.old self.new (length self.old) }
+    {
+        let heap: &mut [u64] = &mut self.heap;
+        if heap.is_empty() {
+            self.inline = O::apply(self.inline, others[0]);
+        } else {
+            join_words::<O>(heap, others);
+        }
+    }
+
+    // Turns each digit of each word round.
+    #[inline]
+    pub fn negate(&mut self)
+        ensures { Rewrites (λ k word. bit_not w64 word) self.old self.new (length self.old) }
+    {
+        let heap: &mut [u64] = &mut self.heap;
+        if heap.is_empty() {
+            self.inline = !self.inline;
+        } else {
+            negate_words(heap);
+        }
     }
 
     // Back to one word, which is zero. The memory is kept for the next growth.

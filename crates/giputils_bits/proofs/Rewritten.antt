@@ -1,0 +1,138 @@
+-- Words that are rewritten one by one, and the lists that they keep then.
+use Rattle.std.proofs.Common.{◌≡◌, ℕ, zero, suc, ◌+◌, ◌-◌, ◌*◌, ◌/◌, ◌%◌, ◌^◌, ◌<◌, min, Bool, true, false, ◌&&◌, not, eqb, List, length, get_or, set, refl, sym, ap, ◌∙◌, arith, inl, inr, w64}
+use Rattle.std.specs.Prelude.{bit_and, bit_xor}
+use Rattle.std.specs.Int.{bit_at, bit_not}
+use Rattle.std.proofs.lemmas.List.{length-set, get_or-set_same, get_or-set_other}
+use Rattle.std.proofs.lemmas.Nat.Bits.{bit_at-lt, bit_at_and, bit_at_xor, bit_at_not}
+use Rattle.std.proofs.lemmas.Bool.{cases_eq, cases_lt}
+use Rattle.giputils_bits.specs.Bits.{has_digit}
+use Rattle.giputils_bits.specs.Logic.{zip_with, xor, not_of}
+use Rattle.giputils_bits.specs.Places.{place, bits_of, IsPacked, Rewrites}
+use Rattle.giputils_bits.proofs.Digits.{has_digit-ones, has_digit-ones_above}
+use Rattle.giputils_bits.proofs.Logic.{length-zip_with, get_or-zip_with, length-not_of, get_or-not_of}
+use Rattle.giputils_bits.proofs.Places.{place_is, place-past, kept-length, length-bits_of, get_or-bits_of, bits_of_is}
+
+-- ---- one digit
+and_test : (a b : ℕ) → a < 2 → b < 2 → eqb (min a b) 1 ≡ (eqb a 1 && eqb b 1)
+and_test zero zero p q = refl
+and_test zero (suc zero) p q = refl
+and_test (suc zero) zero p q = refl
+and_test (suc zero) (suc zero) p q = refl
+and_test (suc (suc a)) b p q = absurd (omega arith)
+and_test a (suc (suc b)) p q = absurd (omega arith)
+
+xor_test : (a b : ℕ) → a < 2 → b < 2 → eqb ((a + b) % 2) 1 ≡ xor (eqb a 1) (eqb b 1)
+xor_test zero zero p q = refl
+xor_test zero (suc zero) p q = refl
+xor_test (suc zero) zero p q = refl
+xor_test (suc zero) (suc zero) p q = refl
+xor_test (suc (suc a)) b p q = absurd (omega arith)
+xor_test a (suc (suc b)) p q = absurd (omega arith)
+
+not_test : (a : ℕ) → a < 2 → eqb (1 - a) 1 ≡ not (eqb a 1)
+not_test zero p = refl
+not_test (suc zero) p = refl
+not_test (suc (suc a)) p = absurd (omega arith)
+
+pub has_digit-and : (a b i : ℕ) → has_digit (bit_and a b) i ≡ (has_digit a i && has_digit b i)
+has_digit-and a b i = ap (λ x. eqb x 1) (bit_at_and a b i) ∙ and_test (bit_at a i) (bit_at b i) (bit_at-lt a i) (bit_at-lt b i)
+
+pub has_digit-xor : (a b i : ℕ) → has_digit (bit_xor a b) i ≡ xor (has_digit a i) (has_digit b i)
+has_digit-xor a b i = ap (λ x. eqb x 1) (bit_at_xor a b i) ∙ xor_test (bit_at a i) (bit_at b i) (bit_at-lt a i) (bit_at-lt b i)
+
+pub has_digit-not : (a i : ℕ) → a < 2 ^ 64 → i < 64 → has_digit (bit_not w64 a) i ≡ not (has_digit a i)
+has_digit-not a i fits within = ap (λ x. eqb x 1) (bit_at_not w64 a i fits within) ∙ not_test (bit_at a i) (bit_at-lt a i)
+
+and_true : (b : Bool) → (b && true) ≡ b
+and_true true = refl
+and_true false = refl
+
+and_false : (b : Bool) → (b && false) ≡ false
+and_false true = refl
+and_false false = refl
+
+-- ---- the loop
+pub Rewrites-none : (f : ℕ → ℕ → ℕ) (old : List ℕ) → Rewrites f old old 0
+Rewrites-none f old = record { count = refl; done = λ k l. absurd (omega arith); rest = λ k l. refl }
+
+pub Rewrites-more : (f : ℕ → ℕ → ℕ) (old new : List ℕ) (i w : ℕ) → i < length new → w ≡ f i (get_or new i 0) → Rewrites f old new i → Rewrites f old (set new i w) (i + 1)
+Rewrites-more f old new i w h e r = record {
+  count = length-set new i w ∙ r.count;
+  done = λ k l. elim (cases_eq k i) [
+    | inl q ↦ rw (q, get_or-set_same new i w 0 h) (e ∙ ap (f i) (r.rest i (omega arith)))
+    | inr m ↦ get_or-set_other new i k w 0 m ∙ r.done k (omega arith)
+  ];
+  rest = λ k l. get_or-set_other new i k w 0 (λ q. omega arith) ∙ r.rest k (omega arith);
+}
+
+-- lists of one length are kept in as many words
+pub same_count : (m n : ℕ) (vs ws : List ℕ) (xs ys : List Bool) → bits_of m vs ≡ xs → bits_of n ws ≡ ys → IsPacked m vs → IsPacked n ws → length xs ≡ length ys → length vs ≡ length ws
+same_count m n vs ws xs ys v w p q long = omega (arith, kept-length m vs xs v, kept-length n ws ys w, p.count, q.count, long)
+
+-- ---- words joined with others, by an operation f whose digits are g of both digits
+module _ (f : ℕ → ℕ → ℕ) (g : Bool → Bool → Bool) (law : (a b i : ℕ) → has_digit (f a b) i ≡ g (has_digit a i) (has_digit b i)) (zeros : g false false ≡ false) where
+  place-joined : (old others new : List ℕ) → length old ≡ length others → Rewrites (λ k word. f word (get_or others k 0)) old new (length old) → (i : ℕ) → place new i ≡ g (place old i) (place others i)
+  place-joined old others new e r i = elim (cases_lt (i / 64) (length old)) [
+    | inl l ↦ rw (place_is new i, r.done (i / 64) l, place_is old i, place_is others i) (law _ _ (i % 64))
+    | inr m ↦ rw (place-past new i (omega (arith, r.count)), place-past old i (omega arith), place-past others i (omega arith)) (sym zeros)
+  ]
+
+  bits_of-joined : (n : ℕ) (old others new : List ℕ) → length old ≡ length others → Rewrites (λ k word. f word (get_or others k 0)) old new (length old) → bits_of n new ≡ zip_with g (bits_of n old) (bits_of n others)
+  bits_of-joined n old others new e r =
+      let same : length (bits_of n old) ≡ length (bits_of n others) = length-bits_of n old ∙ sym (length-bits_of n others) in
+      bits_of_is n new _ (length-zip_with g (bits_of n old) (bits_of n others) same ∙ length-bits_of n old) (λ i h.
+      place-joined old others new e r i
+      ∙ sym (get_or-zip_with g (bits_of n old) (bits_of n others) i (omega (arith, length-bits_of n old)) same
+      ∙ rw (get_or-bits_of n old i false h, get_or-bits_of n others i false h) refl))
+
+  -- lists of one length, kept in words that are joined
+  pub joined : (m n : ℕ) (old others new : List ℕ) (xs ys : List Bool) → bits_of m old ≡ xs → bits_of n others ≡ ys → IsPacked m old → IsPacked n others → length xs ≡ length ys
+      → Rewrites (λ k word. f word (get_or others k 0)) old new (length old) → IsPacked m new × (bits_of m new ≡ zip_with g xs ys)
+  joined m n old others new xs ys v w p q long r =
+      let same : m ≡ n = kept-length m old xs v ∙ long ∙ sym (kept-length n others ys w) in
+      let count : length old ≡ length others = same_count m n old others xs ys v w p q long in (
+        record {
+          count = r.count ∙ p.count;
+          padding = λ i h. place-joined old others new count r i ∙ rw (p.padding i h, q.padding i (omega (arith, same))) zeros;
+        },
+        bits_of-joined m old others new count r ∙ rw (v, same) (ap (λ zs. zip_with g xs zs) w),
+      )
+
+-- ---- words negated, and the digits past the last place taken away
+-- the word `last` of the negated words put anew, without its digits past the last of n places
+abbrev pub masked : ℕ → List ℕ → List ℕ → List ℕ
+masked n old mid = set mid ((n - 1) / 64) (bit_and (bit_not w64 (get_or old ((n - 1) / 64) 0)) (2 ^ (n - 64 * ((n - 1) / 64)) - 1))
+
+module _ (n : ℕ) (old mid : List ℕ) (some : 0 < n) (p : IsPacked n old) (fits : (k : ℕ) → get_or old k 0 < 2 ^ 64) (r : Rewrites (λ k word. bit_not w64 word) old mid (length old)) where
+  place-mid : (i : ℕ) → i / 64 < length old → place mid i ≡ not (place old i)
+  place-mid i l = rw (place_is mid i, r.done (i / 64) l, place_is old i) (has_digit-not (get_or old (i / 64) 0) (i % 64) (fits (i / 64)) (omega arith))
+
+  place-last : (i : ℕ) → i / 64 ≡ (n - 1) / 64 → place (masked n old mid) i ≡ (not (place old i) && has_digit (2 ^ (n - 64 * ((n - 1) / 64)) - 1) (i % 64))
+  place-last i e =
+      let last : ℕ = (n - 1) / 64 in
+      let low : ℕ = 2 ^ (n - 64 * last) - 1 in
+      let word : ℕ = get_or old last 0 in
+      let here : place (masked n old mid) i ≡ has_digit (bit_and (bit_not w64 word) low) (i % 64) =
+      place_is (masked n old mid) i ∙ ap (λ k. has_digit (get_or (masked n old mid) k 0) (i % 64)) e ∙ ap (λ w. has_digit w (i % 64)) (get_or-set_same mid last (bit_and (bit_not w64 word) low) 0 (omega (arith, r.count, p.count))) in
+      let there : place old i ≡ has_digit word (i % 64) = place_is old i ∙ ap (λ k. has_digit (get_or old k 0) (i % 64)) e in
+      here ∙ has_digit-and (bit_not w64 word) low (i % 64) ∙ ap (λ b. b && has_digit low (i % 64)) (has_digit-not word (i % 64) (fits last) (omega arith) ∙ ap not (sym there))
+
+  place-other : (i : ℕ) → (i / 64 ≡ (n - 1) / 64 → ⊥) → place (masked n old mid) i ≡ place mid i
+  place-other i m = place_is (masked n old mid) i ∙ ap (λ w. has_digit w (i % 64)) (get_or-set_other mid ((n - 1) / 64) (i / 64) _ 0 m) ∙ sym (place_is mid i)
+
+  pub IsPacked-negated : IsPacked n (masked n old mid)
+  IsPacked-negated = record {
+    count = length-set mid ((n - 1) / 64) _ ∙ r.count ∙ p.count;
+    padding = λ i h. elim (cases_eq (i / 64) ((n - 1) / 64)) [
+      | inl e ↦ place-last i e ∙ ap (λ b. not (place old i) && b) (has_digit-ones_above (n - 64 * ((n - 1) / 64)) (i % 64) (omega arith)) ∙ and_false (not (place old i))
+      | inr m ↦ place-past (masked n old mid) i (omega (arith, length-set mid ((n - 1) / 64) (bit_and (bit_not w64 (get_or old ((n - 1) / 64) 0)) (2 ^ (n - 64 * ((n - 1) / 64)) - 1)), r.count, p.count))
+    ];
+  }
+
+  pub bits_of-negated : bits_of n (masked n old mid) ≡ not_of (bits_of n old)
+  bits_of-negated = bits_of_is n (masked n old mid) _ (length-not_of (bits_of n old) ∙ length-bits_of n old) (λ i h.
+      let turned : place (masked n old mid) i ≡ not (place old i) = elim (cases_eq (i / 64) ((n - 1) / 64)) [
+        | inl e ↦ place-last i e ∙ ap (λ b. not (place old i) && b) (has_digit-ones (n - 64 * ((n - 1) / 64)) (i % 64) (omega arith)) ∙ and_true (not (place old i))
+        | inr m ↦ place-other i m ∙ place-mid i (omega (arith, p.count))
+      ] in
+      turned ∙ sym (get_or-not_of (bits_of n old) i (omega (arith, length-bits_of n old)) ∙ ap not (get_or-bits_of n old i false h)))

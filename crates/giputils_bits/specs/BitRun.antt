@@ -1,0 +1,104 @@
+-- A run of calls on a bit vector.
+use Rattle.std.specs.Prelude.{◌≡◌, ℕ, ◌+◌, ◌<◌, ◌≤◌, ◌==◌, ◌⊎◌, Bool, true, false, List, [], ◌∷◌, ◌++◌, length, take, replicate, slice_get, slice_set, slice_index, nat_lt, Option, Some, None, ◌^◌, ◌-◌}
+use Rattle.std.specs.Bool.{beq}
+use Rattle.std.specs.Cmp.Lexicographic.{pointwise}
+use Rattle.std.specs.Option.{option_map_or}
+use Rattle.giputils_bits.specs.declared.bitvec.error.BitVecError.{BitVecError}
+use Rattle.giputils_bits.specs.declared.bitvec.error.BitVecError.TheVariants.{TooLong, Memory}
+use Rattle.giputils_bits.specs.declared.bitvec.run.BitCall.{BitCall}
+use Rattle.giputils_bits.specs.declared.bitvec.run.BitCall.TheVariants.{Push, PushWord, SetBit, GetBit, Clear, Extend, AndWith, OrWith, XorWith, Invert, Len, WordLen, ToUsize, IsEmpty, IsZero, IsOne, IsOnes, Bool as BoolCall, TryBool}
+use Rattle.giputils_bits.specs.declared.bitvec.run.BitReply.{BitReply}
+use Rattle.giputils_bits.specs.declared.bitvec.run.BitReply.TheVariants.{Done, Refused, Skipped, Bit, MaybeBit, Number}
+use Rattle.giputils_bits.specs.Bits.{digits_of, words_of, one_of}
+use Rattle.giputils_bits.specs.Logic.{and_of, or_of, xor_of, not_of}
+
+-- the greatest length, `usize::MAX`
+abbrev pub max_len : ℕ
+max_len = 2 ^ 64 - 1
+
+-- a call may be refused so, after which the list would have n places: as too long exactly where no list has so many, and
+-- for memory only where they are more than a word has
+abbrev pub CanRefuse : ℕ → BitVecError → Type 0
+CanRefuse n TooLong = max_len < n
+CanRefuse n Memory = (64 < n) × (n ≤ max_len)
+
+-- a call that makes the list n places long may be answered so
+abbrev pub GrowsTo : ℕ → BitReply → Type 0
+GrowsTo n Done = n ≤ max_len
+GrowsTo n (Refused error kept) = CanRefuse n error × (kept ≡ 0)
+GrowsTo n reply = ⊥
+
+-- a call that appends m places to n may be answered so: refused, it has kept some of them, and the next made it too long
+-- or wanted memory
+abbrev pub ExtendsBy : ℕ → ℕ → BitReply → Type 0
+ExtendsBy n m Done = n + m ≤ max_len
+ExtendsBy n m (Refused error kept) = (kept < m) × CanRefuse (n + kept + 1) error
+ExtendsBy n m reply = ⊥
+
+-- the bits after a call that was to append these items, and was answered so
+abbrev pub extended : List Bool → List Bool → BitReply → List Bool
+extended bits items Done = bits ++ items
+extended bits items (Refused error kept) = bits ++ take kept items
+extended bits items reply = bits
+
+-- the new bits where the call was done, else the old ones
+abbrev pub if_done : BitReply → List Bool → List Bool → List Bool
+if_done Done new old = new
+if_done reply new old = old
+
+-- the reply to a call with an index below the length, or with a list of the same length; else it is skipped
+abbrev pub done_if : Bool → BitReply
+done_if true = Done
+done_if false = Skipped
+
+-- whether a list is another, where it has a place at all
+abbrev pub whether : List Bool → List Bool → BitReply
+whether [] ys = Skipped
+whether (x ∷ xs) ys = Bit (pointwise beq (x ∷ xs) ys)
+
+-- the bit of a list that has one and no more
+abbrev pub only_bit : List Bool → Option Bool
+only_bit (x ∷ []) = Some x
+only_bit xs = None
+
+module _ {A : Type 0} where
+  -- the call, made on these bits, may be answered so
+  abbrev pub IsAnswer : List Bool → BitCall A → BitReply → Type 0
+  IsAnswer bits (Push x) reply = GrowsTo (length bits + 1) reply
+  IsAnswer bits (PushWord word) reply = GrowsTo (length bits + 64) reply
+  IsAnswer bits (SetBit i x) reply = reply ≡ done_if (nat_lt i (length bits))
+  IsAnswer bits (GetBit i) reply = reply ≡ option_map_or Bit (slice_get bits i) Skipped
+  IsAnswer bits Clear reply = reply ≡ Done
+  IsAnswer bits (Extend items) reply = ExtendsBy (length bits) (length items.now) reply
+  IsAnswer bits (AndWith other) reply = reply ≡ done_if (length bits == length other.now)
+  IsAnswer bits (OrWith other) reply = reply ≡ done_if (length bits == length other.now)
+  IsAnswer bits (XorWith other) reply = reply ≡ done_if (length bits == length other.now)
+  IsAnswer bits Invert reply = (reply ≡ Done) ⊎ ((reply ≡ Refused Memory 0) × (64 < length bits))
+  IsAnswer bits Len reply = reply ≡ Number (length bits)
+  IsAnswer bits WordLen reply = reply ≡ Number (length (words_of bits))
+  IsAnswer bits ToUsize reply = reply ≡ Number (slice_index (words_of bits) 0)
+  IsAnswer bits IsEmpty reply = reply ≡ Bit (length bits == 0)
+  IsAnswer bits IsZero reply = reply ≡ whether bits (replicate (length bits) false)
+  IsAnswer bits IsOne reply = reply ≡ whether bits (one_of (length bits))
+  IsAnswer bits IsOnes reply = reply ≡ whether bits (replicate (length bits) true)
+  IsAnswer bits BoolCall reply = reply ≡ option_map_or Bit (only_bit bits) Skipped
+  IsAnswer bits TryBool reply = reply ≡ MaybeBit (only_bit bits)
+
+  -- the bits after a call on these that was answered so
+  abbrev pub bits_after : List Bool → BitCall A → BitReply → List Bool
+  bits_after bits (Push x) reply = if_done reply (bits ++ x ∷ []) bits
+  bits_after bits (PushWord word) reply = if_done reply (bits ++ digits_of 64 word) bits
+  bits_after bits (SetBit i x) reply = if_done reply (slice_set bits i x) bits
+  bits_after bits Clear reply = []
+  bits_after bits (Extend items) reply = extended bits items.now reply
+  bits_after bits (AndWith other) reply = if_done reply (and_of bits other.now) bits
+  bits_after bits (OrWith other) reply = if_done reply (or_of bits other.now) bits
+  bits_after bits (XorWith other) reply = if_done reply (xor_of bits other.now) bits
+  bits_after bits Invert reply = if_done reply (not_of bits) bits
+  bits_after bits call reply = bits
+
+  -- the calls, made one after another from the bits `start` on, may be answered so, and then leave the bits `end`
+  abbrev pub Answers : List Bool → List (BitCall A) → List BitReply → List Bool → Type 0
+  Answers start [] [] end = end ≡ start
+  Answers start (call ∷ calls) (reply ∷ replies) end = IsAnswer start call reply × Answers (bits_after start call reply) calls replies end
+  Answers start calls replies end = ⊥
