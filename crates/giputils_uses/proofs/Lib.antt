@@ -1,5 +1,6 @@
 mod Actives
 mod Deadlines
+mod Examples
 mod Falling
 mod Multiples
 mod Outcomes

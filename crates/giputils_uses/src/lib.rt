@@ -10,5 +10,6 @@ pub mod look;
 pub mod paths;
 pub mod report;
 pub mod sieve;
+pub mod simulate;
 pub mod sorting;
 pub mod timers;
