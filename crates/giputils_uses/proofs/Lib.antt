@@ -1,8 +1,10 @@
 mod Actives
 mod Deadlines
+mod Examples
 mod Falling
 mod Multiples
 mod Outcomes
 mod Pushes
-mod Renamed
 mod Ranks
+mod Renamed
+mod Searches

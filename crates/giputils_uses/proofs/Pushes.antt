@@ -1,7 +1,8 @@
 -- What a push leaves held.
-use Rattle.std.proofs.Common.{◌≡◌, ℕ, List, ◌∷◌, refl, sym, subst, ◌∙◌, ⊎_elim}
+use Rattle.std.proofs.Common.{◌≡◌, ℕ, List, ◌∷◌, ◌+◌, ◌≤◌, length, arith, refl, sym, subst, ◌∙◌, ⊎_elim}
 use Rattle.std.specs.List.Sorted.{IsPermutation}
 use Rattle.std.proofs.lemmas.Bool.{cases_Bool}
+use Rattle.std.proofs.lemmas.List.Sorted.{length_permutation}
 use Rattle.std.proofs.lemmas.Map.Steps.{list_any_congr}
 use Rattle.giputils_heap.specs.Keys.{same_key, is_held, IsHeld, IsAbsent, AreDistinct, HoldAlike}
 use Rattle.giputils_heap.proofs.HoldAlike.{HoldAlike-IsPermutation, AreDistinct-cons}
@@ -25,3 +26,9 @@ module _ {T : Type 0} (number : T → ℕ) where
     AreDistinct-pushed distinct =
         ⊎_elim (λ held. subst (AreDistinct number) (sym (stays held)) distinct)
         (λ absent. AreDistinct-IsPermutation number (v ∷ old) new (added absent) (AreDistinct-cons number v old distinct absent)) (cases_Bool (is_held number old v))
+
+    -- one more at most
+    pub length-pushed : length new ≤ length old + 1
+    length-pushed =
+        ⊎_elim (λ held. rw (stays held) (omega arith))
+        (λ absent. let more = length_permutation (v ∷ old) new (added absent) in omega (arith, more)) (cases_Bool (is_held number old v))

@@ -1,3 +1,4 @@
 pub mod Activity
 pub mod Clock
+pub mod Paths
 pub mod Primes
