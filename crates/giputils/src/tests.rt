@@ -57,7 +57,8 @@ fn logic_of_bits(rt: HostRuntime) -> Result<(), Fail> {
     let mut twelve = BitVec::from_usize(rt.alloc(), 4, 12)?;
     let ten = BitVec::from_usize(rt.alloc(), 4, 10)?;
     twelve &= &ten;
-    assert_eq!(rt; format!(in rt.alloc(); "{twelve} {twelve:x}")?.as_str(), "1000 0x8");
+    let text = format!(in rt.alloc(); "{twelve} {}", twelve.lower_hex())?;
+    assert_eq!(rt; text.as_str(), "1000 0x8");
     Ok(())
 }
 
