@@ -4,14 +4,15 @@ use Rattle.std.specs.List.{list_all}
 use Rattle.std.specs.Str.{bytes_eq}
 use Rattle.gip_lines.specs.Texts.{HasForm, said_in, first_other}
 
--- the digits 0 and 1
+-- the byte of the digit 0
 abbrev pub digit_0 : ℕ
 digit_0 = 48
 
+-- the byte of the digit 1
 abbrev pub digit_1 : ℕ
 digit_1 = 49
 
--- whether a byte is one of them
+-- whether a byte is one of these digits
 abbrev pub is_binary_digit : ℕ → Bool
 is_binary_digit byte = (byte == digit_0) || (byte == digit_1)
 

@@ -17,7 +17,7 @@ use std::io::{Read, Write};
 /// Runs a script: reads all of it, checks every line, runs the lines in turn on a set of keys that is empty at first,
 /// and then writes the replies, one line each.
 ///
-/// Neither device may have failed, which [`Watched::failed`] tells.
+/// What a line says stands at [`Line`]. Neither device may have failed, which [`Watched::failed`] tells.
 ///
 /// # Errors
 /// - [`GipFault::Input`] where a read fails, or the input has more than [`INPUT_LIMIT`](crate::INPUT_LIMIT) bytes.
