@@ -1,92 +1,87 @@
 #!/usr/bin/env python3
-"""Times the toolchain's gate crate by crate: the proof, the tests' proof, and the must-fail edits.
+"""Runs ./test, and prints where its processor time went, crate by crate.
 
-    tests/times.py            prints a table in Markdown, in seconds
+    tests/times.py            runs ./test, shows what it prints, and then a table in Markdown
 
-All is run in turn in a copy of the repository, at one job, so that the sum is about the gate's processor time: an hour and
-more. On a machine that does other work too, the times are too high.
+The prover's processes are looked at five times a second, and their processor time is added up by crate and by what they
+prove: the crate, its tests, or its must-fail edits. What they take between the last look and their end is not seen. On a
+machine that does other work too, the times are too high.
 """
 
+import collections
 import os
 import pathlib
 import re
-import shutil
 import subprocess
-import tempfile
+import sys
 import time
 
 ROOT = pathlib.Path(__file__).resolve().parent.parent
+STAGES = ("proof", "tests", "edits")
+TICKS = os.sysconf("SC_CLK_TCK")
 
 
-def tracked_files():
-    listed = subprocess.run(["git", "ls-files", "-z"], cwd=ROOT, stdout=subprocess.PIPE, check=True).stdout
-    return [pathlib.Path(os.fsdecode(name)) for name in listed.split(b"\0") if name]
+def processes():
+    """Each process: its number, its parent's, and the seconds that it has taken."""
+    for name in filter(str.isdigit, os.listdir("/proc")):
+        try:
+            stat = pathlib.Path(f"/proc/{name}/stat").read_text(errors="replace")
+        except OSError:
+            continue
+        fields = stat.rpartition(")")[2].split()
+        yield int(name), int(fields[1]), (int(fields[11]) + int(fields[12])) / TICKS
 
 
-def copy_to(room, files):
-    for name in files:
-        if (ROOT / name).is_file():
-            (room / name).parent.mkdir(parents=True, exist_ok=True)
-            shutil.copy(ROOT / name, room / name)
-    subprocess.run(["git", "init", "--quiet"], cwd=room, check=True)
+def stage_of(process):
+    """The crate and the stage that a process of the prover works for, or None for another process."""
+    try:
+        words = pathlib.Path(f"/proc/{process}/cmdline").read_text(errors="replace").split("\0")
+        folder = os.readlink(f"/proc/{process}/cwd")
+    except OSError:
+        return None
+    if "--crate-name" not in words or not words[0].endswith("rattle"):
+        return None
+    crate = words[words.index("--crate-name") + 1]
+    # An edit is checked in a copy of the crate.
+    if not pathlib.Path(folder).is_relative_to(ROOT):
+        return crate, "edits"
+    return crate, "tests" if "--test" in words else "proof"
 
 
-def time_proofs(room):
-    """The seconds of each crate's proof and of its tests': `rt ci` prints a line at the end of each."""
-    times = {}
-    gate = subprocess.Popen(
-        ["rt", "ci"],
-        cwd=room,
-        env={**os.environ, "RT_JOBS": "1"},
-        stdout=subprocess.PIPE,
-        stderr=subprocess.STDOUT,
-        text=True,
-        errors="replace",
-    )
-    last = time.monotonic()
-    for line in gate.stdout:
-        ended = re.match(r"rt: (\w+)(: its tests are)? (proved|NOT PROVED)\b", line)
-        if ended:
-            now = time.monotonic()
-            times[ended[1], "tests" if ended[2] else "proof"] = now - last
-            last = now
-    gate.wait()
-    return times
+def look(gate, taken):
+    """Notes what each process of the prover below the gate has taken so far."""
+    found = {process: (parent, seconds) for process, parent, seconds in processes()}
 
+    def is_below(process):
+        while process in found and process != gate:
+            process = found[process][0]
+        return process == gate
 
-def time_edits(room, crates):
-    """The seconds of each crate's must-fail edits, and how many there are."""
-    times = {}
-    for crate in crates:
-        if (room / "crates" / crate / "src" / "lib.rt").is_file():
-            subprocess.run(["rt", "lib"], cwd=room / "crates" / crate, stdout=subprocess.DEVNULL, check=False)
-    for crate in crates:
-        edits = list((room / "crates" / crate / "must-fail").glob("*.edit"))
-        if edits:
-            began = time.monotonic()
-            subprocess.run(["rt", "must-fail", crate], cwd=room, stdout=subprocess.DEVNULL, check=False)
-            times[crate] = (time.monotonic() - began, len(edits))
-    return times
+    for process, (_, seconds) in found.items():
+        if is_below(process) and (stage := stage_of(process)):
+            taken[process, stage] = seconds
 
 
 def main():
+    taken = {}
+    began = time.monotonic()
+    gate = subprocess.Popen([ROOT / "test"], cwd=ROOT)
+    while gate.poll() is None:
+        look(gate.pid, taken)
+        time.sleep(0.2)
+    minutes = (time.monotonic() - began) / 60
+    sums = collections.Counter()
+    for (_, stage), seconds in taken.items():
+        sums[stage] += seconds
     lines = (ROOT / "crates.txt").read_text(encoding="utf-8").splitlines()
-    crates = [line.split(":")[0].split()[0] for line in lines if ":" in line and not line.startswith("#")]
-    files = tracked_files()
-    with tempfile.TemporaryDirectory(prefix="giputils-times-") as at:
-        whole, plain = pathlib.Path(at) / "whole", pathlib.Path(at) / "plain"
-        copy_to(plain, [name for name in files if "must-fail" not in name.parts])
-        proofs = time_proofs(plain)
-        copy_to(whole, files)
-        edits = time_edits(whole, crates)
-    print("| Crate | Proof | Tests | Edits | Number of edits |")
-    print("|---|---|---|---|---|")
-    for crate in crates:
-        proof, tests = (proofs.get((crate, stage)) for stage in ("proof", "tests"))
-        seconds, count = edits.get(crate, (None, 0))
-        cells = [f"{it:.0f}" if it is not None else "" for it in (proof, tests, seconds)]
+    print("\n| Crate | Proof | Tests' proof | Edits | Number of edits |\n|---|---|---|---|---|")
+    for crate in (match[1] for match in map(re.compile(r"(\w+).*:").match, lines) if match):
+        cells = [f"{sums[crate, stage]:.0f}" if sums[crate, stage] else "" for stage in STAGES]
+        count = len(list((ROOT / "crates" / crate / "must-fail").glob("*.edit")))
         print(f"| `{crate}` | {' | '.join(cells)} | {count or ''} |")
+    print(f"\n{sum(sums.values()) / 60:.0f} processor minutes of the prover in {minutes:.0f} minutes")
+    return gate.returncode
 
 
 if __name__ == "__main__":
-    main()
+    sys.exit(main())

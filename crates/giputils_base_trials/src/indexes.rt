@@ -3,6 +3,7 @@
 use giputils_base::allocator::{GallocCall, GallocElem, GallocReply, Gallocator, galloc_run};
 use giputils_base::gvec::Gvec;
 use giputils_refusing::{Refusing, refuse_each};
+use std::alloc::Allocator;
 use std::ops::{Deref, DerefMut};
 use std::test::Fail;
 
@@ -45,6 +46,28 @@ const CALLS: [GallocCall<u32>; 11] = [
     GallocCall::Gc,
 ];
 
+// The reply, where it is no map.
+fn text<A: Allocator>(reply: &GallocReply<u32, A>) -> (&'static str, usize) {
+    match reply {
+        GallocReply::Index(index) => ("index", *index),
+        GallocReply::Done => ("done", 0),
+        GallocReply::Flag(marked) => ("flag", usize::from(*marked)),
+        GallocReply::Value(value) => ("value", *value as usize),
+        GallocReply::Map(indexes) => ("map", indexes.len()),
+        GallocReply::Length(len) => ("length", *len),
+        GallocReply::Refused => ("refused", 0),
+        GallocReply::Skipped => ("skipped", 0),
+    }
+}
+
+// The new index that the reply gives an old one.
+fn moved<A: Allocator>(reply: &GallocReply<u32, A>, old: usize) -> Option<usize> {
+    match reply {
+        GallocReply::Map(indexes) => indexes.get(&old).copied(),
+        _ => None,
+    }
+}
+
 fn is_run(memory: &Refusing) -> bool {
     match galloc_run(memory, &CALLS) {
         Ok((_, replies)) => replies
@@ -52,6 +75,65 @@ fn is_run(memory: &Refusing) -> bool {
             .all(|reply| !matches!(reply, GallocReply::Refused)),
         Err(_) => false,
     }
+}
+
+#[test]
+fn a_run_answers_each_call(rt: HostRuntime) -> Result<(), Fail> {
+    let answers = [
+        ("index", 0usize),
+        ("index", 1),
+        ("index", 2),
+        ("done", 0),
+        ("map", 2),
+        ("value", 20),
+        ("done", 0),
+        ("value", 5),
+        ("skipped", 0),
+        ("length", 2),
+        ("map", 2),
+    ];
+    let (allocator, replies) = galloc_run(rt.alloc(), &CALLS)?;
+    assert_eq!(rt; replies.len(), 11);
+    for (reply, answer) in replies.iter().zip(answers) {
+        assert_eq!(rt; text(reply), answer);
+    }
+    let (first, second) = (&replies[4], &replies[10]);
+    assert_eq!(rt;
+        (moved(first, 0), moved(first, 1), moved(first, 2)),
+        (None, Some(0), Some(1))
+    );
+    assert_eq!(rt;
+        (moved(second, 0), moved(second, 1), moved(second, 2)),
+        (Some(0), Some(1), None)
+    );
+    assert_eq!(rt; allocator.len(), 2);
+    Ok(())
+}
+
+#[test]
+fn a_marked_value_can_be_written_and_read(rt: HostRuntime) -> Result<(), Fail> {
+    let calls = [
+        GallocCall::Alloc(1u32),
+        GallocCall::Dealloc(0),
+        GallocCall::Write(0, 2),
+        GallocCall::IsRemoved(0),
+        GallocCall::Read(0),
+        GallocCall::Dealloc(1),
+    ];
+    let answers = [
+        ("index", 0usize),
+        ("done", 0),
+        ("done", 0),
+        ("flag", 1),
+        ("value", 2),
+        ("skipped", 0),
+    ];
+    let (_, replies) = galloc_run(rt.alloc(), calls.as_slice())?;
+    assert_eq!(rt; replies.len(), 6);
+    for (reply, answer) in replies.iter().zip(answers) {
+        assert_eq!(rt; text(reply), answer);
+    }
+    Ok(())
 }
 
 // How many requests a collection and a run make is open: the map of a collection may grow more than once.

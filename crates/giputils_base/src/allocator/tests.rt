@@ -2,7 +2,7 @@
 ghost use Rattle.std.specs.Prelude.{◌≡◌, ◌<◌, Some, length};
 ghost use Rattle.giputils_base.specs.Allocator.{value_at, mark_at, write};
 
-use super::{GallocCall, GallocElem, GallocReply, Gallocator, galloc_run};
+use super::{GallocCall, GallocElem, Gallocator, galloc_run};
 use std::test::Fail;
 
 fn read(allocator: &Gallocator<u32>, index: usize) -> u32
@@ -24,28 +24,6 @@ fn replaced(mut elem: GallocElem<u32>, value: u32) -> GallocElem<u32>
 {
     *elem = value;
     elem
-}
-
-// The reply, where it is no map.
-fn text(reply: &GallocReply<u32>) -> (&'static str, usize) {
-    match reply {
-        GallocReply::Index(index) => ("index", *index),
-        GallocReply::Done => ("done", 0),
-        GallocReply::Flag(marked) => ("flag", usize::from(*marked)),
-        GallocReply::Value(value) => ("value", *value as usize),
-        GallocReply::Map(indexes) => ("map", indexes.len()),
-        GallocReply::Length(len) => ("length", *len),
-        GallocReply::Refused => ("refused", 0),
-        GallocReply::Skipped => ("skipped", 0),
-    }
-}
-
-// The new index that the reply gives an old one.
-fn moved(reply: &GallocReply<u32>, old: usize) -> Option<usize> {
-    match reply {
-        GallocReply::Map(indexes) => indexes.get(&old).copied(),
-        _ => None,
-    }
 }
 
 #[test]
@@ -84,78 +62,6 @@ fn a_collection_drops_marked_values_and_renumbers_the_others(rt: HostRuntime) ->
     allocator.dealloc(1);
     assert_eq!(rt; allocator.gc()?.len(), 0);
     assert_eq!(rt; allocator.len(), 0);
-    Ok(())
-}
-
-#[test]
-fn a_run_answers_each_call(rt: HostRuntime) -> Result<(), Fail> {
-    let calls = [
-        GallocCall::Alloc(10u32),
-        GallocCall::Alloc(20),
-        GallocCall::Alloc(30),
-        GallocCall::Dealloc(0),
-        GallocCall::Gc,
-        GallocCall::Read(0),
-        GallocCall::Write(1, 5),
-        GallocCall::Read(1),
-        GallocCall::IsRemoved(2),
-        GallocCall::Len,
-        GallocCall::Gc,
-    ];
-    let answers = [
-        ("index", 0usize),
-        ("index", 1),
-        ("index", 2),
-        ("done", 0),
-        ("map", 2),
-        ("value", 20),
-        ("done", 0),
-        ("value", 5),
-        ("skipped", 0),
-        ("length", 2),
-        ("map", 2),
-    ];
-    let (allocator, replies) = galloc_run(rt.alloc(), calls.as_slice())?;
-    assert_eq!(rt; replies.len(), 11);
-    for (reply, answer) in replies.iter().zip(answers) {
-        assert_eq!(rt; text(reply), answer);
-    }
-    let (first, second) = (&replies[4], &replies[10]);
-    assert_eq!(rt;
-        (moved(first, 0), moved(first, 1), moved(first, 2)),
-        (None, Some(0), Some(1))
-    );
-    assert_eq!(rt;
-        (moved(second, 0), moved(second, 1), moved(second, 2)),
-        (Some(0), Some(1), None)
-    );
-    assert_eq!(rt; allocator.len(), 2);
-    Ok(())
-}
-
-#[test]
-fn a_marked_value_can_be_written_and_read(rt: HostRuntime) -> Result<(), Fail> {
-    let calls = [
-        GallocCall::Alloc(1u32),
-        GallocCall::Dealloc(0),
-        GallocCall::Write(0, 2),
-        GallocCall::IsRemoved(0),
-        GallocCall::Read(0),
-        GallocCall::Dealloc(1),
-    ];
-    let answers = [
-        ("index", 0usize),
-        ("done", 0),
-        ("done", 0),
-        ("flag", 1),
-        ("value", 2),
-        ("skipped", 0),
-    ];
-    let (_, replies) = galloc_run(rt.alloc(), calls.as_slice())?;
-    assert_eq!(rt; replies.len(), 6);
-    for (reply, answer) in replies.iter().zip(answers) {
-        assert_eq!(rt; text(reply), answer);
-    }
     Ok(())
 }
 
