@@ -8,6 +8,9 @@ use std::alloc::Global;
 // How often two vectors are compared.
 const COMPARISONS: u32 = 64;
 
+// How often two vectors are joined.
+const JOINTS: u32 = 64;
+
 /// Pushes `size` drawn bits one at a time, and mixes how many are true.
 pub fn push(
     alloc: Global,
@@ -69,6 +72,50 @@ pub fn get(
     }
     checksum.mix(read);
     mix_words(&bits, checksum);
+    Ok(())
+}
+
+/// Joins two drawn vectors by each operation, again and again, and mixes the words of both.
+pub fn logic(
+    alloc: Global,
+    size: u32,
+    rng: &mut Generator,
+    checksum: &mut Checksum,
+) -> Result<(), BitVecError> {
+    let mut a = vector(alloc, size, rng)?;
+    let mut b = vector(alloc, size, rng)?;
+    for _ in 0..JOINTS {
+        a ^= &b;
+        b |= &a;
+        a = a.not()?;
+        b &= &a;
+    }
+    mix_words(&a, checksum);
+    mix_words(&b, checksum);
+    Ok(())
+}
+
+/// Mixes the hexadecimal text of a drawn vector.
+pub fn hex(
+    alloc: Global,
+    size: u32,
+    rng: &mut Generator,
+    checksum: &mut Checksum,
+) -> Result<(), BitVecError> {
+    let bits = vector(alloc, size, rng)?;
+    checksum.mix_text(&format!(in alloc; "{}", bits.lower_hex())?);
+    Ok(())
+}
+
+/// Mixes the binary text of a drawn vector.
+pub fn bin(
+    alloc: Global,
+    size: u32,
+    rng: &mut Generator,
+    checksum: &mut Checksum,
+) -> Result<(), BitVecError> {
+    let bits = vector(alloc, size, rng)?;
+    checksum.mix_text(&format!(in alloc; "{bits}")?);
     Ok(())
 }
 

@@ -64,6 +64,22 @@ impl Checksum {
     pub fn mix(&mut self, word: u64) {
         self.0 = (self.0 ^ word).wrapping_mul(0x100_0000_01b3);
     }
+
+    /// Mixes the bytes of a text, eight a word, the first of them lowest, and then how many they are.
+    pub fn mix_text(&mut self, text: &str) {
+        let (chunks, rest) = text.as_bytes().as_chunks::<8>();
+        for bytes in chunks {
+            self.mix(u64::from_le_bytes(*bytes));
+        }
+        if !rest.is_empty() {
+            let mut word = [0; 8];
+            for (byte, of_rest) in word.iter_mut().zip(rest) {
+                *byte = *of_rest;
+            }
+            self.mix(u64::from_le_bytes(word));
+        }
+        self.mix(text.len() as u64);
+    }
 }
 
 impl fmt::Display for Checksum {

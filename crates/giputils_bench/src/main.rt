@@ -18,7 +18,7 @@ use std::alloc::Global;
 use std::env;
 use std::process::ExitCode;
 
-const WORKLOADS: [&str; 11] = [
+const WORKLOADS: [&str; 14] = [
     "heapsort",
     "vsids",
     "vsids_up",
@@ -30,6 +30,9 @@ const WORKLOADS: [&str; 11] = [
     "bits_push",
     "bits_eq",
     "bits_get",
+    "bits_logic",
+    "bits_hex",
+    "bits_bin",
 ];
 
 fn main(rt: HostRuntime) -> anyhow::Result<ExitCode> {
@@ -86,6 +89,9 @@ fn repeat(
             "bits_push" => bits::push(alloc, size, &mut rng, &mut checksum)?,
             "bits_eq" => bits::eq(alloc, size, &mut rng, &mut checksum)?,
             "bits_get" => bits::get(alloc, size, &mut rng, &mut checksum)?,
+            "bits_logic" => bits::logic(alloc, size, &mut rng, &mut checksum)?,
+            "bits_hex" => bits::hex(alloc, size, &mut rng, &mut checksum)?,
+            "bits_bin" => bits::bin(alloc, size, &mut rng, &mut checksum)?,
             _ => return Ok(None),
         }
     }

@@ -45,6 +45,13 @@ fn is_cloned(memory: &Refusing) -> bool {
     bits.clone().is_ok()
 }
 
+fn is_negated(memory: &Refusing) -> bool {
+    let Ok(bits) = BitVec::ones(memory, 65) else {
+        return false;
+    };
+    bits.not().is_ok()
+}
+
 // A vector of one full word is extended by a bit.
 fn is_extended(memory: &Refusing) -> bool {
     let mut bits = BitVec::new(memory);
@@ -75,6 +82,7 @@ fn each_request_of_a_bit_vector_is_refused_in_turn(rt: HostRuntime) {
         ("new_rand", refuse_each(alloc, is_drawn), 1),
         ("from", refuse_each(alloc, is_collected), 1),
         ("clone", refuse_each(alloc, is_cloned), 2),
+        ("not", refuse_each(alloc, is_negated), 2),
         ("extend", refuse_each(alloc, is_extended), 1),
         ("push", refuse_each(alloc, is_bit_pushed), 1),
         ("push_word", refuse_each(alloc, is_word_pushed), 1),

@@ -11,7 +11,7 @@ fn are_made(memory: &Refusing, len: usize) -> bool {
     let Ok(bits) = BitVec::from_elem(memory, len, true) else {
         return false;
     };
-    bits.clone().is_ok() && BitVec::from_usize(memory, len, 5).is_ok()
+    bits.clone().is_ok() && bits.not().is_ok() && BitVec::from_usize(memory, len, 5).is_ok()
 }
 
 #[test]
@@ -71,6 +71,31 @@ fn a_vector_is_used_in_place(rt: HostRuntime) {
     for (len, requests) in [(0, 0), (1, 0), (64, 0), (65, 1)] {
         let memory = Refusing::from(rt.alloc(), requests + 1);
         let outcome = (is_used(&memory, len), memory.requests());
+        assert_eq!(rt; outcome, (true, requests), "{len} bits");
+    }
+}
+
+// Joins vectors of `len` times true in each way. Tells whether the answers were right.
+fn is_joined(memory: &Refusing, len: usize) -> bool {
+    let (Ok(mut and), Ok(mut or), Ok(mut xor), Ok(other)) = (
+        BitVec::from_elem(memory, len, true),
+        BitVec::from_elem(memory, len, true),
+        BitVec::from_elem(memory, len, true),
+        BitVec::from_elem(memory, len, true),
+    ) else {
+        return false;
+    };
+    and &= &other;
+    or |= &other;
+    xor ^= &other;
+    and == other && or == other && xor.words().iter().all(|word| *word == 0)
+}
+
+#[test]
+fn vectors_are_joined_in_place(rt: HostRuntime) {
+    for (len, requests) in [(0, 0), (1, 0), (64, 0), (65, 4)] {
+        let memory = Refusing::from(rt.alloc(), requests + 1);
+        let outcome = (is_joined(&memory, len), memory.requests());
         assert_eq!(rt; outcome, (true, requests), "{len} bits");
     }
 }

@@ -12,3 +12,5 @@ mod growth;
 mod in_place;
 #[cfg(test)]
 mod left;
+#[cfg(test)]
+mod runs;

@@ -1,0 +1,63 @@
+//! Runs of calls that are refused memory.
+
+use giputils_bits::bitvec::{BitCall, BitReply, BitVecError, bit_run};
+use giputils_refusing::{Refusing, refuse_each};
+
+// A run that grows and negates a vector.
+fn is_run(memory: &Refusing) -> bool {
+    let items = [true; 70];
+    let calls: [BitCall; 6] = [
+        BitCall::PushWord(5),
+        BitCall::Extend(&items),
+        BitCall::Invert,
+        BitCall::PushWord(7),
+        BitCall::Push(true),
+        BitCall::Len,
+    ];
+    let Ok((_, replies)) = bit_run(memory, &calls) else {
+        return false;
+    };
+    for reply in &replies {
+        if matches!(reply, BitReply::Refused(..)) {
+            return false;
+        }
+    }
+    true
+}
+
+// How many requests a growing vector makes is open: the replies, a second word and a negation make one each.
+#[test]
+fn each_request_of_a_run_is_refused_in_turn(rt: HostRuntime) {
+    let outcome = refuse_each(rt.alloc(), is_run);
+    assert!(rt; outcome.is_ok_and(|requests| requests >= 3), "{outcome:?}");
+}
+
+// Runs three calls, the second of which asks for memory. Tells whether that one alone was refused, and the others were made.
+fn goes_on(memory: &Refusing) -> bool {
+    let items = [true, true, true];
+    let calls: [BitCall; 3] = [
+        BitCall::PushWord(1),
+        BitCall::Extend(&items),
+        BitCall::Invert,
+    ];
+    let Ok((bits, replies)) = bit_run(memory, &calls) else {
+        return false;
+    };
+    let refused = BitReply::Refused(BitVecError::Memory, 0);
+    let wanted = [BitReply::Done, refused, BitReply::Done];
+    replies.as_slice() == wanted.as_slice() && bits.words() == [!1].as_slice()
+}
+
+#[test]
+fn a_run_goes_on_after_a_refusal(rt: HostRuntime) {
+    let memory = Refusing::nth(rt.alloc(), 2);
+    assert!(rt; goes_on(&memory));
+}
+
+#[test]
+fn a_run_that_is_refused_its_replies_is_not_made(rt: HostRuntime) {
+    let memory = Refusing::nth(rt.alloc(), 1);
+    let calls: [BitCall; 1] = [BitCall::PushWord(1)];
+    let is_made = bit_run(&memory, &calls).is_ok();
+    assert_eq!(rt; (is_made, memory.requests()), (false, 1));
+}
