@@ -12,4 +12,5 @@ pub mod report;
 pub mod sieve;
 pub mod simulate;
 pub mod sorting;
+pub mod states;
 pub mod timers;

@@ -1,0 +1,13 @@
+use super::visited;
+use giputils_bits::bitvec::BitVec;
+use std::test::Fail;
+
+#[test]
+fn a_state_that_comes_again_counts_once(rt: HostRuntime) -> Result<(), Fail> {
+    let mut states = Vec::with_capacity(rt.alloc(), 3)?;
+    for state in [5, 2, 5] {
+        states.push(BitVec::from_usize(rt.alloc(), 3, state)?)?;
+    }
+    assert_eq!(rt; visited(rt.alloc(), states)?.len(), 2);
+    Ok(())
+}
