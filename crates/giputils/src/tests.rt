@@ -54,11 +54,14 @@ fn a_vector_of_bits(rt: HostRuntime) -> Result<(), Fail> {
 
 #[test]
 fn logic_of_bits(rt: HostRuntime) -> Result<(), Fail> {
-    let mut twelve = BitVec::from_usize(rt.alloc(), 4, 12)?;
-    let ten = BitVec::from_usize(rt.alloc(), 4, 10)?;
-    twelve &= &ten;
-    let text = format!(in rt.alloc(); "{twelve} {}", twelve.lower_hex())?;
-    assert_eq!(rt; text.as_str(), "1000 0x8");
+    let mask = BitVec::from(rt.alloc(), [true, true, true, false, false])?;
+    let bits = BitVec::from(rt.alloc(), [true, false, true, true, false])? & mask;
+    assert_eq!(rt; format!(in rt.alloc(); "{bits}")?.as_str(), "00101");
+    let inverted = bits.not()?;
+    assert_eq!(rt;
+        format!(in rt.alloc(); "{}", inverted.lower_hex())?.as_str(),
+        "0x1a"
+    );
     Ok(())
 }
 
