@@ -1,6 +1,5 @@
 //! The vectors of bits that lines write, as text.
-ghost use Rattle.std.specs.Prelude.{◌≡◌, ◌++◌, ◌∷◌, [], length, false, Some, IfOk, IfErr, OnOk};
-ghost use Rattle.giputils_bits.specs.Text.{hex_text};
+ghost use Rattle.std.specs.Prelude.{◌≡◌, ◌++◌, ◌∷◌, [], length, IfOk, IfErr, OnOk};
 ghost use Rattle.gip_lines.specs.BitText.{bits_reply, bits_text};
 ghost use Rattle.gip_lines.specs.Texts.{line_feed};
 
@@ -8,7 +7,6 @@ use crate::bit_lines::BitLine;
 use crate::fault::GipFault;
 use giputils_bits::bitvec::{BitCall, BitReply, BitVec, bit_run};
 use std::alloc::Allocator;
-use std::fmt;
 use std::io::Write;
 
 // The replies to some lines, a line each.
@@ -50,17 +48,5 @@ fn write_vector<A: Allocator>(
     ensures ok { OnOk result (text.new.items ≡ text.old.items ++ (bits_reply vector.now ++ line_feed ∷ [])) }
     ensures err { IfErr result (λ fault. fault ≡ GipFault.Memory) }
 {
-    writeln!(text, "{vector} {} {len}", Hex(vector)).map_err(|_| GipFault::Memory)
-}
-
-// The hexadecimal text of a vector, for a format string.
-#[derive(Drop)]
-struct Hex<'a, A: Allocator>(&'a BitVec<A>);
-
-impl<A: Allocator> fmt::Display for Hex<'_, A> {
-    ghost output = { λ hex. Some (hex_text false hex.0.now) };
-
-    fn fmt<W: fmt::Write>(&self, f: &mut fmt::Formatter<W>) -> fmt::Result {
-        fmt::LowerHex::fmt(self.0, f)
-    }
+    writeln!(text, "{vector} {} {len}", vector.lower_hex()).map_err(|_| GipFault::Memory)
 }
