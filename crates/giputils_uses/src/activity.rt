@@ -13,8 +13,8 @@ use std::marker::Model;
 
 /// Variables by their numbers, each with a score. Those that are queued may be picked.
 ///
-/// Shows ranks that change while the heap holds the keys: it is lent them at each call, and one call of `up` puts the key
-/// whose rank has risen where it belongs. Order is an invariant of the type, so no caller has to speak of it.
+/// Shows ranks that change while the heap holds the keys: it is lent them at each call, and one call of `up` puts the
+/// key whose rank has risen where it belongs. Order is an invariant of the type, so no caller has to speak of it.
 #[derive(Drop)]
 pub struct Activity<A: Allocator = Global> {
     queue: BinaryHeap<u32, A>,

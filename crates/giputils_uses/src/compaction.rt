@@ -11,8 +11,8 @@ use std::alloc::{AllocError, Allocator};
 
 /// Collects the removed clauses, and answers the watched ones that are left by their new indexes, in order.
 ///
-/// Shows the map of `gc`: what read a clause by its old index reads the same clause by its new one. The list of new indexes
-/// is asked for first, so that a collection that was done is never lost.
+/// Shows the map of `gc`: what read a clause by its old index reads the same clause by its new one. The list of new
+/// indexes is asked for first, so that a collection that was done is never lost.
 ///
 /// # Errors
 /// `AllocError` where memory for the list or for the map is refused. The clauses are then as they were.

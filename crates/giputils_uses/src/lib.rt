@@ -1,5 +1,5 @@
-//! Uses of the libraries, as a caller writes them: a module a topic, each use proved on their public contracts alone and
-//! run by a test.
+//! Uses of the libraries, as a caller writes them: a module a topic, each use proved on their public contracts alone
+//! and run by a test.
 #![tactic(auto)]
 
 pub mod activity;

@@ -13,8 +13,9 @@ use std::cmp::Reverse;
 ///
 /// A distance below `u32::MAX` is the least cost of a path. A node of distance `u32::MAX` has no path that costs less.
 ///
-/// Shows a search that takes the nearest waiting node first, and moves a waiting one by `update` when its distance falls. That each
-/// answer is least is proved of the edges alone, whatever the order in which nodes are taken: the order makes it fast.
+/// Shows a search that takes the nearest waiting node first, and moves a waiting one by `update` when its distance
+/// falls. That each answer is least is proved of the edges alone, whatever the order in which nodes are taken: the
+/// order makes it fast.
 ///
 /// # Errors
 /// `AllocError` where memory is refused.

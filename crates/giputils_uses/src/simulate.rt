@@ -10,8 +10,8 @@ use std::alloc::Allocator;
 
 /// A column of half adders: the state becomes its sum with the input, place by place, and the answer has the carries.
 ///
-/// Shows logic on whole vectors of one length, which is the condition of `&=` and `^=`: the state is written in place, and
-/// takes no memory.
+/// Shows logic on whole vectors of one length, which is the condition of `&=` and `^=`: the state is written in place,
+/// and takes no memory.
 ///
 /// # Errors
 /// `BitVecError::Memory` where memory for the carries is refused. The state is then as it was.

@@ -14,8 +14,8 @@ use std::marker::Model;
 
 /// Timers by their numbers, each with a deadline.
 ///
-/// Shows a queue whose least rank goes first (`Reverse(ByRank(..))`), and a key whose rank is set to anything: `update` puts
-/// it where it belongs.
+/// Shows a queue whose least rank goes first (`Reverse(ByRank(..))`), and a key whose rank is set to anything: `update`
+/// puts it where it belongs.
 #[derive(Drop)]
 pub struct Timers<A: Allocator = Global> {
     running: BinaryHeap<u16, A>,
@@ -48,7 +48,8 @@ impl<A: Allocator + Copy> Timers<A> {
     /// Sets the deadline of a timer, which runs from then on. One that runs is moved to the new deadline.
     ///
     /// # Errors
-    /// `AllocError` where memory for a timer that did not run is refused. It does not run then, and the others do as before.
+    /// `AllocError` where memory for a timer that did not run is refused. It does not run then, and the others do as
+    /// before.
     pub fn set(&mut self, timer: u16, deadline: u32) -> Result<(), AllocError>
         requires { timer < length self.old.deadlines }
         ensures runs { OnOk result (HoldAlike (λ k. k) self.new.running (timer ∷ self.old.running)) }
