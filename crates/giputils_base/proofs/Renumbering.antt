@@ -1,6 +1,7 @@
 -- The new indexes that a collection gives.
-use Rattle.std.specs.Prelude.{◌≡◌, ◌↔◌, ℕ, zero, suc, ◌+◌, ◌<◌, ◌≤◌, Bool, true, false, not, List, [], ◌∷◌, length, filter, take, slice_index_or, Option, Some, None, IsSome, option_and_then, if◌then◌else◌, refl}
+use Rattle.std.specs.Prelude.{◌≡◌, ◌↔◌, ℕ, zero, suc, ◌+◌, ◌<◌, ◌≤◌, Bool, true, false, not, List, [], ◌∷◌, length, map, filter, take, slice_index_or, Option, Some, None, IsSome, is_some, option_and_then, if◌then◌else◌, refl}
 use Rattle.std.proofs.Common.{arith, ap, sym, ◌∙◌, cond}
+use Rattle.std.specs.List.{filter_map, cons_option}
 use Rattle.std.proofs.lemmas.List.{length-map, length-take}
 use Rattle.std.proofs.lemmas.List.Filters.{length-filter_both, length-filter_more}
 use Rattle.std.proofs.lemmas.Option.{slice_get_past}
@@ -114,3 +115,13 @@ module _ {T : Type 0} where
         rw from.1 (value_at-new_index slots i from.0);
     not_marked = λ m below. mark_at-unmarked_slots (survivors slots) m below;
   }
+
+module _ {X : Type 0} (index : ℕ → Option ℕ) (old new : ℕ → X) (same : (i m : ℕ) → index i ≡ Some m → new m ≡ old i) where
+  renamed_first : (i : ℕ) (ms is : List ℕ) → map new ms ≡ map old is → (o : Option ℕ) → index i ≡ o → map new (cons_option o ms) ≡ map old (cond (is_some o) (i ∷ is) is)
+  renamed_first i ms is rest (Some m) at = λ k. same i m at k ∷ rest k
+  renamed_first i ms is rest None at = rest
+
+  -- a list of indexes under a renaming: what the new indexes read is what the old ones read that have a new one
+  pub map-renamed : (is : List ℕ) → map new (filter_map index is) ≡ map old (filter (λ i. is_some (index i)) is)
+  map-renamed [] = refl
+  map-renamed (i ∷ is) = renamed_first i (filter_map index is) (filter (λ j. is_some (index j)) is) (map-renamed is) (index i) refl

@@ -1,11 +1,14 @@
 pub mod CallBounds
 pub mod Comparisons
+pub mod Falling
 pub mod Greatest
 pub mod HoldAlike
 pub mod KeySets
 pub mod Levels
 pub mod OrderLaws
 pub mod Preorders
+pub mod Pushes
+pub mod Ranks
 pub mod Relations
 mod AtPlaces
 mod Examples

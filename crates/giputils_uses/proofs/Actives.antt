@@ -6,7 +6,7 @@ use Rattle.giputils_heap.specs.Comparers.{by_rank}
 use Rattle.giputils_heap.specs.Keys.{is_held}
 use Rattle.giputils_heap.specs.Relations.{IsGreatest}
 use Rattle.giputils_uses.specs.Activity.{Order, IsMostActive}
-use Rattle.giputils_uses.proofs.Ranks.{greatest_rank}
+use Rattle.giputils_heap.proofs.Ranks.{greatest_rank}
 
 -- a greatest key by score is a most active variable
 pub IsMostActive-greatest : (order : Order) (v : ℕ) → IsGreatest (λ k. k) (by_rank (λ k. k) order.scores) order.queued v → IsMostActive order v

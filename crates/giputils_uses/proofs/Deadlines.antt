@@ -6,7 +6,7 @@ use Rattle.giputils_heap.specs.Comparers.{by_rank, reverse_of}
 use Rattle.giputils_heap.specs.Keys.{is_held}
 use Rattle.giputils_heap.specs.Relations.{IsGreatest}
 use Rattle.giputils_uses.specs.Clock.{Clock, IsEarliest}
-use Rattle.giputils_uses.proofs.Ranks.{least_rank}
+use Rattle.giputils_heap.proofs.Ranks.{least_rank}
 
 -- a greatest key the other way round is an earliest timer
 pub IsEarliest-greatest : (clock : Clock) (timer : ℕ) → IsGreatest (λ k. k) (reverse_of (by_rank (λ k. k) clock.deadlines)) clock.running timer → IsEarliest clock timer

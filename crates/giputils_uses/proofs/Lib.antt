@@ -1,10 +1,7 @@
 mod Actives
 mod Deadlines
 mod Examples
-mod Falling
 mod Multiples
 mod Outcomes
-mod Pushes
-mod Ranks
 mod Renamed
 mod Searches

@@ -2,7 +2,7 @@
 use Rattle.std.proofs.Common.{sym}
 use Rattle.giputils_uses.proofs.Outcomes.{IfSome-weaker}
 use Rattle.giputils_uses.proofs.Deadlines.{IsEarliest-greatest}
-use Rattle.giputils_uses.proofs.Ranks.{IsLawful-by_least_rank}
+use Rattle.giputils_heap.proofs.Ranks.{IsLawful-by_least_rank}
 use Rattle.giputils_uses.proofs.timers.Timers.next.Goals as goal
 
 pub invariant_of-self : goal.invariant_of-self

@@ -4,8 +4,8 @@ use Rattle.std.proofs.lemmas.Result.{on_ok_weaker}
 use Rattle.giputils_heap.specs.Comparers.{by_rank, reverse_of}
 use Rattle.giputils_heap.proofs.Comparisons.{AgreesExcept-by_rank}
 use Rattle.giputils_heap.proofs.HoldAlike.{HoldAlike-cons, HoldAlike-IsPermutation}
-use Rattle.giputils_uses.proofs.Pushes.{HoldAlike-pushed}
-use Rattle.giputils_uses.proofs.Ranks.{IsLawful-by_least_rank, AgreesExcept-reverse_of}
+use Rattle.giputils_heap.proofs.Pushes.{HoldAlike-pushed}
+use Rattle.giputils_heap.proofs.Ranks.{IsLawful-by_least_rank, AgreesExcept-reverse_of}
 use Rattle.giputils_uses.proofs.timers.Timers.set.Goals as goal
 
 pub invariant_of-self : goal.invariant_of-self
