@@ -125,6 +125,38 @@ def bits_list(rng):
             yield rng.choice(BITS_QUESTIONS)
 
 
+# How often each call of logic and each text comes.
+LOGIC_WEIGHTS = {
+    "and": 10,
+    "or": 10,
+    "xor": 10,
+    "invert": 10,
+    "change": 10,
+    "text": 30,
+}
+
+
+def logic_list(rng):
+    """Calls of logic on a bit vector, and its texts. It keeps track of the length, so that most vectors have the right one."""
+    length = rng.choice(BITS_LENGTHS)
+    yield "new bits"
+    yield f"from {''.join(rng.choices('01', k=length))}"
+    for _ in range(rng.randint(1, 20)):
+        (name,) = rng.choices(list(LOGIC_WEIGHTS), list(LOGIC_WEIGHTS.values()))
+        if name in ("and", "or", "xor"):
+            other = length if rng.random() < 0.9 else rng.choice(BITS_LENGTHS)
+            yield f"{name} {''.join(rng.choices('01', k=other))}"
+        elif name == "change" and rng.random() < 0.5:
+            yield f"set {rng.randrange(length)} {rng.randrange(2)}"
+        elif name == "change":
+            length += 1
+            yield f"push {rng.randrange(2)}"
+        elif name == "text":
+            yield rng.choice(["bin", "hex", "HEX"])
+        else:
+            yield name
+
+
 HEAP_KEYS = 64
 
 # How often each call of the heap comes. After `rank KEY RANK` comes `update KEY`.
@@ -183,6 +215,7 @@ CONTAINERS = [
     (galloc_list, 300, 36),
     (bits_list, 300, 64),
     (heap_list, 300, 64),
+    (logic_list, 100, 65),
 ]
 
 

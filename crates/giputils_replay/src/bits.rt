@@ -18,7 +18,7 @@ pub fn replay<W: Write>(alloc: Global, out: &mut W, lines: &[String]) -> anyhow:
         } else if grow(&mut bits, &words).context(format_args!("call {}", i + 1))? {
             writeln!(out, "ok")?;
         } else {
-            ask(out, &mut bits, &words).context(format_args!("call {}", i + 1))?;
+            ask(alloc, out, &mut bits, &words).context(format_args!("call {}", i + 1))?;
         }
     }
     Ok(())
@@ -64,8 +64,13 @@ fn grow(bits: &mut BitVec, words: &[&str]) -> anyhow::Result<bool> {
 }
 
 // Makes another call, and writes its reply: a number, a truth value, `ok`, `some BIT`, `none`, the bits of an iterator,
-// or `skipped` where the call's condition does not hold.
-fn ask<W: Write>(out: &mut W, bits: &mut BitVec, words: &[&str]) -> anyhow::Result<()> {
+// a text of the vector, or `skipped` where the call's condition does not hold.
+fn ask<W: Write>(
+    alloc: Global,
+    out: &mut W,
+    bits: &mut BitVec,
+    words: &[&str],
+) -> anyhow::Result<()> {
     match *words {
         ["get", index] => {
             let index: usize = index.parse()?;
@@ -97,8 +102,40 @@ fn ask<W: Write>(out: &mut W, bits: &mut BitVec, words: &[&str]) -> anyhow::Resu
             None => writeln!(out, "none")?,
         },
         ["iter", steps] => write_steps(out, bits, steps)?,
+        ["bin"] => writeln!(out, "{bits}")?,
+        ["hex"] => writeln!(out, "{}", bits.lower_hex())?,
+        ["HEX"] => writeln!(out, "{}", bits.upper_hex())?,
+        ["invert"] => {
+            *bits = bits.not()?;
+            writeln!(out, "ok")?;
+        }
+        [name, text] => join(alloc, out, bits, name, text)?,
         _ => return Err(NotACall.into()),
     }
+    Ok(())
+}
+
+// Joins the vector by `and`, `or` or `xor` with the one that has this text, the last bit first, and writes `ok`, or `skipped`
+// where their lengths differ.
+fn join<W: Write>(
+    alloc: Global,
+    out: &mut W,
+    bits: &mut BitVec,
+    name: &str,
+    text: &str,
+) -> anyhow::Result<()> {
+    let other = BitVec::from(alloc, text.bytes().rev().map(|digit| digit == b'1'))?;
+    if bits.len() != other.len() {
+        writeln!(out, "skipped")?;
+        return Ok(());
+    }
+    match name {
+        "and" => *bits &= &other,
+        "or" => *bits |= &other,
+        "xor" => *bits ^= &other,
+        _ => return Err(NotACall.into()),
+    }
+    writeln!(out, "ok")?;
     Ok(())
 }
 
