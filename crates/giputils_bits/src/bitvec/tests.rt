@@ -1,7 +1,9 @@
 // The calls, on worked examples.
-use super::{BitVec, BitVecError};
+use super::{BitCall, BitReply, BitVec, BitVecError, bit_run};
 use giputils_base::hash::GHashSet;
 use std::alloc::{Allocator, Global};
+use std::fmt::{self, Write};
+use std::hash::{DefaultHasher, Hash, Hasher};
 use std::process::Abort;
 use std::test::Fail;
 
@@ -77,6 +79,69 @@ fn iterators_meet_and_stay_at_the_end(rt: HostRuntime) -> Result<(), Fail> {
     Ok(())
 }
 
+// The iterator gives these items, from either end by turns, and then nothing from either end.
+fn gives<R: Abort, I: DoubleEndedIterator<Item = bool>>(
+    rt: &R,
+    iter: I,
+    fronts_first: bool,
+    items: &[bool],
+) {
+    let mut iter = iter;
+    let mut front = fronts_first;
+    for item in items {
+        let got = if front { iter.next() } else { iter.next_back() };
+        assert_eq!(rt; got, Some(*item));
+        front = !front;
+    }
+    assert_eq!(rt; (iter.next(), iter.next_back()), (None, None));
+}
+
+#[test]
+fn ends_are_taken_by_turns(rt: HostRuntime) -> Result<(), Fail> {
+    let bits = BitVec::from(
+        rt.alloc(),
+        [true, false, true, true, false, true, false, false],
+    )?;
+    gives(
+        &rt,
+        bits.iter(),
+        true,
+        &[true, false, false, false, true, true, true, false],
+    );
+    gives(
+        &rt,
+        bits.into_iter(),
+        false,
+        &[false, true, false, false, true, true, false, true],
+    );
+    Ok(())
+}
+
+#[test]
+fn patterns_are_known_at_each_length(rt: HostRuntime) -> Result<(), Fail> {
+    let alloc = rt.alloc();
+    for len in 1..200 {
+        assert!(&rt; BitVec::one(alloc, len)?.is_one());
+        assert!(&rt; BitVec::ones(alloc, len)?.is_ones());
+        assert!(&rt; BitVec::zero(alloc, len)?.is_zero());
+    }
+    Ok(())
+}
+
+#[test]
+fn a_bit_of_the_second_word_tells_patterns_apart(rt: HostRuntime) -> Result<(), Fail> {
+    let alloc = rt.alloc();
+    let mut bits = BitVec::one(alloc, 65)?;
+    assert_words(&rt, &bits, 65, &[1, 0]);
+    bits.set(64, true);
+    assert!(&rt; !bits.is_one() && !bits.is_ones());
+    bits.set(0, false);
+    bits.set(64, false);
+    assert!(&rt; bits.is_zero() && bits == BitVec::zero(alloc, 65)?);
+    assert!(&rt; bits != BitVec::zero(alloc, 64)?);
+    Ok(())
+}
+
 #[test]
 fn equal_vectors_are_one_member_of_a_set(rt: HostRuntime) -> Result<(), Fail> {
     let alloc = rt.alloc();
@@ -85,4 +150,173 @@ fn equal_vectors_are_one_member_of_a_set(rt: HostRuntime) -> Result<(), Fail> {
     let set = GHashSet::from_iter(alloc, [BitVec::ones(alloc, 64)?, word])?;
     assert_eq!(rt; set.len(), 1);
     Ok(())
+}
+
+// What a vector feeds a hasher is its words and then the length modulo 64.
+fn feeds<R: Abort>(rt: &R, alloc: Global, len: usize, words: &[u64]) -> Result<(), BitVecError> {
+    let bits = BitVec::from_elem(alloc, len, true)?;
+    let mut fed = DefaultHasher::new();
+    bits.hash(&mut fed);
+    let mut by_hand = DefaultHasher::new();
+    for word in words {
+        word.hash(&mut by_hand);
+    }
+    (len % 64).hash(&mut by_hand);
+    assert_eq!(rt; fed.finish(), by_hand.finish());
+    Ok(())
+}
+
+#[test]
+fn a_hasher_is_fed_words_and_a_length(rt: HostRuntime) -> Result<(), Fail> {
+    let alloc = rt.alloc();
+    feeds(&rt, alloc, 0, &[])?;
+    feeds(&rt, alloc, 1, &[1])?;
+    feeds(&rt, alloc, 63, &[u64::MAX >> 1])?;
+    feeds(&rt, alloc, 64, &[u64::MAX])?;
+    feeds(&rt, alloc, 65, &[u64::MAX, 1])?;
+    feeds(&rt, alloc, 128, &[u64::MAX, u64::MAX])?;
+    feeds(&rt, alloc, 130, &[u64::MAX, u64::MAX, 3])?;
+    Ok(())
+}
+
+// The texts of a vector, by all traits.
+fn writes<R: AllocGlobal + Abort>(
+    rt: &R,
+    bits: &BitVec,
+    binary: &str,
+    lower: &str,
+    upper: &str,
+) -> Result<(), Fail> {
+    let alloc = rt.alloc();
+    assert_eq!(rt; format!(in alloc; "{bits}")?.as_str(), binary);
+    assert_eq!(rt; format!(in alloc; "{bits:>300?}")?.as_str(), binary);
+    assert_eq!(rt; format!(in alloc; "{}", bits.lower_hex())?.as_str(), lower);
+    assert_eq!(rt;
+        format!(in alloc; "{:#09}", bits.upper_hex())?.as_str(),
+        upper
+    );
+    Ok(())
+}
+
+#[test]
+fn texts_of_numbers(rt: HostRuntime) -> Result<(), Fail> {
+    let alloc = rt.alloc();
+    writes(&rt, &BitVec::new(alloc), "[]", "[]", "[]")?;
+    writes(&rt, &BitVec::zero(alloc, 3)?, "000", "0x0", "0x0")?;
+    let ten = BitVec::from_usize(alloc, 10, 12345)?;
+    writes(&rt, &ten, "0000111001", "0x39", "0x39")?;
+    let bits = BitVec::from_usize(alloc, 70, usize::MAX)?;
+    assert_eq!(&rt;
+        format!(in alloc; "{}", bits.lower_hex())?.as_str(),
+        "0x0ffffffffffffffff"
+    );
+    let mut words = BitVec::new(alloc);
+    words.push_word(u64::MAX)?;
+    words.push_word(1)?;
+    assert_eq!(&rt;
+        format!(in alloc; "{}", words.upper_hex())?.as_str(),
+        "0x1FFFFFFFFFFFFFFFF"
+    );
+    let letters = BitVec::from_usize(alloc, 12, 0xabc)?;
+    writes(&rt, &letters, "101010111100", "0xabc", "0xABC")
+}
+
+// A sink that takes so many pieces of text, and no more.
+#[derive(Drop)]
+struct Sink {
+    left: usize,
+}
+
+impl fmt::Write for Sink {
+    fn write_str(&mut self, _piece: &str) -> fmt::Result {
+        if self.left == 0 {
+            return Err(fmt::Error);
+        }
+        self.left -= 1;
+        Ok(())
+    }
+}
+
+#[test]
+fn a_sink_that_fails_stops_the_text(rt: HostRuntime) -> Result<(), Fail> {
+    let bits = BitVec::ones(rt.alloc(), 130)?;
+    for left in 0..4 {
+        assert!(&rt; write!(&mut Sink { left }, "{}", bits.lower_hex()).is_err());
+    }
+    assert!(&rt; write!(&mut Sink { left: 4 }, "{}", bits.lower_hex()).is_ok());
+    for left in 0..3 {
+        assert!(&rt; write!(&mut Sink { left }, "{bits}").is_err());
+    }
+    assert!(&rt; write!(&mut Sink { left: 3 }, "{bits}").is_ok());
+    Ok(())
+}
+
+// A run of the calls gives these replies, and leaves a vector of this text.
+fn runs<R: AllocGlobal + Abort>(
+    rt: &R,
+    calls: &[BitCall<'_>],
+    replies: &[BitReply],
+    text: &str,
+) -> Result<(), Fail> {
+    let alloc = rt.alloc();
+    let (bits, got) = bit_run(alloc, calls)?;
+    assert_eq!(rt; got.as_slice(), replies);
+    assert_eq!(rt; format!(in alloc; "{}", bits.lower_hex())?.as_str(), text);
+    Ok(())
+}
+
+#[test]
+fn a_run_skips_what_cannot_be_called(rt: HostRuntime) -> Result<(), Fail> {
+    runs(
+        &rt,
+        &[
+            BitCall::Push(true),
+            BitCall::Bool,
+            BitCall::GetBit(1),
+            BitCall::Clear,
+            BitCall::PushWord(5),
+            BitCall::Len,
+            BitCall::ToUsize,
+            BitCall::IsOne,
+            BitCall::TryBool,
+            BitCall::SetBit(0, false),
+            BitCall::IsZero,
+            BitCall::Bool,
+        ],
+        &[
+            BitReply::Done,
+            BitReply::Bit(true),
+            BitReply::Skipped,
+            BitReply::Done,
+            BitReply::Done,
+            BitReply::Number(64),
+            BitReply::Number(5),
+            BitReply::Bit(false),
+            BitReply::MaybeBit(None),
+            BitReply::Done,
+            BitReply::Bit(false),
+            BitReply::Skipped,
+        ],
+        "0x4",
+    )
+}
+
+#[test]
+fn a_run_appends_a_word_anywhere(rt: HostRuntime) -> Result<(), Fail> {
+    runs(
+        &rt,
+        &[
+            BitCall::Push(true),
+            BitCall::PushWord(5),
+            BitCall::Len,
+            BitCall::ToUsize,
+        ],
+        &[
+            BitReply::Done,
+            BitReply::Done,
+            BitReply::Number(65),
+            BitReply::Number(11),
+        ],
+        "0x0000000000000000b",
+    )
 }
