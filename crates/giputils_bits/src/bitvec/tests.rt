@@ -79,44 +79,6 @@ fn iterators_meet_and_stay_at_the_end(rt: HostRuntime) -> Result<(), Fail> {
     Ok(())
 }
 
-// The iterator gives these items, from either end by turns, and then nothing from either end.
-fn gives<R: Abort, I: DoubleEndedIterator<Item = bool>>(
-    rt: &R,
-    iter: I,
-    fronts_first: bool,
-    items: &[bool],
-) {
-    let mut iter = iter;
-    let mut front = fronts_first;
-    for item in items {
-        let got = if front { iter.next() } else { iter.next_back() };
-        assert_eq!(rt; got, Some(*item));
-        front = !front;
-    }
-    assert_eq!(rt; (iter.next(), iter.next_back()), (None, None));
-}
-
-#[test]
-fn ends_are_taken_by_turns(rt: HostRuntime) -> Result<(), Fail> {
-    let bits = BitVec::from(
-        rt.alloc(),
-        [true, false, true, true, false, true, false, false],
-    )?;
-    gives(
-        &rt,
-        bits.iter(),
-        true,
-        &[true, false, false, false, true, true, true, false],
-    );
-    gives(
-        &rt,
-        bits.into_iter(),
-        false,
-        &[false, true, false, false, true, true, false, true],
-    );
-    Ok(())
-}
-
 #[test]
 fn patterns_are_known_at_each_length(rt: HostRuntime) -> Result<(), Fail> {
     let alloc = rt.alloc();
