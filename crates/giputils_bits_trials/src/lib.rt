@@ -14,3 +14,5 @@ mod in_place;
 mod left;
 #[cfg(test)]
 mod runs;
+#[cfg(test)]
+mod texts;
