@@ -80,6 +80,21 @@ fn iterators_meet_and_stay_at_the_end(rt: HostRuntime) -> Result<(), Fail> {
 }
 
 #[test]
+fn ends_are_taken_by_turns(rt: HostRuntime) -> Result<(), Fail> {
+    let bits = BitVec::from(
+        rt.alloc(),
+        [true, false, true, true, false, true, false, false],
+    )?;
+    let mut iter = bits.iter();
+    let fronts = (iter.next(), iter.next_back(), iter.next(), iter.next_back());
+    assert_eq!(rt; fronts, (Some(true), Some(false), Some(false), Some(false)));
+    let others = (iter.next(), iter.next_back(), iter.next(), iter.next_back());
+    assert_eq!(rt; others, (Some(true), Some(true), Some(true), Some(false)));
+    assert_eq!(rt; (iter.next(), iter.next_back()), (None, None));
+    Ok(())
+}
+
+#[test]
 fn patterns_are_known_at_each_length(rt: HostRuntime) -> Result<(), Fail> {
     let alloc = rt.alloc();
     for len in 1..200 {
@@ -310,6 +325,43 @@ fn a_run_skips_what_cannot_be_called(rt: HostRuntime) -> Result<(), Fail> {
         ],
         "0x4",
     )
+}
+
+// What a run of logic borrows.
+#[derive(Drop)]
+struct Operands {
+    items: [bool; 5],
+    mask: BitVec,
+    four: BitVec,
+}
+
+fn logic_calls(operands: &Operands) -> [BitCall<'_>; 6] {
+    [
+        BitCall::Extend(&operands.items),
+        BitCall::AndWith(&operands.mask),
+        BitCall::Invert,
+        BitCall::Len,
+        BitCall::XorWith(&operands.four),
+        BitCall::ToUsize,
+    ]
+}
+
+#[test]
+fn a_run_of_logic(rt: HostRuntime) -> Result<(), Fail> {
+    let operands = Operands {
+        items: [true, false, true, true, false],
+        mask: BitVec::from(rt.alloc(), [true, true, true, false, false])?,
+        four: BitVec::zero(rt.alloc(), 4)?,
+    };
+    let replies = [
+        BitReply::Done,
+        BitReply::Done,
+        BitReply::Done,
+        BitReply::Number(5),
+        BitReply::Skipped,
+        BitReply::Number(26),
+    ];
+    runs(&rt, &logic_calls(&operands), &replies, "0x1a")
 }
 
 #[test]
