@@ -1,7 +1,7 @@
 // The calls, on worked examples.
 use super::{BitCall, BitReply, BitVec, BitVecError, bit_run};
 use giputils_base::hash::GHashSet;
-use std::alloc::{Allocator, Global};
+use std::alloc::{AllocError, Allocator, Global};
 use std::fmt::{self, Write};
 use std::hash::{DefaultHasher, Hash, Hasher};
 use std::process::Abort;
@@ -75,6 +75,21 @@ fn iterators_meet_and_stay_at_the_end(rt: HostRuntime) -> Result<(), Fail> {
         (iter.next_back(), iter.next(), iter.next()),
         (Some(true), Some(true), Some(false))
     );
+    assert_eq!(rt; (iter.next(), iter.next_back()), (None, None));
+    Ok(())
+}
+
+#[test]
+fn ends_are_taken_by_turns(rt: HostRuntime) -> Result<(), Fail> {
+    let bits = BitVec::from(
+        rt.alloc(),
+        [true, false, true, true, false, true, false, false],
+    )?;
+    let mut iter = bits.iter();
+    let fronts = (iter.next(), iter.next_back(), iter.next(), iter.next_back());
+    assert_eq!(rt; fronts, (Some(true), Some(false), Some(false), Some(false)));
+    let others = (iter.next(), iter.next_back(), iter.next(), iter.next_back());
+    assert_eq!(rt; others, (Some(true), Some(true), Some(true), Some(false)));
     assert_eq!(rt; (iter.next(), iter.next_back()), (None, None));
     Ok(())
 }
@@ -183,6 +198,55 @@ fn texts_of_numbers(rt: HostRuntime) -> Result<(), Fail> {
     writes(&rt, &letters, "101010111100", "0xabc", "0xABC")
 }
 
+// The binary text of a vector, bit by bit.
+fn binary_by_bits(alloc: Global, bits: &BitVec) -> Result<String, AllocError> {
+    let mut text = String::new(alloc);
+    if bits.is_empty() {
+        text.push_str("[]")?;
+    }
+    for bit in bits.iter().rev() {
+        text.push(if bit { '1' } else { '0' })?;
+    }
+    Ok(text)
+}
+
+// The hexadecimal text of a vector whose last bit is true, bit by bit.
+fn hex_by_bits(alloc: Global, bits: &BitVec) -> Result<String, AllocError> {
+    let mut text = String::new(alloc);
+    if bits.is_empty() {
+        text.push_str("[]")?;
+        return Ok(text);
+    }
+    text.push_str("0x")?;
+    let mut digit = 0;
+    let mut left = bits.len();
+    for bit in bits.iter().rev() {
+        left = left.saturating_sub(1);
+        digit = (digit % 8) * 2 + u32::from(bit);
+        if left % 4 == 0 {
+            text.push(char::from_digit(digit, 16).unwrap_or(' '))?;
+            digit = 0;
+        }
+    }
+    Ok(text)
+}
+
+#[test]
+fn texts_are_those_of_the_bits(rt: HostRuntime) -> Result<(), Fail> {
+    let alloc = rt.alloc();
+    for len in [0, 1, 63, 64, 65, 127, 128, 129, 200] {
+        let mut bits = BitVec::new(alloc);
+        for place in 0..len {
+            bits.push(place % 3 == 0 || place % 7 == 2 || place + 1 == len)?;
+        }
+        let binary = binary_by_bits(alloc, &bits)?;
+        let hex = hex_by_bits(alloc, &bits)?;
+        assert_eq!(&rt; format!(in alloc; "{bits}")?, binary);
+        assert_eq!(&rt; format!(in alloc; "{}", bits.lower_hex())?, hex);
+    }
+    Ok(())
+}
+
 // A sink that takes so many pieces of text, and no more.
 #[derive(Drop)]
 struct Sink {
@@ -261,6 +325,43 @@ fn a_run_skips_what_cannot_be_called(rt: HostRuntime) -> Result<(), Fail> {
         ],
         "0x4",
     )
+}
+
+// What a run of logic borrows.
+#[derive(Drop)]
+struct Operands {
+    items: [bool; 5],
+    mask: BitVec,
+    four: BitVec,
+}
+
+fn logic_calls(operands: &Operands) -> [BitCall<'_>; 6] {
+    [
+        BitCall::Extend(&operands.items),
+        BitCall::AndWith(&operands.mask),
+        BitCall::Invert,
+        BitCall::Len,
+        BitCall::XorWith(&operands.four),
+        BitCall::ToUsize,
+    ]
+}
+
+#[test]
+fn a_run_of_logic(rt: HostRuntime) -> Result<(), Fail> {
+    let operands = Operands {
+        items: [true, false, true, true, false],
+        mask: BitVec::from(rt.alloc(), [true, true, true, false, false])?,
+        four: BitVec::zero(rt.alloc(), 4)?,
+    };
+    let replies = [
+        BitReply::Done,
+        BitReply::Done,
+        BitReply::Done,
+        BitReply::Number(5),
+        BitReply::Skipped,
+        BitReply::Number(26),
+    ];
+    runs(&rt, &logic_calls(&operands), &replies, "0x1a")
 }
 
 #[test]
