@@ -54,8 +54,10 @@ fn a_vector_of_bits(rt: HostRuntime) -> Result<(), Fail> {
 
 #[test]
 fn logic_of_bits(rt: HostRuntime) -> Result<(), Fail> {
+    let mut bits = BitVec::from(rt.alloc(), [true, false, true, true, false])?;
     let mask = BitVec::from(rt.alloc(), [true, true, true, false, false])?;
-    let bits = BitVec::from(rt.alloc(), [true, false, true, true, false])? & mask;
+    assert_eq!(rt; bits.len(), mask.len());
+    bits &= &mask;
     assert_eq!(rt; format!(in rt.alloc(); "{bits}")?.as_str(), "00101");
     let inverted = bits.not()?;
     assert_eq!(rt;

@@ -14,5 +14,3 @@ mod in_place;
 mod left;
 #[cfg(test)]
 mod runs;
-#[cfg(test)]
-mod texts;
