@@ -277,6 +277,29 @@ fn a_sink_that_fails_stops_the_text(rt: HostRuntime) -> Result<(), Fail> {
     Ok(())
 }
 
+// Two vectors of one length.
+fn five_places(alloc: Global) -> Result<(BitVec, BitVec), BitVecError> {
+    let bits = BitVec::from(alloc, [true, false, true, true, false])?;
+    let mask = BitVec::from(alloc, [true, true, true, false, false])?;
+    Ok((bits, mask))
+}
+
+#[test]
+fn logic_goes_place_by_place(rt: HostRuntime) -> Result<(), Fail> {
+    let (bits, mask) = five_places(rt.alloc())?;
+    assert_eq!(&rt; bits.len(), mask.len());
+    writes(&rt, &(bits & mask), "00101", "0x5", "0x5")?;
+    let (bits, mask) = five_places(rt.alloc())?;
+    assert_eq!(&rt; bits.len(), mask.len());
+    writes(&rt, &(bits | mask), "01111", "0xf", "0xF")?;
+    let (bits, mask) = five_places(rt.alloc())?;
+    assert_eq!(&rt; bits.len(), mask.len());
+    writes(&rt, &(bits ^ mask), "01010", "0xa", "0xA")?;
+    let (bits, _) = five_places(rt.alloc())?;
+    writes(&rt, &bits.not()?, "10010", "0x12", "0x12")?;
+    Ok(())
+}
+
 // A run of the calls gives these replies, and leaves a vector of this text.
 fn runs<R: AllocGlobal + Abort>(
     rt: &R,
