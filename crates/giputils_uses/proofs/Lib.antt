@@ -6,5 +6,6 @@ mod Multiples
 mod Outcomes
 mod Pushes
 mod Ranks
+mod Reaching
 mod Renamed
 mod Searches

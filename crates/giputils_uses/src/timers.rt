@@ -81,6 +81,7 @@ impl<A: Allocator + Copy> Timers<A> {
         ensures others { IsAbsent (λ k. k) self.old.running timer → (self.new.running ≡ self.old.running) }
         ensures deadlines { self.new.deadlines ≡ self.old.deadlines }
     {
-        self.running.remove(timer, &Reverse(ByRank(&self.deadlines)))
+        self.running
+            .remove(timer, &Reverse(ByRank(&self.deadlines)))
     }
 }
