@@ -3,5 +3,6 @@ mod Deadlines
 mod Examples
 mod Multiples
 mod Outcomes
+mod Reaching
 mod Renamed
 mod Searches

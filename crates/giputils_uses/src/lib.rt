@@ -8,6 +8,7 @@ pub mod drain;
 pub mod last;
 pub mod look;
 pub mod paths;
+pub mod reachable;
 pub mod report;
 pub mod sieve;
 pub mod simulate;

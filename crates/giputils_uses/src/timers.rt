@@ -1,8 +1,8 @@
 //! A queue of timers: the earliest deadline first.
 ghost use Rattle.std.specs.Prelude.{◌≡◌, ◌<◌, [], ◌∷◌, length, replicate, slice_set, IfSome, IfNone, IfOk, OnOk, OnErr};
 ghost use Rattle.std.specs.List.Sorted.{IsPermutation};
-ghost use Rattle.giputils_heap.specs.Keys.{HoldAlike};
-ghost use Rattle.giputils_uses.specs.Clock.{IsEarliest};
+ghost use Rattle.giputils_heap.specs.Keys.{is_held, IsAbsent, HoldAlike};
+ghost use Rattle.giputils_uses.specs.Clock.{Runs, IsEarliest};
 
 #[cfg(test)]
 mod tests;
@@ -70,5 +70,18 @@ impl<A: Allocator + Copy> Timers<A> {
         ensures deadlines { self.new.deadlines ≡ self.old.deadlines }
     {
         self.running.pop(&Reverse(ByRank(&self.deadlines)))
+    }
+    /// Stops a timer, and answers whether it ran. The others run on.
+    ///
+    /// It takes no memory, and any number may be asked: one that is no timer's does not run.
+    pub fn cancel(&mut self, timer: u16) -> bool
+        ensures ran { result ≡ is_held (λ k. k) self.old.running timer }
+        ensures left { Runs self.old.running timer → IsPermutation self.old.running (timer ∷ self.new.running) }
+        ensures stopped { IsAbsent (λ k. k) self.new.running timer }
+        ensures others { IsAbsent (λ k. k) self.old.running timer → (self.new.running ≡ self.old.running) }
+        ensures deadlines { self.new.deadlines ≡ self.old.deadlines }
+    {
+        self.running
+            .remove(timer, &Reverse(ByRank(&self.deadlines)))
     }
 }

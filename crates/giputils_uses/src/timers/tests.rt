@@ -14,3 +14,17 @@ fn the_earliest_deadline_goes_first(rt: HostRuntime) -> Result<(), Fail> {
     }
     Ok(())
 }
+
+#[test]
+fn a_cancelled_timer_runs_no_more(rt: HostRuntime) -> Result<(), Fail> {
+    let mut timers = Timers::new(rt.alloc(), 2)?;
+    timers.set(0, 30)?;
+    timers.set(1, 10)?;
+    for ran in [true, false] {
+        assert_eq!(rt; timers.cancel(1), ran);
+    }
+    for timer in [Some(0), None] {
+        assert_eq!(rt; timers.next(), timer);
+    }
+    Ok(())
+}
