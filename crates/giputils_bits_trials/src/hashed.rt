@@ -1,0 +1,76 @@
+// What a vector feeds a hasher, byte by byte.
+ghost use Rattle.std.specs.Prelude.{◌-◌, length, slice_get, is_some, if◌then◌else◌};
+
+use giputils_bits::bitvec::{BitVec, BitVecError};
+use std::alloc::Global;
+use std::hash::{Hash, Hasher};
+use std::test::Fail;
+
+// A hasher that records one of the bytes that it is fed: that before which there are `left` others.
+#[derive(Drop)]
+struct Recorder {
+    left: usize,
+    byte: Option<u8>,
+}
+
+impl Hasher for Recorder {
+    ghost write = { λ r bytes. if is_some r.byte then r else record { left = r.left - length bytes; byte = slice_get bytes r.left } };
+
+    ghost finish = { λ r. 0 };
+
+    fn finish(&self) -> u64 {
+        0
+    }
+
+    fn write(&mut self, bytes: &[u8]) {
+        if self.byte.is_some() {
+            return;
+        }
+        self.byte = bytes.get(self.left).copied();
+        self.left = self.left.saturating_sub(bytes.len());
+    }
+}
+
+// The byte at this place of what a vector of true places feeds a hasher, if it feeds so many.
+fn fed(alloc: Global, len: usize, place: usize) -> Result<Option<u8>, BitVecError> {
+    let bits = BitVec::from_elem(alloc, len, true)?;
+    let mut recorder = Recorder {
+        left: place,
+        byte: None,
+    };
+    bits.hash(&mut recorder);
+    Ok(recorder.byte)
+}
+
+// The byte at this place of the words and then of the length modulo 64, lowest bytes first.
+fn wanted(words: &[u64], len: usize, place: usize) -> Option<u8> {
+    match words.get(place / 8) {
+        Some(word) => word.to_le_bytes().get(place % 8).copied(),
+        None if place / 8 == words.len() => (len % 64).to_le_bytes().get(place % 8).copied(),
+        None => None,
+    }
+}
+
+// Whether a vector of true places feeds a hasher these words and then its length modulo 64, and no more.
+fn feeds(alloc: Global, len: usize, words: &[u64]) -> Result<bool, BitVecError> {
+    for place in 0..48 {
+        if fed(alloc, len, place)? != wanted(words, len, place) {
+            return Ok(false);
+        }
+    }
+    Ok(true)
+}
+
+#[test]
+fn a_hasher_is_fed_the_words_and_then_the_length(rt: HostRuntime) -> Result<(), Fail> {
+    let full = u64::MAX;
+    assert!(rt; feeds(rt.alloc(), 0, &[])?);
+    assert!(rt; feeds(rt.alloc(), 1, &[1])?);
+    assert!(rt; feeds(rt.alloc(), 63, &[full >> 1])?);
+    assert!(rt; feeds(rt.alloc(), 64, &[full])?);
+    assert!(rt; feeds(rt.alloc(), 65, &[full, 1])?);
+    assert!(rt; feeds(rt.alloc(), 128, &[full, full])?);
+    assert!(rt; feeds(rt.alloc(), 130, &[full, full, 3])?);
+    assert!(rt; !feeds(rt.alloc(), 130, &[full, 3, full])?);
+    Ok(())
+}
