@@ -3,7 +3,6 @@ use super::{BitCall, BitReply, BitVec, BitVecError, bit_run};
 use giputils_base::hash::GHashSet;
 use std::alloc::{AllocError, Allocator, Global};
 use std::fmt::{self, Write};
-use std::hash::{DefaultHasher, Hash, Hasher};
 use std::process::Abort;
 use std::test::Fail;
 
@@ -126,33 +125,6 @@ fn equal_vectors_are_one_member_of_a_set(rt: HostRuntime) -> Result<(), Fail> {
     word.push_word(u64::MAX)?;
     let set = GHashSet::from_iter(alloc, [BitVec::ones(alloc, 64)?, word])?;
     assert_eq!(rt; set.len(), 1);
-    Ok(())
-}
-
-// What a vector feeds a hasher is its words and then the length modulo 64.
-fn feeds<R: Abort>(rt: &R, alloc: Global, len: usize, words: &[u64]) -> Result<(), BitVecError> {
-    let bits = BitVec::from_elem(alloc, len, true)?;
-    let mut fed = DefaultHasher::new();
-    bits.hash(&mut fed);
-    let mut by_hand = DefaultHasher::new();
-    for word in words {
-        word.hash(&mut by_hand);
-    }
-    (len % 64).hash(&mut by_hand);
-    assert_eq!(rt; fed.finish(), by_hand.finish());
-    Ok(())
-}
-
-#[test]
-fn a_hasher_is_fed_words_and_a_length(rt: HostRuntime) -> Result<(), Fail> {
-    let alloc = rt.alloc();
-    feeds(&rt, alloc, 0, &[])?;
-    feeds(&rt, alloc, 1, &[1])?;
-    feeds(&rt, alloc, 63, &[u64::MAX >> 1])?;
-    feeds(&rt, alloc, 64, &[u64::MAX])?;
-    feeds(&rt, alloc, 65, &[u64::MAX, 1])?;
-    feeds(&rt, alloc, 128, &[u64::MAX, u64::MAX])?;
-    feeds(&rt, alloc, 130, &[u64::MAX, u64::MAX, 3])?;
     Ok(())
 }
 
