@@ -12,12 +12,3 @@ memory_from (Err e) h = ap (λ error. Err error) h.1
 pub ok_if_not_err : {X E : Type 0} {P : Type 0} → (r : Result X E) → is_err r ≡ false → OnOk r P → P
 ok_if_not_err (Ok x) e h = h
 ok_if_not_err (Err e') e h = absurd (cc)
-
--- equal refusals have one error
-error_or : {X : Type 0} → BitVecError → Result X BitVecError → BitVecError
-error_or other (Ok x) = other
-error_or other (Err error) = error
-
-pub error_of : (X : Type 0) (e f : BitVecError) → ◌≡◌ {A = Result X BitVecError} (Err e) (Err f) → e ≡ f
-unfolding error_or
-error_of X e f same = ap (error_or e) same

@@ -81,16 +81,10 @@ impl<A: Allocator> BitVec<A> {
         requires { (it : U.IntoIter) → U.into_iter_gives iter it → U.IntoIter.can_next it × IsFinite (U.IntoIter.remaining it) }
         ensures ran { IfOk result (λ bits. (it : U.IntoIter) × (items : List Bool) × U.into_iter_gives iter it × Drains U.IntoIter.next_gives it items × (bits ≡ items)) }
         ensures inline { ((it : U.IntoIter) → U.into_iter_gives iter it → (U.IntoIter.remaining it).bound ≤ 64) → IsOk result }
-
-        // At an error: the items before the refused one.
-        ensures memory { result ≡ Err BitVecError.Memory → (taken : List Bool) × StopsBefore U.into_iter_gives U.IntoIter.next_gives iter [] taken × (0 < length taken) × (length taken % 64 ≡ 0) }
-        ensures too_long { result ≡ Err BitVecError.TooLong → (taken : List Bool) × StopsBefore U.into_iter_gives U.IntoIter.next_gives iter [] taken × (length taken ≡ usize.MAX) }
     {
         let mut bits = Self::new(alloc);
-        match bits.extend(iter) {
-            Ok(()) => Ok(bits),
-            Err(error) => Err(error),
-        }
+        bits.extend(iter)?;
+        Ok(bits)
     }
 }
 
