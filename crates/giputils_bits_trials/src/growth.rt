@@ -5,7 +5,7 @@ use giputils_refusing::{Refusing, refuse_each};
 use rand_core::Rng;
 use rand_pcg::Pcg32;
 
-// The first number of the generator with seed 42 and stream 54.
+// What a new generator of these tests draws first.
 const FIRST_DRAWN: u32 = 0xa15c_02b7;
 
 fn is_filled(memory: &Refusing) -> bool {
