@@ -38,27 +38,8 @@ line_after n given None = None
 zero_plus : (n : ℕ) → 0 + n ≡ n
 zero_plus n = omega arith
 
-pub line_after-start : (pairs : Option (List (ℕ × ℕ))) → line_after 0 none_given pairs ≡ ranks_line pairs
-line_after-start None = refl
-line_after-start (Some pairs) = rw (zero_plus (length pairs)) refl
-
 plus_one : (n m : ℕ) → n + suc m ≡ (n + 1) + m
 plus_one n m = omega arith
-
-pub line_after-pair : (n key rank : ℕ) (given : List (Option ℕ)) (pairs : Option (List (ℕ × ℕ)))
-    → line_after n given (with_pair (Some key) (Some rank) pairs) ≡ line_after (n + 1) (slice_set given key (Some rank)) pairs
-line_after-pair n key rank given None = refl
-line_after-pair n key rank given (Some pairs) = rw (plus_one n (length pairs)) refl
-
--- a pair after the last that there may be
-pub line_after-most : (key rank : ℕ) (given : List (Option ℕ)) (pairs : Option (List (ℕ × ℕ)))
-    → line_after most_pairs given (with_pair (Some key) (Some rank) pairs) ≡ None
-line_after-most key rank given None = refl
-line_after-most key rank given (Some pairs) = grind arith
-
--- no pair is left
-pub line_after-all : (n : ℕ) (given : List (Option ℕ)) → 0 < n → n ≤ most_pairs → line_after n given (Some []) ≡ Some (Ranks given)
-line_after-all n given some few = grind arith
 
 -- the ranks with one more of those that are given
 pub ranks_with-more_some : (given : List (Option ℕ)) (ranks : List ℕ) (i rank : ℕ) → i < length given → get_or given i None ≡ Some rank

@@ -12,12 +12,6 @@ or_false : (b : Bool) → (b || false) ≡ b
 or_false true = refl
 or_false false = refl
 
--- to no place: the word takes the place of the one word, which is zero
-pub AppendsWord-first : (old : List ℕ) (w : ℕ) → IsPacked 0 old → AppendsWord 0 old (set old 0 w) w
-AppendsWord-first [] w p = absurd (omega (arith, p.count))
-AppendsWord-first (v ∷ []) w p = record { count = omega arith; before = λ j h. absurd (omega arith); after = λ j h. let all : j ≡ j - 0 = omega arith in ap (λ i. place (w ∷ []) i) all }
-AppendsWord-first (v ∷ u ∷ vs) w p = absurd (omega (arith, p.count))
-
 -- at a word's end
 pub AppendsWord-push : (n : ℕ) (old : List ℕ) (w : ℕ) → w < 2 ^ 64 → n % 64 ≡ 0 → 0 < n → IsPacked n old → AppendsWord n old (old ++ w ∷ []) w
 AppendsWord-push n old w fits full some p = record {

@@ -90,9 +90,6 @@ digits_of-none number = refl
 pub digits_of-zero : (n : ℕ) → digits_of n 0 ≡ replicate n false
 digits_of-zero n = digits_of_is n 0 _ (length-replicate n false) (λ i below. has_digit-zero i ∙ sym (get_or-replicate n i false false below))
 
-pub digits_of-ones : (n : ℕ) → digits_of n (2 ^ n - 1) ≡ replicate n true
-digits_of-ones n = digits_of_is n (2 ^ n - 1) _ (length-replicate n true) (λ i below. has_digit-ones n i below ∙ sym (get_or-replicate n i true false below))
-
 one_digit : (n i : ℕ) → i < n → has_digit 1 i ≡ get_or (one_of n) i false
 one_digit n zero below = refl
 one_digit n (suc i) below = rw (bit_at-suc 1 i, bit_at-zero i) (sym (get_or-replicate (n - 1) i false false (omega arith)))

@@ -15,9 +15,6 @@ set_twice [] k v w = refl
 set_twice (u ∷ ws) zero v w = refl
 set_twice (u ∷ ws) (suc k) v w = ap (λ vs. u ∷ vs) (set_twice ws k v w)
 
-pub Gathers-begin : (n : ℕ) (ws : List ℕ) (last : ℕ) (bs : List Bool) → last + 1 ≡ length ws → IsPacked n ws → bits_of n ws ≡ bs → Gathers n ws last (get_or ws last 0) bs
-Gathers-begin n ws last bs at_end packed bits = record { at_end = at_end; packed = rw (set-get_or ws last 0) packed; bits = rw (set-get_or ws last 0) bits }
-
 -- a bit more, where the word has room
 pub Gathers-more : (n : ℕ) (ws : List ℕ) (last v w : ℕ) (b : Bool) (bs : List Bool) → (n % 64 ≡ 0 → n ≤ 0) → SetsDigit v w (n % 64) b → Gathers n ws last v bs → Gathers (n + 1) ws last w (bs ++ b ∷ [])
 Gathers-more n ws last v w b bs room s g =

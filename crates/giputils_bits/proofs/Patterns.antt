@@ -133,6 +133,3 @@ words_of_digits n number long fits =
       | inl e ↦ rw (e, get_or-set_same zeros 0 number 0 (omega (arith, length-replicate {A = ℕ} ((n - 1) / 64 + 1) 0))) (sym (word_of-digits_of n number fits small))
       | inr m ↦ get_or-set_other zeros 0 k number 0 m ∙ get_or-replicate ((n - 1) / 64 + 1) k 0 0 (omega (arith, length-set zeros 0 number, length-replicate {A = ℕ} ((n - 1) / 64 + 1) 0)) ∙ sym (word_of-digits_of_above n number k fits (omega arith))
     ])
-
-pub one_word_of_digits : (n number : ℕ) → bit_and number (2 ^ n - 1) ≡ number % 2 ^ n
-one_word_of_digits n number = and_mask number n

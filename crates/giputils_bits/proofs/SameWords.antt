@@ -19,9 +19,6 @@ pub record GathersDifferences (words others : List ℕ) (differences k : ℕ) : 
   pub same : differences ≡ 0 → (i : ℕ) → i < k → get_or words i 0 ≡ get_or others i 0
   pub none : ((i : ℕ) → i < k → get_or words i 0 ≡ get_or others i 0) → differences ≡ 0
 
-pub GathersDifferences-start : (words others : List ℕ) → GathersDifferences words others 0 0
-GathersDifferences-start words others = record { same = λ _ i l. absurd (omega arith); none = λ _. refl }
-
 pub GathersDifferences-more : (words others : List ℕ) (differences k : ℕ) → GathersDifferences words others differences k
     → GathersDifferences words others (bit_or differences (bit_xor (get_or words k 0) (get_or others k 0))) (k + 1)
 GathersDifferences-more words others d k g =

@@ -11,10 +11,6 @@ module _ {W : Type 0} (took : W → List ℕ → W → Type 0) where
   folds_on u v w [] ys first then = subst (λ s. FoldsTo took s ys w) (sym first) then
   folds_on u v w (x ∷ xs) ys first then = (first.0, first.1, folds_on first.0 v w xs ys first.2 then)
 
-  -- nothing was written yet
-  pub styled_none : (f : Formatter W) → IsFlush f → HasWrittenStyled took f [] f
-  styled_none f flush = record { wrote = record { parts = []; calls = refl; whole = refl }; spec = refl; flush = flush }
-
   -- one text after another
   pub styled_more : (f g h : Formatter W) (a b all : List ℕ) → HasWrittenStyled took f a g → HasWrittenStyled took g b h → a ++ b ≡ all → HasWrittenStyled took f all h
   styled_more f g h a b all first then e = record {
