@@ -15,6 +15,7 @@ mod Examples
 mod InOrder
 mod Places
 mod Records
+mod Rearranged
 mod Rising
 mod Runs
 mod Sinking
