@@ -110,7 +110,10 @@ not_of_ones_has_no_true_place = refl
 
 -- runs
 
-a_run : Answers {A = ℕ} [] (Push true ∷ BoolCall ∷ GetBit 1 ∷ Clear ∷ PushWord 5 ∷ Len ∷ ToUsize ∷ IsOne ∷ TryBool ∷ SetBit 0 false ∷ IsZero ∷ BoolCall ∷ []) (Done ∷ Bit true ∷ Skipped ∷ Done ∷ Done ∷ Number 64 ∷ Number 5 ∷ Bit false ∷ MaybeBit None ∷ Done ∷ Bit false ∷ Skipped ∷ []) (digits_of 64 4)
+a_run : Answers {A = ℕ} []
+    (Push true ∷ BoolCall ∷ GetBit 1 ∷ Clear ∷ PushWord 5 ∷ Len ∷ ToUsize ∷ IsOne ∷ TryBool ∷ SetBit 0 false ∷ IsZero ∷ BoolCall ∷ [])
+    (Done ∷ Bit true ∷ Skipped ∷ Done ∷ Done ∷ Number 64 ∷ Number 5 ∷ Bit false ∷ MaybeBit None ∷ Done ∷ Bit false ∷ Skipped ∷ [])
+    (digits_of 64 4)
 unfolding digits_of words_of
 a_run = (omega arith, (refl, (refl, (refl, (omega arith, (refl, (refl, (refl, (refl, (refl, (refl, (refl, refl))))))))))))
 

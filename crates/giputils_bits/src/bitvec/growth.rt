@@ -1,14 +1,15 @@
 //! How a bit vector grows and is emptied. What refuses stands before what writes.
-ghost use Rattle.std.specs.Prelude.{◌≡◌, ◌+◌, ◌*◌, ◌/◌, ◌%◌, ◌<◌, ◌≤◌, ◌↔◌, [], ◌∷◌, ◌++◌, List, Bool, length, IfOk, OnErr, OnOk, IsOk};
-ghost use Rattle.std.specs.Iterator.{Drains, ExtendsWithItems, IsFinite};
+ghost use Rattle.std.specs.Prelude.{◌≡◌, ◌+◌, ◌*◌, ◌/◌, ◌%◌, ◌<◌, ◌≤◌, ◌↔◌, [], ◌∷◌, ◌++◌, length, IfOk, IfErr, OnErr, OnOk, IsOk};
+ghost use Rattle.std.specs.Iterator.{ExtendsWithItems};
 ghost use Rattle.giputils_bits.specs.Bits.{digits_of};
-ghost use Rattle.giputils_bits.specs.Extended.{StopsBefore};
+ghost use Rattle.giputils_bits.specs.Error.{IsMemory};
+ghost use Rattle.giputils_bits.specs.Extended.{CanDrain, CollectsItems, Extends, ItemsFit, StopsBefore};
 ghost use Rattle.giputils_bits.specs.Places.{bits_of, IsPacked, HasRoom, AppendsWord};
 
 use super::BitVec;
 use super::error::BitVecError;
-use super::queries::with_bit;
 use super::storage::Storage;
+use super::words::with_bit;
 use std::alloc::{AllocError, Allocator};
 
 impl<A: Allocator> BitVec<A> {
@@ -64,12 +65,14 @@ impl<A: Allocator> BitVec<A> {
     /// refused only where a word is full, and the vector then ends with that word.
     #[tactic(auto, using(crate::proofs::Kept::kept))]
     pub fn extend<U: IntoIterator<Item = bool>>(&mut self, iter: U) -> Result<(), BitVecError>
-        requires { (it : U.IntoIter) → U.into_iter_gives iter it → U.IntoIter.can_next it × IsFinite (U.IntoIter.remaining it) }
-        ensures ran { ExtendsWithItems U.into_iter_gives U.IntoIter.next_gives (λ bits items more. more ≡ bits ++ items) iter self.old self.new result }
+        requires { CanDrain U.into_iter_gives U.IntoIter.can_next U.IntoIter.remaining iter }
+        ensures ran { ExtendsWithItems U.into_iter_gives U.IntoIter.next_gives Extends iter self.old self.new result }
         ensures err { OnErr result (StopsBefore U.into_iter_gives U.IntoIter.next_gives iter self.old self.new) }
-        ensures inline { ((it : U.IntoIter) → U.into_iter_gives iter it → length self.old + (U.IntoIter.remaining it).bound ≤ 64) → IsOk result }
+        ensures inline { ItemsFit U.into_iter_gives U.IntoIter.remaining iter (λ n. length self.old + n ≤ 64) → IsOk result }
         ensures memory { result ≡ Err BitVecError.Memory → (0 < length self.new) × (length self.new % 64 ≡ 0) }
         ensures too_long { result ≡ Err BitVecError.TooLong → length self.new ≡ usize.MAX }
+        ensures short { ItemsFit U.into_iter_gives U.IntoIter.remaining iter (λ n. length self.old + n ≤ usize.MAX)
+            → IfErr result IsMemory }
     {
         let (len, done) = append_items(&mut self.words, self.len, iter);
         self.len = len;
@@ -78,9 +81,10 @@ impl<A: Allocator> BitVec<A> {
 
     /// The items of an iterator that ends, in order.
     pub fn from<U: IntoIterator<Item = bool>>(alloc: A, iter: U) -> Result<Self, BitVecError>
-        requires { (it : U.IntoIter) → U.into_iter_gives iter it → U.IntoIter.can_next it × IsFinite (U.IntoIter.remaining it) }
-        ensures ran { IfOk result (λ bits. (it : U.IntoIter) × (items : List Bool) × U.into_iter_gives iter it × Drains U.IntoIter.next_gives it items × (bits ≡ items)) }
-        ensures inline { ((it : U.IntoIter) → U.into_iter_gives iter it → (U.IntoIter.remaining it).bound ≤ 64) → IsOk result }
+        requires { CanDrain U.into_iter_gives U.IntoIter.can_next U.IntoIter.remaining iter }
+        ensures ran { IfOk result (λ bits. CollectsItems U.into_iter_gives U.IntoIter.next_gives iter bits) }
+        ensures inline { ItemsFit U.into_iter_gives U.IntoIter.remaining iter (λ n. n ≤ 64) → IsOk result }
+        ensures short { ItemsFit U.into_iter_gives U.IntoIter.remaining iter (λ n. n ≤ usize.MAX) → IfErr result IsMemory }
     {
         let mut bits = Self::new(alloc);
         bits.extend(iter)?;
@@ -136,13 +140,16 @@ fn append_items<A: Allocator, U: IntoIterator<Item = bool>>(
     iter: U,
 ) -> (usize, Result<(), BitVecError>)
     requires packed { IsPacked len words.old }
-    requires ends { (it : U.IntoIter) → U.into_iter_gives iter it → U.IntoIter.can_next it × IsFinite (U.IntoIter.remaining it) }
+    requires ends { CanDrain U.into_iter_gives U.IntoIter.can_next U.IntoIter.remaining iter }
     ensures packed { IsPacked result.0 words.new }
-    ensures ran { ExtendsWithItems U.into_iter_gives U.IntoIter.next_gives (λ bits items more. more ≡ bits ++ items) iter (bits_of len words.old) (bits_of result.0 words.new) result.1 }
-    ensures err { OnErr result.1 (StopsBefore U.into_iter_gives U.IntoIter.next_gives iter (bits_of len words.old) (bits_of result.0 words.new)) }
-    ensures inline { ((it : U.IntoIter) → U.into_iter_gives iter it → len + (U.IntoIter.remaining it).bound ≤ 64) → IsOk result.1 }
+    ensures ran { ExtendsWithItems U.into_iter_gives U.IntoIter.next_gives Extends iter
+        (bits_of len words.old) (bits_of result.0 words.new) result.1 }
+    ensures err { OnErr result.1 (StopsBefore U.into_iter_gives U.IntoIter.next_gives iter
+        (bits_of len words.old) (bits_of result.0 words.new)) }
+    ensures inline { ItemsFit U.into_iter_gives U.IntoIter.remaining iter (λ n. len + n ≤ 64) → IsOk result.1 }
     ensures memory { result.1 ≡ Err BitVecError.Memory → (0 < result.0) × (result.0 % 64 ≡ 0) }
     ensures too_long { result.1 ≡ Err BitVecError.TooLong → result.0 ≡ usize.MAX }
+    ensures short { ItemsFit U.into_iter_gives U.IntoIter.remaining iter (λ n. len + n ≤ usize.MAX) → IfErr result.1 IsMemory }
 {
     let mut end = len;
     let mut last = words.len() - 1;

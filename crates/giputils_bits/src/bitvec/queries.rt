@@ -4,6 +4,7 @@ ghost use Rattle.giputils_bits.specs.Bits.{value_of, word_count, words_of, one_o
 ghost use Rattle.giputils_bits.specs.Places.{place, SetsDigit};
 
 use super::BitVec;
+use super::words::{bit_at, low_mask, with_bit};
 use std::alloc::Allocator;
 
 impl<A: Allocator> BitVec<A> {
@@ -95,7 +96,7 @@ impl<A: Allocator> BitVec<A> {
     {
         let words = self.words();
         let last = words.len() - 1;
-        words[last] == ones(self.len - 64 * last) && all_equal(&words[..last], u64::MAX)
+        words[last] == low_mask(self.len - 64 * last) && all_equal(&words[..last], u64::MAX)
     }
 
     /// The bit of a vector that has one.
@@ -127,42 +128,4 @@ fn all_equal(words: &[u64], word: u64) -> bool
     ensures { IsTrue result ↔ EachIndex words.now (λ k. slice_index words.now k ≡ word) }
 {
     words.iter().all(|other| *other == word)
-}
-
-// Place `index` of the words.
-#[inline]
-pub fn bit_at(words: &[u64], index: usize) -> bool
-    requires { index / 64 < length words.now }
-    ensures { result ≡ place words.now index }
-{
-    (words[index / 64] >> (index % 64)) & 1 == 1
-}
-
-// The word with digit `k` as told.
-#[inline]
-pub fn with_bit(word: u64, k: usize, val: bool) -> u64
-    requires { k < 64 }
-    ensures { SetsDigit word result k val }
-{
-    if val { word | 1 << k } else { word & !(1 << k) }
-}
-
-// The word whose `count` lowest digits are `val`, where `count` is 1 to 64, and whose others are 0.
-#[inline]
-pub fn filled_word(val: bool, count: usize) -> u64
-    requires some { 0 < count }
-    requires fits { count ≤ 64 }
-    ensures { result ≡ value_of (replicate count val) }
-{
-    if val { ones(count) } else { 0 }
-}
-
-// The word whose `count` lowest digits are 1, where `count` is 1 to 64.
-#[inline]
-pub fn ones(count: usize) -> u64
-    requires some { 0 < count }
-    requires fits { count ≤ 64 }
-    ensures { result ≡ 2 ^ count - 1 }
-{
-    u64::MAX >> (64 - count)
 }
