@@ -135,6 +135,9 @@ a_call_whose_condition_holds_is_made run = let never = run.0 in cc
 nothing_is_refused_within_a_word : ¬ (Answers {A = ℕ} [] (Push true ∷ []) (Refused Memory 0 ∷ []) [])
 nothing_is_refused_within_a_word run = absurd (omega (arith, run.0.0.0))
 
+nothing_is_refused_within_a_later_word : ¬ (Answers {A = ℕ} (replicate 70 false) (Push true ∷ []) (Refused Memory 0 ∷ []) (replicate 70 false))
+nothing_is_refused_within_a_later_word run = absurd (omega (arith, run.0.0.1))
+
 not_all_items_are_kept_at_a_refusal : ¬ (Answers {A = ℕ} (replicate 64 false) (Extend (lent (true ∷ [])) ∷ []) (Refused Memory 1 ∷ []) (replicate 64 false ++ true ∷ []))
 not_all_items_are_kept_at_a_refusal run = absurd (omega (arith, run.0.0))
 

@@ -10,7 +10,7 @@ use Rattle.giputils_bits.specs.declared.bitvec.error.BitVecError.{BitVecError}
 use Rattle.giputils_bits.specs.declared.bitvec.error.BitVecError.TheVariants.{TooLong, Memory}
 use Rattle.giputils_bits.specs.declared.bitvec.run.BitReply.TheVariants.{Bit}
 use Rattle.giputils_bits.specs.Bits.{words_of, value_of}
-use Rattle.giputils_bits.specs.BitRun.{max_len, CanRefuse, equality_reply}
+use Rattle.giputils_bits.specs.BitRun.{max_len, StopsAt, equality_reply}
 use Rattle.giputils_bits.proofs.Taken.{taken}
 use Rattle.giputils_bits.proofs.Words.{get_or-words_of}
 
@@ -31,17 +31,18 @@ module _ {S : Type 0} (steps : S → Option Bool → S → Type 0) (items old ne
   kept_of : length new - length old ≡ length xs
   kept_of = omega (arith, ap length long, length-append old xs)
 
+  -- the kept ones behind the old ones are all that stand
+  kept_all : length old + (length new - length old) ≡ length new
+  kept_all = omega (arith, ap length long, length-append old xs)
+
   pub refused_within : length new - length old < length items
   refused_within = rw kept_of ((taken steps items xs s refused u all run).1)
 
   pub refused_leaves : new ≡ old ++ take (length new - length old) items
   refused_leaves = rw kept_of (long ∙ ap (λ zs. old ++ zs) ((taken steps items xs s refused u all run).0))
 
-  pub refused_for : (error : BitVecError) {X : Type 0} → (outcome : Result X BitVecError) → outcome ≡ Err error → length new ≤ max_len
+  pub stops_at : (error : BitVecError) {X : Type 0} → (outcome : Result X BitVecError) → outcome ≡ Err error
       → (outcome ≡ Err Memory → (0 < length new) × (length new % 64 ≡ 0)) → (outcome ≡ Err TooLong → length new ≡ max_len)
-      → CanRefuse (length old + (length new - length old) + 1) error
-  refused_for TooLong outcome is within memory long' = omega (arith, long' is, kept_of, ap length long, length-append old xs)
-  refused_for Memory outcome is within memory long' = (
-    omega (arith, (memory is).0, (memory is).1, ap length long, length-append old xs),
-    omega (arith, (memory is).1, within, ap length long, length-append old xs),
-  )
+      → StopsAt (length old + (length new - length old)) error
+  stops_at TooLong outcome is memory too_long = omega (arith, too_long is, kept_of, ap length long, length-append old xs)
+  stops_at Memory outcome is memory too_long = rw kept_all (memory is)

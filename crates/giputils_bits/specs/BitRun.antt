@@ -1,5 +1,5 @@
 -- A run of calls on a bit vector.
-use Rattle.std.specs.Prelude.{◌≡◌, ℕ, ◌+◌, ◌<◌, ◌≤◌, ◌==◌, ◌⊎◌, Bool, true, false, List, [], ◌∷◌, ◌++◌, length, take, replicate, slice_get, slice_set, slice_index, nat_lt, Option, Some, None, ◌^◌, ◌-◌}
+use Rattle.std.specs.Prelude.{◌≡◌, ℕ, ◌+◌, ◌%◌, ◌<◌, ◌≤◌, ◌==◌, ◌⊎◌, Bool, true, false, List, [], ◌∷◌, ◌++◌, length, take, replicate, slice_get, slice_set, slice_index, nat_lt, Option, Some, None, ◌^◌, ◌-◌}
 use Rattle.std.specs.Bool.{beq}
 use Rattle.std.specs.Cmp.Lexicographic.{pointwise}
 use Rattle.std.specs.Option.{option_map_or}
@@ -16,23 +16,34 @@ use Rattle.giputils_bits.specs.Logic.{and_of, or_of, xor_of, not_of}
 abbrev pub max_len : ℕ
 max_len = 2 ^ 64 - 1
 
--- a call may be refused so, after which the list would have n places: as too long exactly where no list has so many,
--- and for memory only where they are more than a word has
-abbrev pub CanRefuse : ℕ → BitVecError → Type 0
-CanRefuse n TooLong = max_len < n
-CanRefuse n Memory = (64 < n) × (n ≤ max_len)
+-- where n places are, one more may be refused so: as too long exactly where no list has more, and for memory only where
+-- the last word is full
+abbrev pub StopsAt : ℕ → BitVecError → Type 0
+StopsAt n TooLong = n ≡ max_len
+StopsAt n Memory = (0 < n) × (n % 64 ≡ 0)
 
--- a call that makes the list n places long may be answered so
-abbrev pub GrowsTo : ℕ → BitReply → Type 0
-GrowsTo n Done = n ≤ max_len
-GrowsTo n (Refused error kept) = CanRefuse n error × (kept ≡ 0)
-GrowsTo n reply = ⊥
+-- a call that appends one place to n may be answered so
+abbrev pub IsPushReply : ℕ → BitReply → Type 0
+IsPushReply n Done = n < max_len
+IsPushReply n (Refused error kept) = StopsAt n error × (kept ≡ 0)
+IsPushReply n reply = ⊥
 
--- a call that appends m places to n may be answered so: refused, it has kept some of them, and the next made it too
--- long or wanted memory
+-- where n places are, 64 more may be refused so: as too long exactly where no list has so many, and for memory only
+-- where there is a place
+abbrev pub CanRefuseWord : ℕ → BitVecError → Type 0
+CanRefuseWord n TooLong = max_len < n + 64
+CanRefuseWord n Memory = (0 < n) × (n + 64 ≤ max_len)
+
+-- a call that appends 64 places to n may be answered so
+abbrev pub IsPushWordReply : ℕ → BitReply → Type 0
+IsPushWordReply n Done = n + 64 ≤ max_len
+IsPushWordReply n (Refused error kept) = CanRefuseWord n error × (kept ≡ 0)
+IsPushWordReply n reply = ⊥
+
+-- a call that appends m places to n may be answered so: refused, it has kept some of them, and stops there
 abbrev pub ExtendsBy : ℕ → ℕ → BitReply → Type 0
 ExtendsBy n m Done = n + m ≤ max_len
-ExtendsBy n m (Refused error kept) = (kept < m) × CanRefuse (n + kept + 1) error
+ExtendsBy n m (Refused error kept) = (kept < m) × StopsAt (n + kept) error
 ExtendsBy n m reply = ⊥
 
 -- the bits after a call that was to append these items, and was answered so
@@ -64,8 +75,8 @@ only_bit xs = None
 module _ {A : Type 0} where
   -- the call, made on these bits, may be answered so
   abbrev pub IsAnswer : List Bool → BitCall A → BitReply → Type 0
-  IsAnswer bits (Push x) reply = GrowsTo (length bits + 1) reply
-  IsAnswer bits (PushWord word) reply = GrowsTo (length bits + 64) reply
+  IsAnswer bits (Push x) reply = IsPushReply (length bits) reply
+  IsAnswer bits (PushWord word) reply = IsPushWordReply (length bits) reply
   IsAnswer bits (SetBit i x) reply = reply ≡ done_if (nat_lt i (length bits))
   IsAnswer bits (GetBit i) reply = reply ≡ option_map_or Bit (slice_get bits i) Skipped
   IsAnswer bits Clear reply = reply ≡ Done

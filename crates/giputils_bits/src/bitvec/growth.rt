@@ -22,12 +22,17 @@ impl<A: Allocator> BitVec<A> {
         self.words.reset();
     }
 
-    /// Appends a bit. Refused, nothing changes.
+    /// Appends a bit.
+    ///
+    /// # Errors
+    /// `TooLong` at the length `usize::MAX`; `Memory` where the last word is full and memory for the next is refused.
+    /// Nothing changes then.
     #[inline]
     #[tactic(auto, using(crate::proofs::Kept::kept))]
     pub fn push(&mut self, bit: bool) -> Result<(), BitVecError>
         ensures ok { OnOk result (self.new ≡ self.old ++ bit ∷ []) }
         ensures inline { length self.old < 64 → IsOk result }
+        ensures memory { result ≡ Err BitVecError.Memory → (0 < length self.old) × (length self.old % 64 ≡ 0) }
         ensures too_long { (result ≡ Err BitVecError.TooLong) ↔ (length self.old ≡ usize.MAX) }
         ensures err { OnErr result (self.new ≡ self.old) }
     {
@@ -42,7 +47,11 @@ impl<A: Allocator> BitVec<A> {
         Ok(())
     }
 
-    /// Appends the 64 binary digits of `word`, the lowest first. Refused, nothing changes.
+    /// Appends the 64 binary digits of `word`, the lowest first.
+    ///
+    /// # Errors
+    /// `TooLong` where the length would be above `usize::MAX`; `Memory` where memory for a word more is refused. Nothing
+    /// changes then.
     #[inline]
     #[tactic(auto, using(crate::proofs::Kept::kept))]
     pub fn push_word(&mut self, word: u64) -> Result<(), BitVecError>
@@ -61,8 +70,9 @@ impl<A: Allocator> BitVec<A> {
 
     /// Appends the items of an iterator that ends.
     ///
-    /// At an error the items before the refused one stand, and the refused one was taken and is not kept. Memory is
-    /// refused only where a word is full, and the vector then ends with that word.
+    /// # Errors
+    /// `TooLong` at the item past the length `usize::MAX`; `Memory` where memory for a word more is refused, and the
+    /// vector then ends with a full word. The items before the refused one stand; that one was taken, and is not kept.
     #[tactic(auto, using(crate::proofs::Kept::kept))]
     pub fn extend<U: IntoIterator<Item = bool>>(&mut self, iter: U) -> Result<(), BitVecError>
         requires { CanDrain U.into_iter_gives U.IntoIter.can_next U.IntoIter.remaining iter }
@@ -80,6 +90,10 @@ impl<A: Allocator> BitVec<A> {
     }
 
     /// The items of an iterator that ends, in order.
+    ///
+    /// # Errors
+    /// As those of [`BitVec::extend`] on the empty vector: `Memory` alone, unless the iterator has no end below
+    /// `usize::MAX` items.
     pub fn from<U: IntoIterator<Item = bool>>(alloc: A, iter: U) -> Result<Self, BitVecError>
         requires { CanDrain U.into_iter_gives U.IntoIter.can_next U.IntoIter.remaining iter }
         ensures ran { IfOk result (λ bits. CollectsItems U.into_iter_gives U.IntoIter.next_gives iter bits) }
@@ -97,7 +111,7 @@ impl<A: Allocator> BitVec<A> {
 fn make_room<A: Allocator>(words: &mut Storage<A>, len: usize) -> Result<(), AllocError>
     requires { IsPacked len words.old }
     ensures ok { OnOk result (HasRoom len words.old words.new) }
-    ensures inline { len < 64 → IsOk result }
+    ensures full { OnErr result ((0 < len) × (len % 64 ≡ 0)) }
     ensures err { OnErr result (words.new ≡ words.old) }
 {
     if len % 64 == 0 && len > 0 {

@@ -10,7 +10,10 @@ pub returns-then-self-clause-too_long : goal.returns-then-self-clause-too_long
 returns-then-self-clause-too_long g c = (λ _. omega (arith, kept-length _ _ _ c.self.view_is), λ _. refl)
 
 pub returns-in_err-make_room-clause-inline : goal.returns-in_err-make_room-clause-inline
-returns-in_err-make_room-clause-inline g c = λ short. let never = c.in_err-make_room.ensures.inline (omega (arith, kept-length _ _ _ c.self.view_is)) in cc
+returns-in_err-make_room-clause-inline g c = λ short. let full = c.in_err-make_room.ensures.full in absurd (omega (arith, kept-length _ _ _ c.self.view_is, full.0, full.1))
+
+pub returns-in_err-make_room-clause-memory : goal.returns-in_err-make_room-clause-memory
+returns-in_err-make_room-clause-memory g c = λ _. rw (kept-length _ _ _ c.self.view_is) at c.in_err-make_room.ensures.full
 
 pub returns-in_err-make_room-clause-too_long : goal.returns-in_err-make_room-clause-too_long
 returns-in_err-make_room-clause-too_long g c =
