@@ -40,9 +40,10 @@ impl<A: Allocator> BitVec<A> {
             return Err(BitVecError::TooLong);
         }
         make_room(&mut self.words, self.len)?;
-        let k = self.len / 64;
+        let k = self.len / BitVec::WORD_SIZE;
         let word = self.words.as_slice()[k];
-        self.words.put(k, with_bit(word, self.len % 64, bit));
+        self.words
+            .put(k, with_bit(word, self.len % BitVec::WORD_SIZE, bit));
         self.len += 1;
         Ok(())
     }
@@ -60,11 +61,11 @@ impl<A: Allocator> BitVec<A> {
         ensures too_long { (result ≡ Err BitVecError.TooLong) ↔ (usize.MAX < length self.old + 64) }
         ensures err { OnErr result (self.new ≡ self.old) }
     {
-        if self.len > usize::MAX - 64 {
+        if self.len > usize::MAX - BitVec::WORD_SIZE {
             return Err(BitVecError::TooLong);
         }
         append_word(&mut self.words, self.len, word)?;
-        self.len += 64;
+        self.len += BitVec::WORD_SIZE;
         Ok(())
     }
 
@@ -114,7 +115,7 @@ fn make_room<A: Allocator>(words: &mut Storage<A>, len: usize) -> Result<(), All
     ensures full { OnErr result ((0 < len) × (len % 64 ≡ 0)) }
     ensures err { OnErr result (words.new ≡ words.old) }
 {
-    if len % 64 == 0 && len > 0 {
+    if len % BitVec::WORD_SIZE == 0 && len > 0 {
         words.push(0)?;
     }
     Ok(())
@@ -132,14 +133,14 @@ fn append_word<A: Allocator>(
     ensures inline { len ≡ 0 → IsOk result }
     ensures err { OnErr result (words.new ≡ words.old) }
 {
-    let shift = len % 64;
+    let shift = len % BitVec::WORD_SIZE;
     if len == 0 {
         words.put(0, word);
     } else if shift == 0 {
         words.push(word)?;
     } else {
-        words.push(word >> (64 - shift))?;
-        let last = len / 64;
+        words.push(word >> (BitVec::WORD_SIZE - shift))?;
+        let last = len / BitVec::WORD_SIZE;
         let joined = words.as_slice()[last] | word << shift;
         words.put(last, joined);
     }
@@ -173,7 +174,7 @@ fn append_items<A: Allocator, U: IntoIterator<Item = bool>>(
             words.put(last, word);
             return (end, Err(BitVecError::TooLong));
         }
-        if end % 64 == 0 && end > 0 {
+        if end % BitVec::WORD_SIZE == 0 && end > 0 {
             words.put(last, word);
             if words.push(0).is_err() {
                 return (end, Err(BitVecError::Memory));
@@ -181,7 +182,7 @@ fn append_items<A: Allocator, U: IntoIterator<Item = bool>>(
             last += 1;
             word = 0;
         }
-        word = with_bit(word, end % 64, bit);
+        word = with_bit(word, end % BitVec::WORD_SIZE, bit);
         end += 1;
     }
     words.put(last, word);

@@ -23,8 +23,8 @@ impl<A: Allocator> BitVec<A> {
         if self.len == 0 {
             return self.clone();
         }
-        let last = (self.len - 1) / 64;
-        let word = !self.words.as_slice()[last] & low_mask(self.len - 64 * last);
+        let last = (self.len - 1) / BitVec::WORD_SIZE;
+        let word = !self.words.as_slice()[last] & low_mask(self.len - BitVec::WORD_SIZE * last);
         let mut words = self.words.try_clone()?;
         words.negate();
         words.put(last, word);

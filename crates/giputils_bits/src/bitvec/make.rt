@@ -33,13 +33,13 @@ impl<A: Allocator> BitVec<A> {
         ensures too_long { (result ≡ Err BitVecError.TooLong) ↔ (usize.MAX < 64 * num_word) }
         ensures err { OnErr result (rng.new ≡ rng.old) }
     {
-        if num_word > usize::MAX / 64 {
+        if num_word > usize::MAX / BitVec::WORD_SIZE {
             return Err(BitVecError::TooLong);
         }
         if num_word == 0 {
             return Ok(Self::new(alloc));
         }
-        let len = 64 * num_word;
+        let len = BitVec::WORD_SIZE * num_word;
         if num_word == 1 {
             let words = Storage::of_word(alloc, rng.next_u64());
             return Ok(BitVec { len, words });
@@ -61,13 +61,13 @@ impl<A: Allocator> BitVec<A> {
         if len == 0 {
             return Ok(Self::new(alloc));
         }
-        let last = (len - 1) / 64;
+        let last = (len - 1) / BitVec::WORD_SIZE;
         if last == 0 {
             let words = Storage::of_word(alloc, filled_word(val, len));
             return Ok(BitVec { len, words });
         }
-        let mut words = vec![in alloc; filled_word(val, 64); last + 1]?;
-        words[last] = filled_word(val, len - 64 * last);
+        let mut words = vec![in alloc; filled_word(val, BitVec::WORD_SIZE); last + 1]?;
+        words[last] = filled_word(val, len - BitVec::WORD_SIZE * last);
         let words = Storage::of_words(words);
         Ok(BitVec { len, words })
     }
@@ -111,11 +111,11 @@ impl<A: Allocator> BitVec<A> {
             return Ok(Self::new(alloc));
         }
         let word = v as u64;
-        if len <= 64 {
+        if len <= BitVec::WORD_SIZE {
             let words = Storage::of_word(alloc, word & low_mask(len));
             return Ok(BitVec { len, words });
         }
-        let mut words = vec![in alloc; 0; (len - 1) / 64 + 1]?;
+        let mut words = vec![in alloc; 0; (len - 1) / BitVec::WORD_SIZE + 1]?;
         words[0] = word;
         let words = Storage::of_words(words);
         Ok(BitVec { len, words })

@@ -32,7 +32,7 @@ impl<A: Allocator> BitVec<A> {
     pub fn word_len(&self) -> usize
         ensures { result ≡ word_count (length self.now) }
     {
-        self.len / 64 + usize::from(self.len % 64 != 0)
+        self.len / BitVec::WORD_SIZE + usize::from(self.len % BitVec::WORD_SIZE != 0)
     }
 
     /// The words, in order, with zeros past the last bit. The empty vector has none.
@@ -67,9 +67,10 @@ impl<A: Allocator> BitVec<A> {
         requires { index < length self.old }
         ensures { self.new ≡ slice_set self.old index val }
     {
-        let k = index / 64;
+        let k = index / BitVec::WORD_SIZE;
         let word = self.words.as_slice()[k];
-        self.words.put(k, with_bit(word, index % 64, val));
+        self.words
+            .put(k, with_bit(word, index % BitVec::WORD_SIZE, val));
     }
 
     /// Whether each bit is false. The vector is not empty.
@@ -96,7 +97,8 @@ impl<A: Allocator> BitVec<A> {
     {
         let words = self.words();
         let last = words.len() - 1;
-        words[last] == low_mask(self.len - 64 * last) && all_equal(&words[..last], u64::MAX)
+        words[last] == low_mask(self.len - BitVec::WORD_SIZE * last)
+            && all_equal(&words[..last], u64::MAX)
     }
 
     /// The bit of a vector that has one.

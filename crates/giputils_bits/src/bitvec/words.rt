@@ -4,13 +4,15 @@ ghost use Rattle.std.specs.Int.{bit_not, w64};
 ghost use Rattle.giputils_bits.specs.Bits.{value_of};
 ghost use Rattle.giputils_bits.specs.Places.{place, Rewrites, SetsDigit};
 
+use super::BitVec;
+
 // Place `index` of the words.
 #[inline]
 pub(crate) fn bit_at(words: &[u64], index: usize) -> bool
     requires { index / 64 < length words.now }
     ensures { result ≡ place words.now index }
 {
-    (words[index / 64] >> (index % 64)) & 1 == 1
+    (words[index / BitVec::WORD_SIZE] >> (index % BitVec::WORD_SIZE)) & 1 == 1
 }
 
 // The word with digit `k` as told.
@@ -39,7 +41,7 @@ pub(crate) fn low_mask(count: usize) -> u64
     requires fits { count ≤ 64 }
     ensures { result ≡ 2 ^ count - 1 }
 {
-    u64::MAX >> (64 - count)
+    u64::MAX >> (BitVec::WORD_SIZE - count)
 }
 
 // An operation on two words.

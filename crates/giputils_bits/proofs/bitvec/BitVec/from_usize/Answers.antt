@@ -17,8 +17,8 @@ invariant_of-result g c =
     rw (c.of_word-words.ensures, c.low_mask.ensures, and_mask c.args.v c.args.len)
     (IsPacked-word c.args.len (c.args.v % 2 ^ c.args.len) (omega arith) small (omega (arith, pow_mono {i = c.args.len} {j = 64} (omega arith))))
 
-pub returns-then-len-le64-clause-ok : goal.returns-then-len-le64-clause-ok
-returns-then-len-le64-clause-ok g c =
+pub returns-then-len-le-WORD_SIZE-clause-ok : goal.returns-then-len-le-WORD_SIZE-clause-ok
+returns-then-len-le-WORD_SIZE-clause-ok g c =
     rw (c.of_word-words.ensures, c.low_mask.ensures, and_mask c.args.v c.args.len) (bits_of-word c.args.len (c.args.v % 2 ^ c.args.len) (omega arith) ∙ digits_of-mod c.args.len c.args.v)
 
 pub invariant_of-result-2 : goal.invariant_of-result-2
