@@ -3,13 +3,13 @@ use Rattle.std.proofs.Common.{◌≡◌, ℕ, suc, Bool, true, List, [], ◌∷�
 use Rattle.std.specs.Prelude.{slice_set}
 use Rattle.std.proofs.lemmas.Bool.{and_parts, and_from, cond_both}
 use Rattle.std.specs.List.{flat_map, list_all}
-use Rattle.gip_lines.specs.Lines.{has_small_key}
-use Rattle.gip_lines.specs.Replies.{call_of, steps_from, reply_text, reply_line, is_line_reply}
-use Rattle.gip_lines.specs.Script.{ranks_after, held_after, reply_to, text_from}
+use Rattle.gip_lines.specs.Scripts.Lines.{has_small_key}
+use Rattle.gip_lines.specs.Scripts.Steps.{call_of, steps_from, reply_text, reply_line, is_line_reply}
+use Rattle.gip_lines.specs.Scripts.Replies.{ranks_after, held_after, reply_to, text_from}
 use Rattle.gip_lines.specs.Texts.{line_feed}
-use Rattle.gip_lines.specs.declared.lines.Line.{Line}
-use Rattle.gip_lines.specs.declared.lines.Line.TheVariants as line
-use Rattle.gip_lines.specs.declared.replies.Ranks.{Ranks}
+use Rattle.gip_lines.specs.declared.scripts.lines.Line.{Line}
+use Rattle.gip_lines.specs.declared.scripts.lines.Line.TheVariants as line
+use Rattle.gip_lines.specs.declared.scripts.replies.Ranks.{Ranks}
 use Rattle.gip_lines.proofs.MatchingReplies.{number, matches}
 use Rattle.giputils_heap.specs.Record as run
 use Rattle.giputils_heap.specs.Comparers.{by_rank}

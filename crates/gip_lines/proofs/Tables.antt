@@ -4,16 +4,21 @@ use Rattle.std.proofs.lemmas.List.{take_more}
 use Rattle.std.proofs.Math.Seq.{drop-cons}
 use Rattle.std.proofs.Math.Nat.{add-zero}
 use Rattle.std.proofs.lemmas.List.{get_or-drop, length-drop}
-use Rattle.gip_lines.specs.Replies.{call_of, gives_ranks, step_of, steps_from, tables_from, ranks_from}
+use Rattle.gip_lines.specs.Scripts.Steps.{call_of, gives_ranks, step_of, steps_from, tables_from}
 use Rattle.std.proofs.lemmas.List.Elements.{All-nil, All-cons}
 use Rattle.giputils_heap.specs.Bounds.{count_limit}
 use Rattle.giputils_heap.specs.Record.{CanCount}
-use Rattle.gip_lines.specs.Script.{ranks_after}
-use Rattle.gip_lines.specs.declared.lines.Line.{Line}
-use Rattle.gip_lines.specs.declared.lines.Line.TheVariants as line
-use Rattle.gip_lines.specs.declared.replies.Ranks.{Ranks}
+use Rattle.gip_lines.specs.Scripts.Replies.{ranks_after}
+use Rattle.gip_lines.specs.declared.scripts.lines.Line.{Line}
+use Rattle.gip_lines.specs.declared.scripts.lines.Line.TheVariants as line
+use Rattle.gip_lines.specs.declared.scripts.replies.Ranks.{Ranks}
 use Rattle.giputils_heap.specs.declared.run.HeapCall.{HeapCall}
 use Rattle.giputils_heap.specs.declared.run.HeapStep.{HeapStep}
+
+-- the ranks after some lines
+abbrev pub ranks_from : List ℕ → List Line → List ℕ
+ranks_from ranks [] = ranks
+ranks_from ranks (said ∷ lines) = ranks_from (ranks_after said ranks) lines
 
 pub steps_from-append : (ranks : List ℕ) (lines : List Line) (said : Line)
     → steps_from ranks (lines ++ said ∷ []) ≡ steps_from ranks lines ++ step_of (ranks_after said (ranks_from ranks lines)) said ∷ []
@@ -90,14 +95,6 @@ IsAtTable-next tables t ranks said lines at =
     ] in
     by_case (gives_ranks said) refl at.rest
 
-if_some : (b : Bool) (x y : Ranks) → ◌≡◌ {A = Option Ranks} (cond b (Some x) None) (Some y) → (b ≡ true) × (y ≡ x)
-if_some true x y e = let same : y ≡ x = cc in (refl, same)
-if_some false x y e = cc
-
-if_none : (b : Bool) (x : Ranks) → ◌≡◌ {A = Option Ranks} (cond b (Some x) None) None → b ≡ false
-if_none true x e = cc
-if_none false x e = refl
-
 module _ (lines : List Line) (i : ℕ) (d : Line) (inside : i < length lines) where
   -- the ranks after one more line
   pub ranks_from-more : (ranks : List ℕ) → ranks_from ranks (take (i + 1) lines) ≡ ranks_after (get_or lines i d) (ranks_from ranks (take i lines))
@@ -131,38 +128,23 @@ module _ (lines : List Line) (i : ℕ) (d : Line) (inside : i < length lines) wh
 
   -- and the table that it adds, if any
   tables_from-more : (start : List ℕ) (first : Ranks) (tables : List Ranks) → tables ≡ first ∷ tables_from start (take i lines)
-      → first ∷ tables_from start (take (i + 1) lines)
-      ≡ tables ++ cond (gives_ranks (get_or lines i d)) (record { 0 = ranks_after (get_or lines i d) (ranks_from start (take i lines)) } ∷ []) []
+      → tables ++ cond (gives_ranks (get_or lines i d)) (record { 0 = ranks_from start (take (i + 1) lines) } ∷ []) []
+      ≡ first ∷ tables_from start (take (i + 1) lines)
   tables_from-more start first tables so_far =
-      rw (take_more lines i d inside, so_far) (ap (λ more. first ∷ more) (tables_from-append start (take i lines) (get_or lines i d)))
+      rw (take_more lines i d inside, so_far, ranks_from-append start (take i lines) (get_or lines i d))
+      (ap (λ more. first ∷ more) (sym (tables_from-append start (take i lines) (get_or lines i d))))
 
-  -- a line that gives ranks leaves them, and their table
-  pub given_ranks : (start : List ℕ) (first : Ranks) (tables : List Ranks) (ranks left : Ranks)
-      → tables ≡ first ∷ tables_from start (take i lines) → ranks ≡ record { 0 = ranks_from start (take i lines) }
-      → ◌≡◌ {A = Option Ranks} (cond (gives_ranks (get_or lines i d)) (Some record { 0 = ranks_after (get_or lines i d) ranks.0 }) None) (Some left)
-      → (tables ++ left ∷ [] ≡ first ∷ tables_from start (take (i + 1) lines)) × (left ≡ record { 0 = ranks_from start (take (i + 1) lines) })
-  given_ranks start first tables ranks left so_far are e =
-      let said : Line = get_or lines i d in
-      let before : List ℕ = ranks_from start (take i lines) in
-      let (gives, is) = if_some (gives_ranks said) record { 0 = ranks_after said ranks.0 } left e in
-      let left_is : left ≡ record { 0 = ranks_after said before } = is ∙ ap (λ (r : Ranks). record { 0 = ranks_after said r.0 }) are in
-      let more : first ∷ tables_from start (take (i + 1) lines) ≡ tables ++ record { 0 = ranks_after said before } ∷ [] =
-      rw gives at (tables_from-more start first tables so_far)
-      in
-      (rw left_is (sym more), left_is ∙ ap (λ (rs : List ℕ). record { 0 = rs }) (sym (ranks_from-more start)))
+  -- a line that gives ranks adds a table of them
+  pub tables_from-gives : (start : List ℕ) (first : Ranks) (tables : List Ranks) → tables ≡ first ∷ tables_from start (take i lines)
+      → gives_ranks (get_or lines i d) ≡ true
+      → tables ++ record { 0 = ranks_from start (take (i + 1) lines) } ∷ [] ≡ first ∷ tables_from start (take (i + 1) lines)
+  tables_from-gives start first tables so_far gives = rw gives at (tables_from-more start first tables so_far)
 
-  -- another one leaves both
-  pub other_ranks : (start : List ℕ) (first : Ranks) (tables : List Ranks) (ranks : Ranks)
-      → tables ≡ first ∷ tables_from start (take i lines) → ranks ≡ record { 0 = ranks_from start (take i lines) }
-      → ◌≡◌ {A = Option Ranks} (cond (gives_ranks (get_or lines i d)) (Some record { 0 = ranks_after (get_or lines i d) ranks.0 }) None) None
-      → (tables ≡ first ∷ tables_from start (take (i + 1) lines)) × (ranks ≡ record { 0 = ranks_from start (take (i + 1) lines) })
-  other_ranks start first tables ranks so_far are e =
-      let said : Line = get_or lines i d in
-      let before : List ℕ = ranks_from start (take i lines) in
-      let other = if_none (gives_ranks said) record { 0 = ranks_after said ranks.0 } e in
-      let more : first ∷ tables_from start (take (i + 1) lines) ≡ tables ++ [] = rw other at (tables_from-more start first tables so_far) in
-      let same : ranks_from start (take (i + 1) lines) ≡ before = ranks_from-more start ∙ ranks_after-other said before other in
-      (sym (more ∙ append-nil tables), are ∙ ap (λ (rs : List ℕ). record { 0 = rs }) (sym same))
+  -- another one adds none
+  pub tables_from-other : (start : List ℕ) (first : Ranks) (tables : List Ranks) → tables ≡ first ∷ tables_from start (take i lines)
+      → gives_ranks (get_or lines i d) ≡ false → tables ≡ first ∷ tables_from start (take (i + 1) lines)
+  tables_from-other start first tables so_far other =
+      sym (append-nil tables) ∙ rw other at (tables_from-more start first tables so_far)
 
 -- no step's counter was asked yet
 pub CanCount-steps_from : (ranks : List ℕ) (lines : List Line) → CanCount (steps_from ranks lines)

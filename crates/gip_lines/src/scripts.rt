@@ -2,15 +2,18 @@
 ghost use Rattle.std.specs.Prelude.{◌≡◌, ◌≢◌, ◌↔◌, ℕ, Bool, true, false, List, IfErr, IfSome, OnOk, IsErrOf};
 ghost use Rattle.std.specs.Io.KnownBytes.{Appends, IsAtEnd};
 ghost use Rattle.gip_lines.specs.Input.{IsTooLong, Fits};
-ghost use Rattle.gip_lines.specs.Lines.{IsScript, lines_of, first_other_line};
-ghost use Rattle.gip_lines.specs.Script.{script_text};
+ghost use Rattle.gip_lines.specs.Scripts.Lines.{IsScript, lines_of, first_other_line};
+ghost use Rattle.gip_lines.specs.Scripts.Replies.{script_text};
+
+pub mod lines;
+mod replies;
 
 use crate::fault::GipFault;
-use crate::lines::Line;
-use crate::replies::run_lines;
 use crate::texts;
 use crate::transfer::{read_all, write_all};
 use crate::watched::Watched;
+use lines::Line;
+use replies::replies_to;
 use std::alloc::Allocator;
 use std::io::{Read, Write};
 
@@ -52,6 +55,6 @@ pub fn script<A: Allocator + Copy, R: Read, W: Write>(
 {
     let input = read_all(alloc, reader)?;
     let lines: Vec<Line, A> = texts::parse(alloc, &input)?;
-    let text = run_lines(alloc, &lines)?;
+    let text = replies_to(alloc, &lines)?;
     write_all(writer, &text)
 }

@@ -1,16 +1,19 @@
 //! Vectors of bits from the bytes in to the bytes out.
 ghost use Rattle.std.specs.Prelude.{◌≡◌, ◌≢◌, ◌↔◌, ℕ, true, false, IfErr, IfSome, OnOk, IsErrOf};
 ghost use Rattle.std.specs.Io.KnownBytes.{Appends, IsAtEnd};
-ghost use Rattle.gip_lines.specs.BitLines.{AreBits, bits_of_lines, first_line_without_bits};
-ghost use Rattle.gip_lines.specs.BitText.{bits_text, LinesAreBinaryTexts};
+ghost use Rattle.gip_lines.specs.Vectors.Lines.{AreBits, bits_of_lines, first_line_without_bits};
+ghost use Rattle.gip_lines.specs.Vectors.Replies.{bits_text, LinesAreBinaryTexts};
 ghost use Rattle.gip_lines.specs.Input.{IsTooLong, Fits};
 
-use crate::bit_lines::BitLine;
-use crate::bit_replies::text_of;
+mod lines;
+mod replies;
+
 use crate::fault::GipFault;
 use crate::texts;
 use crate::transfer::{read_all, write_all};
 use crate::watched::Watched;
+use lines::BitLine;
+use replies::replies_to;
 use std::alloc::Allocator;
 use std::io::{Read, Write};
 
@@ -53,7 +56,7 @@ pub fn bits<A: Allocator + Copy, R: Read, W: Write>(
 {
     let input = read_all(alloc, reader)?;
     let lines: Vec<BitLine<A>, A> = texts::parse(alloc, &input)?;
-    let text = text_of(alloc, &lines)?;
+    let text = replies_to(alloc, &lines)?;
     write_all(writer, &text)
 }
 
