@@ -2,7 +2,7 @@
 use Rattle.std.proofs.Common.{◌≡◌, ℕ, zero, suc, ◌+◌, ◌<◌, ◌≤◌, List, [], ◌∷◌, length, take, get_or, refl, ap, arith, Option, Some, None, add-one}
 use Rattle.std.specs.Prelude.{◌&&◌, nat_lt, nat_le, if◌then◌else◌, slice_set}
 use Rattle.std.specs.Option.{option_map_or}
-use Rattle.gip_lines.specs.Scripts.Lines.{greatest_key, greatest_rank, most_pairs, number_up_to, alone, only_key, with_pair, pairs_of, rank_line, none_given, given_with, ranks_line}
+use Rattle.gip_lines.specs.Scripts.Lines.{greatest_key, greatest_rank, most_pairs, number_up_to, without_words, only_key, with_pair, pairs_of, rank_line, none_given, given_with, ranks_line}
 use Rattle.gip_lines.specs.Scripts.Replies.{ranks_with}
 use Rattle.gip_lines.specs.Texts.{space, pieces}
 use Rattle.gip_lines.specs.declared.scripts.lines.Line.{Line}
@@ -55,8 +55,8 @@ ranks_with-more_none (g ∷ given) (old ∷ ranks) (suc i) within e =
     rw add-one (ap (λ more. option_map_or (λ r. r) g old ∷ more) (rw add-one at (ranks_with-more_none given ranks i (omega arith) e)))
 
 -- a line that stands alone, and one with a single key, have no more words
-pub alone-more : (line : Line) (rest : List ℕ) → alone line (pieces space rest) ≡ None
-alone-more line rest = let (first, more, e) = pieces-cons space rest in rw e refl
+pub without_words-more : (line : Line) (rest : List ℕ) → without_words line (pieces space rest) ≡ None
+without_words-more line rest = let (first, more, e) = pieces-cons space rest in rw e refl
 
 pub only_key-more : (key rest : List ℕ) → only_key (key ∷ pieces space rest) ≡ None
 only_key-more key rest = let (first, more, e) = pieces-cons space rest in rw e refl

@@ -1,6 +1,7 @@
 pub mod Fault
 pub mod Input
 pub mod Scripts
+pub mod Task
 pub mod Texts
 pub mod Vectors
 pub mod Watch

@@ -42,13 +42,17 @@ pub fn script<A: Allocator + Copy, R: Read, W: Write>(
     ensures fits { OnOk result (IfSome (R.remaining reader.old.device) Fits) }
     ensures is_script { OnOk result (IfSome (R.remaining reader.old.device) IsScript) }
     ensures written { OnOk result (IfSome (R.remaining reader.old.device) (λ input. (refusals : List Bool)
-        × Appends (W.contents writer.old.device) (W.contents writer.new.device) (script_text (lines_of input) refusals))) }
+        × Appends (W.contents writer.old.device) (W.contents writer.new.device)
+        (script_text (lines_of input) refusals))) }
 
     // When each fault comes.
     ensures line { (number : ℕ) → IsErrOf result (GipFault.Line number) →
-        IfSome (R.remaining reader.old.device) (λ input. Fits input × (first_other_line input ≡ Some number)) }
-    ensures line_read_to_end { (number : ℕ) → IsErrOf result (GipFault.Line number) → IsAtEnd (R.remaining reader.new.device) }
-    ensures input { IsErrOf result GipFault.Input → reader.new.has_failed ≡ false → IsTooLong (R.remaining reader.old.device) }
+        IfSome (R.remaining reader.old.device) (λ input.
+        Fits input × (first_other_line input ≡ Some number)) }
+    ensures line_read_to_end { (number : ℕ) → IsErrOf result (GipFault.Line number) →
+        IsAtEnd (R.remaining reader.new.device) }
+    ensures input { IsErrOf result GipFault.Input → reader.new.has_failed ≡ false →
+        IsTooLong (R.remaining reader.old.device) }
     ensures reader_failed { reader.new.has_failed ≡ true → IsErrOf result GipFault.Input }
     ensures writer_failed { IsErrOf result GipFault.Output ↔ (writer.new.has_failed ≡ true) }
     ensures unwritten { IfErr result (λ fault. fault ≢ GipFault.Output → writer.new ≡ writer.old) }

@@ -43,13 +43,17 @@ pub fn bits<A: Allocator + Copy, R: Read, W: Write>(
     ensures fits { OnOk result (IfSome (R.remaining reader.old.device) Fits) }
     ensures are_bits { OnOk result (IfSome (R.remaining reader.old.device) AreBits) }
     ensures written { OnOk result (IfSome (R.remaining reader.old.device) (λ input.
-        Appends (W.contents writer.old.device) (W.contents writer.new.device) (bits_text (bits_of_lines input)))) }
+        Appends (W.contents writer.old.device) (W.contents writer.new.device)
+        (bits_text (bits_of_lines input)))) }
 
     // When each fault comes.
     ensures line { (number : ℕ) → IsErrOf result (GipFault.Line number) →
-        IfSome (R.remaining reader.old.device) (λ input. Fits input × (first_line_without_bits input ≡ Some number)) }
-    ensures line_read_to_end { (number : ℕ) → IsErrOf result (GipFault.Line number) → IsAtEnd (R.remaining reader.new.device) }
-    ensures input { IsErrOf result GipFault.Input → reader.new.has_failed ≡ false → IsTooLong (R.remaining reader.old.device) }
+        IfSome (R.remaining reader.old.device) (λ input.
+        Fits input × (first_line_without_bits input ≡ Some number)) }
+    ensures line_read_to_end { (number : ℕ) → IsErrOf result (GipFault.Line number) →
+        IsAtEnd (R.remaining reader.new.device) }
+    ensures input { IsErrOf result GipFault.Input → reader.new.has_failed ≡ false →
+        IsTooLong (R.remaining reader.old.device) }
     ensures reader_failed { reader.new.has_failed ≡ true → IsErrOf result GipFault.Input }
     ensures writer_failed { IsErrOf result GipFault.Output ↔ (writer.new.has_failed ≡ true) }
     ensures unwritten { IfErr result (λ fault. fault ≢ GipFault.Output → writer.new ≡ writer.old) }

@@ -26,9 +26,9 @@ number_up_to greatest word =
     then Some (digits_value 10 word) else None
 
 -- the line, where no word follows its name
-abbrev pub alone : Line → List (List ℕ) → Option Line
-alone line [] = Some line
-alone line words = None
+abbrev pub without_words : Line → List (List ℕ) → Option Line
+without_words line [] = Some line
+without_words line words = None
 
 -- the key that is the only word
 abbrev pub only_key : List (List ℕ) → Option ℕ
@@ -72,9 +72,9 @@ abbrev pub line_of_words : List (List ℕ) → Option Line
 line_of_words [] = None
 line_of_words (name ∷ words) =
     if bytes_eq name (codes "push") then option_map Push (only_key words)
-    else if bytes_eq name (codes "pop") then alone Pop words
-    else if bytes_eq name (codes "len") then alone Len words
-    else if bytes_eq name (codes "clear") then alone Clear words
+    else if bytes_eq name (codes "pop") then without_words Pop words
+    else if bytes_eq name (codes "len") then without_words Len words
+    else if bytes_eq name (codes "clear") then without_words Clear words
     else if bytes_eq name (codes "rank") then rank_line (pairs_of words)
     else if bytes_eq name (codes "ranks") then ranks_line (pairs_of words)
     else if bytes_eq name (codes "up") then option_map Up (only_key words)

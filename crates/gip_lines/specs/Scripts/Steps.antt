@@ -1,8 +1,9 @@
 -- How a script is run on a heap: a call for each line, and a line of text for each reply.
-use Rattle.std.specs.Prelude.{ℕ, Bool, true, false, List, [], ◌∷◌, ◌++◌, codes, decimal, if◌then◌else◌, Some, None}
+use Rattle.std.specs.Prelude.{ℕ, ◌+◌, Bool, true, false, List, [], ◌∷◌, ◌++◌, codes, decimal, if◌then◌else◌, Some, None}
 use Rattle.gip_lines.specs.Texts.{line_feed}
+use Rattle.gip_lines.specs.Scripts.Lines.{greatest_key}
 use Rattle.gip_lines.specs.Scripts.Replies.{ranks_after}
-use Rattle.gip_lines.specs.declared.scripts.replies.Ranks.{Ranks}
+use Rattle.giputils_heap.specs.declared.comparers.RankTable.{RankTable}
 use Rattle.gip_lines.specs.declared.scripts.lines.Line.{Line}
 use Rattle.gip_lines.specs.declared.scripts.lines.Line.TheVariants as line
 use Rattle.giputils_heap.specs.declared.run.HeapCall.{HeapCall}
@@ -51,17 +52,21 @@ gives_ranks (line.Rank key rank) = true
 gives_ranks (line.Ranks given) = true
 gives_ranks said = false
 
+-- a table of the ranks of all keys, by which they are compared
+abbrev pub Table : Type 0
+Table = RankTable (greatest_key + 1)
+
 -- the step of a line, lent a comparer by these ranks that was not yet asked
-abbrev pub step_of : List ℕ → Line → HeapStep ℕ Ranks
+abbrev pub step_of : List ℕ → Line → HeapStep ℕ Table
 step_of ranks said = record { call = call_of said; cmp = record { comparer = record { 0 = ranks }; count = 0 } }
 
 -- the steps of some lines: each compares by the ranks as its line leaves them
-abbrev pub steps_from : List ℕ → List Line → List (HeapStep ℕ Ranks)
+abbrev pub steps_from : List ℕ → List Line → List (HeapStep ℕ Table)
 steps_from ranks [] = []
 steps_from ranks (said ∷ lines) = step_of (ranks_after said ranks) said ∷ steps_from (ranks_after said ranks) lines
 
 -- the tables that the lines which give ranks leave, one after another
-abbrev pub tables_from : List ℕ → List Line → List Ranks
+abbrev pub tables_from : List ℕ → List Line → List Table
 tables_from ranks [] = []
 tables_from ranks (said ∷ lines) =
     let left : List ℕ = ranks_after said ranks in

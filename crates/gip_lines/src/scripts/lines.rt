@@ -1,7 +1,7 @@
 //! The lines of a script, and what each says.
 ghost use Rattle.std.specs.Prelude.{◌≡◌, ◌<◌, ◌≤◌, ◌∷◌, [], List, ℕ, length, IfSome, MatchOption};
 ghost use Rattle.std.specs.Option.{option_map_or};
-ghost use Rattle.gip_lines.specs.Scripts.Lines.{greatest_key, number_up_to, alone, only_key, with_pair, pairs_of, rank_line, ranks_line, line_of};
+ghost use Rattle.gip_lines.specs.Scripts.Lines.{greatest_key, number_up_to, without_words, only_key, with_pair, pairs_of, rank_line, ranks_line, line_of};
 ghost use Rattle.gip_lines.specs.Texts.{space, pieces};
 
 use crate::texts::{Said, split_once};
@@ -76,7 +76,7 @@ impl<A: Allocator> Said<A> for Line {
 
 // The line, where no words follow its name.
 fn without_words(line: Line, words: Option<&[u8]>) -> Option<Line>
-    ensures { result ≡ alone line (option_map_or (λ words. pieces space words.now) words.entry []) }
+    ensures { result ≡ without_words line (option_map_or (λ words. pieces space words.now) words.entry []) }
 {
     match words {
         None => Some(line),

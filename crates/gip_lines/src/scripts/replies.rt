@@ -1,7 +1,6 @@
 //! The lines of a script as calls of a heap, and its replies as text.
 ghost use Rattle.std.specs.Prelude.{◌≡◌, ◌++◌, ◌∷◌, [], ℕ, Bool, List, decimal, if◌then◌else◌, IsTrue, IfOk, IfErr, OnOk};
 ghost use Rattle.std.specs.List.{list_all, flat_map};
-ghost use Rattle.giputils_heap.specs.Comparers.{by_rank};
 ghost use Rattle.gip_lines.specs.Scripts.Lines.{has_small_key};
 ghost use Rattle.gip_lines.specs.Scripts.Steps.{call_of, gives_ranks, steps_from, tables_from, is_line_reply, reply_line};
 ghost use Rattle.gip_lines.specs.Scripts.Replies.{start_ranks, ranks_after, ranks_with, script_text};
@@ -9,21 +8,9 @@ ghost use Rattle.gip_lines.specs.Texts.{line_feed};
 
 use crate::fault::GipFault;
 use crate::scripts::lines::{KEYS, Line};
-use giputils_heap::{BinaryHeapCmp, ByRank, HeapCall, HeapReply, HeapStep, heap_run};
+use giputils_heap::{HeapCall, HeapReply, HeapStep, RankTable, heap_run};
 use std::alloc::{AllocError, Allocator};
 use std::io::Write;
-
-// A table of the keys' ranks, by which they are compared.
-#[derive(Clone, Copy)]
-pub(crate) struct Ranks([u32; KEYS]);
-
-impl BinaryHeapCmp<u8> for Ranks {
-    ghost at_least = { λ c. by_rank (λ k. k) c.0 };
-
-    fn gte(&self, s: u8, o: u8) -> bool {
-        ByRank(&self.0).gte(s, o)
-    }
-}
 
 // Runs some lines on a heap that is empty at first. Gives the replies, as the text to write.
 pub(crate) fn replies_to<A: Allocator + Copy>(
@@ -48,18 +35,18 @@ fn gives_ranks(line: Line) -> bool
 }
 
 // The table of ranks at the start, and one for each line that gives ranks, as that line leaves them.
-fn tables_of<A: Allocator>(alloc: A, lines: &[Line]) -> Result<Vec<Ranks, A>, AllocError>
+fn tables_of<A: Allocator>(alloc: A, lines: &[Line]) -> Result<Vec<RankTable<KEYS>, A>, AllocError>
     requires { IsTrue (list_all has_small_key lines.now) }
     ensures { IfOk result (λ tables. tables.items ≡ record { 0 = start_ranks } ∷ tables_from start_ranks lines.now) }
 {
     let mut tables = Vec::new(alloc);
     let mut ranks = [0; KEYS];
-    tables.push(Ranks(ranks))?;
+    tables.push(RankTable(ranks))?;
     for line in lines {
         let left = ranks_after(*line, ranks);
         ranks = left;
         if gives_ranks(*line) {
-            tables.push(Ranks(ranks))?;
+            tables.push(RankTable(ranks))?;
         }
     }
     Ok(tables)
@@ -94,8 +81,8 @@ fn ranks_with(given: &[Option<u32>; KEYS], mut ranks: [u32; KEYS]) -> [u32; KEYS
 fn steps_of<'a, A: Allocator>(
     alloc: A,
     lines: &[Line],
-    tables: &'a [Ranks],
-) -> Result<Vec<HeapStep<'a, u8, Ranks>, A>, AllocError>
+    tables: &'a [RankTable<KEYS>],
+) -> Result<Vec<HeapStep<'a, u8, RankTable<KEYS>>, A>, AllocError>
     requires { tables.now ≡ record { 0 = start_ranks } ∷ tables_from start_ranks lines.now }
     ensures { IfOk result (λ steps. steps.items ≡ steps_from start_ranks lines.now) }
 {
