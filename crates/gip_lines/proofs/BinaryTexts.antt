@@ -7,8 +7,8 @@ use Rattle.std.proofs.lemmas.Bool.{and_parts}
 use Rattle.std.proofs.lemmas.List.{map-append, length-map, reverse-append, reverse-reverse, length-reverse}
 use Rattle.std.proofs.lemmas.Slice.Eq.{bytes_eq-Decides}
 use Rattle.giputils_bits.specs.Text.{bit_glyph, binary_text}
-use Rattle.gip_lines.specs.BitLines.{digit_1, is_binary_digit, bits_of_line}
-use Rattle.gip_lines.specs.BitText.{LinesAreBinaryTexts}
+use Rattle.gip_lines.specs.Vectors.Lines.{digit_1, is_binary_digit, bits_of_line}
+use Rattle.gip_lines.specs.Vectors.Replies.{LinesAreBinaryTexts}
 
 -- the bit that a digit writes
 abbrev is_one : ℕ → Bool

@@ -4,7 +4,7 @@ use Rattle.std.proofs.lemmas.Bool.{and_parts}
 use Rattle.std.proofs.lemmas.Bool.Decides.{nat_tests}
 use Rattle.std.specs.List.{list_all}
 use Rattle.std.specs.Option.{option_map_or}
-use Rattle.gip_lines.specs.Script.{is_held, goes_before, first_of, greatest}
+use Rattle.gip_lines.specs.Scripts.Replies.{is_held, goes_before, first_of, greatest}
 
 -- of two keys of which each goes before the other there is one
 goes_before-tie : (ranks : List ℕ) (x y : ℕ) → goes_before ranks x y ≡ true → goes_before ranks y x ≡ true → x ≡ y

@@ -1,12 +1,13 @@
 -- A reply that a heap may give, comparing by rank and number, is the script's.
 use Rattle.std.proofs.Common.{◌≡◌, ℕ, ◌≤◌, Bool, true, false, ◌||◌, not, nat_lt, List, [], ◌∷◌, length, refl, ap, arith, Some, None, leb-true, eqb-true, decimal}
 use Rattle.std.proofs.lemmas.Bool.{and_parts, and_right, or_right}
+use Rattle.std.proofs.Math.Bool.{or-false}
 use Rattle.std.specs.List.{list_all}
-use Rattle.gip_lines.specs.Lines.{greatest_key, has_small_key}
-use Rattle.gip_lines.specs.Replies.{call_of, reply_text, is_line_reply}
-use Rattle.gip_lines.specs.Script.{is_held, goes_before, greatest, held_after, reply_to}
-use Rattle.gip_lines.specs.declared.lines.Line.{Line}
-use Rattle.gip_lines.specs.declared.lines.Line.TheVariants as line
+use Rattle.gip_lines.specs.Scripts.Lines.{greatest_key, has_small_key}
+use Rattle.gip_lines.specs.Scripts.Steps.{call_of, reply_text, is_line_reply}
+use Rattle.gip_lines.specs.Scripts.Replies.{is_held, goes_before, greatest, held_after, reply_to}
+use Rattle.gip_lines.specs.declared.scripts.lines.Line.{Line}
+use Rattle.gip_lines.specs.declared.scripts.lines.Line.TheVariants as line
 use Rattle.gip_lines.proofs.Greatest.{greatest-held}
 use Rattle.giputils_heap.specs.Keys.{key_limit}
 use Rattle.giputils_heap.specs.Relations.{is_greatest}
@@ -24,10 +25,6 @@ pub record Matches (said : Line) (ranks held : List ℕ) (reply : HeapReply ℕ)
   pub text : reply_text reply ≡ reply_to said refused ranks held
   pub after : run.held_after number held (call_of said) reply ≡ held_after said refused ranks held
   pub is_known : is_line_reply reply ≡ true
-
-or-false : (b : Bool) → (b || false) ≡ b
-or-false true = refl
-or-false false = refl
 
 greatest-none : (ranks held : List ℕ) → run.is_nil held ≡ true → greatest ranks held ≡ None
 greatest-none ranks [] e = refl

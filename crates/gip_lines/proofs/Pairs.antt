@@ -2,11 +2,11 @@
 use Rattle.std.proofs.Common.{◌≡◌, ℕ, zero, suc, ◌+◌, ◌<◌, ◌≤◌, List, [], ◌∷◌, length, take, get_or, refl, ap, arith, Option, Some, None, add-one}
 use Rattle.std.specs.Prelude.{◌&&◌, nat_lt, nat_le, if◌then◌else◌, slice_set}
 use Rattle.std.specs.Option.{option_map_or}
-use Rattle.gip_lines.specs.Lines.{greatest_key, greatest_rank, most_pairs, number_up_to, alone, only_key, with_pair, pairs_of, rank_line, none_given, given_with, ranks_line}
-use Rattle.gip_lines.specs.Script.{ranks_with}
+use Rattle.gip_lines.specs.Scripts.Lines.{greatest_key, greatest_rank, most_pairs, number_up_to, without_words, only_key, with_pair, pairs_of, rank_line, none_given, given_with, ranks_line}
+use Rattle.gip_lines.specs.Scripts.Replies.{ranks_with}
 use Rattle.gip_lines.specs.Texts.{space, pieces}
-use Rattle.gip_lines.specs.declared.lines.Line.{Line}
-use Rattle.gip_lines.specs.declared.lines.Line.TheVariants.{Ranks}
+use Rattle.gip_lines.specs.declared.scripts.lines.Line.{Line}
+use Rattle.gip_lines.specs.declared.scripts.lines.Line.TheVariants.{Ranks}
 use Rattle.gip_lines.proofs.Pieces.{pieces-cons}
 
 -- one pair and more words are no line of one rank
@@ -35,12 +35,6 @@ line_after n given (Some pairs) =
     if nat_lt 0 (n + length pairs) && nat_le (n + length pairs) most_pairs then Some (Ranks (given_with given pairs)) else None
 line_after n given None = None
 
-zero_plus : (n : ℕ) → 0 + n ≡ n
-zero_plus n = omega arith
-
-plus_one : (n m : ℕ) → n + suc m ≡ (n + 1) + m
-plus_one n m = omega arith
-
 -- the ranks with one more of those that are given
 pub ranks_with-more_some : (given : List (Option ℕ)) (ranks : List ℕ) (i rank : ℕ) → i < length given → get_or given i None ≡ Some rank
     → slice_set (ranks_with (take i given) ranks) i rank ≡ ranks_with (take (i + 1) given) ranks
@@ -61,8 +55,8 @@ ranks_with-more_none (g ∷ given) (old ∷ ranks) (suc i) within e =
     rw add-one (ap (λ more. option_map_or (λ r. r) g old ∷ more) (rw add-one at (ranks_with-more_none given ranks i (omega arith) e)))
 
 -- a line that stands alone, and one with a single key, have no more words
-pub alone-more : (line : Line) (rest : List ℕ) → alone line (pieces space rest) ≡ None
-alone-more line rest = let (first, more, e) = pieces-cons space rest in rw e refl
+pub without_words-more : (line : Line) (rest : List ℕ) → without_words line (pieces space rest) ≡ None
+without_words-more line rest = let (first, more, e) = pieces-cons space rest in rw e refl
 
 pub only_key-more : (key rest : List ℕ) → only_key (key ∷ pieces space rest) ≡ None
 only_key-more key rest = let (first, more, e) = pieces-cons space rest in rw e refl

@@ -3,13 +3,12 @@ use Rattle.std.proofs.Common.{◌≡◌, ℕ, suc, Bool, true, List, [], ◌∷�
 use Rattle.std.specs.Prelude.{slice_set}
 use Rattle.std.proofs.lemmas.Bool.{and_parts, and_from, cond_both}
 use Rattle.std.specs.List.{flat_map, list_all}
-use Rattle.gip_lines.specs.Lines.{has_small_key}
-use Rattle.gip_lines.specs.Replies.{call_of, steps_from, reply_text, reply_line, is_line_reply}
-use Rattle.gip_lines.specs.Script.{ranks_after, held_after, reply_to, text_from}
+use Rattle.gip_lines.specs.Scripts.Lines.{has_small_key}
+use Rattle.gip_lines.specs.Scripts.Steps.{Table, call_of, steps_from, reply_text, reply_line, is_line_reply}
+use Rattle.gip_lines.specs.Scripts.Replies.{ranks_after, held_after, reply_to, text_from}
 use Rattle.gip_lines.specs.Texts.{line_feed}
-use Rattle.gip_lines.specs.declared.lines.Line.{Line}
-use Rattle.gip_lines.specs.declared.lines.Line.TheVariants as line
-use Rattle.gip_lines.specs.declared.replies.Ranks.{Ranks}
+use Rattle.gip_lines.specs.declared.scripts.lines.Line.{Line}
+use Rattle.gip_lines.specs.declared.scripts.lines.Line.TheVariants as line
 use Rattle.gip_lines.proofs.MatchingReplies.{number, matches}
 use Rattle.giputils_heap.specs.Record as run
 use Rattle.giputils_heap.specs.Comparers.{by_rank}
@@ -28,26 +27,26 @@ Match ranks held lines replies =
     (refusals : List Bool) × (flat_map reply_line replies ≡ text_from ranks held lines refusals) × (list_all is_line_reply replies ≡ true)
 
 -- tables compare by rank and number
-abbrev at_least : Ranks → ℕ → ℕ → Bool
+abbrev at_least : Table → ℕ → ℕ → Bool
 at_least c = by_rank number c.0
 
 -- a comparer that was lent last has these ranks
-abbrev HasRanks : List ℕ → Option Ranks → Type 0
+abbrev HasRanks : List ℕ → Option Table → Type 0
 HasRanks ranks None = Unit {0}
 HasRanks ranks (Some c) = c.0 ≡ ranks
 
-HasRanks-if_empty : (ranks held : List ℕ) (steady : Bool) (last : Option Ranks) → HasRanks ranks last
+HasRanks-if_empty : (ranks held : List ℕ) (steady : Bool) (last : Option Table) → HasRanks ranks last
     → HasRanks ranks (run.start_if_empty record { held = held; steady = steady; last = last }).last
 HasRanks-if_empty ranks [] steady last has = tt
 HasRanks-if_empty ranks (k ∷ held) steady last has = has
 
-steady-if_empty : (held : List ℕ) (steady : Bool) (last : Option Ranks) → steady ≡ true
+steady-if_empty : (held : List ℕ) (steady : Bool) (last : Option Table) → steady ≡ true
     → (run.start_if_empty record { held = held; steady = steady; last = last }).steady ≡ true
 steady-if_empty [] steady last so_far = refl
 steady-if_empty (k ∷ held) steady last so_far = so_far
 
 -- a call that is lent the ranks of the last one agrees with it
-agrees_unchanged : (last : Option Ranks) (ranks : List ℕ) (made : HeapCall ℕ) (held : List ℕ) → HasRanks ranks last
+agrees_unchanged : (last : Option Table) (ranks : List ℕ) (made : HeapCall ℕ) (held : List ℕ) → HasRanks ranks last
     → run.agrees_with_last number at_least last made record { 0 = ranks } held ≡ true
 agrees_unchanged None ranks made held has = refl
 agrees_unchanged (Some c) ranks (call.Update key) held has =
@@ -56,14 +55,14 @@ agrees_unchanged (Some c) ranks made held has =
     ap (λ rs. agree_on (by_rank number rs) (by_rank number ranks) held) has ∙ agree_on-refl (by_rank number ranks) held
 
 -- and so does an Update of the key whose rank has changed
-agrees_changed : (last : Option Ranks) (ranks : List ℕ) (key rank : ℕ) (held : List ℕ) → HasRanks ranks last
+agrees_changed : (last : Option Table) (ranks : List ℕ) (key rank : ℕ) (held : List ℕ) → HasRanks ranks last
     → run.agrees_with_last number at_least last (call.Update key) record { 0 = slice_set ranks key rank } held ≡ true
 agrees_changed None ranks key rank held has = refl
 agrees_changed (Some c) ranks key rank held has =
     ap (λ rs. agree_on (by_rank number rs) (by_rank number (slice_set ranks key rank)) (without number held key)) has ∙ AgreesExcept-by_rank number key ranks rank held
 
 -- each line's call agrees with those before it, as far as they count
-agrees_at : (p : run.Progress ℕ Ranks) (ranks : List ℕ) (said : Line) → HasRanks ranks p.last
+agrees_at : (p : run.Progress ℕ Table) (ranks : List ℕ) (said : Line) → HasRanks ranks p.last
     → run.agrees_with_last number at_least (run.start_anew p (call_of said)).last (call_of said) record { 0 = ranks_after said ranks } p.held ≡ true
 agrees_at p ranks (line.Ranks given) has = refl
 agrees_at p ranks (line.Rank key rank) has =
@@ -71,12 +70,12 @@ agrees_at p ranks (line.Rank key rank) has =
 agrees_at p ranks said has =
     agrees_unchanged (run.start_if_empty p).last ranks (call_of said) p.held (HasRanks-if_empty ranks p.held p.steady p.last has)
 
-steady-anew : (p : run.Progress ℕ Ranks) (made : HeapCall ℕ) → p.steady ≡ true → (run.start_anew p made).steady ≡ true
+steady-anew : (p : run.Progress ℕ Table) (made : HeapCall ℕ) → p.steady ≡ true → (run.start_anew p made).steady ≡ true
 steady-anew p call.Rebuild steady = refl
 steady-anew p made steady = steady-if_empty p.held p.steady p.last steady
 
 -- so the steps of a script are steady
-steady_at : (p : run.Progress ℕ Ranks) (ranks : List ℕ) (said : Line) → p.steady ≡ true → HasRanks ranks p.last
+steady_at : (p : run.Progress ℕ Table) (ranks : List ℕ) (said : Line) → p.steady ≡ true → HasRanks ranks p.last
     → run.is_steady_at number at_least p (call_of said) record { 0 = ranks_after said ranks } ≡ true
 steady_at p ranks said steady has =
     let after : List ℕ = ranks_after said ranks in
@@ -86,20 +85,20 @@ steady_at p ranks said steady has =
     cond_both (run.may_compare (call_of said)) _ _ (λ b. b ≡ true) (λ _. and_from _ _ so_far (and_from _ _ lawful agrees)) (λ _. so_far)
 
 -- and the comparer that was lent last has the ranks that the line leaves
-ranks_at : (p : run.Progress ℕ Ranks) (ranks : List ℕ) (said : Line) (reply : HeapReply ℕ) → HasRanks ranks p.last
+ranks_at : (p : run.Progress ℕ Table) (ranks : List ℕ) (said : Line) (reply : HeapReply ℕ) → HasRanks ranks p.last
     → HasRanks (ranks_after said ranks) (run.after_call number at_least p (call_of said) record { 0 = ranks_after said ranks } reply).last
 ranks_at p ranks line.Len reply has = HasRanks-if_empty ranks p.held p.steady p.last has
 ranks_at p ranks line.Clear reply has = HasRanks-if_empty ranks p.held p.steady p.last has
 ranks_at p ranks said reply has = refl
 
-answered_from : (lines : List Line) (ranks : List ℕ) (after : List (HeapStep ℕ Ranks)) (replies : List (HeapReply ℕ)) (p : run.Progress ℕ Ranks)
+answered_from : (lines : List Line) (ranks : List ℕ) (after : List (HeapStep ℕ Table)) (replies : List (HeapReply ℕ)) (p : run.Progress ℕ Table)
     → length after ≡ length lines → length replies ≡ length lines → p.steady ≡ true → HasRanks ranks p.last → list_all has_small_key lines ≡ true
     → run.answers_from number at_least p (run.record_of (steps_from ranks lines) after replies) ≡ true → Match ranks p.held lines replies
 answered_from [] ranks after [] p same one_each steady has small answers = ([], refl, refl)
 answered_from (said ∷ lines) ranks (t ∷ after) (reply ∷ replies) p same one_each steady has small answers =
     let left : List ℕ = ranks_after said ranks in
-    let c : Ranks = record { 0 = left } in
-    let q : run.Progress ℕ Ranks = run.after_call number at_least p (call_of said) c reply in
+    let c : Table = record { 0 = left } in
+    let q : run.Progress ℕ Table = run.after_call number at_least p (call_of said) c reply in
     let now = steady_at p ranks said steady has in
     let (may, rest) = and_parts (run.may_answer number at_least p (call_of said) c reply) (run.answers_from number at_least q (run.record_of (steps_from left lines) after replies)) answers in
     let (small', smaller) = and_parts (has_small_key said) (list_all has_small_key lines) small in
@@ -119,7 +118,7 @@ length-steps_from ranks [] = refl
 length-steps_from ranks (said ∷ lines) = ap suc (length-steps_from (ranks_after said ranks) lines)
 
 -- a run of a script's lines on a heap answers the script's text
-pub run_of_lines : (ranks : List ℕ) (lines : List Line) (before after : List (HeapStep ℕ Ranks)) (replies : List (HeapReply ℕ))
+pub run_of_lines : (ranks : List ℕ) (lines : List Line) (before after : List (HeapStep ℕ Table)) (replies : List (HeapReply ℕ))
     → before ≡ steps_from ranks lines → length after ≡ length before → length replies ≡ length before
     → list_all has_small_key lines ≡ true → run.Answers number at_least (run.record_of before after replies)
     → Match ranks [] lines replies

@@ -3,10 +3,10 @@ use Rattle.std.proofs.Common.{◌≡◌, ℕ, ◌≤◌, Bool, true, false, cond
 use Rattle.std.specs.List.{list_all}
 use Rattle.std.specs.Option.{option_map}
 use Rattle.std.specs.Prelude.{nat_le}
-use Rattle.gip_lines.specs.Lines.{number_up_to, greatest_key, greatest_rank, alone, only_key, with_pair, pairs_of, rank_line, none_given, given_with, ranks_line, line_of_words, line_of, has_small_key}
+use Rattle.gip_lines.specs.Scripts.Lines.{number_up_to, greatest_key, greatest_rank, without_words, only_key, with_pair, pairs_of, rank_line, none_given, given_with, ranks_line, line_of_words, line_of, has_small_key}
 use Rattle.gip_lines.specs.Texts.{space, pieces}
-use Rattle.gip_lines.specs.declared.lines.Line.{Line}
-use Rattle.gip_lines.specs.declared.lines.Line.TheVariants.{Push, Pop, Len, Clear, Rank, Ranks, Up, Down}
+use Rattle.gip_lines.specs.declared.scripts.lines.Line.{Line}
+use Rattle.gip_lines.specs.declared.scripts.lines.Line.TheVariants.{Push, Pop, Len, Clear, Rank, Ranks, Up, Down}
 
 -- the number of a word is no greater than it may be
 number_up_to-small : (greatest : ℕ) (word : List ℕ) (n : ℕ) → number_up_to greatest word ≡ Some n → n ≤ greatest
@@ -26,9 +26,9 @@ IsSmall-either false x y small other = other
 IsSmall-none : IsSmall None
 IsSmall-none said e = cc
 
-IsSmall-alone : (line : Line) (words : List (List ℕ)) → has_small_key line ≡ true → IsSmall (alone line words)
-IsSmall-alone line [] small said e = let same : said ≡ line = cc in ap has_small_key same ∙ small
-IsSmall-alone line (word ∷ words) small said e = cc
+IsSmall-without_words : (line : Line) (words : List (List ℕ)) → has_small_key line ≡ true → IsSmall (without_words line words)
+IsSmall-without_words line [] small said e = let same : said ≡ line = cc in ap has_small_key same ∙ small
+IsSmall-without_words line (word ∷ words) small said e = cc
 
 IsSmall-named : (Named : ℕ → Line) (words : List (List ℕ)) → ((k : ℕ) → has_small_key (Named k) ≡ nat_le k greatest_key)
     → IsSmall (option_map Named (only_key words))
@@ -64,9 +64,9 @@ IsSmall-words : (words : List (List ℕ)) → IsSmall (line_of_words words)
 IsSmall-words [] = IsSmall-none
 IsSmall-words (name ∷ words) =
     IsSmall-either _ _ _ (IsSmall-named Push words (λ k. refl))
-    (IsSmall-either _ _ _ (IsSmall-alone Pop words refl)
-    (IsSmall-either _ _ _ (IsSmall-alone Len words refl)
-    (IsSmall-either _ _ _ (IsSmall-alone Clear words refl)
+    (IsSmall-either _ _ _ (IsSmall-without_words Pop words refl)
+    (IsSmall-either _ _ _ (IsSmall-without_words Len words refl)
+    (IsSmall-either _ _ _ (IsSmall-without_words Clear words refl)
     (IsSmall-either _ _ _ (IsSmall-rank words)
     (IsSmall-either _ _ _ (IsSmall-ranks (pairs_of words))
     (IsSmall-either _ _ _ (IsSmall-named Up words (λ k. refl))

@@ -3,17 +3,22 @@ use Rattle.std.proofs.Common.{◌≡◌, ℕ, zero, suc, ◌+◌, ◌<◌, ◌�
 use Rattle.std.proofs.lemmas.List.{take_more}
 use Rattle.std.proofs.Math.Seq.{drop-cons}
 use Rattle.std.proofs.Math.Nat.{add-zero}
+use Rattle.std.proofs.Math.Numerals.{suc-eq-add-one}
 use Rattle.std.proofs.lemmas.List.{get_or-drop, length-drop}
-use Rattle.gip_lines.specs.Replies.{call_of, gives_ranks, step_of, steps_from, tables_from, ranks_from}
+use Rattle.gip_lines.specs.Scripts.Steps.{Table, call_of, gives_ranks, step_of, steps_from, tables_from}
 use Rattle.std.proofs.lemmas.List.Elements.{All-nil, All-cons}
 use Rattle.giputils_heap.specs.Bounds.{count_limit}
 use Rattle.giputils_heap.specs.Record.{CanCount}
-use Rattle.gip_lines.specs.Script.{ranks_after}
-use Rattle.gip_lines.specs.declared.lines.Line.{Line}
-use Rattle.gip_lines.specs.declared.lines.Line.TheVariants as line
-use Rattle.gip_lines.specs.declared.replies.Ranks.{Ranks}
+use Rattle.gip_lines.specs.Scripts.Replies.{ranks_after}
+use Rattle.gip_lines.specs.declared.scripts.lines.Line.{Line}
+use Rattle.gip_lines.specs.declared.scripts.lines.Line.TheVariants as line
 use Rattle.giputils_heap.specs.declared.run.HeapCall.{HeapCall}
 use Rattle.giputils_heap.specs.declared.run.HeapStep.{HeapStep}
+
+-- the ranks after some lines
+abbrev pub ranks_from : List ℕ → List Line → List ℕ
+ranks_from ranks [] = ranks
+ranks_from ranks (said ∷ lines) = ranks_from (ranks_after said ranks) lines
 
 pub steps_from-append : (ranks : List ℕ) (lines : List Line) (said : Line)
     → steps_from ranks (lines ++ said ∷ []) ≡ steps_from ranks lines ++ step_of (ranks_after said (ranks_from ranks lines)) said ∷ []
@@ -32,7 +37,7 @@ tables_from-append ranks [] said = refl
 tables_from-append ranks (first ∷ lines) said =
     let left : List ℕ = ranks_after first ranks in
     let more = tables_from-append left lines said in
-    let added : List Ranks = cond (gives_ranks said) (record { 0 = ranks_after said (ranks_from left lines) } ∷ []) [] in
+    let added : List Table = cond (gives_ranks said) (record { 0 = ranks_after said (ranks_from left lines) } ∷ []) [] in
     elim (gives_ranks first) as (λ b. cond b (record { 0 = left } ∷ tables_from left (lines ++ said ∷ [])) (tables_from left (lines ++ said ∷ []))
     ≡ cond b (record { 0 = left } ∷ tables_from left lines) (tables_from left lines) ++ added) [
       | true ↦ ap (λ tables. record { 0 = left } ∷ tables) more
@@ -46,25 +51,22 @@ ranks_after-other (line.Ranks given) ranks other = cc
 ranks_after-other said ranks other = refl
 
 -- the tables from place t on are that of these ranks, and those that the lines still to come leave
-pub record IsAtTable (tables : List Ranks) (t : ℕ) (ranks : List ℕ) (lines : List Line) : Type 0 where
+pub record IsAtTable (tables : List Table) (t : ℕ) (ranks : List ℕ) (lines : List Line) : Type 0 where
   pub rest : drop t tables ≡ record { 0 = ranks } ∷ tables_from ranks lines
 
-plus_one : (n : ℕ) → suc n ≡ n + 1
-plus_one n = omega arith
-
-pub IsAtTable-inside : (tables : List Ranks) (t : ℕ) (ranks : List ℕ) (lines : List Line) → IsAtTable tables t ranks lines → t < length tables
+pub IsAtTable-inside : (tables : List Table) (t : ℕ) (ranks : List ℕ) (lines : List Line) → IsAtTable tables t ranks lines → t < length tables
 IsAtTable-inside tables t ranks lines at =
-    let some : length (drop t tables) ≡ length (tables_from ranks lines) + 1 = ap length at.rest ∙ plus_one (length (tables_from ranks lines)) in
+    let some : length (drop t tables) ≡ length (tables_from ranks lines) + 1 = ap length at.rest ∙ suc-eq-add-one (length (tables_from ranks lines)) in
     omega (arith, length-drop t tables)
 
-pub IsAtTable-item : (tables : List Ranks) (t : ℕ) (ranks : List ℕ) (lines : List Line) (d : Ranks) → IsAtTable tables t ranks lines
+pub IsAtTable-item : (tables : List Table) (t : ℕ) (ranks : List ℕ) (lines : List Line) (d : Table) → IsAtTable tables t ranks lines
     → get_or tables t d ≡ record { 0 = ranks }
 IsAtTable-item tables t ranks lines d at = rw (get_or-drop t tables 0 d, add-zero) at (ap (λ xs. get_or xs 0 d) at.rest)
 
 suc_add_one : (t : ℕ) → suc t + 1 ≡ suc (t + 1)
 suc_add_one t = omega arith
 
-step_rest : (tables : List Ranks) (t : ℕ) (x : Ranks) (rest : List Ranks) → drop t tables ≡ x ∷ rest → drop (t + 1) tables ≡ rest
+step_rest : (tables : List Table) (t : ℕ) (x : Table) (rest : List Table) → drop t tables ≡ x ∷ rest → drop (t + 1) tables ≡ rest
 step_rest [] zero x rest e = cc
 step_rest (y ∷ tables) zero x rest e = cc
 step_rest [] (suc t) x rest e = cc
@@ -75,7 +77,7 @@ added-le_one n true is = omega (arith, is)
 added-le_one n false is = omega (arith, is)
 
 -- one line on
-pub IsAtTable-next : (tables : List Ranks) (t : ℕ) (ranks : List ℕ) (said : Line) (lines : List Line) → IsAtTable tables t ranks (said ∷ lines)
+pub IsAtTable-next : (tables : List Table) (t : ℕ) (ranks : List ℕ) (said : Line) (lines : List Line) → IsAtTable tables t ranks (said ∷ lines)
     → IsAtTable tables (t + cond (gives_ranks said) 1 0) (ranks_after said ranks) lines
 IsAtTable-next tables t ranks said lines at =
     let left : List ℕ = ranks_after said ranks in
@@ -90,21 +92,13 @@ IsAtTable-next tables t ranks said lines at =
     ] in
     by_case (gives_ranks said) refl at.rest
 
-if_some : (b : Bool) (x y : Ranks) → ◌≡◌ {A = Option Ranks} (cond b (Some x) None) (Some y) → (b ≡ true) × (y ≡ x)
-if_some true x y e = let same : y ≡ x = cc in (refl, same)
-if_some false x y e = cc
-
-if_none : (b : Bool) (x : Ranks) → ◌≡◌ {A = Option Ranks} (cond b (Some x) None) None → b ≡ false
-if_none true x e = cc
-if_none false x e = refl
-
 module _ (lines : List Line) (i : ℕ) (d : Line) (inside : i < length lines) where
   -- the ranks after one more line
   pub ranks_from-more : (ranks : List ℕ) → ranks_from ranks (take (i + 1) lines) ≡ ranks_after (get_or lines i d) (ranks_from ranks (take i lines))
   ranks_from-more ranks = rw (take_more lines i d inside) (ranks_from-append ranks (take i lines) (get_or lines i d))
 
   -- the place of its table
-  pub IsAtTable-more : (tables : List Ranks) (t n : ℕ) (ranks : List ℕ) → n ≡ cond (gives_ranks (get_or lines i d)) 1 0
+  pub IsAtTable-more : (tables : List Table) (t n : ℕ) (ranks : List ℕ) → n ≡ cond (gives_ranks (get_or lines i d)) 1 0
       → IsAtTable tables t (ranks_from ranks (take i lines)) (drop i lines)
       → IsAtTable tables (t + n) (ranks_from ranks (take (i + 1) lines)) (drop (i + 1) lines)
   IsAtTable-more tables t n ranks is at =
@@ -113,14 +107,14 @@ module _ (lines : List Line) (i : ℕ) (d : Line) (inside : i < length lines) wh
       rw (is, ranks_from-more ranks, plus_one_drop) (IsAtTable-next tables t (ranks_from ranks (take i lines)) (get_or lines i d) (drop (suc i) lines) here)
     where
       plus_one_drop : drop (i + 1) lines ≡ drop (suc i) lines
-      plus_one_drop = ap (λ n. drop n lines) (sym (plus_one i))
+      plus_one_drop = ap (λ n. drop n lines) (sym (suc-eq-add-one i))
 
-  same_step : (s : HeapStep ℕ Ranks) (call : HeapCall ℕ) (c : Ranks) (n : ℕ) → s.call ≡ call → s.cmp.comparer ≡ c → s.cmp.count ≡ n
+  same_step : (s : HeapStep ℕ Table) (call : HeapCall ℕ) (c : Table) (n : ℕ) → s.call ≡ call → s.cmp.comparer ≡ c → s.cmp.count ≡ n
       → s ≡ record { call = call; cmp = record { comparer = c; count = n } }
   same_step s call c n is_call is_comparer is_count = rw (← is_call, ← is_comparer, ← is_count) refl
 
   -- its step
-  pub steps_from-more : (ranks : List ℕ) (steps : List (HeapStep ℕ Ranks)) (s : HeapStep ℕ Ranks) → steps ≡ steps_from ranks (take i lines)
+  pub steps_from-more : (ranks : List ℕ) (steps : List (HeapStep ℕ Table)) (s : HeapStep ℕ Table) → steps ≡ steps_from ranks (take i lines)
       → s.call ≡ call_of (get_or lines i d) → s.cmp.comparer ≡ record { 0 = ranks_from ranks (take (i + 1) lines) } → s.cmp.count ≡ 0
       → steps ++ s ∷ [] ≡ steps_from ranks (take (i + 1) lines)
   steps_from-more ranks steps s so_far is_call is_comparer is_count =
@@ -130,39 +124,24 @@ module _ (lines : List Line) (i : ℕ) (d : Line) (inside : i < length lines) wh
       rw (take_more lines i d inside, so_far, same_step s _ _ _ is_call left is_count) (sym (steps_from-append ranks (take i lines) (get_or lines i d)))
 
   -- and the table that it adds, if any
-  tables_from-more : (start : List ℕ) (first : Ranks) (tables : List Ranks) → tables ≡ first ∷ tables_from start (take i lines)
-      → first ∷ tables_from start (take (i + 1) lines)
-      ≡ tables ++ cond (gives_ranks (get_or lines i d)) (record { 0 = ranks_after (get_or lines i d) (ranks_from start (take i lines)) } ∷ []) []
+  tables_from-more : (start : List ℕ) (first : Table) (tables : List Table) → tables ≡ first ∷ tables_from start (take i lines)
+      → tables ++ cond (gives_ranks (get_or lines i d)) (record { 0 = ranks_from start (take (i + 1) lines) } ∷ []) []
+      ≡ first ∷ tables_from start (take (i + 1) lines)
   tables_from-more start first tables so_far =
-      rw (take_more lines i d inside, so_far) (ap (λ more. first ∷ more) (tables_from-append start (take i lines) (get_or lines i d)))
+      rw (take_more lines i d inside, so_far, ranks_from-append start (take i lines) (get_or lines i d))
+      (ap (λ more. first ∷ more) (sym (tables_from-append start (take i lines) (get_or lines i d))))
 
-  -- a line that gives ranks leaves them, and their table
-  pub given_ranks : (start : List ℕ) (first : Ranks) (tables : List Ranks) (ranks left : Ranks)
-      → tables ≡ first ∷ tables_from start (take i lines) → ranks ≡ record { 0 = ranks_from start (take i lines) }
-      → ◌≡◌ {A = Option Ranks} (cond (gives_ranks (get_or lines i d)) (Some record { 0 = ranks_after (get_or lines i d) ranks.0 }) None) (Some left)
-      → (tables ++ left ∷ [] ≡ first ∷ tables_from start (take (i + 1) lines)) × (left ≡ record { 0 = ranks_from start (take (i + 1) lines) })
-  given_ranks start first tables ranks left so_far are e =
-      let said : Line = get_or lines i d in
-      let before : List ℕ = ranks_from start (take i lines) in
-      let (gives, is) = if_some (gives_ranks said) record { 0 = ranks_after said ranks.0 } left e in
-      let left_is : left ≡ record { 0 = ranks_after said before } = is ∙ ap (λ (r : Ranks). record { 0 = ranks_after said r.0 }) are in
-      let more : first ∷ tables_from start (take (i + 1) lines) ≡ tables ++ record { 0 = ranks_after said before } ∷ [] =
-      rw gives at (tables_from-more start first tables so_far)
-      in
-      (rw left_is (sym more), left_is ∙ ap (λ (rs : List ℕ). record { 0 = rs }) (sym (ranks_from-more start)))
+  -- a line that gives ranks adds a table of them
+  pub tables_from-gives : (start : List ℕ) (first : Table) (tables : List Table) → tables ≡ first ∷ tables_from start (take i lines)
+      → gives_ranks (get_or lines i d) ≡ true
+      → tables ++ record { 0 = ranks_from start (take (i + 1) lines) } ∷ [] ≡ first ∷ tables_from start (take (i + 1) lines)
+  tables_from-gives start first tables so_far gives = rw gives at (tables_from-more start first tables so_far)
 
-  -- another one leaves both
-  pub other_ranks : (start : List ℕ) (first : Ranks) (tables : List Ranks) (ranks : Ranks)
-      → tables ≡ first ∷ tables_from start (take i lines) → ranks ≡ record { 0 = ranks_from start (take i lines) }
-      → ◌≡◌ {A = Option Ranks} (cond (gives_ranks (get_or lines i d)) (Some record { 0 = ranks_after (get_or lines i d) ranks.0 }) None) None
-      → (tables ≡ first ∷ tables_from start (take (i + 1) lines)) × (ranks ≡ record { 0 = ranks_from start (take (i + 1) lines) })
-  other_ranks start first tables ranks so_far are e =
-      let said : Line = get_or lines i d in
-      let before : List ℕ = ranks_from start (take i lines) in
-      let other = if_none (gives_ranks said) record { 0 = ranks_after said ranks.0 } e in
-      let more : first ∷ tables_from start (take (i + 1) lines) ≡ tables ++ [] = rw other at (tables_from-more start first tables so_far) in
-      let same : ranks_from start (take (i + 1) lines) ≡ before = ranks_from-more start ∙ ranks_after-other said before other in
-      (sym (more ∙ append-nil tables), are ∙ ap (λ (rs : List ℕ). record { 0 = rs }) (sym same))
+  -- another one adds none
+  pub tables_from-other : (start : List ℕ) (first : Table) (tables : List Table) → tables ≡ first ∷ tables_from start (take i lines)
+      → gives_ranks (get_or lines i d) ≡ false → tables ≡ first ∷ tables_from start (take (i + 1) lines)
+  tables_from-other start first tables so_far other =
+      sym (append-nil tables) ∙ rw other at (tables_from-more start first tables so_far)
 
 -- no step's counter was asked yet
 pub CanCount-steps_from : (ranks : List ℕ) (lines : List Line) → CanCount (steps_from ranks lines)

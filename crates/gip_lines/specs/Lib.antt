@@ -1,9 +1,7 @@
-pub mod BitLines
-pub mod BitText
 pub mod Fault
 pub mod Input
-pub mod Lines
-pub mod Replies
-pub mod Script
+pub mod Scripts
+pub mod Task
 pub mod Texts
+pub mod Vectors
 pub mod Watch

@@ -2,15 +2,18 @@
 ghost use Rattle.std.specs.Prelude.{◌≡◌, ◌≢◌, ◌↔◌, ℕ, Bool, true, false, List, IfErr, IfSome, OnOk, IsErrOf};
 ghost use Rattle.std.specs.Io.KnownBytes.{Appends, IsAtEnd};
 ghost use Rattle.gip_lines.specs.Input.{IsTooLong, Fits};
-ghost use Rattle.gip_lines.specs.Lines.{IsScript, lines_of, first_other_line};
-ghost use Rattle.gip_lines.specs.Script.{script_text};
+ghost use Rattle.gip_lines.specs.Scripts.Lines.{IsScript, lines_of, first_other_line};
+ghost use Rattle.gip_lines.specs.Scripts.Replies.{script_text};
+
+pub mod lines;
+mod replies;
 
 use crate::fault::GipFault;
-use crate::lines::Line;
-use crate::replies::run_lines;
 use crate::texts;
 use crate::transfer::{read_all, write_all};
 use crate::watched::Watched;
+use lines::Line;
+use replies::replies_to;
 use std::alloc::Allocator;
 use std::io::{Read, Write};
 
@@ -39,19 +42,23 @@ pub fn script<A: Allocator + Copy, R: Read, W: Write>(
     ensures fits { OnOk result (IfSome (R.remaining reader.old.device) Fits) }
     ensures is_script { OnOk result (IfSome (R.remaining reader.old.device) IsScript) }
     ensures written { OnOk result (IfSome (R.remaining reader.old.device) (λ input. (refusals : List Bool)
-        × Appends (W.contents writer.old.device) (W.contents writer.new.device) (script_text (lines_of input) refusals))) }
+        × Appends (W.contents writer.old.device) (W.contents writer.new.device)
+        (script_text (lines_of input) refusals))) }
 
     // When each fault comes.
     ensures line { (number : ℕ) → IsErrOf result (GipFault.Line number) →
-        IfSome (R.remaining reader.old.device) (λ input. Fits input × (first_other_line input ≡ Some number)) }
-    ensures line_read_to_end { (number : ℕ) → IsErrOf result (GipFault.Line number) → IsAtEnd (R.remaining reader.new.device) }
-    ensures input { IsErrOf result GipFault.Input → reader.new.has_failed ≡ false → IsTooLong (R.remaining reader.old.device) }
+        IfSome (R.remaining reader.old.device) (λ input.
+        Fits input × (first_other_line input ≡ Some number)) }
+    ensures line_read_to_end { (number : ℕ) → IsErrOf result (GipFault.Line number) →
+        IsAtEnd (R.remaining reader.new.device) }
+    ensures input { IsErrOf result GipFault.Input → reader.new.has_failed ≡ false →
+        IsTooLong (R.remaining reader.old.device) }
     ensures reader_failed { reader.new.has_failed ≡ true → IsErrOf result GipFault.Input }
     ensures writer_failed { IsErrOf result GipFault.Output ↔ (writer.new.has_failed ≡ true) }
     ensures unwritten { IfErr result (λ fault. fault ≢ GipFault.Output → writer.new ≡ writer.old) }
 {
     let input = read_all(alloc, reader)?;
     let lines: Vec<Line, A> = texts::parse(alloc, &input)?;
-    let text = run_lines(alloc, &lines)?;
+    let text = replies_to(alloc, &lines)?;
     write_all(writer, &text)
 }

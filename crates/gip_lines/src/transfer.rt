@@ -1,7 +1,8 @@
 //! The whole input in, and the whole output out.
 ghost use Rattle.std.specs.Prelude.{◌≡◌, ◌<◌, ◌≤◌, false, is_err, length, take, vec_len, IfOk, IfErr, OnOk};
 ghost use Rattle.std.specs.Io.KnownBytes.{Appends, Consumes, IsAtEnd};
-ghost use Rattle.gip_lines.specs.Input.{input_limit, StopsReading};
+ghost use Rattle.gip_lines.specs.Fault.{StopsReading};
+ghost use Rattle.gip_lines.specs.Input.{input_limit};
 
 use crate::fault::GipFault;
 use crate::watched::Watched;

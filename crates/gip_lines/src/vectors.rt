@@ -1,16 +1,19 @@
 //! Vectors of bits from the bytes in to the bytes out.
 ghost use Rattle.std.specs.Prelude.{◌≡◌, ◌≢◌, ◌↔◌, ℕ, true, false, IfErr, IfSome, OnOk, IsErrOf};
 ghost use Rattle.std.specs.Io.KnownBytes.{Appends, IsAtEnd};
-ghost use Rattle.gip_lines.specs.BitLines.{AreBits, bits_of_lines, first_line_without_bits};
-ghost use Rattle.gip_lines.specs.BitText.{bits_text, LinesAreBinaryTexts};
+ghost use Rattle.gip_lines.specs.Vectors.Lines.{AreBits, bits_of_lines, first_line_without_bits};
+ghost use Rattle.gip_lines.specs.Vectors.Replies.{bits_text, LinesAreBinaryTexts};
 ghost use Rattle.gip_lines.specs.Input.{IsTooLong, Fits};
 
-use crate::bit_lines::BitLine;
-use crate::bit_replies::text_of;
+mod lines;
+mod replies;
+
 use crate::fault::GipFault;
 use crate::texts;
 use crate::transfer::{read_all, write_all};
 use crate::watched::Watched;
+use lines::BitLine;
+use replies::replies_to;
 use std::alloc::Allocator;
 use std::io::{Read, Write};
 
@@ -40,20 +43,24 @@ pub fn bits<A: Allocator + Copy, R: Read, W: Write>(
     ensures fits { OnOk result (IfSome (R.remaining reader.old.device) Fits) }
     ensures are_bits { OnOk result (IfSome (R.remaining reader.old.device) AreBits) }
     ensures written { OnOk result (IfSome (R.remaining reader.old.device) (λ input.
-        Appends (W.contents writer.old.device) (W.contents writer.new.device) (bits_text (bits_of_lines input)))) }
+        Appends (W.contents writer.old.device) (W.contents writer.new.device)
+        (bits_text (bits_of_lines input)))) }
 
     // When each fault comes.
     ensures line { (number : ℕ) → IsErrOf result (GipFault.Line number) →
-        IfSome (R.remaining reader.old.device) (λ input. Fits input × (first_line_without_bits input ≡ Some number)) }
-    ensures line_read_to_end { (number : ℕ) → IsErrOf result (GipFault.Line number) → IsAtEnd (R.remaining reader.new.device) }
-    ensures input { IsErrOf result GipFault.Input → reader.new.has_failed ≡ false → IsTooLong (R.remaining reader.old.device) }
+        IfSome (R.remaining reader.old.device) (λ input.
+        Fits input × (first_line_without_bits input ≡ Some number)) }
+    ensures line_read_to_end { (number : ℕ) → IsErrOf result (GipFault.Line number) →
+        IsAtEnd (R.remaining reader.new.device) }
+    ensures input { IsErrOf result GipFault.Input → reader.new.has_failed ≡ false →
+        IsTooLong (R.remaining reader.old.device) }
     ensures reader_failed { reader.new.has_failed ≡ true → IsErrOf result GipFault.Input }
     ensures writer_failed { IsErrOf result GipFault.Output ↔ (writer.new.has_failed ≡ true) }
     ensures unwritten { IfErr result (λ fault. fault ≢ GipFault.Output → writer.new ≡ writer.old) }
 {
     let input = read_all(alloc, reader)?;
     let lines: Vec<BitLine<A>, A> = texts::parse(alloc, &input)?;
-    let text = text_of(alloc, &lines)?;
+    let text = replies_to(alloc, &lines)?;
     write_all(writer, &text)
 }
 

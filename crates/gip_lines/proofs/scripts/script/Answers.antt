@@ -2,16 +2,16 @@
 use Rattle.std.proofs.Common.{◌≡◌, Bool, List, sym, ap, ◌∙◌, subst}
 use Rattle.std.proofs.lemmas.Result.{on_ok_weaker}
 use Rattle.std.specs.Io.KnownBytes.{Appends}
-use Rattle.gip_lines.specs.Lines.{line_of, IsScript, lines_of}
+use Rattle.gip_lines.specs.Scripts.Lines.{line_of, IsScript, lines_of}
 use Rattle.gip_lines.specs.Texts.{text_lines}
-use Rattle.gip_lines.specs.Script.{script_text}
+use Rattle.gip_lines.specs.Scripts.Replies.{script_text}
 use Rattle.gip_lines.proofs.Readings.{HasForm-read, said_in-read}
 use Rattle.gip_lines.proofs.SmallKeys.{small_keys}
 use Rattle.gip_lines.proofs.WholeInput.{whole_input}
 use Rattle.gip_lines.proofs.scripts.script.Goals as goal
 
-pub run_lines-requires : goal.run_lines-requires
-run_lines-requires g c =
+pub replies_to-requires : goal.replies_to-requires
+replies_to-requires g c =
     let read = rw c.deref.ensures.value at c.in_ok-lines.ensures.ok in
     record { keys = rw c.deref-2.ensures.value (small_keys (text_lines c.in_ok-input.input.items) c.in_ok-lines.lines.items read) }
 

@@ -2,8 +2,8 @@
 use Rattle.std.proofs.Common.{sym, ap, ◌∙◌, subst}
 use Rattle.std.proofs.lemmas.Result.{on_ok_weaker}
 use Rattle.std.specs.Io.KnownBytes.{Appends}
-use Rattle.gip_lines.specs.BitLines.{bits_of_line, AreBits, bits_of_lines}
-use Rattle.gip_lines.specs.BitText.{bits_text}
+use Rattle.gip_lines.specs.Vectors.Lines.{bits_of_line, AreBits, bits_of_lines}
+use Rattle.gip_lines.specs.Vectors.Replies.{bits_text}
 use Rattle.gip_lines.proofs.Readings.{HasForm-read, said_in-read}
 use Rattle.gip_lines.proofs.WholeInput.{whole_input}
 use Rattle.gip_lines.proofs.vectors.bits.Goals as goal
