@@ -53,3 +53,17 @@ impl<T: HeapKey> BinaryHeapCmp<T> for ByRank<'_> {
         s_rank > o_rank || s_rank == o_rank && s >= o
     }
 }
+
+/// A comparer that owns its ranks: compares keys as [`ByRank`] does by this table of `N` ranks.
+///
+/// It lends nothing, so that each step of a run may have one of its own, whose ranks are others than those before.
+#[derive(Clone, Copy, Debug)]
+pub struct RankTable<const N: usize>(pub [u32; N]);
+
+impl<T: HeapKey, const N: usize> BinaryHeapCmp<T> for RankTable<N> {
+    ghost at_least = { λ c. by_rank T.number c.0 };
+
+    fn gte(&self, s: T, o: T) -> bool {
+        ByRank(&self.0).gte(s, o)
+    }
+}

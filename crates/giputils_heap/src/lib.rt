@@ -13,7 +13,7 @@ mod table;
 mod tests;
 mod tree;
 
-pub use comparers::{ByNumber, ByRank};
+pub use comparers::{ByNumber, ByRank, RankTable};
 pub use counting::Counting;
 pub use heap::{BinaryHeap, order_laws};
 pub use key::{BinaryHeapCmp, HeapKey};

@@ -1,9 +1,8 @@
 //! Runs at concrete types.
 ghost use Rattle.std.specs.Prelude.{◌&&◌, nat_le};
-ghost use Rattle.giputils_heap.specs.Comparers.{by_rank};
 
 use super::{HeapCall, HeapReply, HeapStep, heap_run};
-use crate::comparers::{ByNumber, ByRank};
+use crate::comparers::{ByNumber, RankTable};
 use crate::key::BinaryHeapCmp;
 use std::test::Fail;
 
@@ -48,21 +47,9 @@ fn a_run_skips_what_is_no_key(rt: HostRuntime) -> Result<(), Fail> {
     Ok(())
 }
 
-// Compares by a table of ranks of its own.
-#[derive(Clone, Copy)]
-struct Ranks([u32; 4]);
-
-impl BinaryHeapCmp<u8> for Ranks {
-    ghost at_least = { λ c. by_rank (λ k. k) c.0 };
-
-    fn gte(&self, s: u8, o: u8) -> bool {
-        ByRank(&self.0).gte(s, o)
-    }
-}
-
 #[test]
 fn a_run_repairs_a_changed_rank(rt: HostRuntime) -> Result<(), Fail> {
-    let (before, after) = (Ranks([5, 3, 4, 0]), Ranks([1, 3, 4, 0]));
+    let (before, after) = (RankTable([5, 3, 4, 0]), RankTable([1, 3, 4, 0]));
     let mut steps = [
         HeapStep::new(HeapCall::Push(0u8), &before),
         HeapStep::new(HeapCall::Push(1), &before),
@@ -90,7 +77,7 @@ fn a_run_repairs_a_changed_rank(rt: HostRuntime) -> Result<(), Fail> {
 
 #[test]
 fn a_run_puts_two_changed_ranks_right_by_a_rebuild(rt: HostRuntime) -> Result<(), Fail> {
-    let (before, after) = (Ranks([10, 8, 2, 6]), Ranks([1, 0, 2, 6]));
+    let (before, after) = (RankTable([10, 8, 2, 6]), RankTable([1, 0, 2, 6]));
     let mut steps = [
         HeapStep::new(HeapCall::Push(0u8), &before),
         HeapStep::new(HeapCall::Push(1), &before),
