@@ -1,16 +1,9 @@
--- Places of keys, and tests that no key passes.
+-- Tests that no key passes.
 use Rattle.std.proofs.Common.{◌≡◌, ℕ, zero, suc, ◌<◌, Bool, true, false, List, [], ◌∷◌, length, get_or, refl, ap, ◌∙◌, ⊎_elim, arith, eqb-true, eq-eqb}
 use Rattle.std.proofs.lemmas.Bool.{or_cases, or_left, or_right}
 use Rattle.giputils_heap.specs.Keys.{same_key, is_held}
 
 module _ {T : Type 0} (number : T → ℕ) where
-  -- the key at a place is held
-  pub is_held-get_or : (keys : List T) (i : ℕ) (d : T) → i < length keys → is_held number keys (get_or keys i d) ≡ true
-  is_held-get_or [] i d inside = absurd (omega arith)
-  is_held-get_or (k ∷ keys) zero d inside = or_left (same_key number k k) (is_held number keys k) (eq-eqb (number k) (number k) refl)
-  is_held-get_or (k ∷ keys) (suc i) d inside =
-      or_right (same_key number (get_or keys i d) k) (is_held number keys (get_or keys i d)) (is_held-get_or keys i d (omega arith))
-
   -- what fails at every place fails at a held key
   pub fails_at_held : ((x y : T) → number x ≡ number y → x ≡ y) → (p : T → Bool) (keys : List T) (q : T)
       → ((i : ℕ) → i < length keys → (d : T) → p (get_or keys i d) ≡ false) → is_held number keys q ≡ true → p q ≡ false

@@ -1,8 +1,7 @@
-//! Comparers without laws, and one by ranks.
+//! Comparers without laws.
 ghost use Rattle.std.specs.Prelude.{◌+◌, ◌-◌, ◌%◌, nat_le};
-ghost use Rattle.giputils_heap.specs.Comparers.{by_rank};
 
-use giputils_heap::{BinaryHeapCmp, ByRank};
+use giputils_heap::BinaryHeapCmp;
 
 /// One answer to all questions. No order: either every key is at least every other, or no key is even at least itself.
 #[derive(Clone, Copy)]
@@ -24,17 +23,5 @@ impl BinaryHeapCmp<u32> for Circle {
 
     fn gte(&self, s: u32, o: u32) -> bool {
         (s % 3 + 3 - o % 3) % 3 <= 1
-    }
-}
-
-/// The ranks of four keys, kept in place, and compared as `ByRank` does.
-#[derive(Drop)]
-pub struct Ranks(pub [u32; 4]);
-
-impl BinaryHeapCmp<u32> for Ranks {
-    ghost at_least = { λ ranks. by_rank (λ k. k) ranks.0 };
-
-    fn gte(&self, s: u32, o: u32) -> bool {
-        ByRank(&self.0).gte(s, o)
     }
 }

@@ -1,7 +1,8 @@
 //! Heaps, and lists of calls of one, that are refused memory.
 
-use crate::comparers::Ranks;
-use giputils_heap::{BinaryHeap, ByNumber, Counting, HeapCall, HeapReply, HeapStep, heap_run};
+use giputils_heap::{
+    BinaryHeap, ByNumber, Counting, HeapCall, HeapReply, HeapStep, RankTable, heap_run,
+};
 use giputils_refusing::{Refusing, refuse_each};
 use std::alloc::AllocError;
 use std::test::Fail;
@@ -60,7 +61,7 @@ fn is_filled(memory: &Refusing) -> bool {
 
 // Pushes four keys, changes the ranks of two of them, and updates these and rebuilds before five pops.
 fn replies_under_changed_ranks(memory: &Refusing) -> Option<Vec<HeapReply<u32>, &Refusing>> {
-    let (before, after) = (Ranks([10, 8, 2, 6]), Ranks([1, 0, 2, 6]));
+    let (before, after) = (RankTable([10, 8, 2, 6]), RankTable([1, 0, 2, 6]));
     let mut steps = [
         HeapStep::new(HeapCall::Push(0), &before),
         HeapStep::new(HeapCall::Push(1), &before),
@@ -164,6 +165,9 @@ fn a_heap_pops_repairs_and_pushes_held_keys_in_place(rt: HostRuntime) -> Result<
         heap.up(key, &ByNumber);
         heap.down(key, &ByNumber);
         heap.update(key, &ByNumber);
+        heap.up_counted(key, &mut Counting::new(&ByNumber));
+        heap.down_counted(key, &mut Counting::new(&ByNumber));
+        heap.update_counted(key, &mut Counting::new(&ByNumber));
     }
     heap.rebuild(&ByNumber);
     heap.rebuild_counted(&mut Counting::new(&ByNumber));

@@ -6,7 +6,6 @@ pub mod activity;
 pub mod compaction;
 pub mod drain;
 pub mod last;
-pub mod look;
 pub mod paths;
 pub mod reachable;
 pub mod report;
