@@ -5,8 +5,11 @@ A page for callers, crates/NAME/CALLING.md, quotes the sources between a line `<
 `<!-- end -->`; all else is written by hand.
 
     <!-- quote file giputils_uses/src/drain.rt -->   a file below crates/, but for its tests' declaration
+    <!-- quote file giputils_uses/src/activity.rt: bump pick -->
+                                                    the same, with these methods alone in its impls
     <!-- quote contracts -->                         the public contracts of the crate
-    <!-- quote contracts: push pop HeapKey -->       those of these functions and traits alone
+    <!-- quote contracts: push HeapStep::new Gvec::Index<u32> -->
+                                                    those of these functions, traits, and impls of traits alone
     <!-- quote lemmas Ranks: name name -->           statements of public lemmas of the crate, from proofs/Ranks.antt
 
 In a contract `S` is what `self` points to at the call, and `S'` at the return. An item is public if it is `pub` in a
@@ -14,7 +17,7 @@ public module, or if a public module names it by `pub use`. A public function th
 
 Of the README, each example in Rust stands in the tests of the crate `giputils`, and the script is the one that `gip` is
 run on. docs/DEFINITIONS.md lists, in items that begin with `- `, each word of specs/ that a public contract uses, and no
-name that no specs/ defines. No line of a page has more than 120 columns.
+name that no specs/ defines. No line of a page has more than 120 columns, but for imports that are quoted.
 """
 
 import pathlib
@@ -29,8 +32,9 @@ QUOTE = re.compile(r"(<!-- quote (.*?) -->\n).*?(<!-- end -->\n)", re.DOTALL)
 TOP = re.compile(r"^(?:pub (?:const )?fn|pub trait|impl)\b.*?(?:^\}|\{\}$)", re.DOTALL | re.MULTILINE)
 FUNCTION = re.compile(r"^ *(?:pub )?(?:const )?fn .*?(?= \{\}?$|^ *\{\}?$|;$)", re.DOTALL | re.MULTILINE)
 MEMBER = re.compile(r"^    ghost (?!use\b)\w+ ?[=:].*?;$", re.DOTALL | re.MULTILINE)
-OWN = re.compile(r"^(pub )?(?:const )?(?:fn|struct|enum|trait|type) (\w+)", re.MULTILINE)
-USE = re.compile(r"^( *)pub use ([^;]*);", re.MULTILINE)
+OWN = re.compile(r"^(pub )?(?:pub\(\w+\) )?(?:const )?(?:fn|struct|enum|trait|type) (\w+)", re.MULTILINE)
+USE = re.compile(r"^ *pub use ((?:\w+::)*)(\w+|\*|\{[^}]*\});", re.MULTILINE)
+METHOD = re.compile(r"(?:^    (?://|#)[^\n]*\n)*^    (?:pub )?fn (\w+).*?^    \}\n\n?", re.DOTALL | re.MULTILINE)
 LEMMA = re.compile(r"^( *)(pub )?(?:unfoldable )?([^\s:(){}]+) :(?= |$)(.*(?:\n(?:\1 +.*)?)*)", re.MULTILINE)
 
 
@@ -40,29 +44,30 @@ class Crate:
     def __init__(self, folder):
         self.folder = folder
         self.texts = {path: path.read_text(encoding="utf-8") for path in sorted((folder / "src").rglob("*.rt"))}
-        open_files = [path for path in self.texts if self.is_open(path)]
         self.own = {name for text in self.texts.values() for _, name in OWN.findall(text)}
-        self.public = {name for path in open_files for is_pub, name in OWN.findall(self.texts[path]) if is_pub}
-        for path in open_files:
-            for _, names in USE.findall(self.texts[path]):
-                self.public |= set(re.findall(r"\w+(?=[,}\s]*$|,|\s*})", re.sub(r"\s+", " ", names)))
-                if names.endswith("*"):
-                    stem = re.findall(r"(\w+)::\*", names)[-1]
-                    self.public |= {name for file, text in self.texts.items() if file.stem == stem for _, name in OWN.findall(text)}
+        self.public = set()
+        found, known = [path for path in self.texts if path.name in ("lib.rt", "main.rt")], set()
+        while found:
+            path = found.pop()
+            if path not in known:
+                known.add(path)
+                found += self.named_in(path)
 
-    def is_open(self, path):
-        """Whether each module on the way to a file is public."""
-        way = path.relative_to(self.folder / "src").with_suffix("").parts
-        if way in (("lib",), ("main",)):
-            return True
-        for depth, name in enumerate(way):
-            above = self.folder / "src" / (pathlib.Path(*way[:depth]).with_suffix(".rt") if depth else "lib.rt")
-            if f"pub mod {name};" not in self.texts.get(above, ""):
-                return False
-        return True
+    def named_in(self, path):
+        """Notes what a public module names as public, and tells the public modules below it."""
+        text = self.texts[path]
+        below = path.parent if path.name in ("lib.rt", "main.rt") else path.with_suffix("")
+        self.public |= {name for is_pub, name in OWN.findall(text) if is_pub}
+        found = [below / f"{name}.rt" for name in re.findall(r"^pub mod (\w+);", text, re.MULTILINE)]
+        for way, names in USE.findall(text):
+            modules = pathlib.Path(*re.findall(r"\w+", way))
+            self.public |= set(re.findall(r"\w+", names))
+            found += [below / modules / f"{name}.rt" for name in re.findall(r"\w+", names)]
+            found += [(below / modules).with_suffix(".rt")] if names == "*" else []
+        return [file for file in found if file in self.texts]
 
     def is_public(self, name):
-        """Whether a name is no item of the crate's own."""
+        """Whether a name is no item of the crate's own, or a public one."""
         return name in self.public or name not in self.own
 
 
@@ -89,45 +94,81 @@ def name_of(function):
     return re.search(r"\bfn (\w+)", function)[1]
 
 
-def contracts(crate, text, chosen, quoted):
-    """The public contracts of a text, in order: of a trait, of an impl with the members that callers see, of functions."""
+def parts_of(head):
+    """The trait of an impl, without and with its arguments (each None where there is none), and its type."""
+    bare = re.sub(r"^impl(<.*?>)? (?=\w)", "", head.partition(" where")[0])
+    trait, _, kind = bare.rpartition(" for ")
+    names = [re.sub(r"<.*", "", each).rpartition("::")[2] or None for each in (trait, kind)]
+    return names[0], trait.replace(" ", "") or None, re.findall(r"\w+", names[1])[-1]
 
-    def wanted(*names):
-        quoted.update(names)
-        return not chosen or bool(chosen & set(names))
+
+def contracts(crate, text, chosen, named, met):
+    """The public contracts of a text, in order: of a trait, of an impl with the members that callers see, of functions.
+
+    All, or those chosen. Notes the names of all functions, and which of the chosen ones it has met.
+    """
+
+    def is_chosen(*ways):
+        met.update(chosen & set(ways))
+        return not chosen or bool(chosen & set(ways))
+
+    def wanted(name, kind=None):
+        named.add(name)
+        return is_chosen(name, f"{kind}::{name}")
 
     lines = []
     for item in TOP.findall(without_comments(text)):
         head = " ".join(item.partition(" {")[0].split())
-        plain = re.sub(r"<[^<>]*>", "", re.sub(r"<[^<>]*>", "", re.sub(r"<[^<>]*>", "", head)))
         if item.startswith("pub trait"):
             name = re.search(r"trait (\w+)", item)[1]
-            if crate.is_public(name) and wanted(name):
+            if crate.is_public(name) and is_chosen(name, *re.findall(rf"{name}::\w+", " ".join(chosen))):
                 lines += item.split("\n")[:-1] + ["}"]
         elif item.startswith("pub"):
             if name_of(item) in crate.public and wanted(name_of(item)):
                 lines += FUNCTION.match(item).group().rstrip().split("\n")
-        elif " for " in head:
-            names = re.findall(r"\w+", plain.partition(" where")[0])
-            trait, kind = names[names.index("for") - 1], names[-1]
-            kept = [member for member in MEMBER.findall(item) if "Model" not in head or "ghost Value" in member]
-            kept += [each for each in FUNCTION.findall(item) if "ensures" in each or "requires" in each]
-            if kept and crate.is_public(trait) and crate.is_public(kind) and (not chosen or trait in chosen):
-                lines += [head, *sum(map(indented, kept), [])]
-        elif crate.is_public(re.findall(r"\w+", plain.partition(" where")[0])[-1]):
-            kept = [each for each in FUNCTION.findall(item) if each.lstrip().startswith("pub ")]
-            kept = [each for each in kept if wanted(name_of(each))]
-            lines += [head, *sum(map(indented, kept), [])] if kept else []
+        if not item.startswith("impl"):
+            continue
+        trait, full, kind = parts_of(head)
+        if not crate.is_public(kind) or trait and not crate.is_public(trait):
+            continue
+        functions = FUNCTION.findall(item)
+        if trait:
+            kept = [member for member in MEMBER.findall(item) if trait != "Model" or "ghost Value" in member]
+            kept += [each for each in functions if "ensures" in each or "requires" in each]
+            kept = kept if kept and is_chosen(trait, full, f"{kind}::{trait}", f"{kind}::{full}") else []
+        else:
+            kept = [each for each in functions if each.lstrip().startswith("pub ") and wanted(name_of(each), kind)]
+        lines += [head, *sum(map(indented, kept), [])] if kept else []
     return in_short(lines)
+
+
+def with_methods(text, chosen):
+    """A text in which the impls have the methods that are chosen alone."""
+    text = METHOD.sub(lambda m: m[0] if m[1] in chosen else "", text)
+    return re.sub(r"\n\n(?=\})", "\n", re.sub(r"(?<=\{\n)\n", "", text))
+
+
+def laid_out(statement):
+    """A statement in lines of the width, broken behind arrows that stand in no brackets."""
+    lines, parts, depth = [], [""], 0
+    for word in statement.split(" "):
+        depth += len(re.findall(r"[({]", word)) - len(re.findall(r"[)}]", word))
+        parts[-1] += f" {word}" if parts[-1] else word
+        parts += [""] if word == "→" and not depth else []
+    for part in parts:
+        if lines and len(lines[-1]) + 1 + len(part) <= WIDTH:
+            lines[-1] += " " + part
+        else:
+            lines.append("    " * bool(lines) + part)
+    return lines
 
 
 def lemmas(path, chosen):
     """The statements of lemmas of a file of proofs, as they stand."""
     found = {}
-    for space, is_pub, name, statement in LEMMA.findall(path.read_text(encoding="utf-8")):
-        kept = [f"{name} :{statement}".rstrip()]
-        lines = "\n".join(kept).split("\n")
-        found.setdefault(name, [line.removeprefix(space).rstrip() for line in lines if line.strip()])
+    for _, is_pub, name, statement in LEMMA.findall(path.read_text(encoding="utf-8")):
+        if is_pub:
+            found[name] = laid_out(" ".join(f"{name} : {statement}".split()))
     lost = [name for name in chosen if name not in found]
     return sum((found[name] for name in chosen if name in found), []), lost
 
@@ -137,28 +178,33 @@ def quote(page, what, complaints):
     kind, _, names = what.partition(":")
     chosen = names.split()
     if kind.startswith("file "):
-        text = (CRATES / what.removeprefix("file ")).read_text(encoding="utf-8")
-        return ["```rust", *text.replace("#[cfg(test)]\nmod tests;\n\n", "").rstrip().split("\n"), "```"]
+        file = CRATES / kind.removeprefix("file ")
+        if not file.is_file():
+            complaints.append(f"there is no {kind}")
+            return []
+        text = file.read_text(encoding="utf-8").replace("#[cfg(test)]\nmod tests;\n\n", "")
+        return ["```rust", *(with_methods(text, chosen) if chosen else text).rstrip().split("\n"), "```"]
     if kind.startswith("lemmas "):
         lines, lost = lemmas(page.parent / "proofs" / f"{kind.removeprefix('lemmas ')}.antt", chosen)
         complaints += [f"there is no lemma {name}" for name in lost]
         return ["```text", *lines, "```"]
-    crate, quoted = Crate(page.parent), set()
+    crate, named, met = Crate(page.parent), set(), set()
     lines = ["```text"]
     for file, text in crate.texts.items():
-        found = [] if file.stem == "tests" else contracts(crate, text, set(chosen), quoted)
+        found = [] if file.stem == "tests" else contracts(crate, text, set(chosen), named, met)
         lines += [f"// {file.relative_to(page.parent)}", *found, ""] if found else []
     words = QUOTE.sub("", page.read_text(encoding="utf-8"))
-    for name in sorted(quoted):
-        if chosen and name not in chosen and not re.search(rf"`[^`\n]*\b{name}\b[^`\n]*`", words):
+    for name in sorted(named):
+        if chosen and not {name} & {each.split("::")[-1] for each in chosen} and not re.search(rf"`[^`\n]*\b{name}\b[^`\n]*`", words):
             complaints.append(f"{name} is neither quoted nor named")
-    complaints += [f"there is no public {name}" for name in chosen if not re.search(rf"\b{name}\b", "\n".join(lines))]
+    complaints += [f"there is no public {name}" for name in chosen if name not in met]
     return [*lines[:-1], "```"]
 
 
 def too_wide(text):
-    """The numbers of the lines that have too many columns."""
-    return [f"line {number} is too long" for number, line in enumerate(text.split("\n"), 1) if len(line) > WIDTH]
+    """The numbers of the lines that have too many columns, but for imports that are quoted."""
+    lines = enumerate(text.split("\n"), 1)
+    return [f"line {number} is too long" for number, line in lines if len(line) > WIDTH and "ghost use " not in line]
 
 
 def page_for_callers(page):
@@ -200,7 +246,7 @@ def words_of_contracts():
     for folder in sorted(path.parent for path in CRATES.glob("*/CALLING.md")):
         crate = Crate(folder)
         for path, text in crate.texts.items():
-            lines = "\n".join(contracts(crate, text, set(), set()))
+            lines = "\n".join(contracts(crate, text, set(), set(), set()))
             for names in re.findall(r"ghost use Rattle\.gip\w*\.specs\.(?!contracts|declared)[\w.]+\.\{([^}]*)\}", text):
                 used = [name for name in re.split(r",\s*", names.strip()) if re.search(rf"\b{re.escape(name)}\b", lines)]
                 found |= {name: folder.name for name in used if path.stem != "tests"}
