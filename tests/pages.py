@@ -234,8 +234,8 @@ def readme(page):
     for example in re.findall(r"^```rust\n(.*?)^```", text, re.DOTALL | re.MULTILINE):
         lines = [line for line in example.split("\n") if packed(line) and packed(line) not in tests]
         complaints += [f"no test has the line {line.strip()}" for line in lines]
-    script = (CRATES / "gip/stdin").read_text(encoding="utf-8")
-    if re.sub(r"^(?=.)", "    ", script, flags=re.MULTILINE) not in text:
+    script = ", ".join(f"`{line}`" for line in (CRATES / "gip/stdin").read_text(encoding="utf-8").splitlines())
+    if script not in " ".join(text.split()):
         complaints.append("its script is not the one of crates/gip/stdin")
     return complaints
 
@@ -258,6 +258,7 @@ def definitions(page):
     text = page.read_text(encoding="utf-8")
     files = sorted(CRATES.glob("*/specs/**/*.antt"))
     known = {path.stem for path in files} | {path.name for path in CRATES.iterdir()}
+    known |= {f"{path.parent.name}/{path.stem}" for path in files}
     specs = "\n".join(path.read_text(encoding="utf-8") for path in files)
     heads = re.findall(r"^- (.*?)(?:: |$)", re.sub(r"\n  +", " ", text), re.MULTILINE)
     names = [name for head in heads for name in re.findall(r"`([^`]+)`", head)]
