@@ -1,5 +1,5 @@
 pub mod CallBounds
-pub mod Comparisons
+pub mod ComparerOrders
 pub mod Falling
 pub mod Greatest
 pub mod HoldAlike
@@ -11,6 +11,7 @@ pub mod Pushes
 pub mod Ranks
 pub mod Relations
 mod AtPlaces
+mod BoolsAndLists
 mod Examples
 mod InOrder
 mod Places
