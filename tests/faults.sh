@@ -81,7 +81,19 @@ expect "want of memory" 1 "memory: refused" ""
 for argument in other Bits '' $'\xff'; do
     try "another argument" 2 "usage: gip [bits]" "" "$argument" < "$work/other_form"
 done
-try "an argument more" 2 "usage: gip [bits]" "" bits bits < "$work/other_form"
+for argument in bits ''; do
+    try "an argument more" 2 "usage: gip [bits]" "" bits "$argument" < "$work/other_form"
+done
+try "a beginning of an argument" 2 "usage: gip [bits]" "" bit < "$work/other_form"
+
+# A program that is found by a path that is no text.
+built=$gip
+gip=$work/$'\xff'/gip
+mkdir "$work"/$'\xff' && cp "$built" "$gip"
+try "a path that is no text" 0 "" none <<< pop
+try "a path that is no text, with bits" 0 "" "1 0x1 1" bits <<< 1
+try "a path that is no text, with another argument" 2 "usage: gip [bits]" "" other < "$work/other_form"
+gip=$built
 
 # Ranks that change at once.
 pushes=$(printf 'rank 0 10\nrank 1 8\nrank 2 2\nrank 3 6\npush 0\npush 1\npush 2\npush 3')

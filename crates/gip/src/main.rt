@@ -3,54 +3,43 @@
 #![tactic(auto)]
 
 use gip_lines::watched::Watched;
-use gip_lines::{GipFault, bits, script};
-use std::env;
-use std::env::Env;
-use std::io::ErrorKind;
+use gip_lines::{GipFault, Task};
+use std::env::{Env, FillError};
 use std::process::ExitCode;
 
 // The exit status after the usage line.
 const USAGE: u8 = 2;
 
-// What the program is asked for.
-enum Task {
-    Script,
-    Bits,
-}
+// The argument that asks for bits.
+const BITS: &[u8; 4] = b"bits";
 
 fn main(rt: HostRuntime) -> ExitCode {
-    let task = match asked_for(&rt) {
-        Ok(Some(task)) => task,
-        Ok(None) => {
-            let _ = eprintln!(rt; "usage: gip [bits]");
-            return ExitCode::from(USAGE);
-        }
-        Err(fault) => return stop(&rt, fault),
+    let Some(task) = asked_for(&rt) else {
+        let _ = eprintln!(rt; "usage: gip [bits]");
+        return ExitCode::from(USAGE);
     };
     let mut reader = Watched::new(rt.stdin());
     let mut writer = Watched::new(rt.stdout());
-    let outcome = match task {
-        Task::Script => script(rt.alloc(), &mut reader, &mut writer),
-        Task::Bits => bits(rt.alloc(), &mut reader, &mut writer),
-    };
-    match outcome {
+    match task.run(rt.alloc(), &mut reader, &mut writer) {
         Ok(()) => ExitCode::SUCCESS,
         Err(fault) => stop(&rt, fault),
     }
 }
 
-// What the arguments ask for, if they have a meaning. An argument that is no text has none.
-fn asked_for<R: Env + Alloc>(rt: &R) -> Result<Option<Task>, GipFault> {
-    let mut args = match env::args(rt) {
-        Ok(args) => args.skip(1),
-        Err(e) if e.kind() == ErrorKind::InvalidData => return Ok(None),
-        Err(_) => return Err(GipFault::Memory),
-    };
-    match args.next() {
-        None => Ok(Some(Task::Script)),
-        Some(word) if word.as_str() == "bits" && args.next().is_none() => Ok(Some(Task::Bits)),
-        Some(_) => Ok(None),
+// What the arguments ask for, if they have a meaning. They are bytes, which need not be text. Argument 0, by which the
+// program was found, is not read.
+fn asked_for(env: &impl Env) -> Option<Task> {
+    let mut word = [0; BITS.len()];
+    match env.arg(1, &mut word) {
+        Err(FillError::NotPresent) => Some(Task::Script),
+        Ok(n) if &word[..n] == BITS.as_slice() && is_absent(env, 2) => Some(Task::Bits),
+        _ => None,
     }
+}
+
+// Whether there is no argument with this number.
+fn is_absent(env: &impl Env, number: usize) -> bool {
+    matches!(env.arg(number, &mut []), Err(FillError::NotPresent))
 }
 
 fn stop(rt: &impl Eprint, fault: GipFault) -> ExitCode {
