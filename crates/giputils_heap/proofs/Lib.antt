@@ -16,8 +16,8 @@ mod InOrder
 mod Places
 mod Records
 mod Rearranged
-mod Rising
 mod Runs
-mod Sinking
 mod Steps
 mod Trees
+mod WayDown
+mod WayUp
