@@ -1,7 +1,7 @@
 mod Examples
 mod IndexMaps
 mod LastValues
-mod Runs
+pub mod Runs
 pub mod Renumbering
 pub mod Slots
 pub mod Vectors

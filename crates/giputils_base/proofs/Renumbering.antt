@@ -39,7 +39,8 @@ module _ {T : Type 0} where
       not_not false = refl
 
   -- an unmarked slot counts for those behind it, and a marked one does not
-  pub new_index-more : (slots : List (T × Bool)) (i : ℕ) (slot : T × Bool) → i < length slots → slot ≡ slice_index_or slots i slot → new_index slots (i + 1) ≡ new_index slots i + cond (is_unmarked slot) 1 0
+  pub new_index-more : (slots : List (T × Bool)) (i : ℕ) (slot : T × Bool) → i < length slots
+      → slot ≡ slice_index_or slots i slot → new_index slots (i + 1) ≡ new_index slots i + cond (is_unmarked slot) 1 0
   new_index-more slots i slot below is =
       length-map (filter is_unmarked (take (i + 1) slots)) (λ slot. slot.0)
       ∙ length-filter_more is_unmarked slots i slot below

@@ -38,7 +38,8 @@ module _ {T : Type 0} where
 
   -- the new index of an unmarked slot; a marked one, and one past the end, has none
   abbrev pub index_map : List (T × Bool) → ℕ → Option ℕ
-  index_map slots i = option_and_then (λ is_marked. if is_marked then None else Some (new_index slots i)) (mark_at slots i)
+  index_map slots i =
+      option_and_then (λ is_marked. if is_marked then None else Some (new_index slots i)) (mark_at slots i)
 
   -- the map has the unmarked places as its keys, each with its new index
   abbrev pub IsIndexMap : List (T × Bool) → List (ℕ × ℕ) → Type 0

@@ -15,7 +15,8 @@ module _ {T A : Type 0} where
   IsAnswer slots (IsRemoved i) reply = reply ≡ option_map_or Flag (mark_at slots i) Skipped
   IsAnswer slots (Read i) reply = reply ≡ option_map_or Value (value_at slots i) Skipped
   IsAnswer slots (Write i v) reply = reply ≡ (if nat_lt i (length slots) then Done else Skipped)
-  IsAnswer slots Gc reply = ((indexes : List (ℕ × ℕ)) × (reply ≡ Map indexes) × IsIndexMap slots indexes) ⊎ (reply ≡ Refused)
+  IsAnswer slots Gc reply =
+      ((indexes : List (ℕ × ℕ)) × (reply ≡ Map indexes) × IsIndexMap slots indexes) ⊎ (reply ≡ Refused)
   IsAnswer slots Len reply = reply ≡ Length (length slots)
 
   -- the slots after a call on these that was answered so
@@ -31,5 +32,6 @@ module _ {T A : Type 0} where
   -- the calls, made one after another from the slots `start` on, may be answered so, and then leave the slots `end`
   abbrev pub Answers : List (T × Bool) → List (GallocCall T) → List (GallocReply T A) → List (T × Bool) → Type 0
   Answers start [] [] end = end ≡ start
-  Answers start (call ∷ calls) (reply ∷ replies) end = IsAnswer start call reply × Answers (slots_after start call reply) calls replies end
+  Answers start (call ∷ calls) (reply ∷ replies) end =
+      IsAnswer start call reply × Answers (slots_after start call reply) calls replies end
   Answers start calls replies end = ⊥

@@ -30,7 +30,9 @@ module _ {X : Type 0} where
 
 -- the iterator gives the items of g, in order
 abbrev pub Iterates : {X Z : Type 0} → List X → IntoIter X Z → Type 0
-Iterates {X} {Z} g it = (into_iter_items it ≡ g) × (into_iter_len it ≡ length g) × (into_iter_len it < 2 ^ 64) × EveryRun (into_iter_steps {X = X} {Z = Z}) (λ p. ItemsAre p (into_iter_items p.from))
+Iterates {X} {Z} g it =
+    (into_iter_items it ≡ g) × (into_iter_len it ≡ length g) × (into_iter_len it < 2 ^ 64)
+    × EveryRun (into_iter_steps {X = X} {Z = Z}) (λ p. ItemsAre p (into_iter_items p.from))
 
 -- a call that is lent the state s answers x, and leaves the state s'
 pub record Draws {G X : Type 0} (post : MutBor G → X → MutBor G → Type 0) (s : G) (x : X) (s' : G) : Type 0 where

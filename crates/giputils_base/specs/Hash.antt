@@ -1,5 +1,5 @@
 -- A hashed map as the list of its entries, and a hashed set as the list of its members, each once, in an open order.
-use Rattle.std.specs.Prelude.{◌≡◌, Bool, List, [], ◌∷◌, Option, Some, None, if◌then◌else◌}
+use Rattle.std.specs.Prelude.{◌≡◌, ◌<◌, ◌^◌, Bool, List, [], ◌∷◌, length, Option, Some, None, if◌then◌else◌}
 use Rattle.std.specs.Option.{option_or}
 use Rattle.std.specs.List.{IsDistinct, list_any}
 use Rattle.std.specs.Map.{lookup, keys_of}
@@ -22,6 +22,10 @@ module _ {K V : Type 0} (eq : K → K → Bool) where
   abbrev pub IsMapOf : List (K × V) → List (K × V) → Type 0
   IsMapOf pairs map = ((k : K) → get map k ≡ last_value pairs k) × HasUniqueKeys map
 
+  -- what an iterator has left, `items`, is the map's entries, each key once
+  abbrev pub ListsEntries : List (K × V) → List (K × V) → Type 0
+  ListsEntries map items = (items ≡ map) × (length map < 2 ^ 63) × HasUniqueKeys map
+
 module _ {K : Type 0} (eq : K → K → Bool) where
   -- whether an item is equal to k
   abbrev pub contains : List K → K → Bool
@@ -30,3 +34,7 @@ module _ {K : Type 0} (eq : K → K → Bool) where
   -- the set has the items, each once
   abbrev pub IsSetOf : List K → List K → Type 0
   IsSetOf items set = ((k : K) → contains set k ≡ contains items k) × IsDistinct eq set
+
+  -- what an iterator has left, `items`, is the set's members, each once
+  abbrev pub ListsMembers : List K → List K → Type 0
+  ListsMembers set items = (items ≡ set) × (length set < 2 ^ 63) × IsDistinct eq set

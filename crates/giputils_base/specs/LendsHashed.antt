@@ -17,12 +17,23 @@ use Rattle.giputils_base.specs.contracts.hash.GHashSet as gset
 abbrev pub hash_row : RattleType
 hash_row = default.the_row fold.the_row
 
-module _ (K V A : RattleType) (key : HashMembers K.Denot) (build : builder.Ghosts hash_row.Denot fold.the_row.Denot) (hash : hasher.Ghosts fold.the_row.Denot) (heap : alloc.Ghosts A.Denot) where
+module _ (K V A : RattleType) (key : HashMembers K.Denot)
+    (build : builder.Ghosts hash_row.Denot fold.the_row.Denot) (hash : hasher.Ghosts fold.the_row.Denot)
+    (heap : alloc.Ghosts A.Denot) where
   -- once the borrow r ends, the map has the entries of the last `HashMap` left behind r
   abbrev pub lends_map : MutBor (List (K.Denot × V.Denot)) → MutBor (HashMap K.Denot V.Denot hash_row.Denot) → Fml
-  lends_map g r = Lends (gmap.the_row K V A (record { eq = key.eq }) (record { hash_input = key.hash_input }) heap) (map_row K V hash_row A fold.the_row key build hash heap) g r (λ m. m.entries)
+  lends_map g r = Lends
+      (gmap.the_row K V A (record { eq = key.eq }) (record { hash_input = key.hash_input }) heap)
+      (map_row K V hash_row A fold.the_row key build hash heap)
+      g r (λ m. m.entries)
 
-module _ (T A : RattleType) (key : HashMembers T.Denot) (build : builder.Ghosts hash_row.Denot fold.the_row.Denot) (hash : hasher.Ghosts fold.the_row.Denot) (heap : alloc.Ghosts A.Denot) where
+module _ (T A : RattleType) (key : HashMembers T.Denot)
+    (build : builder.Ghosts hash_row.Denot fold.the_row.Denot) (hash : hasher.Ghosts fold.the_row.Denot)
+    (heap : alloc.Ghosts A.Denot) where
   -- once the borrow r ends, the set has the members of the last `HashSet` left behind r
   abbrev pub lends_set : MutBor (List T.Denot) → MutBor (HashSet T.Denot hash_row.Denot) → Fml
-  lends_set g r = Lends (gset.the_row T A (record { eq = key.eq }) (record { hash_input = key.hash_input }) heap) (std_set.the_row T hash_row A fold.the_row (record { eq = key.eq }) (record { hash_input = key.hash_input }) build hash heap) g r (λ s. s.keys)
+  lends_set g r = Lends
+      (gset.the_row T A (record { eq = key.eq }) (record { hash_input = key.hash_input }) heap)
+      (std_set.the_row T hash_row A fold.the_row (record { eq = key.eq }) (record { hash_input = key.hash_input })
+      build hash heap)
+      g r (λ s. s.keys)

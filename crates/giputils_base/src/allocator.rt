@@ -130,8 +130,10 @@ impl<T, A: Allocator> Gallocator<T, A> {
         self.slots.is_empty()
     }
 
-    /// Puts `value` into a new slot behind the others, unmarked, and answers its index. Where there is no memory the value
-    /// comes back, and nothing changes.
+    /// Puts `value` into a new slot behind the others, unmarked, and answers its index.
+    ///
+    /// # Errors
+    /// The value, where memory is refused. Nothing changes then.
     pub fn alloc(&mut self, value: T) -> Result<usize, T>
         ensures index { IfOk result (λ index. index ≡ length self.old) }
         ensures ok { OnOk result (self.new ≡ self.old ++ (value, false) ∷ []) }
@@ -170,8 +172,11 @@ impl<T, A: Allocator> Gallocator<T, A> {
         self.slots[index].is_removed()
     }
 
-    /// Drops the marked values, and closes the gaps: the others keep their order and are unmarked. Answers the map from the
-    /// old index of each value that is kept to its new one. Where there is no memory for the map, nothing changes.
+    /// Drops the marked values, and closes the gaps: the others keep their order and are unmarked. Answers the map from
+    /// the old index of each value that is kept to its new one.
+    ///
+    /// # Errors
+    /// `AllocError` where memory for the map is refused. Nothing changes then.
     pub fn gc(&mut self) -> Result<GHashMap<usize, usize, A>, AllocError>
     where
         T: Drop,

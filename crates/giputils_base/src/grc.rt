@@ -23,7 +23,10 @@ impl<T, A: Allocator> Model for Grc<T, A> {
 }
 
 impl<T: Drop, A: Allocator> Grc<T, A> {
-    /// The first owner of `value`. Where there is no memory the value is dropped.
+    /// The first owner of `value`.
+    ///
+    /// # Errors
+    /// `AllocError` where memory is refused. The value is then dropped.
     pub fn new(alloc: A, value: T) -> Result<Self, AllocError>
         ensures { IfOk result (λ g. g ≡ value) }
     {
@@ -33,7 +36,10 @@ impl<T: Drop, A: Allocator> Grc<T, A> {
     }
 }
 
-/// Another owner of the same value. It takes no memory, and is refused only where the owners can no longer be counted.
+/// Another owner of the same value. It takes no memory.
+///
+/// # Errors
+/// `AllocError` where there are so many owners that they can no longer be counted.
 impl<T: Drop, A: Allocator> Clone for Grc<T, A> {
     ghost is_clone = { λ g h. h ≡ g };
 

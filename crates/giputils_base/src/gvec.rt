@@ -48,7 +48,10 @@ impl<T, A: Allocator> Gvec<T, A> {
 
     /// `len` items, each an answer of `draw`, which is lent the generator. `draw` may be called on every state of it.
     ///
-    /// All the memory is asked for in one request, before anything is drawn: refused, the generator is as it was.
+    /// All the memory is asked for in one request, before anything is drawn.
+    ///
+    /// # Errors
+    /// `AllocError` where memory is refused. The generator is then as it was.
     pub fn new_rand<R, F: Fn(&mut R) -> T + Drop>(
         alloc: A,
         len: usize,
@@ -70,6 +73,9 @@ impl<T, A: Allocator> Gvec<T, A> {
     }
 
     /// The items of an array, in order.
+    ///
+    /// # Errors
+    /// `AllocError` where memory is refused.
     pub fn from_array<const N: usize>(alloc: A, items: [T; N]) -> Result<Self, AllocError>
     where
         T: Copy,
@@ -102,8 +108,11 @@ impl<T, A: Allocator> Gvec<T, A> {
         let _ = self.items.swap_remove(i);
     }
 
-    /// Appends defaults until there are `size` items, by one request for memory at most. Where there are as many already,
-    /// nothing changes and no memory is asked for. Refused, nothing changes.
+    /// Appends defaults until there are `size` items, by one request for memory at most. Where there are as many
+    /// already, nothing changes and no memory is asked for.
+    ///
+    /// # Errors
+    /// `AllocError` where memory is refused. Nothing changes then.
     pub fn reserve(&mut self, size: usize) -> Result<(), AllocError>
     where
         T: Default + Drop,
@@ -120,6 +129,10 @@ impl<T, A: Allocator> Gvec<T, A> {
     }
 }
 
+/// Clones each item.
+///
+/// # Errors
+/// `AllocError` where memory for the list or for an item is refused.
 impl<T: Clone, A: Allocator + Clone> Clone for Gvec<T, A> {
     ghost is_clone = { AllZip T.is_clone };
 
@@ -222,8 +235,13 @@ impl<T: Drop, A: Allocator> IntoIterator for Gvec<T, A> {
     }
 }
 
-/// The items that the iterator gives, in order. Where the iterator is at hand write `iterator.collect(alloc)`: a proof then
-/// knows the list at once, and after `Gvec::from_iter` only that some run of the iterator gave it.
+/// The items that the iterator gives, in order.
+///
+/// Where the iterator is at hand write `iterator.collect(alloc)`: a proof then knows the list at once, and after
+/// `Gvec::from_iter` only that some run of the iterator gave it.
+///
+/// # Errors
+/// `AllocError` where memory is refused. Nothing is left of the items.
 impl<T: Drop, A: Allocator> FromIterator<T> for Gvec<T, A> {
     type Alloc = A;
 

@@ -1,9 +1,9 @@
 //! A hashed set and a hashed map, whose hasher has a fixed seed.
-ghost use Rattle.std.specs.Prelude.{◌≡◌, ◌<◌, ◌^◌, [], length};
-ghost use Rattle.std.specs.List.{AllZip, IsDistinct};
+ghost use Rattle.std.specs.Prelude.{◌≡◌, []};
+ghost use Rattle.std.specs.List.{AllZip};
 ghost use Rattle.std.specs.Map.Iter.{GivesInOrder};
 ghost use Rattle.std.specs.Borrow.{sem};
-ghost use Rattle.giputils_base.specs.Hash.{IsMapOf, IsSetOf, HasUniqueKeys};
+ghost use Rattle.giputils_base.specs.Hash.{IsMapOf, IsSetOf, ListsMembers, ListsEntries};
 
 #[cfg(test)]
 mod tests;
@@ -45,8 +45,13 @@ impl<T: Eq + Hash, A: Allocator> GHashSet<T, A> {
     }
 }
 
-/// The items that the iterator gives, each once. Where the iterator is at hand write `iterator.collect(alloc)`: a proof then
-/// knows the items at once, and after `GHashSet::from_iter` only that some run of the iterator gave them.
+/// The items that the iterator gives, each once.
+///
+/// Where the iterator is at hand write `iterator.collect(alloc)`: a proof then knows the items at once, and after
+/// `GHashSet::from_iter` only that some run of the iterator gave them.
+///
+/// # Errors
+/// `AllocError` where memory is refused. Nothing is left of the items.
 impl<T: Eq + Hash + Drop, A: Allocator + Clone> FromIterator<T> for GHashSet<T, A> {
     type Alloc = A;
 
@@ -60,6 +65,9 @@ impl<T: Eq + Hash + Drop, A: Allocator + Clone> FromIterator<T> for GHashSet<T, 
 }
 
 /// Clones each member.
+///
+/// # Errors
+/// `AllocError` where memory for the set or for a member is refused.
 impl<T: Eq + Hash + Clone, A: Allocator + Clone> Clone for GHashSet<T, A> {
     ghost is_clone = { AllZip T.is_clone };
 
@@ -76,7 +84,7 @@ impl<T: Eq + Hash + Drop, A: Allocator> IntoIterator for GHashSet<T, A> {
 
     type IntoIter = hash_set::IntoIter<T, A>;
 
-    ghost into_iter_gives = { λ g it. (it ≡ g) × (length g < 2 ^ 63) × GivesInOrder T × IsDistinct T.eq g };
+    ghost into_iter_gives = { λ g it. ListsMembers T.eq g it × GivesInOrder T };
 
     #[inline]
     fn into_iter(self) -> hash_set::IntoIter<T, A> {
@@ -90,7 +98,6 @@ impl<T: Eq + Hash, A: Allocator> Deref for GHashSet<T, A> {
     ghost deref_gives = { λ g s. s.keys ≡ g };
 
     #[inline]
-    #[inline]
     fn deref(&self) -> &Set<T, A> {
         &self.set
     }
@@ -103,7 +110,9 @@ impl<T: Eq + Hash, A: Allocator> DerefMut for GHashSet<T, A> {
 
     #[inline]
     fn deref_mut(&mut self) -> &mut Set<T, A>
-        ensures* writes_back { sem 𝓛 (lends_set T.row A.row T.Hash ⟦<BuildHasherDefault<FoldHasher> as BuildHasher>⟧ ⟦<FoldHasher as Hasher>⟧ A.Allocator self.entry result) }
+        ensures* writes_back { sem 𝓛 (lends_set T.row A.row T.Hash
+            ⟦<BuildHasherDefault<FoldHasher> as BuildHasher>⟧ ⟦<FoldHasher as Hasher>⟧
+            A.Allocator self.entry result) }
         ensures value { result.now.keys ≡ self.old }
     {
         &mut self.set
@@ -143,9 +152,13 @@ impl<K: Eq + Hash, V, A: Allocator> GHashMap<K, V, A> {
     }
 }
 
-/// The pairs that the iterator gives. Of pairs with equal keys the last value stands. Where the iterator is at hand write
-/// `iterator.collect(alloc)`: a proof then knows the pairs at once, and after `GHashMap::from_iter` only that some run of the
-/// iterator gave them.
+/// The pairs that the iterator gives. Of pairs with equal keys the last value stands.
+///
+/// Where the iterator is at hand write `iterator.collect(alloc)`: a proof then knows the pairs at once, and after
+/// `GHashMap::from_iter` only that some run of the iterator gave them.
+///
+/// # Errors
+/// `AllocError` where memory is refused. Nothing is left of the pairs.
 impl<K: Eq + Hash + Drop, V: Drop, A: Allocator + Clone> FromIterator<(K, V)>
     for GHashMap<K, V, A> {
     type Alloc = A;
@@ -160,6 +173,9 @@ impl<K: Eq + Hash + Drop, V: Drop, A: Allocator + Clone> FromIterator<(K, V)>
 }
 
 /// Clones each key and each value.
+///
+/// # Errors
+/// `AllocError` where memory for the map, a key or a value is refused.
 impl<K: Eq + Hash + Clone, V: Clone, A: Allocator + Clone> Clone for GHashMap<K, V, A> {
     ghost is_clone = { AllZip (λ e f. K.is_clone e.0 f.0 × V.is_clone e.1 f.1) };
 
@@ -176,7 +192,7 @@ impl<K: Eq + Hash + Drop, V: Drop, A: Allocator> IntoIterator for GHashMap<K, V,
 
     type IntoIter = hash_map::IntoIter<K, V, A>;
 
-    ghost into_iter_gives = { λ g it. (it ≡ g) × (length g < 2 ^ 63) × GivesInOrder (K × V) × HasUniqueKeys K.eq g };
+    ghost into_iter_gives = { λ g it. ListsEntries K.eq g it × GivesInOrder (K × V) };
 
     #[inline]
     fn into_iter(self) -> hash_map::IntoIter<K, V, A> {
@@ -190,7 +206,6 @@ impl<K: Eq + Hash, V, A: Allocator> Deref for GHashMap<K, V, A> {
     ghost deref_gives = { λ g m. m.entries ≡ g };
 
     #[inline]
-    #[inline]
     fn deref(&self) -> &Map<K, V, A> {
         &self.map
     }
@@ -203,7 +218,9 @@ impl<K: Eq + Hash, V, A: Allocator> DerefMut for GHashMap<K, V, A> {
 
     #[inline]
     fn deref_mut(&mut self) -> &mut Map<K, V, A>
-        ensures* writes_back { sem 𝓛 (lends_map K.row V.row A.row K.Hash ⟦<BuildHasherDefault<FoldHasher> as BuildHasher>⟧ ⟦<FoldHasher as Hasher>⟧ A.Allocator self.entry result) }
+        ensures* writes_back { sem 𝓛 (lends_map K.row V.row A.row K.Hash
+            ⟦<BuildHasherDefault<FoldHasher> as BuildHasher>⟧ ⟦<FoldHasher as Hasher>⟧
+            A.Allocator self.entry result) }
         ensures value { result.now.entries ≡ self.old }
     {
         &mut self.map

@@ -96,8 +96,11 @@ module _ (Z : Al) {M : Type 1} {𝓤 : Ura M} (𝓛 : Logic 𝓤) (at_mem : Memo
 
     pub admits_gives : (n : ℕ) (v : Val) → ent 𝓤 (Admits.post (at_admits n) v) (H.⇛ (ex 𝓤 (Found v)))
     admits_gives n v = qed 𝓛 (raw (Admits.post (at_admits n) v) ∷ []) ∵ updating ! $
-        use1 𝓛 (later (some (λ (o : Option (Bor Z.row.Denot)). (raw Tokens ⊛ ‵ ((Shown Z κ).own_val o (v ∷ []))) ⊛ some (λ (ws : Unit {0} × (Unit {0} × Unit {0})). ‵ (fsep ftrue (fsep ftrue ftrue)) ⊛ given (Admitted o) (‵ ftrue))))) (id⊢ 𝓤 _) $ await ! tt $ pick ! (λ o.
-        split ! $ split ! $ move ! (1 ∷ []) $ use1 𝓛 (given (v ≡ shown_val o) (‵ (seen_if Z κ o))) (opened o v) $ learn ! (λ e. move ! (2 ∷ []) $ pick ! (λ ws. split ! $ move ! (1 ∷ []) $ learn ! (λ k.
+        use1 𝓛 (later (some (λ (o : Option (Bor Z.row.Denot)). (raw Tokens ⊛ ‵ ((Shown Z κ).own_val o (v ∷ [])))
+        ⊛ some (λ (ws : Unit {0} × (Unit {0} × Unit {0})). ‵ (fsep ftrue (fsep ftrue ftrue))
+        ⊛ given (Admitted o) (‵ ftrue))))) (id⊢ 𝓤 _) $ await ! tt $ pick ! (λ o.
+        split ! $ split ! $ move ! (1 ∷ []) $ use1 𝓛 (given (v ≡ shown_val o) (‵ (seen_if Z κ o))) (opened o v) $
+        learn ! (λ e. move ! (2 ∷ []) $ pick ! (λ ws. split ! $ move ! (1 ∷ []) $ learn ! (λ k.
         at_once ! $ show ! (Found v) o $ check ! (e, k) $ keep ! (2 ∷ 3 ∷ []) $ done !))))
 
     abbrev pub at_inner : Inner.Ghost
@@ -113,6 +116,9 @@ module _ (Z : Al) {M : Type 1} {𝓤 : Ura M} (𝓛 : Logic 𝓤) (at_mem : Memo
 
     pub inner_gives : (v : Val) → ent 𝓤 (Inner.post at_inner v) (H.⇛ (ex 𝓤 (Given v)))
     inner_gives v = qed 𝓛 (raw (Inner.post at_inner v) ∷ []) ∵ updating ! $
-        use1 𝓛 (later (some (λ (b : Bor Z.row.Denot). (raw Tokens ⊛ ‵ ((ShrRef (named 0) κ (param 0 Z.row)).own_val b (v ∷ []))) ⊛ some (λ (ws : Unit {0} × Unit {0}). ‵ (fsep ftrue ftrue) ⊛ given (b.now ≡ allocator_of r.now) (‵ ftrue))))) (id⊢ 𝓤 _) $ await ! tt $ pick ! (λ b.
+        use1 𝓛 (later (some (λ (b : Bor Z.row.Denot).
+        (raw Tokens ⊛ ‵ ((ShrRef (named 0) κ (param 0 Z.row)).own_val b (v ∷ [])))
+        ⊛ some (λ (ws : Unit {0} × Unit {0}). ‵ (fsep ftrue ftrue)
+        ⊛ given (b.now ≡ allocator_of r.now) (‵ ftrue))))) (id⊢ 𝓤 _) $ await ! tt $ pick ! (λ b.
         split ! $ split ! $ move ! (1 ∷ []) $ fsplit ! $ feq_l ! (λ e. move ! (2 ∷ []) $ pick ! (λ ws. split ! $ move ! (1 ∷ []) $ learn ! (λ k.
         at_once ! $ show ! (Given v) b $ check ! (ap only e, k) $ keep ! (2 ∷ 3 ∷ []) $ done !))))

@@ -1,7 +1,7 @@
 //! Runs of one piece of work, each of which is refused memory a little later than the one before.
-ghost use Rattle.std.specs.Prelude.{◌+◌, IfOk, IfErr, true};
+ghost use Rattle.std.specs.Prelude.{◌≡◌, IfOk, IfErr};
 ghost use Rattle.std.specs.Fn.{FnReturnsAt};
-ghost use Rattle.giputils_refusing.specs.InTurn.{IsRun, AreRefused, IsFault};
+ghost use Rattle.giputils_refusing.specs.InTurn.{at_request, IsRun, AreRefused, IsServed, IsFault};
 
 use crate::{Refused, Refusing};
 use std::alloc::Allocator;
@@ -35,19 +35,10 @@ pub fn refuse_each<B: Allocator + Copy, F: Fn(&Refusing<B>) -> bool>(
 ) -> Result<u64, TurnFault>
     requires { F.IsAlwaysCallable run }
     ensures refused { IfOk result (AreRefused (FnReturnsAt F.Fn run) inner Refused.Nth) }
-    ensures served { IfOk result (λ count. IsRun (FnReturnsAt F.Fn run) inner (Refused.Nth (count + 1)) true) }
+    ensures served { IfOk result (IsServed (FnReturnsAt F.Fn run) inner Refused.Nth) }
     ensures err { IfErr result (IsFault (FnReturnsAt F.Fn run) inner Refused.Nth) }
 {
-    for n in 0..MOST_RUNS {
-        let (served, requests) = make_run(inner, Refused::Nth(n + 1), &run);
-        match (served, requests > n) {
-            (true, false) => return Ok(n),
-            (true, true) => return Err(TurnFault::Hidden(n + 1)),
-            (false, false) => return Err(TurnFault::Unrefused(n + 1)),
-            (false, true) => {}
-        }
-    }
-    Err(TurnFault::Endless)
+    refuse_in_turn(inner, run, false)
 }
 
 /// The same, with each later request refused as well.
@@ -62,11 +53,25 @@ pub fn refuse_from_each<B: Allocator + Copy, F: Fn(&Refusing<B>) -> bool>(
 ) -> Result<u64, TurnFault>
     requires { F.IsAlwaysCallable run }
     ensures refused { IfOk result (AreRefused (FnReturnsAt F.Fn run) inner Refused.From) }
-    ensures served { IfOk result (λ count. IsRun (FnReturnsAt F.Fn run) inner (Refused.From (count + 1)) true) }
+    ensures served { IfOk result (IsServed (FnReturnsAt F.Fn run) inner Refused.From) }
     ensures err { IfErr result (IsFault (FnReturnsAt F.Fn run) inner Refused.From) }
 {
+    refuse_in_turn(inner, run, true)
+}
+
+// Makes runs, each refused memory at the next request, and with `later` at the requests after it as well.
+fn refuse_in_turn<B: Allocator + Copy, F: Fn(&Refusing<B>) -> bool>(
+    inner: B,
+    run: F,
+    later: bool,
+) -> Result<u64, TurnFault>
+    requires { F.IsAlwaysCallable run }
+    ensures refused { IfOk result (AreRefused (FnReturnsAt F.Fn run) inner (at_request later)) }
+    ensures served { IfOk result (IsServed (FnReturnsAt F.Fn run) inner (at_request later)) }
+    ensures err { IfErr result (IsFault (FnReturnsAt F.Fn run) inner (at_request later)) }
+{
     for n in 0..MOST_RUNS {
-        let (served, requests) = make_run(inner, Refused::From(n + 1), &run);
+        let (served, requests) = make_run(inner, at_request(n + 1, later), &run);
         match (served, requests > n) {
             (true, false) => return Ok(n),
             (true, true) => return Err(TurnFault::Hidden(n + 1)),
@@ -75,6 +80,17 @@ pub fn refuse_from_each<B: Allocator + Copy, F: Fn(&Refusing<B>) -> bool>(
         }
     }
     Err(TurnFault::Endless)
+}
+
+// The request of this number is refused, and with `later` each one after it.
+fn at_request(n: u64, later: bool) -> Refused
+    ensures { result ≡ at_request later n }
+{
+    if later {
+        Refused::From(n)
+    } else {
+        Refused::Nth(n)
+    }
 }
 
 // Makes one run over `inner` with these requests refused. Tells whether it was served, and how many requests it made.

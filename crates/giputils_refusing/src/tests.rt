@@ -1,3 +1,5 @@
+//! What is refused, counted and passed on, and runs that are refused in turn.
+
 use super::*;
 use linked_list_allocator::LocalHeap;
 use std::collections::HashMap;

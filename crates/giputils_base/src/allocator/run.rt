@@ -49,7 +49,10 @@ pub enum GallocReply<T, A: Allocator = Global> {
 
 /// Makes the calls in order, from no values on, and answers what they leave, and one reply for each.
 ///
-/// The memory for the list of replies is asked for first. Where that is refused no call was made.
+/// The memory for the list of replies is asked for first.
+///
+/// # Errors
+/// `AllocError` where memory for the list of replies is refused. No call was made then.
 pub fn galloc_run<T: Copy, A: Allocator + Copy>(
     alloc: A,
     calls: &[GallocCall<T>],

@@ -1,4 +1,4 @@
-// What callers learn through the clauses, and the calls once each.
+//! What callers learn through the clauses, and the calls once each.
 ghost use Rattle.std.specs.Prelude.{◌≡◌, IfOk};
 
 use super::Grc;

@@ -1,4 +1,4 @@
-// What callers learn through the clauses, and the calls once each.
+//! What callers learn through the clauses, and the calls once each.
 ghost use Rattle.std.specs.Prelude.{◌≡◌, ◌+◌, ◌<◌, ◌++◌, ◌∷◌, [], length, slice_index_or, slice_set, sum, OnOk, OnErr, IfOk, ◌↔◌, IsTrue, Contains};
 
 use super::Gvec;

@@ -1,4 +1,4 @@
-// What callers learn through the clauses, and the calls once each.
+//! What callers learn through the clauses, and the calls once each.
 ghost use Rattle.std.specs.Prelude.{◌≡◌, Some, None, nat_eq, true, false, is_some, IfOk, OnOk, OnErr};
 ghost use Rattle.giputils_base.specs.Hash.{get, contains};
 

@@ -1,4 +1,4 @@
-// What callers learn through the clauses, and the calls once each.
+//! What callers learn through the clauses, and the calls once each.
 ghost use Rattle.std.specs.Prelude.{◌≡◌, ◌<◌, Some, None};
 ghost use Rattle.giputils_base.specs.Others.{option_u8, option_u32, option_of};
 

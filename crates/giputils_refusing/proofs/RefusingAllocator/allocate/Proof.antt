@@ -84,7 +84,9 @@ module _ (Z : Al) {M : Type 1} {𝓤 : Ura M} (𝓛 : Logic 𝓤) (at_mem : Memo
     abbrev Post : Val → SProp 𝓤
     Post = (walk_of 𝓛 (ended Z) (stayed Z) held).post bound
 
-    exits : (v : Val) (res : Answer.Denot) → ent 𝓤 (⋆ 𝓛 (‵ (Answer.own_val res (v ∷ [])) ∷ ‵ (block_if_ok (token Z (allocator_of r.now)) τ res) ∷ ‵ (flft κ q) ∷ (‵ (flft ρ s) ⊛ ‵ ftrue) ∷ [])) (Post v)
+    exits : (v : Val) (res : Answer.Denot) → ent 𝓤
+        (⋆ 𝓛 (‵ (Answer.own_val res (v ∷ [])) ∷ ‵ (block_if_ok (token Z (allocator_of r.now)) τ res) ∷ ‵ (flft κ q) ∷
+        (‵ (flft ρ s) ⊛ ‵ ftrue) ∷ [])) (Post v)
     exits v res = qed 𝓛 (‵ (Answer.own_val res (v ∷ [])) ∷ ‵ (block_if_ok (token Z (allocator_of r.now)) τ res) ∷ ‵ (flft κ q) ∷ (‵ (flft ρ s) ⊛ ‵ ftrue) ∷ []) ∵
         suffices ! _ (ends_at 𝓛 (ended Z) (stayed Z) held bound v res (tt, (tt, (tt, tt))) (tt, (tt, (tt, tt)))) $
         nothing ! $ nothing ! $ fjoin ! $ nothing ! $ fjoin ! $ nothing ! $ fjoin ! $ join ! $ move ! (2 ∷ 3 ∷ []) $ join ! $ join ! $ done !
@@ -118,11 +120,19 @@ module _ (Z : Al) {M : Type 1} {𝓤 : Ura M} (𝓛 : Logic 𝓤) (at_mem : Memo
           answers Z ! at_mem run g.now τ v
           (λ b o e. rewrite ! 1 (λ (z : Z.row.Denot). ‵ (token Z z τ (block_ptr b o))) k.1 refl $ fjoin ! $
           lands_last ! refl (subst (λ (z : Val). T (has_ty (layout Answer) z) × WT z) (sym e) (Answer-typed true b o)) $
-          exec ! 𝓣.C 𝓣.Λ En (after 2 (here Z).body) (at_ret En Post) $ sets ! (of_opd ! (get ! refl)) refl (subst (λ (z : Val). T (has_ty (layout Answer) z) × WT z) (sym e) (Answer-typed true b o)) $ returns ! (look_at ! 0 refl) $ free_all ! refl $
-          use0 𝓛 (‵ (Answer.own_val (Ok (block_ptr b o)) (answer_val true b o ∷ []))) (Answer-Ok 𝓛 b o) $ rewrite ! 0 (λ (z : Val). ‵ (Answer.own_val (Ok (block_ptr b o)) (z ∷ []))) (sym e) refl $ by ! (exits v (Ok (block_ptr b o))))
+          exec ! 𝓣.C 𝓣.Λ En (after 2 (here Z).body) (at_ret En Post) $
+          sets ! (of_opd ! (get ! refl)) refl (subst (λ (z : Val). T (has_ty (layout Answer) z) × WT z) (sym e)
+          (Answer-typed true b o)) $ returns ! (look_at ! 0 refl) $ free_all ! refl $
+          use0 𝓛 (‵ (Answer.own_val (Ok (block_ptr b o)) (answer_val true b o ∷ []))) (Answer-Ok 𝓛 b o) $
+          rewrite ! 0 (λ (z : Val). ‵ (Answer.own_val (Ok (block_ptr b o)) (z ∷ []))) (sym e) refl $
+          by ! (exits v (Ok (block_ptr b o))))
           (λ e. nothing ! $ lands_last ! refl (subst (λ (z : Val). T (has_ty (layout Answer) z) × WT z) (sym e) (Answer-typed false 0 0)) $
-          exec ! 𝓣.C 𝓣.Λ En (after 2 (here Z).body) (at_ret En Post) $ sets ! (of_opd ! (get ! refl)) refl (subst (λ (z : Val). T (has_ty (layout Answer) z) × WT z) (sym e) (Answer-typed false 0 0)) $ returns ! (look_at ! 0 refl) $ free_all ! refl $
-          use0 𝓛 (‵ (Answer.own_val (Err (record {})) (answer_val false 0 0 ∷ []))) (Answer-err 𝓛) $ rewrite ! 0 (λ (z : Val). ‵ (Answer.own_val (Err (record {})) (z ∷ []))) (sym e) refl $ by ! (exits v (Err (record {}))))))
+          exec ! 𝓣.C 𝓣.Λ En (after 2 (here Z).body) (at_ret En Post) $
+          sets ! (of_opd ! (get ! refl)) refl (subst (λ (z : Val). T (has_ty (layout Answer) z) × WT z) (sym e)
+          (Answer-typed false 0 0)) $ returns ! (look_at ! 0 refl) $ free_all ! refl $
+          use0 𝓛 (‵ (Answer.own_val (Err (record {})) (answer_val false 0 0 ∷ []))) (Answer-err 𝓛) $
+          rewrite ! 0 (λ (z : Val). ‵ (Answer.own_val (Err (record {})) (z ∷ []))) (sym e) refl $
+          by ! (exits v (Err (record {}))))))
 
     walk : n < 2 ^ 64 → a < 2 ^ 64 → ent 𝓤 ((walk_of 𝓛 (ended Z) (stayed Z) held).pre bound) (WpFn 𝓤 H 𝓣.C 𝓣.Λ (here Z) vs Post)
     walk fn fa =
@@ -131,7 +141,10 @@ module _ (Z : Al) {M : Type 1} {𝓤 : Ura M} (𝓛 : Logic 𝓤) (at_mem : Memo
         enter ! 𝓣.C 𝓣.Λ (here Z) vs _ $ alloc_all ! (λ l. pass_all ! refl ((tt, tt), ((tt, record { fits = fn }), ((tt, record { fits = fa }), tt))) $
         use2 𝓛 (raw ((Admits Z 𝓛 at_mem run).pre (at_admits Z 𝓛 at_mem run κ ρ q s out r n))) (admits_goes Z 𝓛 at_mem run κ ρ q s out r n fn le) $
         calls_at ! (fm_of 𝓤 H 𝓛.laws 𝓣) (Admits Z 𝓛 at_mem run) admits (at_admits Z 𝓛 at_mem run κ ρ q s out r n) (and_then ! (get ! refl) (and_then ! (get ! refl) (no_more !))) (λ u.
-        use1 𝓛 (later (some (λ (f : Option (Bor Z.row.Denot)). given ((u ≡ shown_val f) × Admitted Z 𝓛 at_mem run κ ρ q s out r f) (‵ (seen_if Z κ f) ⊛ ‵ (flft κ q) ⊛ ‵ (flft ρ s) ⊛ ‵ ftrue)))) (admits_gives Z 𝓛 at_mem run κ ρ q s out r n u) $ await ! tt $ pick ! (λ f.
+        use1 𝓛 (later (some (λ (f : Option (Bor Z.row.Denot)). given
+        ((u ≡ shown_val f) × Admitted Z 𝓛 at_mem run κ ρ q s out r f)
+        (‵ (seen_if Z κ f) ⊛ ‵ (flft κ q) ⊛ ‵ (flft ρ s) ⊛ ‵ ftrue))))
+        (admits_gives Z 𝓛 at_mem run κ ρ q s out r n u) $ await ! tt $ pick ! (λ f.
         shown fn fa le said l u f)))))
 
 pub allocate_spec : {M : Type 1} → stated.statement M
@@ -142,6 +155,14 @@ allocate_spec 𝓤 𝓛 𝓜 𝓡 wired Y L g d d' met _ =
     let 𝓣 : Tables 𝓤 𝓛.H = tables_of 𝓤 𝓛.H 𝓜 (tables 𝓤 𝓛.H 𝓜 𝓡 𝓡.env) in
     let c = F.clauses Y g d d' 𝓛 𝓜.mem 𝓡.returns in
     entered 𝓤 𝓛.H (triple_of 𝓛 (F.signature Y) (F.spec Y g d d' 𝓛 𝓜.mem 𝓡.returns)) 𝓣.C 𝓣.Λ (key.name (args Z)) (here Z) (code.unfolded 𝓤 𝓛.H 𝓜 𝓡 wired (Y, tt) d d')
-    (walk_Meets 𝓛 (ended Z) (stayed Z) (Goes-dropped 𝓛 2 (self Z) yes (λ κs x f. refl), (Goes-dropped 𝓛 2 (plain (λ _. usize)) yes (λ κs x f. refl), (Goes-dropped 𝓛 2 (plain (λ _. usize)) yes (λ κs x f. refl), tt))) c (WpFn 𝓤 𝓛.H 𝓣.C 𝓣.Λ (here Z)) (WpFn-mono 𝓤 𝓛.H 𝓛.laws 𝓣 (here Z))
+    (walk_Meets 𝓛 (ended Z) (stayed Z) (
+      Goes-dropped 𝓛 2 (self Z) yes (λ κs x f. refl),
+      (
+        Goes-dropped 𝓛 2 (plain (λ _. usize)) yes (λ κs x f. refl),
+        (Goes-dropped 𝓛 2 (plain (λ _. usize)) yes (λ κs x f. refl), tt),
+      ),
+    ) c (WpFn 𝓤 𝓛.H 𝓣.C 𝓣.Λ (here Z))
+    (WpFn-mono 𝓤 𝓛.H 𝓛.laws 𝓣 (here Z))
     (walked 𝓛 (ended Z) (stayed Z) c (WpFn 𝓤 𝓛.H 𝓣.C 𝓣.Λ (here Z)) (λ κs. (shr_vals, (uint_vals w64, (uint_vals w64, tt)))) (λ κs. ((λ r vs s. s.0), (uint_Tells w64, (uint_Tells w64, tt))))
-    (λ κs qs bounds a τ are. walk Z 𝓛 𝓜.mem 𝓡.returns 𝓣 (met.allocate d') (admits_met.met 𝓤 𝓛 𝓜 𝓡 (code.calls-giputils_refusing::Refusing::admits 𝓡.env wired) Y L) κs.0 κs.1.0 qs.0 qs.1.0 bounds.0 a.0 a.1.0 a.1.1.0 τ are.1.0.1 are.1.1.0.1)))
+    (λ κs qs bounds a τ are. walk Z 𝓛 𝓜.mem 𝓡.returns 𝓣 (met.allocate d')
+    (admits_met.met 𝓤 𝓛 𝓜 𝓡 (code.calls-giputils_refusing::Refusing::admits 𝓡.env wired) Y L) κs.0 κs.1.0 qs.0 qs.1.0 bounds.0 a.0 a.1.0 a.1.1.0 τ are.1.0.1 are.1.1.0.1)))

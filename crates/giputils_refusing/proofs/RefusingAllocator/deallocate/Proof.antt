@@ -96,7 +96,10 @@ module _ (Z : Al) {M : Type 1} {𝓤 : Ura M} (𝓛 : Logic 𝓤) (at_mem : Memo
         first ! $ blocks ! $
         use2 𝓛 (raw ((Inner Z 𝓛 at_mem run).pre (at_inner Z 𝓛 at_mem run κ ρ q s out r))) (inner_goes Z 𝓛 at_mem run κ ρ q s out r le) $
         calls_at ! (fm_of 𝓤 H 𝓛.laws 𝓣) (Inner Z 𝓛 at_mem run) shows (at_inner Z 𝓛 at_mem run κ ρ q s out r) (and_then ! (get ! refl) (no_more !)) (λ u.
-        use1 𝓛 (later (some (λ (g : Bor Z.row.Denot). given ((u ≡ vptr g.ref_ptr.0 g.ref_ptr.1) × (g.now ≡ allocator_of r.now)) (‵ (seen Z κ g.ref_ptr g.now) ⊛ ‵ (flft κ q) ⊛ ‵ (flft ρ s) ⊛ ‵ ftrue)))) (inner_gives Z 𝓛 at_mem run κ ρ q s out r u) $ await ! tt $ pick ! (λ g. learn ! (λ k.
+        use1 𝓛 (later (some (λ (g : Bor Z.row.Denot). given
+        ((u ≡ vptr g.ref_ptr.0 g.ref_ptr.1) × (g.now ≡ allocator_of r.now))
+        (‵ (seen Z κ g.ref_ptr g.now) ⊛ ‵ (flft κ q) ⊛ ‵ (flft ρ s) ⊛ ‵ ftrue))))
+        (inner_gives Z 𝓛 at_mem run κ ρ q s out r u) $ await ! tt $ pick ! (λ g. learn ! (λ k.
         let y : (Gives Z 𝓛 at_mem run).Ghost = at_gives Z 𝓛 at_mem run κ q g.ref_ptr g.now b o n a τ in
         split3 ! $ lands_as ! k.0 refl (tt, tt) $
         join ! $ move ! (2 ∷ []) $ fsplit ! $ rewrite ! 1 (λ (z : Z.row.Denot). ‵ (token Z z τ x)) (sym k.1) refl $ move ! (1 ∷ 2 ∷ []) $ join ! $ move ! (1 ∷ 0 ∷ []) $ join ! $
@@ -117,6 +120,19 @@ deallocate_spec 𝓤 𝓛 𝓜 𝓡 wired Y L g d d' met _ =
     let 𝓣 : Tables 𝓤 𝓛.H = tables_of 𝓤 𝓛.H 𝓜 (tables 𝓤 𝓛.H 𝓜 𝓡 𝓡.env) in
     let c = F.clauses Y g d d' 𝓛 𝓜.mem 𝓡.returns in
     entered 𝓤 𝓛.H (triple_of 𝓛 (F.signature Y) (F.spec Y g d d' 𝓛 𝓜.mem 𝓡.returns)) 𝓣.C 𝓣.Λ (key.name (args Z)) (here Z) (code.unfolded 𝓤 𝓛.H 𝓜 𝓡 wired (Y, tt) d d')
-    (walk_Meets 𝓛 (ended Z) (stayed Z) (Goes-dropped 𝓛 2 (self Z) yes (λ κs x f. refl), (Goes-dropped 𝓛 2 (plain (λ _. RawPtr)) yes (λ κs x f. refl), (Goes-dropped 𝓛 2 (plain (λ _. usize)) yes (λ κs x f. refl), (Goes-dropped 𝓛 2 (plain (λ _. usize)) yes (λ κs x f. refl), tt)))) c (WpFn 𝓤 𝓛.H 𝓣.C 𝓣.Λ (here Z)) (WpFn-mono 𝓤 𝓛.H 𝓛.laws 𝓣 (here Z))
-    (walked 𝓛 (ended Z) (stayed Z) c (WpFn 𝓤 𝓛.H 𝓣.C 𝓣.Λ (here Z)) (λ κs. (shr_vals, (rawptr_vals, (uint_vals w64, (uint_vals w64, tt))))) (λ κs. ((λ r vs s. s.0), (rawptr_Tells, (uint_Tells w64, (uint_Tells w64, tt)))))
-    (λ κs qs bounds a τ are. walk Z 𝓛 𝓜.mem 𝓡.returns 𝓣 (met.deallocate d') (inner_met.met 𝓤 𝓛 𝓜 𝓡 (code.calls-giputils_refusing::Refusing::inner 𝓡.env wired) Y L) κs.0 κs.1.0 qs.0 qs.1.0 bounds.0 a.0 a.1.1.0 a.1.1.1.0 τ are.1.1.0.1 are.1.1.1.0.1 a.1.0)))
+    (walk_Meets 𝓛 (ended Z) (stayed Z) (
+      Goes-dropped 𝓛 2 (self Z) yes (λ κs x f. refl),
+      (
+        Goes-dropped 𝓛 2 (plain (λ _. RawPtr)) yes (λ κs x f. refl),
+        (
+          Goes-dropped 𝓛 2 (plain (λ _. usize)) yes (λ κs x f. refl),
+          (Goes-dropped 𝓛 2 (plain (λ _. usize)) yes (λ κs x f. refl), tt),
+        ),
+      ),
+    ) c (WpFn 𝓤 𝓛.H 𝓣.C 𝓣.Λ (here Z))
+    (WpFn-mono 𝓤 𝓛.H 𝓛.laws 𝓣 (here Z))
+    (walked 𝓛 (ended Z) (stayed Z) c (WpFn 𝓤 𝓛.H 𝓣.C 𝓣.Λ (here Z))
+    (λ κs. (shr_vals, (rawptr_vals, (uint_vals w64, (uint_vals w64, tt)))))
+    (λ κs. ((λ r vs s. s.0), (rawptr_Tells, (uint_Tells w64, (uint_Tells w64, tt)))))
+    (λ κs qs bounds a τ are. walk Z 𝓛 𝓜.mem 𝓡.returns 𝓣 (met.deallocate d')
+    (inner_met.met 𝓤 𝓛 𝓜 𝓡 (code.calls-giputils_refusing::Refusing::inner 𝓡.env wired) Y L) κs.0 κs.1.0 qs.0 qs.1.0 bounds.0 a.0 a.1.1.0 a.1.1.1.0 τ are.1.1.0.1 are.1.1.1.0.1 a.1.0)))

@@ -11,7 +11,9 @@ use Rattle.giputils_base.proofs.allocator.Gallocator.index_map.Goals as goal
 use Rattle.giputils_base.proofs.allocator.Gallocator.index_map.Goals.{then-not-is_removed+in_ok-insert, else-not-is_removed}
 
 pub overflow_add-next : goal.overflow_add-next
-overflow_add-next g c = let few = new_index-le c.deref-slot-items.result.now c.loop-old.old in omega (arith, c.loop-old.invariant.next, c.loop-old-test.true, c.deref-slot-items.ensures.len, c.deref-2.result.now.small)
+overflow_add-next g c =
+    let few = new_index-le c.deref-slot-items.result.now c.loop-old.old in
+    omega (arith, c.loop-old.invariant.next, c.loop-old-test.true, c.deref-slot-items.ensures.len, c.deref-2.result.now.small)
 
 pub loop-old-preserved : goal.loop-old-preserved
 loop-old-preserved g c =
@@ -47,4 +49,10 @@ loop-old-preserved g c =
 
 pub returns : goal.returns
 returns g c =
-    (λ i. c.loop-old.invariant.indexed i ∙ up_to-all c.deref-slot-items.result.now c.loop-old.old i c.loop-old-test.false ∙ ap (λ slots. index_map slots i) (c.deref-slot-items.ensures.value ∙ c.deref-2.ensures ∙ c.self.view_is), c.loop-old.invariant.unique)
+    let is_self = c.deref-slot-items.ensures.value ∙ c.deref-2.ensures ∙ c.self.view_is in (
+      λ i.
+          c.loop-old.invariant.indexed i
+          ∙ up_to-all c.deref-slot-items.result.now c.loop-old.old i c.loop-old-test.false
+          ∙ ap (λ slots. index_map slots i) is_self,
+      c.loop-old.invariant.unique,
+    )

@@ -18,7 +18,12 @@ pub loop-preserved : goal.loop-preserved
 loop-preserved g c = record {
   missing = c.loop.invariant.missing;
   room = omega arith;
-  filled = (c.loop.invariant.filled.0 ++ c.default.result ∷ [], grind (arith, common_steps), grind (arith, common_steps), All-push g.T.Default.is_default _ _ c.loop.invariant.filled.3 c.default.ensures);
+  filled = (
+    c.loop.invariant.filled.0 ++ c.default.result ∷ [],
+    grind (arith, common_steps),
+    grind (arith, common_steps),
+    All-push g.T.Default.is_default _ _ c.loop.invariant.filled.3 c.default.ensures,
+  );
 }
 
 pub returns-clause-filled : goal.returns-clause-filled
