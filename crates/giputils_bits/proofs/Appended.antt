@@ -1,16 +1,13 @@
 -- A word appended to a list that is kept in words.
 use Rattle.std.proofs.Common.{◌≡◌, ◌≢◌, ℕ, ◌+◌, ◌-◌, ◌*◌, ◌/◌, ◌%◌, ◌^◌, ◌<◌, Bool, true, false, ◌||◌, List, [], ◌∷◌, ◌++◌, length, get_or, set, sym, ap, ◌∙◌, arith, inl, inr, refl}
 use Rattle.std.specs.Prelude.{bit_or}
+use Rattle.std.proofs.Math.Bool.{or-false}
 use Rattle.std.proofs.lemmas.List.{length-set, length-append, length_push, get_or-set_same, get_or-set_other, get_or_append_left, get_or-append_right}
 use Rattle.std.proofs.lemmas.Bool.{cases_eq, cases_lt}
 use Rattle.giputils_bits.specs.Bits.{has_digit, digits_of}
 use Rattle.giputils_bits.specs.Places.{place, bits_of, IsPacked, AppendsWord}
 use Rattle.giputils_bits.proofs.Digits.{has_digit-or, has_digit-shl_low, has_digit-shl_high, has_digit-shr, length-digits_of, get_or-digits_of}
 use Rattle.giputils_bits.proofs.Places.{place_is, place-past, place-word, length-bits_of, get_or-bits_of, bits_of_is}
-
-or_false : (b : Bool) → (b || false) ≡ b
-or_false true = refl
-or_false false = refl
 
 -- at a word's end
 pub AppendsWord-push : (n : ℕ) (old : List ℕ) (w : ℕ) → w < 2 ^ 64 → n % 64 ≡ 0 → 0 < n → IsPacked n old → AppendsWord n old (old ++ w ∷ []) w
@@ -39,7 +36,7 @@ AppendsWord-shift n old w fits inside p =
     record {
       count = omega (arith, length-set long (n / 64) v, p.count);
       before = λ j h. elim (cases_eq (j / 64) (n / 64)) [
-        | inl q ↦ at_last j q ∙ rw (has_digit-shl_low w (n % 64) (j % 64) (omega arith) (omega arith)) (or_false (place old j))
+        | inl q ↦ at_last j q ∙ rw (has_digit-shl_low w (n % 64) (j % 64) (omega arith) (omega arith)) (or-false (place old j))
         | inr m ↦ rw (place_is (set long (n / 64) v) j, get_or-set_other long (n / 64) (j / 64) v 0 m, get_or_append_left old (high ∷ []) 0 (j / 64) (omega (arith, p.count))) (sym (place_is old j))
       ];
       after = λ j h. elim (cases_eq (j / 64) (n / 64)) [
@@ -50,7 +47,14 @@ AppendsWord-shift n old w fits inside p =
           | inl q ↦
               let none : j / 64 - length old ≡ 0 = omega arith in
               let digit : 64 - n % 64 + j % 64 ≡ j - n = omega (arith, p.count) in
-              rw (place_is (set long (n / 64) v) j, get_or-set_other long (n / 64) (j / 64) v 0 m, get_or-append_right old (high ∷ []) (length old) (j / 64) 0 refl (omega arith), none, has_digit-shr w (64 - n % 64) (j % 64), digit) (sym (place-word w (j - n) fits))
+              rw (
+                place_is (set long (n / 64) v) j,
+                get_or-set_other long (n / 64) (j / 64) v 0 m,
+                get_or-append_right old (high ∷ []) (length old) (j / 64) 0 refl (omega arith),
+                none,
+                has_digit-shr w (64 - n % 64) (j % 64),
+                digit,
+              ) (sym (place-word w (j - n) fits))
           | inr o ↦ place-past (set long (n / 64) v) j (omega (arith, length-set long (n / 64) v, p.count)) ∙ sym (place-past (w ∷ []) (j - n) (omega (arith, p.count)))
         ]
       ];
@@ -64,5 +68,6 @@ pub bits_of-AppendsWord : (n : ℕ) (old new : List ℕ) (w : ℕ) → w < 2 ^ 6
 bits_of-AppendsWord n old new w fits a =
     bits_of_is (n + 64) new _ (omega (arith, length-append (bits_of n old) (digits_of 64 w), length-bits_of n old, length-digits_of 64 w)) (λ j l. elim (cases_lt j n) [
       | inl h ↦ a.before j h ∙ sym (get_or_append_left (bits_of n old) (digits_of 64 w) false j (omega (arith, length-bits_of n old)) ∙ get_or-bits_of n old j false h)
-      | inr h ↦ a.after j h ∙ place-word w (j - n) fits ∙ sym (get_or-append_right (bits_of n old) (digits_of 64 w) n j false (length-bits_of n old) h ∙ get_or-digits_of 64 w (j - n) false (omega arith))
+      | inr h ↦ a.after j h ∙ place-word w (j - n) fits
+          ∙ sym (get_or-append_right (bits_of n old) (digits_of 64 w) n j false (length-bits_of n old) h ∙ get_or-digits_of 64 w (j - n) false (omega arith))
     ])

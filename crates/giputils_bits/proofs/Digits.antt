@@ -98,7 +98,7 @@ pub digits_of-one : (n : ℕ) → 0 < n → digits_of n 1 ≡ one_of n
 digits_of-one n some = digits_of_is n 1 _ (omega (arith, length-replicate (n - 1) false)) (one_digit n)
 
 -- ---- the number of a list of digits
-value_half : (b : Bool) (v : ℕ) → (cond b 1 0 + 2 * v) / 2 ≡ v
+pub value_half : (b : Bool) (v : ℕ) → (cond b 1 0 + 2 * v) / 2 ≡ v
 value_half true v = omega arith
 value_half false v = omega arith
 

@@ -110,7 +110,10 @@ not_of_ones_has_no_true_place = refl
 
 -- runs
 
-a_run : Answers {A = ℕ} [] (Push true ∷ BoolCall ∷ GetBit 1 ∷ Clear ∷ PushWord 5 ∷ Len ∷ ToUsize ∷ IsOne ∷ TryBool ∷ SetBit 0 false ∷ IsZero ∷ BoolCall ∷ []) (Done ∷ Bit true ∷ Skipped ∷ Done ∷ Done ∷ Number 64 ∷ Number 5 ∷ Bit false ∷ MaybeBit None ∷ Done ∷ Bit false ∷ Skipped ∷ []) (digits_of 64 4)
+a_run : Answers {A = ℕ} []
+    (Push true ∷ BoolCall ∷ GetBit 1 ∷ Clear ∷ PushWord 5 ∷ Len ∷ ToUsize ∷ IsOne ∷ TryBool ∷ SetBit 0 false ∷ IsZero ∷ BoolCall ∷ [])
+    (Done ∷ Bit true ∷ Skipped ∷ Done ∷ Done ∷ Number 64 ∷ Number 5 ∷ Bit false ∷ MaybeBit None ∷ Done ∷ Bit false ∷ Skipped ∷ [])
+    (digits_of 64 4)
 unfolding digits_of words_of
 a_run = (omega arith, (refl, (refl, (refl, (omega arith, (refl, (refl, (refl, (refl, (refl, (refl, (refl, refl))))))))))))
 
@@ -131,6 +134,9 @@ a_call_whose_condition_holds_is_made run = let never = run.0 in cc
 
 nothing_is_refused_within_a_word : ¬ (Answers {A = ℕ} [] (Push true ∷ []) (Refused Memory 0 ∷ []) [])
 nothing_is_refused_within_a_word run = absurd (omega (arith, run.0.0.0))
+
+nothing_is_refused_within_a_later_word : ¬ (Answers {A = ℕ} (replicate 70 false) (Push true ∷ []) (Refused Memory 0 ∷ []) (replicate 70 false))
+nothing_is_refused_within_a_later_word run = absurd (omega (arith, run.0.0.1))
 
 not_all_items_are_kept_at_a_refusal : ¬ (Answers {A = ℕ} (replicate 64 false) (Extend (lent (true ∷ [])) ∷ []) (Refused Memory 1 ∷ []) (replicate 64 false ++ true ∷ []))
 not_all_items_are_kept_at_a_refusal run = absurd (omega (arith, run.0.0))

@@ -1,8 +1,8 @@
 -- Bits that are gathered in a word, which is the last of the words once it is written.
 use Rattle.std.proofs.Common.{◌≡◌, ℕ, zero, suc, ◌+◌, ◌/◌, ◌%◌, ◌<◌, ◌≤◌, Bool, List, [], ◌∷◌, ◌++◌, length, get_or, set, refl, ap, arith}
 use Rattle.std.proofs.lemmas.List.{length-set, length_push, get_or-set_same, get_or_push, set-get_or}
-use Rattle.giputils_bits.specs.Places.{bits_of, IsPacked, SetsDigit, SetsPlace, HasRoom}
-use Rattle.giputils_bits.proofs.Places.{SetsPlace-set, HasRoom-push, IsPacked-more, bits_of-more}
+use Rattle.giputils_bits.specs.Places.{bits_of, IsPacked, SetsDigit, HasRoom}
+use Rattle.giputils_bits.proofs.Places.{SetsPlace, SetsPlace-set, HasRoom-push, IsPacked-more, bits_of-more}
 
 -- n places of the words, with `word` in the place of the last word, keep the list
 pub record Gathers (n : ℕ) (ws : List ℕ) (last word : ℕ) (bs : List Bool) : Type 0 where
@@ -16,7 +16,8 @@ set_twice (u ∷ ws) zero v w = refl
 set_twice (u ∷ ws) (suc k) v w = ap (λ vs. u ∷ vs) (set_twice ws k v w)
 
 -- a bit more, where the word has room
-pub Gathers-more : (n : ℕ) (ws : List ℕ) (last v w : ℕ) (b : Bool) (bs : List Bool) → (n % 64 ≡ 0 → n ≤ 0) → SetsDigit v w (n % 64) b → Gathers n ws last v bs → Gathers (n + 1) ws last w (bs ++ b ∷ [])
+pub Gathers-more : (n : ℕ) (ws : List ℕ) (last v w : ℕ) (b : Bool) (bs : List Bool) → (n % 64 ≡ 0 → n ≤ 0) → SetsDigit v w (n % 64) b
+    → Gathers n ws last v bs → Gathers (n + 1) ws last w (bs ++ b ∷ [])
 Gathers-more n ws last v w b bs room s g =
     let old : List ℕ = set ws last v in
     let size : length old ≡ length ws = length-set ws last v in

@@ -67,7 +67,8 @@ one_from_words bs some first none =
       | inl e ↦ rw e (first ∙ sym (one_word (length bs) some))
       | inr m ↦
           let place : 1 + (k - 1) ≡ k = omega arith in
-          ap (λ i. get_or (words_of bs) i 0) (sym place) ∙ sym (get_or-drop 1 (words_of bs) (k - 1) 0) ∙ none (k - 1) (omega (arith, length-drop 1 (words_of bs))) ∙ sym (one_word_above (length bs) k some (omega arith))
+          ap (λ i. get_or (words_of bs) i 0) (sym place) ∙ sym (get_or-drop 1 (words_of bs) (k - 1) 0)
+          ∙ none (k - 1) (omega (arith, length-drop 1 (words_of bs))) ∙ sym (one_word_above (length bs) k some (omega arith))
     ])
 
 pub words_of_one : (bs : List Bool) → 0 < length bs → bs ≡ one_of (length bs) → get_or (words_of bs) 0 0 ≡ 1
@@ -96,7 +97,8 @@ ones_from_words bs last count high full =
 pub words_of_ones_last : (bs : List Bool) (last : ℕ) → last + 1 ≡ length (words_of bs) → bs ≡ replicate (length bs) true → get_or (words_of bs) last 0 ≡ 2 ^ (length bs - 64 * last) - 1
 words_of_ones_last bs last count e = get_or-words_of_same bs (replicate (length bs) true) last e (omega arith) ∙ ones_word_last (length bs) last (omega (arith, length-words_of bs))
 
-pub words_of_ones : (bs : List Bool) (last : ℕ) → last + 1 ≡ length (words_of bs) → bs ≡ replicate (length bs) true → (k : ℕ) → k < length (take last (words_of bs)) → get_or (take last (words_of bs)) k 0 ≡ 2 ^ 64 - 1
+pub words_of_ones : (bs : List Bool) (last : ℕ) → last + 1 ≡ length (words_of bs) → bs ≡ replicate (length bs) true → (k : ℕ)
+    → k < length (take last (words_of bs)) → get_or (take last (words_of bs)) k 0 ≡ 2 ^ 64 - 1
 words_of_ones bs last count e k within =
     let below : k < last = omega (arith, length-take last (words_of bs)) in
     get_or-take last (words_of bs) k 0 below ∙ get_or-words_of_same bs (replicate (length bs) true) k e (omega arith) ∙ ones_word (length bs) k (omega (arith, length-words_of bs))
@@ -118,7 +120,9 @@ pub words_of_replicate : (n last : ℕ) (b : Bool) → 0 < n → (n - 1) / 64 �
 words_of_replicate n last b some at_last =
     let full : List ℕ = replicate (last + 1) (value_of (replicate 64 b)) in
     let rest : ℕ = value_of (replicate (n - 64 * last) b) in
-    words_of_is (set full last rest) (replicate n b) (omega (arith, length-set full last rest, length-replicate (last + 1) (value_of (replicate 64 b)), length-replicate n b)) (λ k within. elim (cases_eq k last) [
+    words_of_is (set full last rest) (replicate n b)
+    (omega (arith, length-set full last rest, length-replicate (last + 1) (value_of (replicate 64 b)), length-replicate n b))
+    (λ k within. elim (cases_eq k last) [
       | inl e ↦ rw (e, get_or-set_same full last rest 0 (omega (arith, length-replicate (last + 1) (value_of (replicate 64 b))))) (sym (word_of-replicate_last n last b (omega arith)))
       | inr m ↦
           let before : k < last = omega (arith, length-set full last rest, length-replicate (last + 1) (value_of (replicate 64 b))) in
@@ -129,7 +133,11 @@ pub words_of_digits : (n number : ℕ) → 64 < n → number < 2 ^ 64 → set (r
 words_of_digits n number long fits =
     let zeros : List ℕ = replicate ((n - 1) / 64 + 1) 0 in
     let small : number < 2 ^ n = omega (arith, pow_mono {i = 64} {j = n} (omega arith)) in
-    words_of_is (set zeros 0 number) (digits_of n number) (omega (arith, length-set zeros 0 number, length-replicate {A = ℕ} ((n - 1) / 64 + 1) 0, length-digits_of n number)) (λ k within. elim (cases_eq k 0) [
+    words_of_is (set zeros 0 number) (digits_of n number)
+    (omega (arith, length-set zeros 0 number, length-replicate {A = ℕ} ((n - 1) / 64 + 1) 0, length-digits_of n number)) (λ k within. elim (cases_eq k 0) [
       | inl e ↦ rw (e, get_or-set_same zeros 0 number 0 (omega (arith, length-replicate {A = ℕ} ((n - 1) / 64 + 1) 0))) (sym (word_of-digits_of n number fits small))
-      | inr m ↦ get_or-set_other zeros 0 k number 0 m ∙ get_or-replicate ((n - 1) / 64 + 1) k 0 0 (omega (arith, length-set zeros 0 number, length-replicate {A = ℕ} ((n - 1) / 64 + 1) 0)) ∙ sym (word_of-digits_of_above n number k fits (omega arith))
+      | inr m ↦ get_or-set_other zeros 0 k number 0 m
+          ∙ get_or-replicate ((n - 1) / 64 + 1) k 0 0
+          (omega (arith, length-set zeros 0 number, length-replicate {A = ℕ} ((n - 1) / 64 + 1) 0))
+          ∙ sym (word_of-digits_of_above n number k fits (omega arith))
     ])

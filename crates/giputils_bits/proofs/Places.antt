@@ -1,5 +1,5 @@
 -- Places of words, and lists kept in words.
-use Rattle.std.proofs.Common.{◌≡◌, ℕ, suc, ◌+◌, ◌-◌, ◌*◌, ◌/◌, ◌%◌, ◌^◌, ◌<◌, ◌≤◌, Bool, true, false, eqb, List, [], ◌∷◌, ◌++◌, length, get_or, set, refl, sym, ap, ◌∙◌, arith, inl, inr, w64}
+use Rattle.std.proofs.Common.{◌≡◌, ◌≢◌, ℕ, suc, ◌+◌, ◌-◌, ◌*◌, ◌/◌, ◌%◌, ◌^◌, ◌<◌, ◌≤◌, Bool, true, false, eqb, List, [], ◌∷◌, ◌++◌, length, get_or, set, refl, sym, ap, ◌∙◌, arith, inl, inr, w64}
 use Rattle.std.specs.Prelude.{bit_and, bit_or}
 use Rattle.std.specs.Int.{bit_not}
 use Rattle.std.proofs.lemmas.List.{same_lists, length-set, get_or-set_same, get_or-set_other, get_or_default, get_or_append_left, get_or_push, length_push, get_or_past}
@@ -7,7 +7,7 @@ use Rattle.std.proofs.lemmas.List.FromFn.{length-map-range_with_len, get_or-map-
 use Rattle.std.proofs.lemmas.Nat.Bits.{bit_at_set_same, bit_at_set_other, bit_at_clear_same, bit_at_clear_other, shr_and_one}
 use Rattle.std.proofs.lemmas.Bool.{cases_eq, cases_lt}
 use Rattle.giputils_bits.specs.Bits.{has_digit, digits_of}
-use Rattle.giputils_bits.specs.Places.{place, places, bits_of, IsPacked, SetsDigit, SetsPlace, HasRoom}
+use Rattle.giputils_bits.specs.Places.{place, places, bits_of, IsPacked, SetsDigit, HasRoom}
 use Rattle.giputils_bits.proofs.Digits.{has_digit-zero, has_digit-above, length-digits_of, get_or-digits_of}
 
 -- ---- one place
@@ -97,6 +97,12 @@ SetsDigit-and w k within = record {
   at = ap (λ b. eqb b 1) (bit_at_clear_same w64 w k within);
   others = λ j l other. ap (λ b. eqb b 1) (bit_at_clear_other w64 w k within j l other);
 }
+
+-- place i of the words becomes b, and no other changes
+pub record SetsPlace (old new : List ℕ) (i : ℕ) (b : Bool) : Type 0 where
+  pub count : length new ≡ length old
+  pub at : place new i ≡ b
+  pub others : (j : ℕ) → j ≢ i → place new j ≡ place old j
 
 -- a word put back with a digit set sets a place
 pub SetsPlace-set : (ws : List ℕ) (i w : ℕ) (b : Bool) → i / 64 < length ws → SetsDigit (get_or ws (i / 64) 0) w (i % 64) b → SetsPlace ws (set ws (i / 64) w) i b

@@ -10,14 +10,14 @@ use Rattle.giputils_bits.specs.declared.bitvec.error.BitVecError.{BitVecError}
 use Rattle.giputils_bits.specs.declared.bitvec.error.BitVecError.TheVariants.{TooLong, Memory}
 use Rattle.giputils_bits.specs.declared.bitvec.run.BitReply.TheVariants.{Bit}
 use Rattle.giputils_bits.specs.Bits.{words_of, value_of}
-use Rattle.giputils_bits.specs.BitRun.{max_len, CanRefuse, whether}
+use Rattle.giputils_bits.specs.BitRun.{max_len, StopsAt, equality_reply}
 use Rattle.giputils_bits.proofs.Taken.{taken}
 use Rattle.giputils_bits.proofs.Words.{get_or-words_of}
 
 -- whether a list that has a place is another
-pub whether_is : (xs ys : List Bool) (b : Bool) → length xs ≢ 0 → (IsTrue b ↔ (xs ≡ ys)) → Bit b ≡ whether xs ys
-whether_is [] ys b some is = absurd (some refl)
-whether_is (x ∷ xs) ys b some is = ap Bit (one_answer _ _ is (slice_eq-Decides booleans_Decides (x ∷ xs) ys _ refl))
+pub equality_reply_is : (xs ys : List Bool) (b : Bool) → length xs ≢ 0 → (IsTrue b ↔ (xs ≡ ys)) → Bit b ≡ equality_reply xs ys
+equality_reply_is [] ys b some is = absurd (some refl)
+equality_reply_is (x ∷ xs) ys b some is = ap Bit (one_answer _ _ is (slice_eq-Decides booleans_Decides (x ∷ xs) ys _ refl))
 
 -- the first word
 pub first_word : (bs : List Bool) → value_of (take 64 bs) ≡ get_or (words_of bs) 0 0
@@ -26,9 +26,14 @@ first_word [] = refl
 first_word (b ∷ bs) = sym (get_or-words_of (b ∷ bs) 0 (omega arith))
 
 -- an iterator over the items was refused at one of them: those before it are kept
-module _ {S : Type 0} (steps : S → Option Bool → S → Type 0) (items old new xs : List Bool) (s u : S) (refused : Bool) (all : AlwaysYields steps (λ x. x) s items) (long : new ≡ old ++ xs) (run : YieldsThen steps s xs (Some refused) u) where
+module _ {S : Type 0} (steps : S → Option Bool → S → Type 0) (items old new xs : List Bool) (s u : S) (refused : Bool)
+    (all : AlwaysYields steps (λ x. x) s items) (long : new ≡ old ++ xs) (run : YieldsThen steps s xs (Some refused) u) where
   kept_of : length new - length old ≡ length xs
   kept_of = omega (arith, ap length long, length-append old xs)
+
+  -- the kept ones behind the old ones are all that stand
+  kept_all : length old + (length new - length old) ≡ length new
+  kept_all = omega (arith, ap length long, length-append old xs)
 
   pub refused_within : length new - length old < length items
   refused_within = rw kept_of ((taken steps items xs s refused u all run).1)
@@ -36,7 +41,8 @@ module _ {S : Type 0} (steps : S → Option Bool → S → Type 0) (items old ne
   pub refused_leaves : new ≡ old ++ take (length new - length old) items
   refused_leaves = rw kept_of (long ∙ ap (λ zs. old ++ zs) ((taken steps items xs s refused u all run).0))
 
-  pub refused_for : (error : BitVecError) {X : Type 0} → (outcome : Result X BitVecError) → outcome ≡ Err error → length new ≤ max_len → (outcome ≡ Err Memory → (0 < length new) × (length new % 64 ≡ 0)) → (outcome ≡ Err TooLong → length new ≡ max_len)
-      → CanRefuse (length old + (length new - length old) + 1) error
-  refused_for TooLong outcome is within memory long' = omega (arith, long' is, kept_of, ap length long, length-append old xs)
-  refused_for Memory outcome is within memory long' = (omega (arith, (memory is).0, (memory is).1, ap length long, length-append old xs), omega (arith, (memory is).1, within, ap length long, length-append old xs))
+  pub stops_at : (error : BitVecError) {X : Type 0} → (outcome : Result X BitVecError) → outcome ≡ Err error
+      → (outcome ≡ Err Memory → (0 < length new) × (length new % 64 ≡ 0)) → (outcome ≡ Err TooLong → length new ≡ max_len)
+      → StopsAt (length old + (length new - length old)) error
+  stops_at TooLong outcome is memory too_long = omega (arith, too_long is, kept_of, ap length long, length-append old xs)
+  stops_at Memory outcome is memory too_long = rw kept_all (memory is)

@@ -2,6 +2,7 @@
 use Rattle.std.proofs.Common.{◌≡◌, ℕ, zero, suc, ◌+◌, ◌-◌, ◌*◌, ◌/◌, ◌%◌, ◌^◌, ◌<◌, min, Bool, true, false, ◌&&◌, not, eqb, List, length, get_or, set, refl, sym, ap, ◌∙◌, arith, inl, inr, w64}
 use Rattle.std.specs.Prelude.{bit_and, bit_xor}
 use Rattle.std.specs.Int.{bit_at, bit_not}
+use Rattle.std.proofs.Math.Bool.{and-true, and-false}
 use Rattle.std.proofs.lemmas.List.{length-set, get_or-set_same, get_or-set_other}
 use Rattle.std.proofs.lemmas.Nat.Bits.{bit_at-lt, bit_at_and, bit_at_xor, bit_at_not}
 use Rattle.std.proofs.lemmas.Bool.{cases_eq, cases_lt}
@@ -43,14 +44,6 @@ has_digit-xor a b i = ap (λ x. eqb x 1) (bit_at_xor a b i) ∙ xor_test (bit_at
 pub has_digit-not : (a i : ℕ) → a < 2 ^ 64 → i < 64 → has_digit (bit_not w64 a) i ≡ not (has_digit a i)
 has_digit-not a i fits within = ap (λ x. eqb x 1) (bit_at_not w64 a i fits within) ∙ not_test (bit_at a i) (bit_at-lt a i)
 
-and_true : (b : Bool) → (b && true) ≡ b
-and_true true = refl
-and_true false = refl
-
-and_false : (b : Bool) → (b && false) ≡ false
-and_false true = refl
-and_false false = refl
-
 -- ---- the loop
 pub Rewrites-none : (f : ℕ → ℕ → ℕ) (old : List ℕ) → Rewrites f old old 0
 Rewrites-none f old = record { count = refl; done = λ k l. absurd (omega arith); rest = λ k l. refl }
@@ -71,13 +64,15 @@ same_count m n vs ws xs ys v w p q long = omega (arith, kept-length m vs xs v, k
 
 -- ---- words joined with others, by an operation f whose digits are g of both digits
 module _ (f : ℕ → ℕ → ℕ) (g : Bool → Bool → Bool) (law : (a b i : ℕ) → has_digit (f a b) i ≡ g (has_digit a i) (has_digit b i)) (zeros : g false false ≡ false) where
-  place-joined : (old others new : List ℕ) → length old ≡ length others → Rewrites (λ k word. f word (get_or others k 0)) old new (length old) → (i : ℕ) → place new i ≡ g (place old i) (place others i)
+  place-joined : (old others new : List ℕ) → length old ≡ length others
+      → Rewrites (λ k word. f word (get_or others k 0)) old new (length old) → (i : ℕ) → place new i ≡ g (place old i) (place others i)
   place-joined old others new e r i = elim (cases_lt (i / 64) (length old)) [
     | inl l ↦ rw (place_is new i, r.done (i / 64) l, place_is old i, place_is others i) (law _ _ (i % 64))
     | inr m ↦ rw (place-past new i (omega (arith, r.count)), place-past old i (omega arith), place-past others i (omega arith)) (sym zeros)
   ]
 
-  bits_of-joined : (n : ℕ) (old others new : List ℕ) → length old ≡ length others → Rewrites (λ k word. f word (get_or others k 0)) old new (length old) → bits_of n new ≡ zip_with g (bits_of n old) (bits_of n others)
+  bits_of-joined : (n : ℕ) (old others new : List ℕ) → length old ≡ length others
+      → Rewrites (λ k word. f word (get_or others k 0)) old new (length old) → bits_of n new ≡ zip_with g (bits_of n old) (bits_of n others)
   bits_of-joined n old others new e r =
       let same : length (bits_of n old) ≡ length (bits_of n others) = length-bits_of n old ∙ sym (length-bits_of n others) in
       bits_of_is n new _ (length-zip_with g (bits_of n old) (bits_of n others) same ∙ length-bits_of n old) (λ i h.
@@ -113,7 +108,8 @@ module _ (n : ℕ) (old mid : List ℕ) (some : 0 < n) (p : IsPacked n old) (fit
       let low : ℕ = 2 ^ (n - 64 * last) - 1 in
       let word : ℕ = get_or old last 0 in
       let here : place (masked n old mid) i ≡ has_digit (bit_and (bit_not w64 word) low) (i % 64) =
-      place_is (masked n old mid) i ∙ ap (λ k. has_digit (get_or (masked n old mid) k 0) (i % 64)) e ∙ ap (λ w. has_digit w (i % 64)) (get_or-set_same mid last (bit_and (bit_not w64 word) low) 0 (omega (arith, r.count, p.count))) in
+      place_is (masked n old mid) i ∙ ap (λ k. has_digit (get_or (masked n old mid) k 0) (i % 64)) e
+      ∙ ap (λ w. has_digit w (i % 64)) (get_or-set_same mid last (bit_and (bit_not w64 word) low) 0 (omega (arith, r.count, p.count))) in
       let there : place old i ≡ has_digit word (i % 64) = place_is old i ∙ ap (λ k. has_digit (get_or old k 0) (i % 64)) e in
       here ∙ has_digit-and (bit_not w64 word) low (i % 64) ∙ ap (λ b. b && has_digit low (i % 64)) (has_digit-not word (i % 64) (fits last) (omega arith) ∙ ap not (sym there))
 
@@ -124,15 +120,22 @@ module _ (n : ℕ) (old mid : List ℕ) (some : 0 < n) (p : IsPacked n old) (fit
   IsPacked-negated = record {
     count = length-set mid ((n - 1) / 64) _ ∙ r.count ∙ p.count;
     padding = λ i h. elim (cases_eq (i / 64) ((n - 1) / 64)) [
-      | inl e ↦ place-last i e ∙ ap (λ b. not (place old i) && b) (has_digit-ones_above (n - 64 * ((n - 1) / 64)) (i % 64) (omega arith)) ∙ and_false (not (place old i))
-      | inr m ↦ place-past (masked n old mid) i (omega (arith, length-set mid ((n - 1) / 64) (bit_and (bit_not w64 (get_or old ((n - 1) / 64) 0)) (2 ^ (n - 64 * ((n - 1) / 64)) - 1)), r.count, p.count))
+      | inl e ↦ place-last i e ∙ ap (λ b. not (place old i) && b) (has_digit-ones_above (n - 64 * ((n - 1) / 64)) (i % 64) (omega arith)) ∙ and-false (not (place old i))
+      | inr m ↦ place-past (masked n old mid) i
+          (omega (
+            arith,
+            length-set mid ((n - 1) / 64)
+                (bit_and (bit_not w64 (get_or old ((n - 1) / 64) 0)) (2 ^ (n - 64 * ((n - 1) / 64)) - 1)),
+            r.count,
+            p.count,
+          ))
     ];
   }
 
   pub bits_of-negated : bits_of n (masked n old mid) ≡ not_of (bits_of n old)
   bits_of-negated = bits_of_is n (masked n old mid) _ (length-not_of (bits_of n old) ∙ length-bits_of n old) (λ i h.
       let turned : place (masked n old mid) i ≡ not (place old i) = elim (cases_eq (i / 64) ((n - 1) / 64)) [
-        | inl e ↦ place-last i e ∙ ap (λ b. not (place old i) && b) (has_digit-ones (n - 64 * ((n - 1) / 64)) (i % 64) (omega arith)) ∙ and_true (not (place old i))
+        | inl e ↦ place-last i e ∙ ap (λ b. not (place old i) && b) (has_digit-ones (n - 64 * ((n - 1) / 64)) (i % 64) (omega arith)) ∙ and-true (not (place old i))
         | inr m ↦ place-other i m ∙ place-mid i (omega (arith, p.count))
       ] in
       turned ∙ sym (get_or-not_of (bits_of n old) i (omega (arith, length-bits_of n old)) ∙ ap not (get_or-bits_of n old i false h)))

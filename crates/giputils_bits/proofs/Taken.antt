@@ -3,7 +3,8 @@ use Rattle.std.proofs.Common.{◌≡◌, ◌<◌, List, [], ◌∷◌, length, t
 use Rattle.std.specs.Iterator.{AlwaysYields, YieldsThen}
 
 -- calls that gave xs and then another item gave the first items of the list, and not all
-pub taken : {S A : Type 0} (steps : S → Option A → S → Type 0) (ys xs : List A) (s : S) (r : A) (u : S) → AlwaysYields steps (λ x. x) s ys → YieldsThen steps s xs (Some r) u → (xs ≡ take (length xs) ys) × (length xs < length ys)
+pub taken : {S A : Type 0} (steps : S → Option A → S → Type 0) (ys xs : List A) (s : S) (r : A) (u : S) → AlwaysYields steps (λ x. x) s ys
+    → YieldsThen steps s xs (Some r) u → (xs ≡ take (length xs) ys) × (length xs < length ys)
 taken steps [] [] s r u all run = absurd (all r u (subst (λ k. steps k (Some r) u) (sym run.1) run.2))
 taken steps [] (x ∷ xs) s r u all run = absurd (all x run.1.0 run.1.1)
 taken steps (y ∷ ys) [] s r u all run = (refl, omega arith)

@@ -9,8 +9,8 @@ use Rattle.std.proofs.lemmas.Bool.Decides.{Decides-eqb}
 use Rattle.std.proofs.lemmas.List.{same_lists, append_assoc, append-nil, map-append, reverse-append, reverse-reverse, length-reverse, length-map, length-append, get_or-set_same, get_or-set_other, get_or-map, get_or_append_left, get_or-append_right, get_or_past, get_or_default, get_or-take, length-take, length-take-le, length-drop, take_more, take_all}
 use Rattle.giputils_bits.specs.Bits.{digits_of, value_of, word_count, word_of, words_of}
 use Rattle.giputils_bits.specs.Text.{bit_glyph, binary_text, lowest_digits, hex_count, hex_text, BinaryTextsTell}
-use Rattle.giputils_bits.specs.Spelt.{spelt}
-use Rattle.giputils_bits.proofs.Digits.{digits_of-value_of, digits_of-zero}
+use Rattle.giputils_bits.specs.Spelt.{digits_of_words}
+use Rattle.giputils_bits.proofs.Digits.{digits_of-value_of, digits_of-zero, value_half}
 use Rattle.giputils_bits.proofs.Patterns.{value_of-zeros}
 use Rattle.giputils_bits.proofs.Words.{length-words_of, get_or-words_of}
 
@@ -57,7 +57,8 @@ get_or-lowest b (suc n) x i below = elim (cases_lt i n) [
 ]
 
 -- ---- what is spelt into a buffer
-pub spelt_is : (b n x : ℕ) (glyphs : ℕ → ℕ) (bs : List ℕ) → n ≤ length bs → ((j : ℕ) → j < n → get_or bs (n - 1 - j) 0 ≡ glyphs (without_lowest b j x % b)) → take n bs ≡ map glyphs (lowest_digits b n x)
+pub spelt_is : (b n x : ℕ) (glyphs : ℕ → ℕ) (bs : List ℕ) → n ≤ length bs
+    → ((j : ℕ) → j < n → get_or bs (n - 1 - j) 0 ≡ glyphs (without_lowest b j x % b)) → take n bs ≡ map glyphs (lowest_digits b n x)
 spelt_is b n x glyphs bs long each = same_lists _ _ (length-take-le n bs long ∙ sym (length-map (lowest_digits b n x) glyphs ∙ length-lowest b n x)) (λ k d l.
     let within : k < n = omega (arith, length-take-le n bs long) in
     let back : n - 1 - (n - 1 - k) ≡ k = omega arith in
@@ -88,17 +89,21 @@ below_16 (suc (suc (suc (suc (suc s))))) x some few = absurd (omega arith)
 
 pub IsAscii-lowest : (upper : Bool) (s n x : ℕ) → 0 < s → s ≤ 4 → IsAscii (map (digit_glyph upper) (lowest_digits (2 ^ s) n x))
 IsAscii-lowest upper s n x some few i = elim (cases_lt i n) [
-  | inl l ↦ rw (get_or-map (digit_glyph upper) (lowest_digits (2 ^ s) n x) i 0 0 (omega (arith, length-lowest (2 ^ s) n x)), get_or-lowest (2 ^ s) n x i l) (glyph-below upper (without_lowest (2 ^ s) (n - 1 - i) x % 2 ^ s) (below_16 s (without_lowest (2 ^ s) (n - 1 - i) x) some few))
-  | inr m ↦ rw (get_or_past (map (digit_glyph upper) (lowest_digits (2 ^ s) n x)) i 0 (omega (arith, length-map (lowest_digits (2 ^ s) n x) (digit_glyph upper), length-lowest (2 ^ s) n x))) (omega arith)
+  | inl l ↦ rw (
+    get_or-map (digit_glyph upper) (lowest_digits (2 ^ s) n x) i 0 0 (omega (arith, length-lowest (2 ^ s) n x)),
+    get_or-lowest (2 ^ s) n x i l,
+  ) (glyph-below upper (without_lowest (2 ^ s) (n - 1 - i) x % 2 ^ s) (below_16 s (without_lowest (2 ^ s) (n - 1 - i) x) some few))
+  | inr m ↦ rw (get_or_past (map (digit_glyph upper) (lowest_digits (2 ^ s) n x)) i 0
+      (omega (arith, length-map (lowest_digits (2 ^ s) n x) (digit_glyph upper), length-lowest (2 ^ s) n x))) (omega arith)
 ]
 
 -- ---- words from the last to the first
-spelt-push : (b n : ℕ) (ws : List ℕ) (w : ℕ) → spelt b n (ws ++ w ∷ []) ≡ lowest_digits b n w ++ spelt b n ws
-spelt-push b n [] w = sym (append-nil (lowest_digits b n w))
-spelt-push b n (v ∷ ws) w = ap (λ ds. ds ++ lowest_digits b n v) (spelt-push b n ws w) ∙ append_assoc (lowest_digits b n w) (spelt b n ws) (lowest_digits b n v)
+digits_of_words-push : (b n : ℕ) (ws : List ℕ) (w : ℕ) → digits_of_words b n (ws ++ w ∷ []) ≡ lowest_digits b n w ++ digits_of_words b n ws
+digits_of_words-push b n [] w = sym (append-nil (lowest_digits b n w))
+digits_of_words-push b n (v ∷ ws) w = ap (λ ds. ds ++ lowest_digits b n v) (digits_of_words-push b n ws w) ∙ append_assoc (lowest_digits b n w) (digits_of_words b n ws) (lowest_digits b n v)
 
-pub spelt-take : (b n : ℕ) (ws : List ℕ) (k : ℕ) → k < length ws → spelt b n (take (k + 1) ws) ≡ lowest_digits b n (get_or ws k 0) ++ spelt b n (take k ws)
-spelt-take b n ws k within = ap (spelt b n) (take_more ws k 0 within) ∙ spelt-push b n (take k ws) (get_or ws k 0)
+pub digits_of_words-take : (b n : ℕ) (ws : List ℕ) (k : ℕ) → k < length ws → digits_of_words b n (take (k + 1) ws) ≡ lowest_digits b n (get_or ws k 0) ++ digits_of_words b n (take k ws)
+digits_of_words-take b n ws k within = ap (digits_of_words b n) (take_more ws k 0 within) ∙ digits_of_words-push b n (take k ws) (get_or ws k 0)
 
 -- ---- the number that words are, with v above them
 abbrev value_onto : List ℕ → ℕ → ℕ
@@ -119,14 +124,15 @@ record IsWord (b n : ℕ) : Type 0 where
   over : (w v : ℕ) → w < 2 ^ 64 → without_lowest b n (w + 2 ^ 64 * v) ≡ v
   low : (w v : ℕ) → w < 2 ^ 64 → lowest_digits b n (w + 2 ^ 64 * v) ≡ lowest_digits b n w
 
-spelt-value_onto : (b n : ℕ) → IsWord b n → (ws : List ℕ) (c v : ℕ) → ((k : ℕ) → get_or ws k 0 < 2 ^ 64) → lowest_digits b (count_onto n ws c) (value_onto ws v) ≡ lowest_digits b c v ++ spelt b n ws
-spelt-value_onto b n is [] c v fits = sym (append-nil (lowest_digits b c v))
-spelt-value_onto b n is (w ∷ ws) c v fits =
+digits_of_words-value_onto : (b n : ℕ) → IsWord b n → (ws : List ℕ) (c v : ℕ) → ((k : ℕ) → get_or ws k 0 < 2 ^ 64)
+    → lowest_digits b (count_onto n ws c) (value_onto ws v) ≡ lowest_digits b c v ++ digits_of_words b n ws
+digits_of_words-value_onto b n is [] c v fits = sym (append-nil (lowest_digits b c v))
+digits_of_words-value_onto b n is (w ∷ ws) c v fits =
     lowest-split b (count_onto n ws c) n (w + 2 ^ 64 * value_onto ws v)
     ∙ ap (λ x. lowest_digits b (count_onto n ws c) x ++ lowest_digits b n (w + 2 ^ 64 * value_onto ws v)) (is.over w (value_onto ws v) (fits 0))
     ∙ ap (λ ds. lowest_digits b (count_onto n ws c) (value_onto ws v) ++ ds) (is.low w (value_onto ws v) (fits 0))
-    ∙ ap (λ ds. ds ++ lowest_digits b n w) (spelt-value_onto b n is ws c v (λ k. fits (suc k)))
-    ∙ append_assoc (lowest_digits b c v) (spelt b n ws) (lowest_digits b n w)
+    ∙ ap (λ ds. ds ++ lowest_digits b n w) (digits_of_words-value_onto b n is ws c v (λ k. fits (suc k)))
+    ∙ append_assoc (lowest_digits b c v) (digits_of_words b n ws) (lowest_digits b n w)
 
 -- ---- the two bases
 -- b ^ k, by recursion
@@ -224,22 +230,18 @@ fits_take ws n fits k = elim (cases_lt k n) [
 
 -- all digits of the list: some of the last word, and those of each other word
 lowest-words : (b n : ℕ) → IsWord b n → (bs : List Bool) (last c : ℕ) → word_count (length bs) ≡ last + 1 → ((k : ℕ) → get_or (words_of bs) k 0 < 2 ^ 64)
-    → lowest_digits b (c + times n last) (value_of bs) ≡ lowest_digits b c (word_of bs last) ++ spelt b n (take last (words_of bs))
+    → lowest_digits b (c + times n last) (value_of bs) ≡ lowest_digits b c (word_of bs last) ++ digits_of_words b n (take last (words_of bs))
 lowest-words b n is bs last c count fits =
     let front : List ℕ = take last (words_of bs) in
     ap (lowest_digits b (c + times n last)) (value_of-words bs last (omega arith))
     ∙ ap (λ m. lowest_digits b m (value_onto front (value_of (drop (64 * last) bs)))) (sym (count_onto-take n c last (words_of bs) (omega (arith, length-words_of bs))))
-    ∙ spelt-value_onto b n is front c (value_of (drop (64 * last) bs)) (fits_take (words_of bs) last fits)
-    ∙ ap (λ v. lowest_digits b c v ++ spelt b n front) (value_of-last bs last (omega arith))
+    ∙ digits_of_words-value_onto b n is front c (value_of (drop (64 * last) bs)) (fits_take (words_of bs) last fits)
+    ∙ ap (λ v. lowest_digits b c v ++ digits_of_words b n front) (value_of-last bs last (omega arith))
 
 -- ---- the binary text
 bit_glyph_is : (b : Bool) (v : ℕ) → digit_glyph false ((cond b 1 0 + 2 * v) % 2) ≡ bit_glyph b
 bit_glyph_is true v = let odd : (1 + 2 * v) % 2 ≡ 1 = omega arith in rw odd refl
 bit_glyph_is false v = let even : (0 + 2 * v) % 2 ≡ 0 = omega arith in rw even refl
-
-half : (b : Bool) (v : ℕ) → (cond b 1 0 + 2 * v) / 2 ≡ v
-half true v = omega arith
-half false v = omega arith
 
 binary_digits : (bs : List Bool) → map bit_glyph (reverse bs) ≡ map (digit_glyph false) (lowest_digits 2 (length bs) (value_of bs))
 binary_digits [] = refl
@@ -247,17 +249,17 @@ binary_digits (b ∷ bs) =
     ap (map bit_glyph) (reverse-append (b ∷ []) bs) ∙ map-append bit_glyph (reverse bs) (b ∷ [])
     ∙ ap (λ t. t ++ bit_glyph b ∷ []) (binary_digits bs)
     ∙ sym (map-append (digit_glyph false) (lowest_digits 2 (length bs) (value_of (b ∷ bs) / 2)) (value_of (b ∷ bs) % 2 ∷ [])
-    ∙ rw (half b (value_of bs), bit_glyph_is b (value_of bs)) refl)
+    ∙ rw (value_half b (value_of bs), bit_glyph_is b (value_of bs)) refl)
 
 pub binary_text_is : (bs : List Bool) (last : ℕ) → word_count (length bs) ≡ last + 1 → ((k : ℕ) → get_or (words_of bs) k 0 < 2 ^ 64)
-    → binary_text bs ≡ map (digit_glyph false) (lowest_digits 2 (length bs - 64 * last) (word_of bs last)) ++ map (digit_glyph false) (spelt 2 64 (take last (words_of bs)))
+    → binary_text bs ≡ map (digit_glyph false) (lowest_digits 2 (length bs - 64 * last) (word_of bs last)) ++ map (digit_glyph false) (digits_of_words 2 64 (take last (words_of bs)))
 binary_text_is [] last count fits = absurd (omega (arith, count))
 binary_text_is (b ∷ bs) last count fits =
     let all : length (b ∷ bs) ≡ length (b ∷ bs) - 64 * last + times 64 last = omega (arith, count, times_64 last) in
     binary_digits (b ∷ bs)
     ∙ ap (λ n. map (digit_glyph false) (lowest_digits 2 n (value_of (b ∷ bs)))) all
     ∙ ap (map (digit_glyph false)) (lowest-words 2 64 IsWord-binary (b ∷ bs) last (length (b ∷ bs) - 64 * last) count fits)
-    ∙ map-append (digit_glyph false) (lowest_digits 2 (length (b ∷ bs) - 64 * last) (word_of (b ∷ bs) last)) (spelt 2 64 (take last (words_of (b ∷ bs))))
+    ∙ map-append (digit_glyph false) (lowest_digits 2 (length (b ∷ bs) - 64 * last) (word_of (b ∷ bs) last)) (digits_of_words 2 64 (take last (words_of (b ∷ bs))))
 
 -- ---- the hexadecimal text
 pub hex_text_of_zeros : (upper : Bool) (bs : List Bool) → 0 < length bs → bs ≡ replicate (length bs) false → hex_text upper bs ≡ codes "0x0"
@@ -273,7 +275,9 @@ value_of-some : (bs : List Bool) → bs ≢ replicate (length bs) false → valu
 value_of-some bs some none = some (sym (digits_of-value_of bs) ∙ ap (λ v. digits_of (length bs) v) none ∙ digits_of-zero (length bs))
 
 pub hex_text_is : (upper : Bool) (bs : List Bool) (last : ℕ) → word_count (length bs) ≡ last + 1 → bs ≢ replicate (length bs) false → ((k : ℕ) → get_or (words_of bs) k 0 < 2 ^ 64)
-    → hex_text upper bs ≡ codes "0x" ++ (map (digit_glyph upper) (lowest_digits 16 (length (digits 16 false (word_of bs last))) (word_of bs last)) ++ map (digit_glyph upper) (spelt 16 16 (take last (words_of bs))))
+    → hex_text upper bs ≡ codes "0x" ++ (map (digit_glyph upper)
+    (lowest_digits 16 (length (digits 16 false (word_of bs last))) (word_of bs last))
+    ++ map (digit_glyph upper) (digits_of_words 16 16 (take last (words_of bs))))
 hex_text_is upper [] last count some fits = absurd (omega (arith, count))
 hex_text_is upper (b ∷ bs) last count some fits =
     let c : ℕ = length (digits 16 false (word_of (b ∷ bs) last)) in
@@ -282,7 +286,7 @@ hex_text_is upper (b ∷ bs) last count some fits =
     let counted : hex_count (b ∷ bs) ≡ c + times 16 last = rw (not_zero, at) (omega (arith, times_16 last)) in
     ap (λ n. codes "0x" ++ map (digit_glyph upper) (lowest_digits 16 n (value_of (b ∷ bs)))) counted
     ∙ ap (λ ds. codes "0x" ++ map (digit_glyph upper) ds) (lowest-words 16 16 IsWord-hex (b ∷ bs) last c count fits)
-    ∙ ap (λ t. codes "0x" ++ t) (map-append (digit_glyph upper) (lowest_digits 16 c (word_of (b ∷ bs) last)) (spelt 16 16 (take last (words_of (b ∷ bs)))))
+    ∙ ap (λ t. codes "0x" ++ t) (map-append (digit_glyph upper) (lowest_digits 16 c (word_of (b ∷ bs) last)) (digits_of_words 16 16 (take last (words_of (b ∷ bs)))))
 
 -- ---- how many digits a number has in base 16
 -- as `digits` counts them, at most k
@@ -355,7 +359,8 @@ bit_glyph-below false = omega arith
 
 no_brackets : (b : Bool) (bs : List Bool) → codes "[]" ≢ binary_text (b ∷ bs)
 no_brackets b bs e =
-    let first : get_or (map bit_glyph (reverse (b ∷ bs))) 0 0 ≡ bit_glyph (get_or (reverse (b ∷ bs)) 0 false) = get_or-map bit_glyph (reverse (b ∷ bs)) 0 false 0 (omega (arith, length-reverse (b ∷ bs))) in
+    let first : get_or (map bit_glyph (reverse (b ∷ bs))) 0 0 ≡ bit_glyph (get_or (reverse (b ∷ bs)) 0 false) =
+    get_or-map bit_glyph (reverse (b ∷ bs)) 0 false 0 (omega (arith, length-reverse (b ∷ bs))) in
     let same : 91 ≡ get_or (map bit_glyph (reverse (b ∷ bs))) 0 0 = ap (λ t. get_or t 0 0) e in
     absurd (omega (arith, first, same, bit_glyph-below (get_or (reverse (b ∷ bs)) 0 false)))
 
@@ -371,7 +376,11 @@ pub binary_texts_tell : BinaryTextsTell
 binary_texts_tell xs ys = (same_from_text xs ys, ap binary_text)
 
 -- one piece of the words from the last to the first, and the rest
-pub spelt-step : (glyphs : ℕ → ℕ) (b n : ℕ) (ws : List ℕ) (left : ℕ) → 0 < left → left ≤ length ws → map glyphs (lowest_digits b n (get_or ws (left - 1) 0)) ++ map glyphs (spelt b n (take (left - 1) ws)) ≡ map glyphs (spelt b n (take left ws))
-spelt-step glyphs b n ws left some within =
+pub digits_of_words-step : (glyphs : ℕ → ℕ) (b n : ℕ) (ws : List ℕ) (left : ℕ) → 0 < left → left ≤ length ws
+    → map glyphs (lowest_digits b n (get_or ws (left - 1) 0)) ++ map glyphs (digits_of_words b n (take (left - 1) ws))
+    ≡ map glyphs (digits_of_words b n (take left ws))
+digits_of_words-step glyphs b n ws left some within =
     let back : left - 1 + 1 ≡ left = omega arith in
-    sym (ap (λ k. map glyphs (spelt b n (take k ws))) (sym back) ∙ ap (map glyphs) (spelt-take b n ws (left - 1) (omega arith)) ∙ map-append glyphs (lowest_digits b n (get_or ws (left - 1) 0)) (spelt b n (take (left - 1) ws)))
+    sym (ap (λ k. map glyphs (digits_of_words b n (take k ws))) (sym back)
+    ∙ ap (map glyphs) (digits_of_words-take b n ws (left - 1) (omega arith))
+    ∙ map-append glyphs (lowest_digits b n (get_or ws (left - 1) 0)) (digits_of_words b n (take (left - 1) ws)))

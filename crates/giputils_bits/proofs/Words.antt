@@ -23,7 +23,9 @@ place-words_of bs i = elim (cases_lt (i / 64) (word_count (length bs))) [
   | inl within ↦
       let at : 64 * (i / 64) + i % 64 ≡ i = omega arith in
       rw (place_is (words_of bs) i, get_or-words_of bs (i / 64) within)
-      (has_digit-value_of (take 64 (drop (64 * (i / 64)) bs)) (i % 64) ∙ get_or-take 64 (drop (64 * (i / 64)) bs) (i % 64) false (omega arith) ∙ get_or-drop (64 * (i / 64)) bs (i % 64) false ∙ ap (λ k. get_or bs k false) at)
+      (has_digit-value_of (take 64 (drop (64 * (i / 64)) bs)) (i % 64)
+      ∙ get_or-take 64 (drop (64 * (i / 64)) bs) (i % 64) false (omega arith) ∙ get_or-drop (64 * (i / 64)) bs (i % 64) false
+      ∙ ap (λ k. get_or bs k false) at)
   | inr past ↦ place-past (words_of bs) i (omega (arith, length-words_of bs)) ∙ sym (get_or_past bs i false (omega arith))
 ]
 
@@ -69,7 +71,8 @@ words_of_is ws bs long same = same_lists ws (words_of bs) (long ∙ sym (length-
 pub words_of-bits_of : (n : ℕ) (ws : List ℕ) → IsPacked n ws → ((k : ℕ) → get_or ws k 0 < 2 ^ 64) → take (word_count n) ws ≡ words_of (bits_of n ws)
 words_of-bits_of n ws p fits =
     let front : length (take (word_count n) ws) ≡ word_count n = length-take-le (word_count n) ws (omega (arith, p.count)) in
-    words_of_is (take (word_count n) ws) (bits_of n ws) (front ∙ ap word_count (sym (length-bits_of n ws))) (λ k within. get_or-take (word_count n) ws k 0 (omega arith) ∙ word_of-bits_of n ws k p (fits k))
+    words_of_is (take (word_count n) ws) (bits_of n ws) (front ∙ ap word_count (sym (length-bits_of n ws)))
+    (λ k within. get_or-take (word_count n) ws k 0 (omega arith) ∙ word_of-bits_of n ws k p (fits k))
 
 -- a list that is not empty is kept in its words
 pub IsPacked-words_of : (bs : List Bool) → 0 < length bs → IsPacked (length bs) (words_of bs)

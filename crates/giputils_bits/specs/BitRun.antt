@@ -1,5 +1,5 @@
 -- A run of calls on a bit vector.
-use Rattle.std.specs.Prelude.{◌≡◌, ℕ, ◌+◌, ◌<◌, ◌≤◌, ◌==◌, ◌⊎◌, Bool, true, false, List, [], ◌∷◌, ◌++◌, length, take, replicate, slice_get, slice_set, slice_index, nat_lt, Option, Some, None, ◌^◌, ◌-◌}
+use Rattle.std.specs.Prelude.{◌≡◌, ℕ, ◌+◌, ◌%◌, ◌<◌, ◌≤◌, ◌==◌, ◌⊎◌, Bool, true, false, List, [], ◌∷◌, ◌++◌, length, take, replicate, slice_get, slice_set, slice_index, nat_lt, Option, Some, None, ◌^◌, ◌-◌}
 use Rattle.std.specs.Bool.{beq}
 use Rattle.std.specs.Cmp.Lexicographic.{pointwise}
 use Rattle.std.specs.Option.{option_map_or}
@@ -16,30 +16,41 @@ use Rattle.giputils_bits.specs.Logic.{and_of, or_of, xor_of, not_of}
 abbrev pub max_len : ℕ
 max_len = 2 ^ 64 - 1
 
--- a call may be refused so, after which the list would have n places: as too long exactly where no list has so many, and
--- for memory only where they are more than a word has
-abbrev pub CanRefuse : ℕ → BitVecError → Type 0
-CanRefuse n TooLong = max_len < n
-CanRefuse n Memory = (64 < n) × (n ≤ max_len)
+-- where n places are, one more may be refused so: as too long exactly where no list has more, and for memory only where
+-- the last word is full
+abbrev pub StopsAt : ℕ → BitVecError → Type 0
+StopsAt n TooLong = n ≡ max_len
+StopsAt n Memory = (0 < n) × (n % 64 ≡ 0)
 
--- a call that makes the list n places long may be answered so
-abbrev pub GrowsTo : ℕ → BitReply → Type 0
-GrowsTo n Done = n ≤ max_len
-GrowsTo n (Refused error kept) = CanRefuse n error × (kept ≡ 0)
-GrowsTo n reply = ⊥
+-- a call that appends one place to n may be answered so
+abbrev pub IsPushReply : ℕ → BitReply → Type 0
+IsPushReply n Done = n < max_len
+IsPushReply n (Refused error kept) = StopsAt n error × (kept ≡ 0)
+IsPushReply n reply = ⊥
 
--- a call that appends m places to n may be answered so: refused, it has kept some of them, and the next made it too long
--- or wanted memory
+-- where n places are, 64 more may be refused so: as too long exactly where no list has so many, and for memory only
+-- where there is a place
+abbrev pub CanRefuseWord : ℕ → BitVecError → Type 0
+CanRefuseWord n TooLong = max_len < n + 64
+CanRefuseWord n Memory = (0 < n) × (n + 64 ≤ max_len)
+
+-- a call that appends 64 places to n may be answered so
+abbrev pub IsPushWordReply : ℕ → BitReply → Type 0
+IsPushWordReply n Done = n + 64 ≤ max_len
+IsPushWordReply n (Refused error kept) = CanRefuseWord n error × (kept ≡ 0)
+IsPushWordReply n reply = ⊥
+
+-- a call that appends m places to n may be answered so: refused, it has kept some of them, and stops there
 abbrev pub ExtendsBy : ℕ → ℕ → BitReply → Type 0
 ExtendsBy n m Done = n + m ≤ max_len
-ExtendsBy n m (Refused error kept) = (kept < m) × CanRefuse (n + kept + 1) error
+ExtendsBy n m (Refused error kept) = (kept < m) × StopsAt (n + kept) error
 ExtendsBy n m reply = ⊥
 
 -- the bits after a call that was to append these items, and was answered so
-abbrev pub extended : List Bool → List Bool → BitReply → List Bool
-extended bits items Done = bits ++ items
-extended bits items (Refused error kept) = bits ++ take kept items
-extended bits items reply = bits
+abbrev pub bits_after_extend : List Bool → List Bool → BitReply → List Bool
+bits_after_extend bits items Done = bits ++ items
+bits_after_extend bits items (Refused error kept) = bits ++ take kept items
+bits_after_extend bits items reply = bits
 
 -- the new bits where the call was done, else the old ones
 abbrev pub if_done : BitReply → List Bool → List Bool → List Bool
@@ -52,9 +63,9 @@ done_if true = Done
 done_if false = Skipped
 
 -- whether a list is another, where it has a place at all
-abbrev pub whether : List Bool → List Bool → BitReply
-whether [] ys = Skipped
-whether (x ∷ xs) ys = Bit (pointwise beq (x ∷ xs) ys)
+abbrev pub equality_reply : List Bool → List Bool → BitReply
+equality_reply [] ys = Skipped
+equality_reply (x ∷ xs) ys = Bit (pointwise beq (x ∷ xs) ys)
 
 -- the bit of a list that has one and no more
 abbrev pub only_bit : List Bool → Option Bool
@@ -64,8 +75,8 @@ only_bit xs = None
 module _ {A : Type 0} where
   -- the call, made on these bits, may be answered so
   abbrev pub IsAnswer : List Bool → BitCall A → BitReply → Type 0
-  IsAnswer bits (Push x) reply = GrowsTo (length bits + 1) reply
-  IsAnswer bits (PushWord word) reply = GrowsTo (length bits + 64) reply
+  IsAnswer bits (Push x) reply = IsPushReply (length bits) reply
+  IsAnswer bits (PushWord word) reply = IsPushWordReply (length bits) reply
   IsAnswer bits (SetBit i x) reply = reply ≡ done_if (nat_lt i (length bits))
   IsAnswer bits (GetBit i) reply = reply ≡ option_map_or Bit (slice_get bits i) Skipped
   IsAnswer bits Clear reply = reply ≡ Done
@@ -78,9 +89,9 @@ module _ {A : Type 0} where
   IsAnswer bits WordLen reply = reply ≡ Number (length (words_of bits))
   IsAnswer bits ToUsize reply = reply ≡ Number (slice_index (words_of bits) 0)
   IsAnswer bits IsEmpty reply = reply ≡ Bit (length bits == 0)
-  IsAnswer bits IsZero reply = reply ≡ whether bits (replicate (length bits) false)
-  IsAnswer bits IsOne reply = reply ≡ whether bits (one_of (length bits))
-  IsAnswer bits IsOnes reply = reply ≡ whether bits (replicate (length bits) true)
+  IsAnswer bits IsZero reply = reply ≡ equality_reply bits (replicate (length bits) false)
+  IsAnswer bits IsOne reply = reply ≡ equality_reply bits (one_of (length bits))
+  IsAnswer bits IsOnes reply = reply ≡ equality_reply bits (replicate (length bits) true)
   IsAnswer bits BoolCall reply = reply ≡ option_map_or Bit (only_bit bits) Skipped
   IsAnswer bits TryBool reply = reply ≡ MaybeBit (only_bit bits)
 
@@ -90,7 +101,7 @@ module _ {A : Type 0} where
   bits_after bits (PushWord word) reply = if_done reply (bits ++ digits_of 64 word) bits
   bits_after bits (SetBit i x) reply = if_done reply (slice_set bits i x) bits
   bits_after bits Clear reply = []
-  bits_after bits (Extend items) reply = extended bits items.now reply
+  bits_after bits (Extend items) reply = bits_after_extend bits items.now reply
   bits_after bits (AndWith other) reply = if_done reply (and_of bits other.now) bits
   bits_after bits (OrWith other) reply = if_done reply (or_of bits other.now) bits
   bits_after bits (XorWith other) reply = if_done reply (xor_of bits other.now) bits
@@ -100,5 +111,6 @@ module _ {A : Type 0} where
   -- the calls, made one after another from the bits `start` on, may be answered so, and then leave the bits `end`
   abbrev pub Answers : List Bool → List (BitCall A) → List BitReply → List Bool → Type 0
   Answers start [] [] end = end ≡ start
-  Answers start (call ∷ calls) (reply ∷ replies) end = IsAnswer start call reply × Answers (bits_after start call reply) calls replies end
+  Answers start (call ∷ calls) (reply ∷ replies) end =
+      IsAnswer start call reply × Answers (bits_after start call reply) calls replies end
   Answers start calls replies end = ⊥

@@ -1,11 +1,11 @@
 -- A list of booleans as a number, and as words of 64 bits. Place 0 is the lowest.
-use Rattle.std.specs.Prelude.{ℕ, ◌+◌, ◌-◌, ◌*◌, ◌/◌, Bool, true, false, eqb, List, [], ◌∷◌, map, length, take, drop, replicate, if◌then◌else◌}
+use Rattle.std.specs.Prelude.{ℕ, ◌+◌, ◌-◌, ◌*◌, ◌/◌, ◌==◌, Bool, true, false, List, [], ◌∷◌, map, length, take, drop, replicate, if◌then◌else◌}
 use Rattle.std.specs.Int.{bit_at}
 use Rattle.std.specs.List.{range_with_len}
 
 -- whether binary digit i of the number is 1
 abbrev pub has_digit : ℕ → ℕ → Bool
-has_digit number i = eqb (bit_at number i) 1
+has_digit number i = bit_at number i == 1
 
 -- the n lowest binary digits of the number, the lowest first
 unfoldable pub digits_of : ℕ → ℕ → List Bool

@@ -1,5 +1,5 @@
--- What a refusal says.
-use Rattle.std.specs.Prelude.{ℕ, List, codes}
+-- Why a call was refused.
+use Rattle.std.specs.Prelude.{◌≡◌, ℕ, List, codes}
 use Rattle.giputils_bits.specs.declared.bitvec.error.BitVecError.{BitVecError}
 use Rattle.giputils_bits.specs.declared.bitvec.error.BitVecError.TheVariants.{TooLong, Memory}
 
@@ -7,3 +7,7 @@ use Rattle.giputils_bits.specs.declared.bitvec.error.BitVecError.TheVariants.{To
 abbrev pub error_text : BitVecError → List ℕ
 error_text TooLong = codes "the vector would be too long"
 error_text Memory = codes "memory was refused"
+
+-- memory was refused
+abbrev pub IsMemory : BitVecError → Type 0
+IsMemory error = error ≡ Memory

@@ -14,4 +14,5 @@ hash_input_of bs = flat_map fed.u64 (words_of bs) ++ fed.usize (length bs % 64)
 
 -- equal lists feed a hasher the same
 pub hash_input_respects : (xs ys : List Bool) → pointwise beq xs ys ≡ true → hash_input_of xs ≡ hash_input_of ys
-hash_input_respects xs ys e = ap hash_input_of ((slice_eq-Decides booleans_Decides xs ys (pointwise beq xs ys) refl).0 e)
+hash_input_respects xs ys e =
+    ap hash_input_of ((slice_eq-Decides booleans_Decides xs ys (pointwise beq xs ys) refl).0 e)

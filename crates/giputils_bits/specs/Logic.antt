@@ -27,7 +27,9 @@ not_of = map not
 
 -- De Morgan's laws
 abbrev pub DeMorgan : Type 0
-DeMorgan = ((xs ys : List Bool) → not_of (and_of xs ys) ≡ or_of (not_of xs) (not_of ys)) × ((xs ys : List Bool) → not_of (or_of xs ys) ≡ and_of (not_of xs) (not_of ys))
+DeMorgan =
+    ((xs ys : List Bool) → not_of (and_of xs ys) ≡ or_of (not_of xs) (not_of ys))
+    × ((xs ys : List Bool) → not_of (or_of xs ys) ≡ and_of (not_of xs) (not_of ys))
 
 -- a list that is negated twice is as it was
 abbrev pub DoubleNot : Type 0

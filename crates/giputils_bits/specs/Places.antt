@@ -1,12 +1,13 @@
--- How words keep a list of booleans: place i is digit i % 64 of word i / 64. Only this crate's own functions speak of it.
+-- How words keep a list of booleans: place i is digit i % 64 of word i / 64. Only this crate's own functions speak of
+-- it.
 use Rattle.std.specs.Prelude.{◌≡◌, ◌≢◌, ℕ, ◌+◌, ◌-◌, ◌/◌, ◌%◌, ◌<◌, ◌≤◌, max, Bool, false, List, [], ◌∷◌, map, length, slice_index}
 use Rattle.std.specs.List.{range_with_len}
 use Rattle.giputils_bits.specs.Bits.{has_digit, word_count}
 
 -- the words of a storage: those on the heap, or the one inline where there are none
-abbrev pub kept : ℕ → List ℕ → List ℕ
-kept inline [] = inline ∷ []
-kept inline (w ∷ ws) = w ∷ ws
+abbrev pub storage_words : ℕ → List ℕ → List ℕ
+storage_words inline [] = inline ∷ []
+storage_words inline (w ∷ ws) = w ∷ ws
 
 -- place i of the words; past their end it is false
 unfoldable pub place : List ℕ → ℕ → Bool
@@ -29,12 +30,6 @@ pub record IsPacked (n : ℕ) (ws : List ℕ) : Type 0 where
 pub record SetsDigit (old new k : ℕ) (b : Bool) : Type 0 where
   pub at : has_digit new k ≡ b
   pub others : (j : ℕ) → j < 64 → j ≢ k → has_digit new j ≡ has_digit old j
-
--- place i of the words becomes b, and no other changes
-pub record SetsPlace (old new : List ℕ) (i : ℕ) (b : Bool) : Type 0 where
-  pub count : length new ≡ length old
-  pub at : place new i ≡ b
-  pub others : (j : ℕ) → j ≢ i → place new j ≡ place old j
 
 -- there is room for a place more after n of them, and each place is as it was
 pub record HasRoom (n : ℕ) (old new : List ℕ) : Type 0 where

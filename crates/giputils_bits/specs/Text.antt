@@ -18,15 +18,21 @@ abbrev pub lowest_digits : ℕ → ℕ → ℕ → List ℕ
 lowest_digits base zero number = []
 lowest_digits base (suc n) number = lowest_digits base n (number / base) ++ number % base ∷ []
 
--- how many digits stand after `0x`: one where no place is true; else 16 for each word but the last, and for the last one
--- as many as its number has without leading zeros
-abbrev pub hex_count : List Bool → ℕ
-hex_count bs = if value_of bs == 0 then 1 else 16 * (word_count (length bs) - 1) + length (digits 16 false (word_of bs (word_count (length bs) - 1)))
+-- the number that the last word is
+abbrev pub last_word : List Bool → ℕ
+last_word bs = word_of bs (word_count (length bs) - 1)
 
--- `0x` and digits whose value in base 16 is that of the list, with capital letters or small ones; `[]` where there is no place
+-- how many digits stand after `0x`: one where no place is true; else 16 for each word but the last, and for the last
+-- one as many as its number has without leading zeros
+abbrev pub hex_count : List Bool → ℕ
+hex_count bs = if value_of bs == 0 then 1 else 16 * (word_count (length bs) - 1) + length (digits 16 false (last_word bs))
+
+-- `0x` and digits whose value in base 16 is that of the list, with capital letters or small ones; `[]` where there is
+-- no place
 abbrev pub hex_text : Bool → List Bool → List ℕ
 hex_text upper [] = codes "[]"
-hex_text upper (b ∷ bs) = codes "0x" ++ map (digit_glyph upper) (lowest_digits 16 (hex_count (b ∷ bs)) (value_of (b ∷ bs)))
+hex_text upper (b ∷ bs) =
+    codes "0x" ++ map (digit_glyph upper) (lowest_digits 16 (hex_count (b ∷ bs)) (value_of (b ∷ bs)))
 
 -- binary texts are equal exactly where the lists are
 abbrev pub BinaryTextsTell : Type 0
@@ -34,4 +40,5 @@ BinaryTextsTell = (xs ys : List Bool) → (binary_text xs ≡ binary_text ys) �
 
 -- hexadecimal texts don't tell lists apart: these two have one text
 abbrev pub HexTextsDoNotTell : Type 0
-HexTextsDoNotTell = (upper : Bool) → (hex_text upper (true ∷ []) ≡ hex_text upper (true ∷ false ∷ [])) × (true ∷ [] ≢ true ∷ false ∷ [])
+HexTextsDoNotTell =
+    (upper : Bool) → (hex_text upper (true ∷ []) ≡ hex_text upper (true ∷ false ∷ [])) × (true ∷ [] ≢ true ∷ false ∷ [])

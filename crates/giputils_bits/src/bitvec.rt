@@ -53,3 +53,5 @@ impl BitVec {
     /// What keeps of an index the place within its word.
     pub const WORD_SIZE_MASK: usize = Self::WORD_SIZE - 1;
 }
+
+const _: () = prove!(BitVec::<Global>::WORD_SIZE == 64 && BitVec::<Global>::WORD_SIZE_MASK == 63);

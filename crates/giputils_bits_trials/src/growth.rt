@@ -103,6 +103,17 @@ fn the_greatest_length_is_one_request(rt: HostRuntime) {
 }
 
 #[test]
+fn the_most_words_are_one_request_before_anything_is_drawn(rt: HostRuntime) {
+    let memory = Refusing::from(rt.alloc(), 1);
+    let mut rng = Pcg32::new(42, 54);
+    let is_made = BitVec::new_rand(&memory, (1 << 58) - 1, &mut rng).is_ok();
+    assert_eq!(rt;
+        (is_made, memory.requests(), memory.largest(), rng.next_u32()),
+        (false, 1, (1 << 61) - 8, FIRST_DRAWN)
+    );
+}
+
+#[test]
 fn a_length_that_no_usize_is_asks_for_nothing(rt: HostRuntime) {
     let memory = Refusing::from(rt.alloc(), 1);
     let is_made = BitVec::new_rand(&memory, 1 << 58, &mut Pcg32::new(42, 54)).is_ok();

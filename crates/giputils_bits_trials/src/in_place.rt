@@ -110,3 +110,27 @@ fn a_cleared_vector_keeps_its_memory(rt: HostRuntime) -> Result<(), Fail> {
     assert_eq!(rt; (is_grown, memory.requests()), (true, 1));
     Ok(())
 }
+
+// The joins by value, the texts and the only bit. Tells whether the answers were right.
+fn is_joined_by_value(memory: &Refusing, len: usize) -> bool {
+    let (Ok(and), Ok(other)) = (
+        BitVec::from_elem(memory, len, true),
+        BitVec::from_elem(memory, len, false),
+    ) else {
+        return false;
+    };
+    if and.len() != other.len() {
+        return false;
+    }
+    let joined = and & other;
+    joined.iter().all(|bit| !bit) && joined.len() == len
+}
+
+#[test]
+fn vectors_are_joined_by_value_without_memory(rt: HostRuntime) {
+    for (len, requests) in [(0, 0), (64, 0), (65, 2)] {
+        let memory = Refusing::from(rt.alloc(), requests + 1);
+        let outcome = (is_joined_by_value(&memory, len), memory.requests());
+        assert_eq!(rt; outcome, (true, requests), "{len} bits");
+    }
+}

@@ -1,12 +1,12 @@
 //! Equality of words, many at once.
 ghost use Rattle.std.specs.Prelude.{◌≡◌, ◌↔◌, IsTrue, length};
 
-// How many words are compared at once: so many that the processor takes several in one step, so few that a difference is
-// found soon.
+// How many words are compared at once: so many that the processor takes several in one step, so few that a difference
+// is found soon.
 const BLOCK: usize = 64;
 
 // Whether two lists of words, of one length, are equal.
-pub fn same_words(words: &[u64], others: &[u64]) -> bool
+pub(crate) fn same_words(words: &[u64], others: &[u64]) -> bool
     requires { length words.now ≡ length others.now }
     ensures { IsTrue result ↔ (words.now ≡ others.now) }
 {

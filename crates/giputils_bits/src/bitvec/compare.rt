@@ -33,6 +33,6 @@ impl<A: Allocator> Hash for BitVec<A> {
 
     fn hash<H: Hasher>(&self, state: &mut H) {
         <u64 as Hash>::hash_slice(self.words(), state);
-        (self.len() % 64).hash(state);
+        (self.len() % BitVec::WORD_SIZE).hash(state);
     }
 }

@@ -1,14 +1,15 @@
 //! How a bit vector grows and is emptied. What refuses stands before what writes.
-ghost use Rattle.std.specs.Prelude.{◌≡◌, ◌+◌, ◌*◌, ◌/◌, ◌%◌, ◌<◌, ◌≤◌, ◌↔◌, [], ◌∷◌, ◌++◌, List, Bool, length, IfOk, OnErr, OnOk, IsOk};
-ghost use Rattle.std.specs.Iterator.{Drains, ExtendsWithItems, IsFinite};
+ghost use Rattle.std.specs.Prelude.{◌≡◌, ◌+◌, ◌*◌, ◌/◌, ◌%◌, ◌<◌, ◌≤◌, ◌↔◌, [], ◌∷◌, ◌++◌, length, IfOk, IfErr, OnErr, OnOk, IsOk};
+ghost use Rattle.std.specs.Iterator.{ExtendsWithItems};
 ghost use Rattle.giputils_bits.specs.Bits.{digits_of};
-ghost use Rattle.giputils_bits.specs.Extended.{StopsBefore};
+ghost use Rattle.giputils_bits.specs.Error.{IsMemory};
+ghost use Rattle.giputils_bits.specs.Extended.{CanDrain, CollectsItems, Extends, ItemsFit, StopsBefore};
 ghost use Rattle.giputils_bits.specs.Places.{bits_of, IsPacked, HasRoom, AppendsWord};
 
 use super::BitVec;
 use super::error::BitVecError;
-use super::queries::with_bit;
 use super::storage::Storage;
+use super::words::with_bit;
 use std::alloc::{AllocError, Allocator};
 
 impl<A: Allocator> BitVec<A> {
@@ -21,12 +22,17 @@ impl<A: Allocator> BitVec<A> {
         self.words.reset();
     }
 
-    /// Appends a bit. Refused, nothing changes.
+    /// Appends a bit.
+    ///
+    /// # Errors
+    /// `TooLong` at the length `usize::MAX`; `Memory` where the last word is full and memory for the next is refused.
+    /// Nothing changes then.
     #[inline]
     #[tactic(auto, using(crate::proofs::Kept::kept))]
     pub fn push(&mut self, bit: bool) -> Result<(), BitVecError>
         ensures ok { OnOk result (self.new ≡ self.old ++ bit ∷ []) }
         ensures inline { length self.old < 64 → IsOk result }
+        ensures memory { result ≡ Err BitVecError.Memory → (0 < length self.old) × (length self.old % 64 ≡ 0) }
         ensures too_long { (result ≡ Err BitVecError.TooLong) ↔ (length self.old ≡ usize.MAX) }
         ensures err { OnErr result (self.new ≡ self.old) }
     {
@@ -34,14 +40,19 @@ impl<A: Allocator> BitVec<A> {
             return Err(BitVecError::TooLong);
         }
         make_room(&mut self.words, self.len)?;
-        let k = self.len / 64;
+        let k = self.len / BitVec::WORD_SIZE;
         let word = self.words.as_slice()[k];
-        self.words.put(k, with_bit(word, self.len % 64, bit));
+        self.words
+            .put(k, with_bit(word, self.len % BitVec::WORD_SIZE, bit));
         self.len += 1;
         Ok(())
     }
 
-    /// Appends the 64 binary digits of `word`, the lowest first. Refused, nothing changes.
+    /// Appends the 64 binary digits of `word`, the lowest first.
+    ///
+    /// # Errors
+    /// `TooLong` where the length would be above `usize::MAX`; `Memory` where memory for a word more is refused. Nothing
+    /// changes then.
     #[inline]
     #[tactic(auto, using(crate::proofs::Kept::kept))]
     pub fn push_word(&mut self, word: u64) -> Result<(), BitVecError>
@@ -50,26 +61,29 @@ impl<A: Allocator> BitVec<A> {
         ensures too_long { (result ≡ Err BitVecError.TooLong) ↔ (usize.MAX < length self.old + 64) }
         ensures err { OnErr result (self.new ≡ self.old) }
     {
-        if self.len > usize::MAX - 64 {
+        if self.len > usize::MAX - BitVec::WORD_SIZE {
             return Err(BitVecError::TooLong);
         }
         append_word(&mut self.words, self.len, word)?;
-        self.len += 64;
+        self.len += BitVec::WORD_SIZE;
         Ok(())
     }
 
     /// Appends the items of an iterator that ends.
     ///
-    /// At an error the items before the refused one stand, and the refused one was taken and is not kept. Memory is
-    /// refused only where a word is full, and the vector then ends with that word.
+    /// # Errors
+    /// `TooLong` at the item past the length `usize::MAX`; `Memory` where memory for a word more is refused, and the
+    /// vector then ends with a full word. The items before the refused one stand; that one was taken, and is not kept.
     #[tactic(auto, using(crate::proofs::Kept::kept))]
     pub fn extend<U: IntoIterator<Item = bool>>(&mut self, iter: U) -> Result<(), BitVecError>
-        requires { (it : U.IntoIter) → U.into_iter_gives iter it → U.IntoIter.can_next it × IsFinite (U.IntoIter.remaining it) }
-        ensures ran { ExtendsWithItems U.into_iter_gives U.IntoIter.next_gives (λ bits items more. more ≡ bits ++ items) iter self.old self.new result }
+        requires { CanDrain U.into_iter_gives U.IntoIter.can_next U.IntoIter.remaining iter }
+        ensures ran { ExtendsWithItems U.into_iter_gives U.IntoIter.next_gives Extends iter self.old self.new result }
         ensures err { OnErr result (StopsBefore U.into_iter_gives U.IntoIter.next_gives iter self.old self.new) }
-        ensures inline { ((it : U.IntoIter) → U.into_iter_gives iter it → length self.old + (U.IntoIter.remaining it).bound ≤ 64) → IsOk result }
+        ensures inline { ItemsFit U.into_iter_gives U.IntoIter.remaining iter (λ n. length self.old + n ≤ 64) → IsOk result }
         ensures memory { result ≡ Err BitVecError.Memory → (0 < length self.new) × (length self.new % 64 ≡ 0) }
         ensures too_long { result ≡ Err BitVecError.TooLong → length self.new ≡ usize.MAX }
+        ensures short { ItemsFit U.into_iter_gives U.IntoIter.remaining iter (λ n. length self.old + n ≤ usize.MAX)
+            → IfErr result IsMemory }
     {
         let (len, done) = append_items(&mut self.words, self.len, iter);
         self.len = len;
@@ -77,10 +91,15 @@ impl<A: Allocator> BitVec<A> {
     }
 
     /// The items of an iterator that ends, in order.
+    ///
+    /// # Errors
+    /// As those of [`BitVec::extend`] on the empty vector: `Memory` alone, unless the iterator has no end below
+    /// `usize::MAX` items.
     pub fn from<U: IntoIterator<Item = bool>>(alloc: A, iter: U) -> Result<Self, BitVecError>
-        requires { (it : U.IntoIter) → U.into_iter_gives iter it → U.IntoIter.can_next it × IsFinite (U.IntoIter.remaining it) }
-        ensures ran { IfOk result (λ bits. (it : U.IntoIter) × (items : List Bool) × U.into_iter_gives iter it × Drains U.IntoIter.next_gives it items × (bits ≡ items)) }
-        ensures inline { ((it : U.IntoIter) → U.into_iter_gives iter it → (U.IntoIter.remaining it).bound ≤ 64) → IsOk result }
+        requires { CanDrain U.into_iter_gives U.IntoIter.can_next U.IntoIter.remaining iter }
+        ensures ran { IfOk result (λ bits. CollectsItems U.into_iter_gives U.IntoIter.next_gives iter bits) }
+        ensures inline { ItemsFit U.into_iter_gives U.IntoIter.remaining iter (λ n. n ≤ 64) → IsOk result }
+        ensures short { ItemsFit U.into_iter_gives U.IntoIter.remaining iter (λ n. n ≤ usize.MAX) → IfErr result IsMemory }
     {
         let mut bits = Self::new(alloc);
         bits.extend(iter)?;
@@ -93,10 +112,10 @@ impl<A: Allocator> BitVec<A> {
 fn make_room<A: Allocator>(words: &mut Storage<A>, len: usize) -> Result<(), AllocError>
     requires { IsPacked len words.old }
     ensures ok { OnOk result (HasRoom len words.old words.new) }
-    ensures inline { len < 64 → IsOk result }
+    ensures full { OnErr result ((0 < len) × (len % 64 ≡ 0)) }
     ensures err { OnErr result (words.new ≡ words.old) }
 {
-    if len % 64 == 0 && len > 0 {
+    if len % BitVec::WORD_SIZE == 0 && len > 0 {
         words.push(0)?;
     }
     Ok(())
@@ -114,14 +133,14 @@ fn append_word<A: Allocator>(
     ensures inline { len ≡ 0 → IsOk result }
     ensures err { OnErr result (words.new ≡ words.old) }
 {
-    let shift = len % 64;
+    let shift = len % BitVec::WORD_SIZE;
     if len == 0 {
         words.put(0, word);
     } else if shift == 0 {
         words.push(word)?;
     } else {
-        words.push(word >> (64 - shift))?;
-        let last = len / 64;
+        words.push(word >> (BitVec::WORD_SIZE - shift))?;
+        let last = len / BitVec::WORD_SIZE;
         let joined = words.as_slice()[last] | word << shift;
         words.put(last, joined);
     }
@@ -136,13 +155,16 @@ fn append_items<A: Allocator, U: IntoIterator<Item = bool>>(
     iter: U,
 ) -> (usize, Result<(), BitVecError>)
     requires packed { IsPacked len words.old }
-    requires ends { (it : U.IntoIter) → U.into_iter_gives iter it → U.IntoIter.can_next it × IsFinite (U.IntoIter.remaining it) }
+    requires ends { CanDrain U.into_iter_gives U.IntoIter.can_next U.IntoIter.remaining iter }
     ensures packed { IsPacked result.0 words.new }
-    ensures ran { ExtendsWithItems U.into_iter_gives U.IntoIter.next_gives (λ bits items more. more ≡ bits ++ items) iter (bits_of len words.old) (bits_of result.0 words.new) result.1 }
-    ensures err { OnErr result.1 (StopsBefore U.into_iter_gives U.IntoIter.next_gives iter (bits_of len words.old) (bits_of result.0 words.new)) }
-    ensures inline { ((it : U.IntoIter) → U.into_iter_gives iter it → len + (U.IntoIter.remaining it).bound ≤ 64) → IsOk result.1 }
+    ensures ran { ExtendsWithItems U.into_iter_gives U.IntoIter.next_gives Extends iter
+        (bits_of len words.old) (bits_of result.0 words.new) result.1 }
+    ensures err { OnErr result.1 (StopsBefore U.into_iter_gives U.IntoIter.next_gives iter
+        (bits_of len words.old) (bits_of result.0 words.new)) }
+    ensures inline { ItemsFit U.into_iter_gives U.IntoIter.remaining iter (λ n. len + n ≤ 64) → IsOk result.1 }
     ensures memory { result.1 ≡ Err BitVecError.Memory → (0 < result.0) × (result.0 % 64 ≡ 0) }
     ensures too_long { result.1 ≡ Err BitVecError.TooLong → result.0 ≡ usize.MAX }
+    ensures short { ItemsFit U.into_iter_gives U.IntoIter.remaining iter (λ n. len + n ≤ usize.MAX) → IfErr result.1 IsMemory }
 {
     let mut end = len;
     let mut last = words.len() - 1;
@@ -152,7 +174,7 @@ fn append_items<A: Allocator, U: IntoIterator<Item = bool>>(
             words.put(last, word);
             return (end, Err(BitVecError::TooLong));
         }
-        if end % 64 == 0 && end > 0 {
+        if end % BitVec::WORD_SIZE == 0 && end > 0 {
             words.put(last, word);
             if words.push(0).is_err() {
                 return (end, Err(BitVecError::Memory));
@@ -160,7 +182,7 @@ fn append_items<A: Allocator, U: IntoIterator<Item = bool>>(
             last += 1;
             word = 0;
         }
-        word = with_bit(word, end % 64, bit);
+        word = with_bit(word, end % BitVec::WORD_SIZE, bit);
         end += 1;
     }
     words.put(last, word);

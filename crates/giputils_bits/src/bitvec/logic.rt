@@ -1,11 +1,11 @@
 //! Logic, place by place. It works on whole words, and those of the left operand are reused.
 ghost use Rattle.std.specs.Prelude.{◌≡◌, ◌≤◌, length, IfOk, IfErr, IsOk};
+ghost use Rattle.giputils_bits.specs.Error.{IsMemory};
 ghost use Rattle.giputils_bits.specs.Logic.{and_of, or_of, xor_of, not_of, DeMorgan, DoubleNot, XorWithItself};
 
 use super::BitVec;
 use super::error::BitVecError;
-use super::queries::ones;
-use super::words::{And, Or, Xor};
+use super::words::{And, Or, Xor, low_mask};
 use std::alloc::Allocator;
 use std::ops::{BitAnd, BitAndAssign, BitOr, BitOrAssign, BitXor, BitXorAssign};
 
@@ -18,13 +18,13 @@ impl<A: Allocator> BitVec<A> {
         A: Copy,
         ensures ok { IfOk result (λ v. v ≡ not_of self.now) }
         ensures inline { length self.now ≤ 64 → IsOk result }
-        ensures err { IfErr result (λ error. error ≡ BitVecError.Memory) }
+        ensures err { IfErr result IsMemory }
     {
         if self.len == 0 {
             return self.clone();
         }
-        let last = (self.len - 1) / 64;
-        let word = !self.words.as_slice()[last] & ones(self.len - 64 * last);
+        let last = (self.len - 1) / BitVec::WORD_SIZE;
+        let word = !self.words.as_slice()[last] & low_mask(self.len - BitVec::WORD_SIZE * last);
         let mut words = self.words.try_clone()?;
         words.negate();
         words.put(last, word);

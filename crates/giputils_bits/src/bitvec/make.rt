@@ -2,11 +2,12 @@
 ghost use Rattle.std.specs.Prelude.{◌≡◌, ◌+◌, ◌*◌, ◌<◌, ◌≤◌, ◌↔◌, [], true, false, length, replicate, IfOk, IfErr, OnErr, IsOk};
 ghost use Rattle.std.specs.Iterator.{IsFinite};
 ghost use Rattle.giputils_bits.specs.Bits.{digits_of, one_of};
+ghost use Rattle.giputils_bits.specs.Error.{IsMemory};
 
 use super::BitVec;
 use super::error::BitVecError;
-use super::queries::{filled_word, ones};
 use super::storage::Storage;
+use super::words::{filled_word, low_mask};
 use rand_core::Rng;
 use std::alloc::Allocator;
 
@@ -32,13 +33,13 @@ impl<A: Allocator> BitVec<A> {
         ensures too_long { (result ≡ Err BitVecError.TooLong) ↔ (usize.MAX < 64 * num_word) }
         ensures err { OnErr result (rng.new ≡ rng.old) }
     {
-        if num_word > usize::MAX / 64 {
+        if num_word > usize::MAX / BitVec::WORD_SIZE {
             return Err(BitVecError::TooLong);
         }
         if num_word == 0 {
             return Ok(Self::new(alloc));
         }
-        let len = 64 * num_word;
+        let len = BitVec::WORD_SIZE * num_word;
         if num_word == 1 {
             let words = Storage::of_word(alloc, rng.next_u64());
             return Ok(BitVec { len, words });
@@ -55,18 +56,18 @@ impl<A: Allocator> BitVec<A> {
     pub fn from_elem(alloc: A, len: usize, val: bool) -> Result<Self, BitVecError>
         ensures ok { IfOk result (λ v. v ≡ replicate len val) }
         ensures inline { len ≤ 64 → IsOk result }
-        ensures err { IfErr result (λ error. error ≡ BitVecError.Memory) }
+        ensures err { IfErr result IsMemory }
     {
         if len == 0 {
             return Ok(Self::new(alloc));
         }
-        let last = (len - 1) / 64;
+        let last = (len - 1) / BitVec::WORD_SIZE;
         if last == 0 {
             let words = Storage::of_word(alloc, filled_word(val, len));
             return Ok(BitVec { len, words });
         }
-        let mut words = vec![in alloc; filled_word(val, 64); last + 1]?;
-        words[last] = filled_word(val, len - 64 * last);
+        let mut words = vec![in alloc; filled_word(val, BitVec::WORD_SIZE); last + 1]?;
+        words[last] = filled_word(val, len - BitVec::WORD_SIZE * last);
         let words = Storage::of_words(words);
         Ok(BitVec { len, words })
     }
@@ -75,7 +76,7 @@ impl<A: Allocator> BitVec<A> {
     pub fn zero(alloc: A, len: usize) -> Result<Self, BitVecError>
         ensures ok { IfOk result (λ v. v ≡ replicate len false) }
         ensures inline { len ≤ 64 → IsOk result }
-        ensures err { IfErr result (λ error. error ≡ BitVecError.Memory) }
+        ensures err { IfErr result IsMemory }
     {
         Self::from_elem(alloc, len, false)
     }
@@ -85,7 +86,7 @@ impl<A: Allocator> BitVec<A> {
         requires { 0 < len }
         ensures ok { IfOk result (λ v. v ≡ replicate len true) }
         ensures inline { len ≤ 64 → IsOk result }
-        ensures err { IfErr result (λ error. error ≡ BitVecError.Memory) }
+        ensures err { IfErr result IsMemory }
     {
         Self::from_elem(alloc, len, true)
     }
@@ -95,7 +96,7 @@ impl<A: Allocator> BitVec<A> {
         requires { 0 < len }
         ensures ok { IfOk result (λ v. v ≡ one_of len) }
         ensures inline { len ≤ 64 → IsOk result }
-        ensures err { IfErr result (λ error. error ≡ BitVecError.Memory) }
+        ensures err { IfErr result IsMemory }
     {
         Self::from_usize(alloc, len, 1)
     }
@@ -104,17 +105,17 @@ impl<A: Allocator> BitVec<A> {
     pub fn from_usize(alloc: A, len: usize, v: usize) -> Result<Self, BitVecError>
         ensures ok { IfOk result (λ bits. bits ≡ digits_of len v) }
         ensures inline { len ≤ 64 → IsOk result }
-        ensures err { IfErr result (λ error. error ≡ BitVecError.Memory) }
+        ensures err { IfErr result IsMemory }
     {
         if len == 0 {
             return Ok(Self::new(alloc));
         }
         let word = v as u64;
-        if len <= 64 {
-            let words = Storage::of_word(alloc, word & ones(len));
+        if len <= BitVec::WORD_SIZE {
+            let words = Storage::of_word(alloc, word & low_mask(len));
             return Ok(BitVec { len, words });
         }
-        let mut words = vec![in alloc; 0; (len - 1) / 64 + 1]?;
+        let mut words = vec![in alloc; 0; (len - 1) / BitVec::WORD_SIZE + 1]?;
         words[0] = word;
         let words = Storage::of_words(words);
         Ok(BitVec { len, words })
@@ -126,7 +127,7 @@ impl<A: Allocator> BitVec<A> {
         A: Copy,
         ensures ok { IfOk result (λ v. v ≡ self.now) }
         ensures inline { length self.now ≤ 64 → IsOk result }
-        ensures err { IfErr result (λ error. error ≡ BitVecError.Memory) }
+        ensures err { IfErr result IsMemory }
     {
         let words = self.words.try_clone()?;
         Ok(BitVec {

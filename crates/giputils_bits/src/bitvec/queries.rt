@@ -4,6 +4,7 @@ ghost use Rattle.giputils_bits.specs.Bits.{value_of, word_count, words_of, one_o
 ghost use Rattle.giputils_bits.specs.Places.{place, SetsDigit};
 
 use super::BitVec;
+use super::words::{bit_at, low_mask, with_bit};
 use std::alloc::Allocator;
 
 impl<A: Allocator> BitVec<A> {
@@ -31,7 +32,7 @@ impl<A: Allocator> BitVec<A> {
     pub fn word_len(&self) -> usize
         ensures { result ≡ word_count (length self.now) }
     {
-        self.len / 64 + usize::from(self.len % 64 != 0)
+        self.len / BitVec::WORD_SIZE + usize::from(self.len % BitVec::WORD_SIZE != 0)
     }
 
     /// The words, in order, with zeros past the last bit. The empty vector has none.
@@ -66,9 +67,10 @@ impl<A: Allocator> BitVec<A> {
         requires { index < length self.old }
         ensures { self.new ≡ slice_set self.old index val }
     {
-        let k = index / 64;
+        let k = index / BitVec::WORD_SIZE;
         let word = self.words.as_slice()[k];
-        self.words.put(k, with_bit(word, index % 64, val));
+        self.words
+            .put(k, with_bit(word, index % BitVec::WORD_SIZE, val));
     }
 
     /// Whether each bit is false. The vector is not empty.
@@ -95,7 +97,8 @@ impl<A: Allocator> BitVec<A> {
     {
         let words = self.words();
         let last = words.len() - 1;
-        words[last] == ones(self.len - 64 * last) && all_equal(&words[..last], u64::MAX)
+        words[last] == low_mask(self.len - BitVec::WORD_SIZE * last)
+            && all_equal(&words[..last], u64::MAX)
     }
 
     /// The bit of a vector that has one.
@@ -127,42 +130,4 @@ fn all_equal(words: &[u64], word: u64) -> bool
     ensures { IsTrue result ↔ EachIndex words.now (λ k. slice_index words.now k ≡ word) }
 {
     words.iter().all(|other| *other == word)
-}
-
-// Place `index` of the words.
-#[inline]
-pub fn bit_at(words: &[u64], index: usize) -> bool
-    requires { index / 64 < length words.now }
-    ensures { result ≡ place words.now index }
-{
-    (words[index / 64] >> (index % 64)) & 1 == 1
-}
-
-// The word with digit `k` as told.
-#[inline]
-pub fn with_bit(word: u64, k: usize, val: bool) -> u64
-    requires { k < 64 }
-    ensures { SetsDigit word result k val }
-{
-    if val { word | 1 << k } else { word & !(1 << k) }
-}
-
-// The word whose `count` lowest digits are `val`, where `count` is 1 to 64, and whose others are 0.
-#[inline]
-pub fn filled_word(val: bool, count: usize) -> u64
-    requires some { 0 < count }
-    requires fits { count ≤ 64 }
-    ensures { result ≡ value_of (replicate count val) }
-{
-    if val { ones(count) } else { 0 }
-}
-
-// The word whose `count` lowest digits are 1, where `count` is 1 to 64.
-#[inline]
-pub fn ones(count: usize) -> u64
-    requires some { 0 < count }
-    requires fits { count ≤ 64 }
-    ensures { result ≡ 2 ^ count - 1 }
-{
-    u64::MAX >> (64 - count)
 }

@@ -1,6 +1,6 @@
 //! A list of calls, made on a bit vector one after another.
 ghost use Rattle.std.specs.Prelude.{◌≡◌, ◌<◌, ◌⊎◌, [], length, IfOk, MatchResult, vec_len};
-ghost use Rattle.giputils_bits.specs.BitRun.{ExtendsBy, extended, if_done, IsAnswer, bits_after, Answers};
+ghost use Rattle.giputils_bits.specs.BitRun.{ExtendsBy, bits_after_extend, if_done, IsAnswer, bits_after, Answers};
 ghost use Rattle.giputils_bits.specs.Logic.{not_of};
 ghost use Rattle.giputils_bits.specs.declared.bitvec.error.BitVecError.TheVariants.{Memory};
 ghost use Rattle.giputils_bits.specs.declared.bitvec.run.BitReply.TheVariants.{Done, Refused};
@@ -56,11 +56,11 @@ pub enum BitCall<'a, A: Allocator = Global> {
 pub enum BitReply {
     /// The call was made, and answers nothing.
     Done,
-    /// `Push`, `PushWord`, `Extend` or `Invert` was refused: why, and how many of its items `Extend` has kept. The others
-    /// keep none, and leave the vector as it was.
+    /// `Push`, `PushWord`, `Extend` or `Invert` was refused: why, and how many of its items `Extend` has kept. The
+    /// others keep none, and leave the vector as it was.
     Refused(BitVecError, usize),
-    /// The call was not made: its index is not below the length, its vector has another length, the vector is empty where
-    /// `IsZero`, `IsOne` or `IsOnes` asks for a bit, or has not one bit where `Bool` asks for it.
+    /// The call was not made: its index is not below the length, its vector has another length, the vector is empty
+    /// where `IsZero`, `IsOne` or `IsOnes` asks for a bit, or has not one bit where `Bool` asks for it.
     Skipped,
     /// The bit, or what is true of the vector.
     Bit(bool),
@@ -184,7 +184,7 @@ fn reply_to(outcome: Result<(), BitVecError>) -> BitReply
 // Appends the bits, and says how many of them are kept where that is refused.
 fn append<A: Allocator>(bits: &mut BitVec<A>, items: &[bool]) -> BitReply
     ensures reply { ExtendsBy (length bits.old) (length items.now) result }
-    ensures after { bits.new ≡ extended bits.old items.now result }
+    ensures after { bits.new ≡ bits_after_extend bits.old items.now result }
 {
     let len = bits.len();
     let outcome = bits.extend(items.iter().copied());

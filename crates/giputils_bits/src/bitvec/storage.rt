@@ -12,7 +12,7 @@ use std::slice;
 // A list of words that is never empty. A single word stands in `inline`, and `heap` is empty then; several stand in
 // `heap`, and `inline` says nothing.
 #[derive(Drop)]
-pub struct Storage<A: Allocator> {
+pub(crate) struct Storage<A: Allocator> {
     inline: u64,
     heap: Gvec<u64, A>,
 }
@@ -22,15 +22,15 @@ impl<A: Allocator> Model for Storage<A> {
 
     ghost Value = { List ℕ };
 
-    ghost use Rattle.giputils_bits.specs.Places.{kept};
+    ghost use Rattle.giputils_bits.specs.Places.{storage_words};
 
-    ghost view = { λ s. kept s.inline s.heap };
+    ghost view = { λ s. storage_words s.inline s.heap };
 }
 
 impl<A: Allocator> Storage<A> {
     // One word. It takes no memory.
     #[inline]
-    pub fn of_word(alloc: A, word: u64) -> Self
+    pub(crate) fn of_word(alloc: A, word: u64) -> Self
         ensures { result ≡ word ∷ [] }
     {
         Storage {
@@ -41,7 +41,7 @@ impl<A: Allocator> Storage<A> {
 
     // The words of a vector that has one at least.
     #[inline]
-    pub fn of_words(words: Vec<u64, A>) -> Self
+    pub(crate) fn of_words(words: Vec<u64, A>) -> Self
         requires { 0 < length words.items }
         ensures { result ≡ words.items }
     {
@@ -53,7 +53,7 @@ impl<A: Allocator> Storage<A> {
 
     // The number of words.
     #[inline]
-    pub fn len(&self) -> usize
+    pub(crate) fn len(&self) -> usize
         ensures { result ≡ length self.now }
     {
         self.as_slice().len()
@@ -61,7 +61,7 @@ impl<A: Allocator> Storage<A> {
 
     // The words, in order.
     #[inline]
-    pub fn as_slice(&self) -> &[u64]
+    pub(crate) fn as_slice(&self) -> &[u64]
         ensures { result.now ≡ self.now }
     {
         let words: &[u64] = &self.heap;
@@ -74,7 +74,7 @@ impl<A: Allocator> Storage<A> {
 
     // Puts a word in the place of word `k`.
     #[inline]
-    pub fn put(&mut self, k: usize, word: u64)
+    pub(crate) fn put(&mut self, k: usize, word: u64)
         requires { k < length self.old }
         ensures { self.new ≡ slice_set self.old k word }
     {
@@ -87,7 +87,7 @@ impl<A: Allocator> Storage<A> {
 
     // Appends a word. A second word takes the first along into memory, by one request.
     #[inline]
-    pub fn push(&mut self, word: u64) -> Result<(), AllocError>
+    pub(crate) fn push(&mut self, word: u64) -> Result<(), AllocError>
         ensures ok { OnOk result (self.new ≡ self.old ++ word ∷ []) }
         ensures err { OnErr result (self.new ≡ self.old) }
     {
@@ -105,7 +105,7 @@ impl<A: Allocator> Storage<A> {
 
     // Joins each word with the other at its place.
     #[inline]
-    pub fn join<O: WordOp>(&mut self, others: &[u64])
+    pub(crate) fn join<O: WordOp>(&mut self, others: &[u64])
         requires { length self.old ≡ length others.now }
         ensures { Rewrites (λ k word. O.made word (slice_index others.now k)) self.old self.new (length self.old) }
     {
@@ -119,7 +119,7 @@ impl<A: Allocator> Storage<A> {
 
     // Turns each digit of each word round.
     #[inline]
-    pub fn negate(&mut self)
+    pub(crate) fn negate(&mut self)
         ensures { Rewrites (λ k word. bit_not w64 word) self.old self.new (length self.old) }
     {
         let heap: &mut [u64] = &mut self.heap;
@@ -132,7 +132,7 @@ impl<A: Allocator> Storage<A> {
 
     // Back to one word, which is zero. The memory is kept for the next growth.
     #[inline]
-    pub fn reset(&mut self)
+    pub(crate) fn reset(&mut self)
         ensures { self.new ≡ 0 ∷ [] }
     {
         self.inline = 0;
@@ -140,7 +140,7 @@ impl<A: Allocator> Storage<A> {
     }
 
     // The same words, by one request for memory at most, and by none for a single word.
-    pub fn try_clone(&self) -> Result<Self, AllocError>
+    pub(crate) fn try_clone(&self) -> Result<Self, AllocError>
     where
         A: Copy,
         ensures ok { IfOk result (λ s. s ≡ self.now) }

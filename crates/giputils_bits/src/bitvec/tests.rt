@@ -147,6 +147,30 @@ fn writes<R: AllocGlobal + Abort>(
     Ok(())
 }
 
+// What the traits write that a format string calls for numbers alone.
+#[derive(Drop)]
+struct ByTraits<'a> {
+    bits: &'a BitVec,
+}
+
+impl fmt::Display for ByTraits<'_> {
+    fn fmt<W: fmt::Write>(&self, f: &mut fmt::Formatter<W>) -> fmt::Result {
+        fmt::Binary::fmt(self.bits, f)?;
+        f.write_str(" ")?;
+        fmt::LowerHex::fmt(self.bits, f)?;
+        f.write_str(" ")?;
+        fmt::UpperHex::fmt(self.bits, f)
+    }
+}
+
+#[test]
+fn each_trait_writes_its_text(rt: HostRuntime) -> Result<(), Fail> {
+    let bits = BitVec::from_usize(rt.alloc(), 12, 0xabc)?;
+    let text = format!(in rt.alloc(); "{}", ByTraits { bits: &bits })?;
+    assert_eq!(rt; text.as_str(), "101010111100 0xabc 0xABC");
+    Ok(())
+}
+
 #[test]
 fn texts_of_numbers(rt: HostRuntime) -> Result<(), Fail> {
     let alloc = rt.alloc();

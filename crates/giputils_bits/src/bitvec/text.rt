@@ -2,15 +2,15 @@
 ghost use Rattle.std.specs.Prelude.{◌≡◌, ◌<◌, ◌≤◌, ◌-◌, ◌^◌, true, false, Some, length, map};
 ghost use Rattle.std.specs.Fmt.{digit_glyph, digits, WritesOnOk, WritesStyledOnOk};
 ghost use Rattle.giputils_bits.specs.Text.{binary_text, hex_text, lowest_digits, BinaryTextsTell, HexTextsDoNotTell};
-ghost use Rattle.giputils_bits.specs.Spelt.{spelt};
+ghost use Rattle.giputils_bits.specs.Spelt.{words_text};
 
 use super::BitVec;
 use std::alloc::{Allocator, Global};
 use std::marker::Model;
 use std::{fmt, str};
 
-/// The hexadecimal text of a vector, seen as that text. It is there for format strings, whose `{:x}` takes numbers alone:
-/// `{}` of it is what [`fmt::LowerHex`] or [`fmt::UpperHex`] of the vector writes.
+/// The hexadecimal text of a vector, seen as that text. It is there for format strings, whose `{:x}` takes numbers
+/// alone: `{}` of it is what [`fmt::LowerHex`] or [`fmt::UpperHex`] of the vector writes.
 #[derive(Drop)]
 pub struct Hex<'a, A: Allocator = Global> {
     bits: &'a BitVec<A>,
@@ -73,11 +73,14 @@ impl<A: Allocator> fmt::Display for BitVec<A> {
     }
 }
 
-/// The same text as that of `Display`.
+/// The same text as that of `Display`, also under options.
 impl<A: Allocator> fmt::Debug for BitVec<A> {
     ghost debug_output = { λ v. Some (binary_text v) };
 
-    fn fmt<W: fmt::Write>(&self, f: &mut fmt::Formatter<W>) -> fmt::Result {
+    fn fmt<W: fmt::Write>(&self, f: &mut fmt::Formatter<W>) -> fmt::Result
+        ensures writes { WritesOnOk W.write_str_gives f.old result (binary_text self.now) f.new }
+        ensures styled { WritesStyledOnOk W.write_str_gives f.old result (binary_text self.now) f.new }
+    {
         write_binary(self, f)
     }
 }
@@ -178,7 +181,7 @@ fn write_words<W: fmt::Write>(
     requires some { 0 < shift }
     requires few { shift ≤ 4 }
     requires fits { count ≤ 64 }
-    ensures { WritesStyledOnOk W.write_str_gives f.old result (map (digit_glyph upper) (spelt (2 ^ shift) count words.now)) f.new }
+    ensures { WritesStyledOnOk W.write_str_gives f.old result (words_text upper (2 ^ shift) count words.now) f.new }
 {
     let mut buffer = [b'0'; 64];
     let mut left = words.len();

@@ -1,10 +1,51 @@
-//! Loops over words.
-ghost use Rattle.std.specs.Prelude.{◌≡◌, ℕ, length, slice_index, bit_and, bit_or, bit_xor};
+//! Words: one of them, and loops over several.
+ghost use Rattle.std.specs.Prelude.{◌≡◌, ◌<◌, ◌≤◌, ◌-◌, ◌/◌, ◌^◌, ℕ, length, replicate, slice_index, bit_and, bit_or, bit_xor};
 ghost use Rattle.std.specs.Int.{bit_not, w64};
-ghost use Rattle.giputils_bits.specs.Places.{Rewrites};
+ghost use Rattle.giputils_bits.specs.Bits.{value_of};
+ghost use Rattle.giputils_bits.specs.Places.{place, Rewrites, SetsDigit};
+
+use super::BitVec;
+
+// Place `index` of the words.
+#[inline]
+pub(crate) fn bit_at(words: &[u64], index: usize) -> bool
+    requires { index / 64 < length words.now }
+    ensures { result ≡ place words.now index }
+{
+    (words[index / BitVec::WORD_SIZE] >> (index % BitVec::WORD_SIZE)) & 1 == 1
+}
+
+// The word with digit `k` as told.
+#[inline]
+pub(crate) fn with_bit(word: u64, k: usize, val: bool) -> u64
+    requires { k < 64 }
+    ensures { SetsDigit word result k val }
+{
+    if val { word | 1 << k } else { word & !(1 << k) }
+}
+
+// The word whose `count` lowest digits are `val`, where `count` is 1 to 64, and whose others are 0.
+#[inline]
+pub(crate) fn filled_word(val: bool, count: usize) -> u64
+    requires some { 0 < count }
+    requires fits { count ≤ 64 }
+    ensures { result ≡ value_of (replicate count val) }
+{
+    if val { low_mask(count) } else { 0 }
+}
+
+// The word whose `count` lowest digits are 1, where `count` is 1 to 64.
+#[inline]
+pub(crate) fn low_mask(count: usize) -> u64
+    requires some { 0 < count }
+    requires fits { count ≤ 64 }
+    ensures { result ≡ 2 ^ count - 1 }
+{
+    u64::MAX >> (BitVec::WORD_SIZE - count)
+}
 
 // An operation on two words.
-pub trait WordOp {
+pub(crate) trait WordOp {
     // What it makes of them.
     ghost made: { ℕ → ℕ → ℕ };
 
@@ -12,7 +53,7 @@ pub trait WordOp {
         ensures { result ≡ made word other };
 }
 
-pub struct And;
+pub(crate) struct And;
 
 impl WordOp for And {
     ghost made = { bit_and };
@@ -23,7 +64,7 @@ impl WordOp for And {
     }
 }
 
-pub struct Or;
+pub(crate) struct Or;
 
 impl WordOp for Or {
     ghost made = { bit_or };
@@ -34,7 +75,7 @@ impl WordOp for Or {
     }
 }
 
-pub struct Xor;
+pub(crate) struct Xor;
 
 impl WordOp for Xor {
     ghost made = { bit_xor };
@@ -47,7 +88,7 @@ impl WordOp for Xor {
 
 // Joins each word with the other at its place.
 #[inline]
-pub fn join_words<O: WordOp>(words: &mut [u64], others: &[u64])
+pub(crate) fn join_words<O: WordOp>(words: &mut [u64], others: &[u64])
     requires { length words.old ≡ length others.now }
     ensures { Rewrites (λ k word. O.made word (slice_index others.now k)) words.old words.new (length words.old) }
 {
@@ -58,7 +99,7 @@ pub fn join_words<O: WordOp>(words: &mut [u64], others: &[u64])
 
 // Turns each digit of each word round.
 #[inline]
-pub fn negate_words(words: &mut [u64])
+pub(crate) fn negate_words(words: &mut [u64])
     ensures { Rewrites (λ k word. bit_not w64 word) words.old words.new (length words.old) }
 {
     for k in 0..words.len() {

@@ -18,18 +18,18 @@ overflow_mul-last g c = omega (arith, ap length c.words-words.ensures, length-wo
 pub overflow_sub-self-inside : goal.overflow_sub-self-inside
 overflow_sub-self-inside g c = omega (arith, ap length c.words-words.ensures, length-words_of c.args.self.now, kept-length _ _ _ c.self.view_is)
 
-pub ones-requires-clause-some : goal.ones-requires-clause-some
-ones-requires-clause-some g c = omega (arith, ap length c.words-words.ensures, length-words_of c.args.self.now, kept-length _ _ _ c.self.view_is)
+pub low_mask-requires-clause-some : goal.low_mask-requires-clause-some
+low_mask-requires-clause-some g c = omega (arith, ap length c.words-words.ensures, length-words_of c.args.self.now, kept-length _ _ _ c.self.view_is)
 
-pub ones-requires-clause-fits : goal.ones-requires-clause-fits
-ones-requires-clause-fits g c = omega (arith, ap length c.words-words.ensures, length-words_of c.args.self.now, kept-length _ _ _ c.self.view_is)
+pub low_mask-requires-clause-fits : goal.low_mask-requires-clause-fits
+low_mask-requires-clause-fits g c = omega (arith, ap length c.words-words.ensures, length-words_of c.args.self.now, kept-length _ _ _ c.self.view_is)
 
 pub returns-then-words-last : goal.returns-then-words-last
 returns-then-words-last g c =
     let bs = c.args.self.now in
     let long = kept-length _ _ _ c.self.view_is in
     let count : length (words_of bs) - 1 + 1 ≡ length (words_of bs) = omega (arith, length-words_of bs) in
-    let high = rw (c.words-words.ensures, long) at (c.if-words-last.true ∙ c.ones.ensures) in
+    let high = rw (c.words-words.ensures, long) at (c.if-words-last.true ∙ c.low_mask.ensures) in
     let checked = rw c.words-words.ensures at c.all_equal.ensures in (
       λ yes. ones_from_words bs (length (words_of bs) - 1) count high (checked.0 yes),
       λ e. checked.1 (words_of_ones bs (length (words_of bs) - 1) count e),
@@ -41,5 +41,5 @@ returns-else-words-last g c =
     let long = kept-length _ _ _ c.self.view_is in
     let count : length (words_of bs) - 1 + 1 ≡ length (words_of bs) = omega (arith, length-words_of bs) in (
       λ yes. absurd (c.if-words-last.false ((Decides-eqb _ _).0 yes)),
-      λ e. (Decides-eqb _ _).1 (rw (c.ones.ensures, c.words-words.ensures, long) (words_of_ones_last bs (length (words_of bs) - 1) count e)),
+      λ e. (Decides-eqb _ _).1 (rw (c.low_mask.ensures, c.words-words.ensures, long) (words_of_ones_last bs (length (words_of bs) - 1) count e)),
     )

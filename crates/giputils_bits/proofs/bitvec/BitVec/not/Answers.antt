@@ -14,11 +14,12 @@ returns-in_err-words-clause-inline g c = λ short. let never = c.in_err-words.en
 pub invariant_of-result : goal.invariant_of-result
 invariant_of-result g c =
     let fits : (k : ℕ) → get_or c.as_slice.result.now k 0 < 2 ^ 64 = λ k. search rules in
-    rw (c.put.ensures, c.ones.ensures, c.as_slice.ensures)
+    rw (c.put.ensures, c.low_mask.ensures, c.as_slice.ensures)
     (IsPacked-negated c.self.inside.len c.self.inside.words c.negate.new.self (omega arith) c.self.invariant (rw c.as_slice.ensures at fits) (rw c.in_ok-words.ensures.ok at c.negate.ensures))
 
 pub returns-clause-ok : goal.returns-clause-ok
 returns-clause-ok g c =
     let fits : (k : ℕ) → get_or c.as_slice.result.now k 0 < 2 ^ 64 = λ k. search rules in
-    rw (c.put.ensures, c.ones.ensures, c.as_slice.ensures)
-    (bits_of-negated c.self.inside.len c.self.inside.words c.negate.new.self (omega arith) c.self.invariant (rw c.as_slice.ensures at fits) (rw c.in_ok-words.ensures.ok at c.negate.ensures) ∙ ap not_of c.self.view_is)
+    rw (c.put.ensures, c.low_mask.ensures, c.as_slice.ensures)
+    (bits_of-negated c.self.inside.len c.self.inside.words c.negate.new.self (omega arith) c.self.invariant (rw c.as_slice.ensures at fits)
+    (rw c.in_ok-words.ensures.ok at c.negate.ensures) ∙ ap not_of c.self.view_is)

@@ -13,7 +13,8 @@ loop-bit-preserved g c = record {
       let more : Gathers (c.loop-bit.end + 1) c.if-end-eq0.words c.if-end-eq0.last c.with_bit-word.result ((old ++ c.loop-bit.yielded) ++ c.in-Some.bit ∷ []) = elim c.if-end-eq0.branch [
         | then-end-eq0+then-end-gt0+else-is_err w ↦
             let pushed = ok_if_not_err w.push.result (sym w.is_err.ensures.value ∙ w.if-is_err.false) w.push.ensures.ok in
-            rw (w.words-is, w.last-is, pushed, w.put-then-end-gt0.ensures) (Gathers-next _ _ _ _ _ _ _ w.if-end-eq0.true w.if-end-gt0.true (rw w.word-is at c.with_bit-word.ensures) c.loop-bit.invariant.gathers)
+            rw (w.words-is, w.last-is, pushed, w.put-then-end-gt0.ensures)
+            (Gathers-next _ _ _ _ _ _ _ w.if-end-eq0.true w.if-end-gt0.true (rw w.word-is at c.with_bit-word.ensures) c.loop-bit.invariant.gathers)
         | else-end-eq0 w ↦
             let room : c.loop-bit.end % 64 ≡ 0 → c.loop-bit.end ≤ 0 = elim w.else-end-eq0.branch [
               | else-end-eq0-via-then-end-eq0+else-end-gt0 w' ↦ λ e. omega arith

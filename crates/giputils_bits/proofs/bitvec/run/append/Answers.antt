@@ -3,7 +3,7 @@ use Rattle.std.proofs.lemmas.List.{length-append}
 use Rattle.std.proofs.iter.Yields.{copies, fronts}
 use Rattle.std.proofs.lemmas.Iterator.{YieldsList-from_slice}
 use Rattle.std.proofs.lemmas.Iterator.Consumers.{YieldsList-from_copied, YieldsList-at}
-use Rattle.giputils_bits.proofs.Replies.{refused_within, refused_leaves, refused_for}
+use Rattle.giputils_bits.proofs.Replies.{refused_within, refused_leaves, stops_at}
 use Rattle.giputils_bits.proofs.Taken.{drained}
 use Rattle.giputils_bits.proofs.bitvec.run.append.Goals as goal
 
@@ -22,7 +22,8 @@ returns-in-Err-clause-reply g c =
     let road = YieldsList-at stops.4 (YieldsList-from_copied (YieldsList-at c.copied.ensures.source (YieldsList-from_slice c.args.items.now c.iter.ensures.rest))) in
     rw (c.len.ensures, c.len-len.ensures) (
       refused_within (copies fronts) c.args.items.now c.args.bits.now c.extend-outcome.new.self stops.1 stops.0 stops.3 stops.2 road.runs stops.5 stops.6,
-      refused_for (copies fronts) c.args.items.now c.args.bits.now c.extend-outcome.new.self stops.1 stops.0 stops.3 stops.2 road.runs stops.5 stops.6 c.in-Err.error c.extend-outcome.result c.in-Err.is (omega (arith, c.len.ensures, c.len.type_inv)) c.extend-outcome.ensures.memory c.extend-outcome.ensures.too_long,
+      stops_at (copies fronts) c.args.items.now c.args.bits.now c.extend-outcome.new.self stops.1 stops.0 stops.3 stops.2 road.runs stops.5 stops.6
+          c.in-Err.error c.extend-outcome.result c.in-Err.is c.extend-outcome.ensures.memory c.extend-outcome.ensures.too_long,
     )
 
 pub returns-in-Err-clause-after : goal.returns-in-Err-clause-after

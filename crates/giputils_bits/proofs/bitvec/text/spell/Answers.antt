@@ -15,16 +15,21 @@ loop-k-preserved c = record {
   mask = c.loop-k.invariant.mask;
   rest = rw c.loop-k.invariant.rest (sym (without_lowest-more (2 ^ c.args.shift) c.loop-k.k c.args.word));
   long = length-set c.loop-k.buffer (c.args.count - 1 - c.loop-k.k) c.glyph.result ∙ c.loop-k.invariant.long;
-  each = spelt_more (2 ^ c.args.shift) c.args.count c.args.word (digit_glyph c.args.upper) c.loop-k.buffer c.loop-k.k c.glyph.result (omega arith) (omega (arith, c.loop-k.invariant.long, c.requires.fits)) (rw (c.loop-k.invariant.mask, and_mask c.loop-k.rest c.args.shift, c.loop-k.invariant.rest) at c.glyph.ensures) c.loop-k.invariant.each;
+  each = spelt_more (2 ^ c.args.shift) c.args.count c.args.word (digit_glyph c.args.upper) c.loop-k.buffer c.loop-k.k c.glyph.result
+      (omega arith) (omega (arith, c.loop-k.invariant.long, c.requires.fits))
+      (rw (c.loop-k.invariant.mask, and_mask c.loop-k.rest c.args.shift, c.loop-k.invariant.rest) at c.glyph.ensures) c.loop-k.invariant.each;
 }
 
 pub from_utf8_unchecked-requires : goal.from_utf8_unchecked-requires
 from_utf8_unchecked-requires c =
     let all : c.loop-k.k ≡ c.args.count = omega arith in
-    let e : take c.args.count c.loop-k.buffer ≡ map (digit_glyph c.args.upper) (lowest_digits (2 ^ c.args.shift) c.args.count c.args.word) = spelt_is (2 ^ c.args.shift) c.args.count c.args.word (digit_glyph c.args.upper) c.loop-k.buffer (omega (arith, c.loop-k.invariant.long, c.requires.fits)) (λ j h. c.loop-k.invariant.each j (omega arith)) in
+    let e : take c.args.count c.loop-k.buffer ≡ map (digit_glyph c.args.upper) (lowest_digits (2 ^ c.args.shift) c.args.count c.args.word) =
+    spelt_is (2 ^ c.args.shift) c.args.count c.args.word (digit_glyph c.args.upper) c.loop-k.buffer
+    (omega (arith, c.loop-k.invariant.long, c.requires.fits)) (λ j h. c.loop-k.invariant.each j (omega arith)) in
     rw e (IsUtf8-from_ascii _ (IsAscii-lowest c.args.upper c.args.shift c.args.count c.args.word c.requires.some c.requires.few))
 
 pub returns : goal.returns
 returns c =
     let all : c.loop-k.k ≡ c.args.count = omega arith in
-    c.from_utf8_unchecked.ensures ∙ spelt_is (2 ^ c.args.shift) c.args.count c.args.word (digit_glyph c.args.upper) c.loop-k.buffer (omega (arith, c.loop-k.invariant.long, c.requires.fits)) (λ j h. c.loop-k.invariant.each j (omega arith))
+    c.from_utf8_unchecked.ensures ∙ spelt_is (2 ^ c.args.shift) c.args.count c.args.word (digit_glyph c.args.upper) c.loop-k.buffer
+    (omega (arith, c.loop-k.invariant.long, c.requires.fits)) (λ j h. c.loop-k.invariant.each j (omega arith))

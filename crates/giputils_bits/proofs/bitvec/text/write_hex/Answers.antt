@@ -10,7 +10,9 @@ use Rattle.giputils_bits.proofs.bitvec.text.write_hex.Goals as goal
 pub returns-then-is_zero-clause-styled : goal.returns-then-is_zero-clause-styled
 returns-then-is_zero-clause-styled g c = λ flush ok.
     let some : length c.args.bits.now ≢ 0 = λ e. c.if-len-eq0.false (c.len-len.ensures ∙ e) in
-    subst (λ text. HasWrittenStyled g.W.Write.write_str_gives c.args.f.now text c.write_str-then-is_zero.new.self) (sym (hex_text_of_zeros c.args.upper c.args.bits.now (omega (arith, some)) (c.is_zero.ensures.0 c.if-is_zero.true))) (c.write_str-then-is_zero.ensures.styled flush ok)
+    subst (λ text. HasWrittenStyled g.W.Write.write_str_gives c.args.f.now text c.write_str-then-is_zero.new.self)
+    (sym (hex_text_of_zeros c.args.upper c.args.bits.now (omega (arith, some)) (c.is_zero.ensures.0 c.if-is_zero.true)))
+    (c.write_str-then-is_zero.ensures.styled flush ok)
 
 pub returns-then-is_zero-clause-writes : goal.returns-then-is_zero-clause-writes
 returns-then-is_zero-clause-writes g c = plain_too g.W.Write.write_str_gives _ _ _ _ (returns-then-is_zero-clause-styled g c)
@@ -37,7 +39,8 @@ returns-clause-styled g c = λ flush ok.
     let first = c.in_ok-write_str.ensures.styled flush refl in
     let second = c.in_ok-write_str-2.ensures.styled first.flush refl in
     styled_more g.W.Write.write_str_gives _ _ _ _ _ _ first (styled_more g.W.Write.write_str_gives _ _ _ _ _ _ second (c.write_words.ensures second.flush ok) refl)
-    (rw (c.spell.ensures, c.hex_len.ensures.len, c.words-words.ensures, c.len-len.ensures, get_or-words_of bits last (omega (arith, count))) (sym (hex_text_is c.args.upper bits last count not_zero (rw c.words-words.ensures at fits))))
+    (rw (c.spell.ensures, c.hex_len.ensures.len, c.words-words.ensures, c.len-len.ensures, get_or-words_of bits last (omega (arith, count)))
+    (sym (hex_text_is c.args.upper bits last count not_zero (rw c.words-words.ensures at fits))))
 
 pub returns-clause-writes : goal.returns-clause-writes
 returns-clause-writes g c = plain_too g.W.Write.write_str_gives _ _ _ _ (returns-clause-styled g c)

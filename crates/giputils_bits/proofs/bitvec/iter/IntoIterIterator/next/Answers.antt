@@ -9,4 +9,6 @@ returns-then-self-clause-steps g c = let none = sym c.self.view_is ∙ places-en
 pub returns-clause-steps : goal.returns-clause-steps
 returns-clause-steps g c =
     let some : c.self.inside.start < c.self.inside.end = omega arith in
-    sym c.self.view_is ∙ places-next c.self.inside.words _ _ some ∙ ap (λ b. b ∷ places c.self.inside.words (c.self.inside.start + 1) (c.self.inside.end - (c.self.inside.start + 1))) (sym (rw c.as_slice.ensures at c.bit_at-bit.ensures))
+    sym c.self.view_is ∙ places-next c.self.inside.words _ _ some
+    ∙ ap (λ b. b ∷ places c.self.inside.words (c.self.inside.start + 1) (c.self.inside.end - (c.self.inside.start + 1)))
+    (sym (rw c.as_slice.ensures at c.bit_at-bit.ensures))

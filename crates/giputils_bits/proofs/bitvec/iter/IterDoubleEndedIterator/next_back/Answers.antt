@@ -9,4 +9,5 @@ returns-then-self-clause-steps c = let none = sym c.self.view_is ∙ places-end 
 pub returns-clause-steps : goal.returns-clause-steps
 returns-clause-steps c =
     let some : c.self.inside.start < c.self.inside.end = omega arith in
-    sym c.self.view_is ∙ places-next_back c.self.inside.words.now _ _ some ∙ ap (λ b. places c.self.inside.words.now c.self.inside.start (c.self.inside.end - 1 - c.self.inside.start) ++ b ∷ []) (sym c.bit_at.ensures)
+    sym c.self.view_is ∙ places-next_back c.self.inside.words.now _ _ some
+    ∙ ap (λ b. places c.self.inside.words.now c.self.inside.start (c.self.inside.end - 1 - c.self.inside.start) ++ b ∷ []) (sym c.bit_at.ensures)

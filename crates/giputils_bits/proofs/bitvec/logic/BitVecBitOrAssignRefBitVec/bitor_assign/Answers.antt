@@ -11,4 +11,8 @@ pub invariant_of-self : goal.invariant_of-self
 invariant_of-self g c = (joined bit_or ◌||◌ has_digit-or refl _ _ _ _ _ _ _ c.self.view_is c.rhs.view_is c.self.invariant c.rhs.invariant c.requires (rw c.as_slice.ensures at c.join.ensures)).0
 
 pub returns : goal.returns
-returns g c = record { after = (joined bit_or ◌||◌ has_digit-or refl _ _ _ _ _ _ _ c.self.view_is c.rhs.view_is c.self.invariant c.rhs.invariant c.requires (rw c.as_slice.ensures at c.join.ensures)).1 }
+returns g c = record {
+  after =
+      (joined bit_or ◌||◌ has_digit-or refl _ _ _ _ _ _ _ c.self.view_is c.rhs.view_is c.self.invariant c.rhs.invariant c.requires
+      (rw c.as_slice.ensures at c.join.ensures)).1;
+}

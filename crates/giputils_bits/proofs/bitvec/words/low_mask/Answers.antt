@@ -1,6 +1,6 @@
 use Rattle.std.proofs.Common.{◌≡◌, ◌-◌, arith}
 use Rattle.std.proofs.lemmas.Nat.Bits.{ones_shr}
-use Rattle.giputils_bits.proofs.bitvec.queries.ones.Goals as goal
+use Rattle.giputils_bits.proofs.bitvec.words.low_mask.Goals as goal
 
 pub returns : goal.returns
 returns c =
