@@ -2,7 +2,7 @@
 use Rattle.std.specs.Prelude.{◌≡◌, ◌*◌, ◌^◌, ◌-◌, true, false, refl, codes}
 use Rattle.std.specs.Fmt.{digits}
 use Rattle.giputils_stat.specs.Decimals.{is_nearest, rounded, decimal, ratio, seconds}
-use Rattle.giputils_stat.specs.Tally.{no_terms, with_term, both, no_outcomes, with_success, with_failure, both_outcomes, tries}
+use Rattle.giputils_stat.specs.Tally.{no_terms, with_term, with_terms, no_outcomes, with_success, with_failure, with_outcomes, tries}
 use Rattle.giputils_stat.specs.Texts.{average_text, average_duration_text, counted_duration_text, success_rate_text}
 use Rattle.giputils_stat.specs.Due.{is_due}
 
@@ -81,7 +81,7 @@ average_of_one_and_two_seconds = refl
 average_duration_of_nothing : average_duration_text no_terms ≡ codes "None"
 average_duration_of_nothing = refl
 
-an_average_duration_is_rounded_down : average_duration_text (both (with_term no_terms 1) (with_term no_terms 2)) ≡ codes "0.000000001s"
+an_average_duration_is_rounded_down : average_duration_text (with_terms (with_term no_terms 1) (with_term no_terms 2)) ≡ codes "0.000000001s"
 unfolding digits
 an_average_duration_is_rounded_down = refl
 
@@ -101,7 +101,7 @@ nothing_tried : success_rate_text no_outcomes ≡ codes "success: 0, fail: 0, su
 unfolding digits
 nothing_tried = refl
 
-every_try_counts : tries (both_outcomes (with_success no_outcomes) (with_failure (with_failure no_outcomes))) ≡ 3
+every_try_counts : tries (with_outcomes (with_success no_outcomes) (with_failure (with_failure no_outcomes))) ≡ 3
 every_try_counts = refl
 
 -- when a message is due

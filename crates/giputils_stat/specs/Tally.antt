@@ -2,9 +2,9 @@
 use Rattle.std.specs.Prelude.{ℕ, ◌+◌, ◌-◌, ◌^◌, ◌<◌, ◌≤◌}
 use Rattle.std.specs.Duration.{FitsDuration}
 
--- the greatest count, `usize::MAX`
-abbrev pub max_count : ℕ
-max_count = 2 ^ 64 - 1
+-- `usize::MAX`
+abbrev pub usize_max : ℕ
+usize_max = 2 ^ 64 - 1
 
 -- a sum, and how many terms it has
 pub record Tally : Type 0 where
@@ -20,16 +20,16 @@ abbrev pub with_term : Tally → ℕ → Tally
 with_term t n = record { sum = t.sum + n; count = t.count + 1 }
 
 -- the terms of both
-abbrev pub both : Tally → Tally → Tally
-both s t = record { sum = s.sum + t.sum; count = s.count + t.count }
+abbrev pub with_terms : Tally → Tally → Tally
+with_terms s t = record { sum = s.sum + t.sum; count = s.count + t.count }
 
 -- one term more can be counted
 abbrev pub CanCount : Tally → Type 0
-CanCount t = t.count < max_count
+CanCount t = t.count < usize_max
 
 -- the terms of both can be counted
 abbrev pub CanCountBoth : Tally → Tally → Type 0
-CanCountBoth s t = s.count + t.count ≤ max_count
+CanCountBoth s t = s.count + t.count ≤ usize_max
 
 -- a term of so many nanoseconds can be counted, and the sum stays a `Duration`
 abbrev pub CanAddNanos : Tally → ℕ → Type 0
@@ -54,19 +54,20 @@ tries o = o.successes + o.failures
 
 -- one try more can be counted
 abbrev pub CanTry : Outcomes → Type 0
-CanTry o = tries o < max_count
+CanTry o = tries o < usize_max
 
 -- the tries of both can be counted
 abbrev pub CanTryBoth : Outcomes → Outcomes → Type 0
-CanTryBoth o p = tries o + tries p ≤ max_count
+CanTryBoth o p = tries o + tries p ≤ usize_max
 
--- one success more, and one failure more
+-- one success more
 abbrev pub with_success : Outcomes → Outcomes
 with_success o = record o { successes = o.successes + 1 }
 
+-- one failure more
 abbrev pub with_failure : Outcomes → Outcomes
 with_failure o = record o { failures = o.failures + 1 }
 
 -- the outcomes of both
-abbrev pub both_outcomes : Outcomes → Outcomes → Outcomes
-both_outcomes o p = record { successes = o.successes + p.successes; failures = o.failures + p.failures }
+abbrev pub with_outcomes : Outcomes → Outcomes → Outcomes
+with_outcomes o p = record { successes = o.successes + p.successes; failures = o.failures + p.failures }

@@ -2,6 +2,7 @@
 mod average;
 mod average_duration;
 mod counted_duration;
+mod duration_sum;
 mod running_time;
 mod success_rate;
 
@@ -11,6 +12,3 @@ pub use average_duration::AverageDuration;
 pub use counted_duration::CountedDuration;
 pub use running_time::RunningTime;
 pub use success_rate::SuccessRate;
-
-// The length of `Duration::MAX` in nanoseconds.
-const MAX_NANOS: u128 = (u64::MAX as u128) * 1_000_000_000 + 999_999_999;

@@ -8,84 +8,176 @@ use std::process::Abort;
 use std::test::Fail;
 use std::time::Duration;
 
-// The text of a value by `{:?}`.
+// Each text of a value by `{:?}`, whatever the options of the formatter.
 fn debugs<R: AllocGlobal + Abort, T: Debug>(rt: &R, value: &T, text: &str) -> Result<(), Fail> {
-    assert_eq!(rt; format!(in rt.alloc(); "{value:?}")?.as_str(), text);
+    let texts = format!(in rt.alloc();
+        "{value:?} {value:#?} {value:>40?} {value:*<60?} {value:020?} {value:+09?} {value:.1?}"
+    )?;
+    shows_each(rt, texts.as_str(), text)
+}
+
+// Each text of a value by `{}`, whatever the options of the formatter.
+fn displays<R: AllocGlobal + Abort, T: Display>(rt: &R, value: &T, text: &str) -> Result<(), Fail> {
+    let texts = format!(in rt.alloc();
+        "{value} {value:#} {value:>40} {value:*<60} {value:020} {value:+09} {value:.1}"
+    )?;
+    shows_each(rt, texts.as_str(), text)
+}
+
+// Seven times the same text.
+fn shows_each<R: AllocGlobal + Abort>(rt: &R, texts: &str, text: &str) -> Result<(), Fail> {
+    let same = format!(in rt.alloc(); "{text} {text} {text} {text} {text} {text} {text}")?;
+    assert_eq!(rt; texts, same.as_str());
     Ok(())
 }
 
-// The text of a value by `{}`.
-fn displays<R: AllocGlobal + Abort, T: Display>(rt: &R, value: &T, text: &str) -> Result<(), Fail> {
-    assert_eq!(rt; format!(in rt.alloc(); "{value}")?.as_str(), text);
-    Ok(())
+// The average of the numbers.
+fn average_of<R: Abort>(rt: &R, numbers: &[usize]) -> Average {
+    let mut average = Average::default();
+    for number in numbers {
+        assert!(rt; average.can_add());
+        average += *number;
+    }
+    average
 }
 
 #[test]
 fn averages_are_rounded_to_six_decimals(rt: HostRuntime) -> Result<(), Fail> {
-    let mut average = Average::default();
-    debugs(&rt, &average, "NaN")?;
-    average += 1;
-    average += 1;
-    average += 0;
-    assert_eq!(rt; average.count(), 3);
-    debugs(&rt, &average, "0.666667")?;
-    // The options of a formatter make no difference.
-    assert_eq!(rt;
-        format!(in rt.alloc(); "{average:>12?}")?.as_str(),
-        "0.666667"
-    );
-
-    let mut greatest = Average::default();
-    greatest += usize::MAX;
-    debugs(&rt, &greatest, "18446744073709551615.000000")?;
-    debugs(&rt, &(greatest + greatest), "18446744073709551615.000000")
+    let cases: [(&[usize], &str); 8] = [
+        (&[], "NaN"),
+        (&[0], "0.000000"),
+        (&[1, 1, 0], "0.666667"),
+        (&[1, 2], "1.500000"),
+        (&[4_294_967_296], "4294967296.000000"),
+        (&[usize::MAX], "18446744073709551615.000000"),
+        (&[usize::MAX, 0], "9223372036854775807.500000"),
+        (&[usize::MAX, usize::MAX], "18446744073709551615.000000"),
+    ];
+    for (numbers, text) in cases {
+        debugs(&rt, &average_of(&rt, numbers), text)?;
+    }
+    Ok(())
 }
 
 #[test]
-fn a_carry_goes_into_the_whole_part(rt: HostRuntime) -> Result<(), Fail> {
-    let almost_one = Decimal {
-        numerator: 9_999_995,
-        denominator: 10_000_000,
-        places: 6,
-    };
-    displays(&rt, &almost_one, "1.000000")
+fn decimals_have_up_to_19_places(rt: HostRuntime) -> Result<(), Fail> {
+    let cases = [
+        ((9_999_995, 10_000_000, 6), "1.000000"),
+        ((0, 1, 1), "0.0"),
+        ((1, 1, 19), "1.0000000000000000000"),
+        ((1, u64::MAX, 19), "0.0000000000000000001"),
+        (
+            (u128::MAX, 1, 1),
+            "340282366920938463463374607431768211455.0",
+        ),
+    ];
+    for ((numerator, denominator, places), text) in cases {
+        let decimal = Decimal {
+            numerator,
+            denominator,
+            places,
+        };
+        displays(&rt, &decimal, text)?;
+    }
+    Ok(())
+}
+
+// The average of the durations, and their sum, in nanoseconds.
+fn durations_of<R: Abort>(rt: &R, durations: &[Duration]) -> (AverageDuration, CountedDuration) {
+    let mut average = AverageDuration::default();
+    let mut counted = CountedDuration::default();
+    for duration in durations {
+        assert!(rt; average.can_add(*duration));
+        average += *duration;
+        assert!(rt; counted.can_add(*duration));
+        counted += *duration;
+    }
+    (average, counted)
 }
 
 #[test]
 fn durations_are_shown_in_seconds(rt: HostRuntime) -> Result<(), Fail> {
-    let mut average = AverageDuration::default();
-    debugs(&rt, &average, "None")?;
-    average += Duration::from_secs(1);
-    average += Duration::from_secs(2);
-    debugs(&rt, &average, "1.500000000s")?;
+    let cases: [(&[Duration], &str, &str); 7] = [
+        (&[], "None", "0 times in 0.000000s"),
+        (&[Duration::ZERO], "0.000000000s", "1 times in 0.000000s"),
+        (
+            &[Duration::from_nanos(1500)],
+            "0.000001500s",
+            "1 times in 0.000002s",
+        ),
+        (
+            &[Duration::from_secs(1), Duration::from_secs(2)],
+            "1.500000000s",
+            "2 times in 3.000000s",
+        ),
+        (
+            &[Duration::from_secs(3600)],
+            "3600.000000000s",
+            "1 times in 3600.000000s",
+        ),
+        (
+            &[Duration::from_nanos(3_600_000_000_001)],
+            "3600.000000001s",
+            "1 times in 3600.000000s",
+        ),
+        (
+            &[Duration::MAX],
+            "18446744073709551615.999999999s",
+            "1 times in 18446744073709551616.000000s",
+        ),
+    ];
+    for (durations, average_text, counted_text) in cases {
+        let (average, counted) = durations_of(&rt, durations);
+        debugs(&rt, &average, average_text)?;
+        debugs(&rt, &counted, counted_text)?;
+    }
+    Ok(())
+}
 
-    let mut counted = CountedDuration::default();
-    counted += Duration::from_secs(1);
-    counted += Duration::from_secs(2);
-    debugs(&rt, &counted, "2 times in 3.000000s")?;
-
-    let mut short = CountedDuration::default();
-    short += Duration::from_nanos(1500);
-    debugs(&rt, &short, "1 times in 0.000002s")
+// The rate of so many successes and failures.
+fn rate_of<R: Abort>(rt: &R, successes: u32, failures: u32) -> SuccessRate {
+    let mut rate = SuccessRate::default();
+    for _ in 0..successes {
+        assert!(rt; rate.can_add());
+        rate.statistic(true);
+    }
+    for _ in 0..failures {
+        assert!(rt; rate.can_add());
+        rate.statistic(false);
+    }
+    rate
 }
 
 #[test]
 fn a_rate_at_a_tie_goes_to_the_even_hundredth(rt: HostRuntime) -> Result<(), Fail> {
-    let mut rate = SuccessRate::default();
-    debugs(&rt, &rate, "success: 0, fail: 0, success rate: NaN%")?;
-    rate.statistic(true);
-    for _ in 0..799u32 {
-        assert!(rt; rate.can_add());
-        rate.statistic(false);
+    let cases = [
+        ((0, 0), "success: 0, fail: 0, success rate: NaN%"),
+        ((1, 799), "success: 1, fail: 799, success rate: 0.12%"),
+        ((3, 797), "success: 3, fail: 797, success rate: 0.38%"),
+        ((0, 1), "success: 0, fail: 1, success rate: 0.00%"),
+        ((1, 1), "success: 1, fail: 1, success rate: 50.00%"),
+        ((2, 1), "success: 2, fail: 1, success rate: 66.67%"),
+        ((1, 0), "success: 1, fail: 0, success rate: 100.00%"),
+    ];
+    for ((successes, failures), text) in cases {
+        debugs(&rt, &rate_of(&rt, successes, failures), text)?;
     }
-    debugs(&rt, &rate, "success: 1, fail: 799, success rate: 0.12%")
+    Ok(())
 }
 
 #[test]
 fn a_running_time_is_that_since_its_beginning(rt: HostRuntime) -> Result<(), Fail> {
     let running = RunningTime::new(Duration::ZERO);
-    displays(&rt, &running.show(Duration::from_millis(1_005)), "1.00s")?;
-    displays(&rt, &running.show(Duration::from_millis(1_015)), "1.02s")?;
+    let cases = [
+        (Duration::ZERO, "0.00s"),
+        (Duration::from_millis(1_005), "1.00s"),
+        (Duration::from_millis(1_015), "1.02s"),
+        (Duration::from_secs(3_601), "3601.00s"),
+        (Duration::MAX, "18446744073709551616.00s"),
+    ];
+    for (now, text) in cases {
+        displays(&rt, &running.show(now), text)?;
+    }
 
     let later = RunningTime::new(Duration::from_secs(5));
     assert!(rt; later.time(Duration::from_secs(3)).is_zero());

@@ -1,5 +1,6 @@
+//! The average of whole numbers.
 ghost use Rattle.std.specs.Prelude.{◌≡◌, ◌↔◌, Some, IsTrue};
-ghost use Rattle.giputils_stat.specs.Tally.{no_terms, with_term, both, CanCount, CanCountBoth};
+ghost use Rattle.giputils_stat.specs.Tally.{no_terms, with_term, with_terms, CanCount, CanCountBoth};
 ghost use Rattle.giputils_stat.specs.Texts.{average_text};
 
 use crate::decimal::Ratio;
@@ -16,13 +17,13 @@ pub struct Average {
 
 impl Model for Average {
     ghost use Rattle.std.specs.Prelude.{◌*◌, ◌≤◌};
-    ghost use Rattle.giputils_stat.specs.Tally.{Tally, max_count};
+    ghost use Rattle.giputils_stat.specs.Tally.{Tally, usize_max};
 
     ghost Value = { Tally };
 
     ghost view = { λ a. record { sum = a.sum; count = a.count } };
 
-    ghost invariant = { λ a. a.sum ≤ a.count * max_count };
+    ghost invariant = { λ a. a.sum ≤ a.count * usize_max };
 
     ghost inverse = { λ t. record { sum = t.sum; count = t.count } };
 }
@@ -36,7 +37,7 @@ impl Average {
         self.count
     }
 
-    /// Whether one more number can be added.
+    /// Whether one more number can be added: the count stays at most `usize::MAX`.
     #[inline]
     pub fn can_add(&self) -> bool
         ensures { IsTrue result ↔ CanCount self.now }
@@ -44,7 +45,7 @@ impl Average {
         self.count < usize::MAX
     }
 
-    /// Whether the numbers of `other` can be added.
+    /// Whether the numbers of `other` can be added, within the same bound.
     #[inline]
     pub fn can_merge(&self, other: &Self) -> bool
         ensures { IsTrue result ↔ CanCountBoth self.now other.now }
@@ -80,7 +81,7 @@ impl AddAssign<usize> for Average {
 impl AddAssign for Average {
     ghost can_add_assign = { CanCountBoth };
 
-    ghost add_assign_gives = { λ a b c. c ≡ both a b };
+    ghost add_assign_gives = { λ a b c. c ≡ with_terms a b };
 
     #[inline]
     fn add_assign(&mut self, other: Self) {
@@ -95,7 +96,7 @@ impl Add for Average {
 
     ghost can_add = { CanCountBoth };
 
-    ghost add_gives = { λ a b c. c ≡ both a b };
+    ghost add_gives = { λ a b c. c ≡ with_terms a b };
 
     #[inline]
     fn add(self, other: Self) -> Self {

@@ -1,10 +1,11 @@
+//! The average of durations.
 ghost use Rattle.std.specs.Prelude.{◌≡◌, ◌↔◌, Some, IsTrue};
 ghost use Rattle.std.specs.Duration.{as_nanos};
-ghost use Rattle.giputils_stat.specs.Tally.{no_terms, with_term, both, CanAddNanos, CanAddBoth};
+ghost use Rattle.giputils_stat.specs.Tally.{no_terms, with_term, with_terms, CanAddNanos, CanAddBoth};
 ghost use Rattle.giputils_stat.specs.Texts.{average_duration_text};
 
+use super::duration_sum::DurationSum;
 use crate::decimal::Seconds;
-use crate::statistic::MAX_NANOS;
 use std::fmt::{self, Debug, Display};
 use std::marker::Model;
 use std::ops::AddAssign;
@@ -13,21 +14,17 @@ use std::time::Duration;
 /// The average of durations, rounded down to whole nanoseconds.
 #[derive(Clone, Copy)]
 pub struct AverageDuration {
-    sum: u128,
-    count: usize,
+    total: DurationSum,
 }
 
 impl Model for AverageDuration {
-    ghost use Rattle.std.specs.Duration.{FitsDuration};
     ghost use Rattle.giputils_stat.specs.Tally.{Tally};
 
     ghost Value = { Tally };
 
-    ghost view = { λ a. record { sum = a.sum; count = a.count } };
+    ghost view = { λ a. a.total };
 
-    ghost invariant = { λ a. FitsDuration a.sum };
-
-    ghost inverse = { λ t. record { sum = t.sum; count = t.count } };
+    ghost inverse = { λ t. record { total = t } };
 }
 
 impl AverageDuration {
@@ -36,23 +33,25 @@ impl AverageDuration {
     pub fn count(&self) -> usize
         ensures { result ≡ self.now.count }
     {
-        self.count
+        self.total.count()
     }
 
-    /// Whether `duration` can be added: the sum stays at most `Duration::MAX`, and the count at most `usize::MAX`.
+    /// Whether `duration` can be added.
+    ///
+    /// The sum stays at most `Duration::MAX`, and the count at most `usize::MAX`.
     #[inline]
     pub fn can_add(&self, duration: Duration) -> bool
         ensures { IsTrue result ↔ CanAddNanos self.now (as_nanos duration) }
     {
-        self.count < usize::MAX && self.sum + duration.as_nanos() <= MAX_NANOS
+        self.total.can_add(duration)
     }
 
-    /// Whether the durations of `other` can be added.
+    /// Whether the durations of `other` can be added, within the same bounds.
     #[inline]
     pub fn can_merge(&self, other: &Self) -> bool
         ensures { IsTrue result ↔ CanAddBoth self.now other.now }
     {
-        other.count <= usize::MAX - self.count && self.sum + other.sum <= MAX_NANOS
+        self.total.can_merge(&other.total)
     }
 }
 
@@ -62,7 +61,9 @@ impl Default for AverageDuration {
 
     #[inline]
     fn default() -> Self {
-        AverageDuration { sum: 0, count: 0 }
+        AverageDuration {
+            total: DurationSum::default(),
+        }
     }
 }
 
@@ -74,8 +75,7 @@ impl AddAssign<Duration> for AverageDuration {
 
     #[inline]
     fn add_assign(&mut self, duration: Duration) {
-        self.sum += duration.as_nanos();
-        self.count += 1;
+        self.total += duration;
     }
 }
 
@@ -83,12 +83,11 @@ impl AddAssign<Duration> for AverageDuration {
 impl AddAssign for AverageDuration {
     ghost can_add_assign = { CanAddBoth };
 
-    ghost add_assign_gives = { λ a b c. c ≡ both a b };
+    ghost add_assign_gives = { λ a b c. c ≡ with_terms a b };
 
     #[inline]
     fn add_assign(&mut self, other: Self) {
-        self.sum += other.sum;
-        self.count += other.count;
+        self.total += other.total;
     }
 }
 
@@ -97,11 +96,12 @@ impl Debug for AverageDuration {
     ghost debug_output = { λ a. Some (average_duration_text a) };
 
     fn fmt<W: fmt::Write>(&self, f: &mut fmt::Formatter<W>) -> fmt::Result {
-        if self.count == 0 {
+        let count = self.count();
+        if count == 0 {
             return f.write_str("None");
         }
         let average = Seconds {
-            nanos: self.sum / self.count as u128,
+            nanos: self.total.nanos() / count as u128,
             places: 9,
         };
         Display::fmt(&average, f)

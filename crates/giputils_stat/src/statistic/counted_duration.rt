@@ -1,10 +1,11 @@
+//! A sum of durations with their number.
 ghost use Rattle.std.specs.Prelude.{◌≡◌, ◌↔◌, Some, IsTrue};
 ghost use Rattle.std.specs.Duration.{as_nanos};
-ghost use Rattle.giputils_stat.specs.Tally.{no_terms, with_term, both, CanAddNanos, CanAddBoth};
+ghost use Rattle.giputils_stat.specs.Tally.{no_terms, with_term, with_terms, CanAddNanos, CanAddBoth};
 ghost use Rattle.giputils_stat.specs.Texts.{counted_duration_text};
 
+use super::duration_sum::DurationSum;
 use crate::decimal::Seconds;
-use crate::statistic::MAX_NANOS;
 use std::fmt::{self, Debug};
 use std::marker::Model;
 use std::ops::AddAssign;
@@ -13,21 +14,17 @@ use std::time::Duration;
 /// A sum of durations, and how many there were.
 #[derive(Clone, Copy)]
 pub struct CountedDuration {
-    sum: u128,
-    count: usize,
+    total: DurationSum,
 }
 
 impl Model for CountedDuration {
-    ghost use Rattle.std.specs.Duration.{FitsDuration};
     ghost use Rattle.giputils_stat.specs.Tally.{Tally};
 
     ghost Value = { Tally };
 
-    ghost view = { λ a. record { sum = a.sum; count = a.count } };
+    ghost view = { λ a. a.total };
 
-    ghost invariant = { λ a. FitsDuration a.sum };
-
-    ghost inverse = { λ t. record { sum = t.sum; count = t.count } };
+    ghost inverse = { λ t. record { total = t } };
 }
 
 impl CountedDuration {
@@ -36,23 +33,25 @@ impl CountedDuration {
     pub fn count(&self) -> usize
         ensures { result ≡ self.now.count }
     {
-        self.count
+        self.total.count()
     }
 
-    /// Whether `duration` can be added: the sum stays at most `Duration::MAX`, and the count at most `usize::MAX`.
+    /// Whether `duration` can be added.
+    ///
+    /// The sum stays at most `Duration::MAX`, and the count at most `usize::MAX`.
     #[inline]
     pub fn can_add(&self, duration: Duration) -> bool
         ensures { IsTrue result ↔ CanAddNanos self.now (as_nanos duration) }
     {
-        self.count < usize::MAX && self.sum + duration.as_nanos() <= MAX_NANOS
+        self.total.can_add(duration)
     }
 
-    /// Whether the durations of `other` can be added.
+    /// Whether the durations of `other` can be added, within the same bounds.
     #[inline]
     pub fn can_merge(&self, other: &Self) -> bool
         ensures { IsTrue result ↔ CanAddBoth self.now other.now }
     {
-        other.count <= usize::MAX - self.count && self.sum + other.sum <= MAX_NANOS
+        self.total.can_merge(&other.total)
     }
 }
 
@@ -62,7 +61,9 @@ impl Default for CountedDuration {
 
     #[inline]
     fn default() -> Self {
-        CountedDuration { sum: 0, count: 0 }
+        CountedDuration {
+            total: DurationSum::default(),
+        }
     }
 }
 
@@ -74,8 +75,7 @@ impl AddAssign<Duration> for CountedDuration {
 
     #[inline]
     fn add_assign(&mut self, duration: Duration) {
-        self.sum += duration.as_nanos();
-        self.count += 1;
+        self.total += duration;
     }
 }
 
@@ -83,12 +83,11 @@ impl AddAssign<Duration> for CountedDuration {
 impl AddAssign for CountedDuration {
     ghost can_add_assign = { CanAddBoth };
 
-    ghost add_assign_gives = { λ a b c. c ≡ both a b };
+    ghost add_assign_gives = { λ a b c. c ≡ with_terms a b };
 
     #[inline]
     fn add_assign(&mut self, other: Self) {
-        self.sum += other.sum;
-        self.count += other.count;
+        self.total += other.total;
     }
 }
 
@@ -97,9 +96,9 @@ impl Debug for CountedDuration {
     ghost debug_output = { λ a. Some (counted_duration_text a) };
 
     fn fmt<W: fmt::Write>(&self, f: &mut fmt::Formatter<W>) -> fmt::Result {
-        let count = self.count;
+        let count = self.count();
         let sum = Seconds {
-            nanos: self.sum,
+            nanos: self.total.nanos(),
             places: 6,
         };
         write!(f, "{count} times in {sum}")

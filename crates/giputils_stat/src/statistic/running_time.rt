@@ -1,3 +1,4 @@
+//! The time since a beginning.
 ghost use Rattle.std.specs.Prelude.{◌≡◌, ◌+◌, ◌-◌, ◌≤◌};
 ghost use Rattle.std.specs.Duration.{as_nanos};
 

@@ -1,5 +1,6 @@
+//! Successes and failures.
 ghost use Rattle.std.specs.Prelude.{◌≡◌, ◌↔◌, Some, IsTrue, if◌then◌else◌};
-ghost use Rattle.giputils_stat.specs.Tally.{no_outcomes, tries, CanTry, CanTryBoth, with_success, with_failure, both_outcomes};
+ghost use Rattle.giputils_stat.specs.Tally.{no_outcomes, tries, CanTry, CanTryBoth, with_success, with_failure, with_outcomes};
 ghost use Rattle.giputils_stat.specs.Texts.{success_rate_text};
 
 use crate::decimal::Ratio;
@@ -16,13 +17,13 @@ pub struct SuccessRate {
 
 impl Model for SuccessRate {
     ghost use Rattle.std.specs.Prelude.{◌+◌, ◌≤◌};
-    ghost use Rattle.giputils_stat.specs.Tally.{Outcomes, max_count};
+    ghost use Rattle.giputils_stat.specs.Tally.{Outcomes, usize_max};
 
     ghost Value = { Outcomes };
 
     ghost view = { λ r. record { successes = r.successes; failures = r.failures } };
 
-    ghost invariant = { λ r. r.successes + r.failures ≤ max_count };
+    ghost invariant = { λ r. r.successes + r.failures ≤ usize_max };
 
     ghost inverse = { λ o. record { successes = o.successes; failures = o.failures } };
 }
@@ -36,7 +37,7 @@ impl SuccessRate {
         self.successes + self.failures
     }
 
-    /// Whether one more outcome can be counted.
+    /// Whether one more outcome can be counted: the count stays at most `usize::MAX`.
     #[inline]
     pub fn can_add(&self) -> bool
         ensures { IsTrue result ↔ CanTry self.now }
@@ -44,7 +45,7 @@ impl SuccessRate {
         self.count() < usize::MAX
     }
 
-    /// Whether the outcomes of `other` can be counted too.
+    /// Whether the outcomes of `other` can be counted too, within the same bound.
     #[inline]
     pub fn can_merge(&self, other: &Self) -> bool
         ensures { IsTrue result ↔ CanTryBoth self.now other.now }
@@ -103,7 +104,7 @@ impl Add for SuccessRate {
 
     ghost can_add = { CanTryBoth };
 
-    ghost add_gives = { λ r s t. t ≡ both_outcomes r s };
+    ghost add_gives = { λ r s t. t ≡ with_outcomes r s };
 
     #[inline]
     fn add(self, other: Self) -> Self {
@@ -118,7 +119,7 @@ impl Add for SuccessRate {
 impl AddAssign for SuccessRate {
     ghost can_add_assign = { CanTryBoth };
 
-    ghost add_assign_gives = { λ r s t. t ≡ both_outcomes r s };
+    ghost add_assign_gives = { λ r s t. t ≡ with_outcomes r s };
 
     #[inline]
     fn add_assign(&mut self, other: Self) {
