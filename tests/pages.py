@@ -17,7 +17,8 @@ public module, or if a public module names it by `pub use`. A public function th
 
 Of the README, each example in Rust stands in the tests of the crate `giputils`, and the script is the one that `gip` is
 run on. docs/DEFINITIONS.md lists, in items that begin with `- `, each word of specs/ that a public contract uses, and no
-name that no specs/ defines. No line of a page has more than 120 columns, but for imports that are quoted.
+name that no specs/ defines. Each file that a page names is there, and no line has more than 120 columns, but for imports
+that are quoted.
 """
 
 import pathlib
@@ -185,18 +186,18 @@ def quote(page, what, complaints):
         text = file.read_text(encoding="utf-8").replace("#[cfg(test)]\nmod tests;\n\n", "")
         return ["```rust", *(with_methods(text, chosen) if chosen else text).rstrip().split("\n"), "```"]
     if kind.startswith("lemmas "):
-        lines, lost = lemmas(page.parent / "proofs" / f"{kind.removeprefix('lemmas ')}.antt", chosen)
-        complaints += [f"there is no lemma {name}" for name in lost]
+        file = page.parent / "proofs" / f"{kind.removeprefix('lemmas ')}.antt"
+        lines, lost = lemmas(file, chosen) if file.is_file() else ([], chosen)
+        complaints += [f"{file.stem} has no lemma {name}" for name in lost]
         return ["```text", *lines, "```"]
     crate, named, met = Crate(page.parent), set(), set()
     lines = ["```text"]
     for file, text in crate.texts.items():
         found = [] if file.stem == "tests" else contracts(crate, text, set(chosen), named, met)
         lines += [f"// {file.relative_to(page.parent)}", *found, ""] if found else []
-    words = QUOTE.sub("", page.read_text(encoding="utf-8"))
-    for name in sorted(named):
-        if chosen and not {name} & {each.split("::")[-1] for each in chosen} and not re.search(rf"`[^`\n]*\b{name}\b[^`\n]*`", words):
-            complaints.append(f"{name} is neither quoted nor named")
+    words = re.findall(r"`([^`]+)`", QUOTE.sub("", page.read_text(encoding="utf-8")))
+    told = {each for name in chosen for each in name.split("::")} | set(re.findall(r"\w+", " ".join(words)))
+    complaints += [f"{name} is neither quoted nor named" for name in sorted(named - told) if chosen]
     complaints += [f"there is no public {name}" for name in chosen if name not in met]
     return [*lines[:-1], "```"]
 
@@ -205,6 +206,21 @@ def too_wide(text):
     """The numbers of the lines that have too many columns, but for imports that are quoted."""
     lines = enumerate(text.split("\n"), 1)
     return [f"line {number} is too long" for number, line in lines if len(line) > WIDTH and "ghost use " not in line]
+
+
+def lost_files(text):
+    """The files that a page names and that are not there."""
+    lost = []
+    for path in re.findall(r"`((?:src|specs|proofs|tests|docs|crates)/[\w/.-]+)`", QUOTE.sub("", text)):
+        ways = [ROOT] if path.startswith(("tests", "docs", "crates")) else [each for each in CRATES.iterdir() if each.is_dir()]
+        if "NAME" not in path and not any((way / f"{path}{end}").exists() for way in ways for end in ("", ".rt", ".antt")):
+            lost.append(f"there is no {path}")
+    return lost
+
+
+def sound(text):
+    """What is wrong with a page's lines and with the files that it names."""
+    return too_wide(text) + lost_files(text)
 
 
 def page_for_callers(page):
@@ -218,7 +234,7 @@ def page_for_callers(page):
         complaints.append("it does not quote the sources as they are: tests/pages.py --write")
     if not QUOTE.search(text):
         complaints.append("it quotes nothing")
-    return complaints + too_wide(wanted)
+    return complaints + sound(wanted)
 
 
 def packed(text):
@@ -230,7 +246,7 @@ def readme(page):
     """What is wrong with the README: lines of its examples that no test has, and another script than the one that is run."""
     text = page.read_text(encoding="utf-8")
     tests = packed((CRATES / "giputils/src/tests.rt").read_text(encoding="utf-8"))
-    complaints = too_wide(text)
+    complaints = sound(text)
     for example in re.findall(r"^```rust\n(.*?)^```", text, re.DOTALL | re.MULTILINE):
         lines = [line for line in example.split("\n") if packed(line) and packed(line) not in tests]
         complaints += [f"no test has the line {line.strip()}" for line in lines]
@@ -264,12 +280,12 @@ def definitions(page):
     names = [name for head in heads for name in re.findall(r"`([^`]+)`", head)]
     lost = [name for name in names if not re.search(rf"(?m)^ *(?:\w+ +)*{re.escape(name)}(?=[ :({{])", specs) and name not in known]
     missing = [f"{name} of a contract of {crate} is not listed" for name, crate in words_of_contracts().items() if name not in names]
-    return too_wide(text) + [f"no specs/ has {name}" for name in lost] + missing
+    return sound(text) + [f"no specs/ has {name}" for name in lost] + missing
 
 
 def main():
     pages = {page: page_for_callers for page in sorted(CRATES.glob("*/CALLING.md"))}
-    pages |= {page: lambda page: too_wide(page.read_text(encoding="utf-8")) for page in sorted((ROOT / "docs").glob("*.md"))}
+    pages |= {page: lambda page: sound(page.read_text(encoding="utf-8")) for page in sorted((ROOT / "docs").glob("*.md"))}
     pages |= {ROOT / "docs/DEFINITIONS.md": definitions, ROOT / "README.md": readme}
     failed = 0
     for page, look in pages.items():
