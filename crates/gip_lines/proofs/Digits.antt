@@ -7,14 +7,16 @@ use Rattle.std.specs.Str.Parse.{digits_value}
 use Rattle.gip_lines.specs.Scripts.Lines.{number_up_to}
 
 -- a byte that is no digit stands in the word
-pub all_ascii_digits-other : (bs : List ℕ) (i : ℕ) → i < length bs → is_ascii_digit (get_or bs i 0) ≡ false → all_ascii_digits bs ≡ false
+pub all_ascii_digits-other : (bs : List ℕ) (i : ℕ) → i < length bs → is_ascii_digit (get_or bs i 0) ≡ false
+    → all_ascii_digits bs ≡ false
 all_ascii_digits-other [] i h e = absurd (omega arith)
 all_ascii_digits-other (b ∷ bs) zero h e = rw e refl
 all_ascii_digits-other (b ∷ bs) (suc i) h e =
     and_right (is_ascii_digit b) (all_ascii_digits bs) (all_ascii_digits-other bs i (omega arith) e)
 
 -- one more digit
-pub all_ascii_digits-more : (bs : List ℕ) (i : ℕ) → i < length bs → all_ascii_digits (take i bs) ≡ true → is_ascii_digit (get_or bs i 0) ≡ true → all_ascii_digits (take (i + 1) bs) ≡ true
+pub all_ascii_digits-more : (bs : List ℕ) (i : ℕ) → i < length bs → all_ascii_digits (take i bs) ≡ true
+    → is_ascii_digit (get_or bs i 0) ≡ true → all_ascii_digits (take (i + 1) bs) ≡ true
 all_ascii_digits-more [] i h front e = absurd (omega arith)
 all_ascii_digits-more (b ∷ bs) zero h front e = rw e refl
 all_ascii_digits-more (b ∷ bs) (suc i) h front e =
@@ -30,5 +32,6 @@ number_up_to-other greatest word e = grind arith
 pub number_up_to-large : (greatest : ℕ) (word : List ℕ) → greatest < digits_value 10 word → number_up_to greatest word ≡ None
 number_up_to-large greatest word large = grind arith
 
-pub number_up_to-small : (greatest : ℕ) (word : List ℕ) → 0 < length word → all_ascii_digits word ≡ true → digits_value 10 word ≤ greatest → number_up_to greatest word ≡ Some (digits_value 10 word)
+pub number_up_to-small : (greatest : ℕ) (word : List ℕ) → 0 < length word → all_ascii_digits word ≡ true
+    → digits_value 10 word ≤ greatest → number_up_to greatest word ≡ Some (digits_value 10 word)
 number_up_to-small greatest word some digits small = grind arith

@@ -58,7 +58,9 @@ IsSmall-rank (key ∷ rank ∷ words) said e =
 
 IsSmall-ranks : (pairs : Option (List (ℕ × ℕ))) → IsSmall (ranks_line pairs)
 IsSmall-ranks None said e = cc
-IsSmall-ranks (Some pairs) said e = IsSmall-either _ (Some (Ranks (given_with none_given pairs))) None (λ s f. let same : s ≡ Ranks (given_with none_given pairs) = cc in ap has_small_key same) IsSmall-none said e
+IsSmall-ranks (Some pairs) said e =
+    let line : Line = Ranks (given_with none_given pairs) in
+    IsSmall-either _ (Some line) None (λ s f. let same : s ≡ line = cc in ap has_small_key same) IsSmall-none said e
 
 IsSmall-words : (words : List (List ℕ)) → IsSmall (line_of_words words)
 IsSmall-words [] = IsSmall-none

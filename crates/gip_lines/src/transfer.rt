@@ -35,6 +35,7 @@ pub(crate) fn read_all<R: Read, A: Allocator>(
     Ok(input)
 }
 
+// So many zeros.
 fn zeros<A: Allocator>(alloc: A, len: usize) -> Result<Vec<u8, A>, AllocError>
     ensures { IfOk result (λ zeros. vec_len zeros ≡ len) }
 {

@@ -5,12 +5,18 @@
 #![tactic(auto)]
 
 #[cfg(test)]
-mod bits;
-#[cfg(test)]
 mod devices;
+#[cfg(test)]
+mod fault;
 #[cfg(test)]
 mod memory;
 #[cfg(test)]
 mod scripts;
 #[cfg(test)]
 mod tasks;
+#[cfg(test)]
+mod transfer;
+#[cfg(test)]
+mod vectors;
+#[cfg(test)]
+mod watched;

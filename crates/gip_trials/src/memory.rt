@@ -6,13 +6,19 @@ use giputils_refusing::{Refusing, refuse_each, refuse_from_each};
 use std::alloc::Global;
 use std::test::Fail;
 
-const SCRIPT: &[u8] = b"rank 9 5\npush 3\npush 9\nranks 9 1 3 2\nlen\npop\npop\n";
+// Keys whose ranks change, one by one and then two at once.
+const SCRIPT: &[u8] =
+    b"rank 0 10\nrank 1 8\nrank 2 2\nrank 3 6\npush 0\npush 1\npush 2\npush 3\nranks 0 1 1 0\npop\npop\npop\npop\n";
 
-const REPLIES: &[u8] = b"ok\nok\nok\nok\n2\n3\n9\n";
+const REPLIES: &[u8] = b"ok\nok\nok\nok\nok\nok\nok\nok\nok\n3\n2\n0\n1\n";
 
-const REPLIES_WITHOUT_3: &[u8] = b"ok\nmemory\nok\nok\n1\n9\nnone\n";
-
-const REPLIES_WITHOUT_9: &[u8] = b"ok\nok\nmemory\nok\n1\n3\nnone\n";
+// The replies where memory is refused to the key with this number.
+const REPLIES_WITHOUT: [&[u8]; 4] = [
+    b"ok\nok\nok\nok\nmemory\nok\nok\nok\nok\n3\n2\n1\nnone\n",
+    b"ok\nok\nok\nok\nok\nmemory\nok\nok\nok\n3\n2\n0\nnone\n",
+    b"ok\nok\nok\nok\nok\nok\nmemory\nok\nok\n3\n0\n1\nnone\n",
+    b"ok\nok\nok\nok\nok\nok\nok\nmemory\nok\n2\n0\n1\nnone\n",
+];
 
 // A line of bits that are kept in memory, and two of others.
 const BITS: &[u8] =
@@ -26,7 +32,7 @@ const TEXTS: &[u8] =
 enum Ending {
     // With the output where nothing is refused.
     Served,
-    // With the replies to a script that is refused the first key, or the second.
+    // With the replies to a script that is refused one key.
     WithoutKey,
     // With want of memory, and nothing written.
     Unwritten,
@@ -41,8 +47,7 @@ fn ending_of(alloc: Global, memory: &Refusing) -> Ending {
     let written = writer.device().as_slice();
     match outcome {
         Ok(()) if written == REPLIES => Ending::Served,
-        Ok(()) if written == REPLIES_WITHOUT_3 || written == REPLIES_WITHOUT_9 =>
-            Ending::WithoutKey,
+        Ok(()) if REPLIES_WITHOUT.iter().any(|replies| written == *replies) => Ending::WithoutKey,
         Err(GipFault::Memory) if written.is_empty() => Ending::Unwritten,
         _ => Ending::Other,
     }

@@ -52,7 +52,7 @@ fn answers_scripts(rt: HostRuntime) -> Result<(), Fail> {
 
 #[test]
 fn refuses_the_first_line_of_another_form(rt: HostRuntime) {
-    let table: [(&[u8], usize); 23] = [
+    let table: [(&[u8], usize); 24] = [
         (b"push 1\npush 16\n", 2),
         (b"push  3", 1),
         (b"pop ", 1),
@@ -62,6 +62,7 @@ fn refuses_the_first_line_of_another_form(rt: HostRuntime) {
         (b"pop\n\npop", 2),
         (b"len\npop\n\xff\nlen\n\n", 3),
         (b"\n", 1),
+        (b"\xff", 1),
         (b"push", 1),
         (b"rank 0 4294967296", 1),
         (b"rank 16 0", 1),

@@ -1,35 +1,6 @@
-//! The two tasks of the program, and an input of each with its output.
-ghost use Rattle.std.specs.Prelude.{◌≡◌, false};
+//! The two tasks of the program, each with an input and its output.
 
-use gip_lines::watched::Watched;
-use gip_lines::{GipFault, bits, script};
-use std::alloc::Allocator;
-use std::io::{Read, Write};
-
-/// What the program is asked for.
-#[derive(Clone, Copy, Debug)]
-pub enum Task {
-    Script,
-    Bits,
-}
-
-impl Task {
-    /// Does the task.
-    pub fn run<A: Allocator + Copy, R: Read, W: Write>(
-        self,
-        alloc: A,
-        reader: &mut Watched<R>,
-        writer: &mut Watched<W>,
-    ) -> Result<(), GipFault>
-        requires reader { reader.old.has_failed ≡ false }
-        requires writer { writer.old.has_failed ≡ false }
-    {
-        match self {
-            Task::Script => script(alloc, reader, writer),
-            Task::Bits => bits(alloc, reader, writer),
-        }
-    }
-}
+use gip_lines::Task;
 
 /// The script that the README shows.
 pub const README_SCRIPT: &[u8] =

@@ -43,7 +43,8 @@ with_pair _ _ _ = None
 -- the words as pairs of a key from 0 to the greatest key and its rank from 0 to the greatest rank
 abbrev pub pairs_of : List (List ℕ) → Option (List (ℕ × ℕ))
 pairs_of [] = Some []
-pairs_of (key ∷ rank ∷ words) = with_pair (number_up_to greatest_key key) (number_up_to greatest_rank rank) (pairs_of words)
+pairs_of (key ∷ rank ∷ words) =
+    with_pair (number_up_to greatest_key key) (number_up_to greatest_rank rank) (pairs_of words)
 pairs_of (word ∷ []) = None
 
 -- the line that gives one key its rank
@@ -53,7 +54,9 @@ rank_line _ = None
 
 -- no key is given a rank
 abbrev pub none_given : List (Option ℕ)
-none_given = None ∷ None ∷ None ∷ None ∷ None ∷ None ∷ None ∷ None ∷ None ∷ None ∷ None ∷ None ∷ None ∷ None ∷ None ∷ None ∷ []
+none_given =
+    None ∷ None ∷ None ∷ None ∷ None ∷ None ∷ None ∷ None
+    ∷ None ∷ None ∷ None ∷ None ∷ None ∷ None ∷ None ∷ None ∷ []
 
 -- each key of some pairs is given its rank, at the key's own place; of one key the last pair stands
 abbrev pub given_with : List (Option ℕ) → List (ℕ × ℕ) → List (Option ℕ)
@@ -63,11 +66,12 @@ given_with given ((key, rank) ∷ pairs) = given_with (slice_set given key (Some
 -- the line that gives each key of one to sixteen pairs its rank
 abbrev pub ranks_line : Option (List (ℕ × ℕ)) → Option Line
 ranks_line (Some pairs) =
-    if nat_lt 0 (length pairs) && nat_le (length pairs) most_pairs then Some (Ranks (given_with none_given pairs)) else None
+    if nat_lt 0 (length pairs) && nat_le (length pairs) most_pairs
+    then Some (Ranks (given_with none_given pairs)) else None
 ranks_line None = None
 
--- what the words of a line say: `push K`, `up K`, `down K`, `rank K R`, `ranks K R ..` with one to sixteen pairs, `pop`, `len` or
--- `clear`, with K from 0 to the greatest key and R from 0 to the greatest rank
+-- what the words of a line say: `push K`, `up K`, `down K`, `rank K R`, `ranks K R ..` with one to sixteen pairs,
+-- `pop`, `len` or `clear`, with K from 0 to the greatest key and R from 0 to the greatest rank
 abbrev pub line_of_words : List (List ℕ) → Option Line
 line_of_words [] = None
 line_of_words (name ∷ words) =

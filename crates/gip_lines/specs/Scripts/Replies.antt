@@ -58,8 +58,8 @@ reply_to Pop refused ranks held = option_map_or decimal (greatest ranks held) (c
 reply_to Len refused ranks held = decimal (length held)
 reply_to line refused ranks held = codes "ok"
 
--- the replies to some lines where these are the ranks and these keys are held, each with a line feed; memory was refused to
--- the lines where `refusals` is true, and to none past its end
+-- the replies to some lines where these are the ranks and these keys are held, each with a line feed; memory was
+-- refused to the lines where `refusals` is true, and to none past its end
 abbrev pub text_from : List ℕ → List ℕ → List Line → List Bool → List ℕ
 text_from ranks held [] refusals = []
 text_from ranks held (line ∷ lines) [] =

@@ -16,12 +16,13 @@ digit_1 = 49
 abbrev pub is_binary_digit : ℕ → Bool
 is_binary_digit byte = (byte == digit_0) || (byte == digit_1)
 
--- the bits that a line writes, where it has the form: `[]` writes none, and one or more digits `0` and `1` write one each, the
--- last bit first
+-- the bits that a line writes, where it has the form: `[]` writes none, and one or more digits `0` and `1` write one
+-- each, the last bit first
 abbrev pub bits_of_line : List ℕ → Option (List Bool)
 bits_of_line line =
     if bytes_eq line (codes "[]") then Some []
-    else if nat_lt 0 (length line) && list_all is_binary_digit line then Some (map (λ digit. digit == digit_1) (reverse line))
+    else if nat_lt 0 (length line) && list_all is_binary_digit line
+    then Some (map (λ digit. digit == digit_1) (reverse line))
     else None
 
 -- every line of a text has the form

@@ -129,7 +129,8 @@ fn ranks(words: &[u8]) -> Option<Line>
 fn split_pair(words: &[u8]) -> Option<((u8, u32), Option<&[u8]>)>
     ensures parts { MatchOption result (pairs_of (pieces space words.now) ≡ None) (λ split.
         pairs_of (pieces space words.now)
-        ≡ with_pair (Some split.0.0) (Some split.0.1) (pairs_of (option_map_or (λ more. pieces space more.now) split.1 []))) }
+        ≡ with_pair (Some split.0.0) (Some split.0.1)
+        (pairs_of (option_map_or (λ more. pieces space more.now) split.1 []))) }
     ensures key { IfSome result (λ split. split.0.0 ≤ greatest_key) }
     ensures shorter { IfSome result (λ split. IfSome split.1 (λ more. length more.now < length words.now)) }
 {

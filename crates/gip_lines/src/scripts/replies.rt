@@ -95,6 +95,7 @@ fn steps_of<'a, A: Allocator>(
     Ok(steps)
 }
 
+// The call that a line makes.
 fn heap_call(line: Line) -> HeapCall<u8>
     ensures { result ≡ call_of line }
 {
@@ -126,6 +127,7 @@ fn text_of_replies<A: Allocator>(
     Ok(text)
 }
 
+// Writes the text of a reply, in a line.
 fn write_reply<A: Allocator>(text: &mut Vec<u8, A>, reply: HeapReply<u8>) -> Result<(), GipFault>
     requires { IsTrue (is_line_reply reply) }
     ensures ok { OnOk result (text.new.items ≡ text.old.items ++ reply_line reply) }
@@ -142,6 +144,7 @@ fn write_reply<A: Allocator>(text: &mut Vec<u8, A>, reply: HeapReply<u8>) -> Res
     Ok(())
 }
 
+// Writes a number, in a line.
 fn write_number<A: Allocator>(text: &mut Vec<u8, A>, n: usize) -> Result<(), GipFault>
     ensures ok { OnOk result (text.new.items ≡ text.old.items ++ (decimal n ++ line_feed ∷ [])) }
     ensures err { IfErr result (λ fault. fault ≡ GipFault.Memory) }

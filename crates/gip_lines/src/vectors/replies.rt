@@ -25,7 +25,8 @@ pub(crate) fn replies_to<A: Allocator + Copy>(
     Ok(text)
 }
 
-// The vector of some bits, and how many they are.
+// The vector of some bits, and how many they are. It is made by a run, as a script is done by one: so each task rests
+// on the contract of a single call of its library.
 fn vector_of<A: Allocator + Copy>(alloc: A, bits: &[bool]) -> Result<(BitVec<A>, usize), GipFault>
     ensures ok { IfOk result (λ made. (made.0 ≡ bits.now) × (made.1 ≡ length bits.now)) }
     ensures err { IfErr result (λ fault. fault ≡ GipFault.Memory) }
@@ -34,6 +35,7 @@ fn vector_of<A: Allocator + Copy>(alloc: A, bits: &[bool]) -> Result<(BitVec<A>,
     let (vector, replies) = bit_run(alloc, &calls)?;
     match (replies[0], replies[1]) {
         (BitReply::Done, BitReply::Number(len)) => Ok((vector, len)),
+        // The bits were refused memory: `Len` answers a number, and no slice has more bits than a vector may have.
         _ => Err(GipFault::Memory),
     }
 }

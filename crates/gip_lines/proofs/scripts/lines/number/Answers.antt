@@ -8,7 +8,8 @@ use Rattle.gip_lines.proofs.Digits.{all_ascii_digits-other, all_ascii_digits-mor
 use Rattle.gip_lines.proofs.scripts.lines.number.Goals as goal
 
 -- one more digit, as the code adds it
-one_more : (word : List ℕ) (i value byte : ℕ) → i < length word → value ≡ digits_value 10 (take i word) → byte ≡ get_or word i 0 - 48 → digit_value (get_or word i 0) ≡ get_or word i 0 - 48
+one_more : (word : List ℕ) (i value byte : ℕ) → i < length word → value ≡ digits_value 10 (take i word)
+    → byte ≡ get_or word i 0 - 48 → digit_value (get_or word i 0) ≡ get_or word i 0 - 48
     → value * 10 + byte ≡ digits_value 10 (take (i + 1) word)
 one_more word i value byte within so_far is digit = omega (arith, digits_value_more 10 word i within)
 

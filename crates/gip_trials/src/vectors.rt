@@ -31,9 +31,10 @@ fn shows_each_line_of_bits(rt: HostRuntime) -> Result<(), Fail> {
 
 #[test]
 fn refuses_the_first_line_without_bits(rt: HostRuntime) {
-    let table: [(&[u8], usize); 11] = [
+    let table: [(&[u8], usize); 12] = [
         (b"0\n012\n", 2),
         (b"\n", 1),
+        (b"\xff", 1),
         (b"1\n\n1", 2),
         (b" 1", 1),
         (b"1 ", 1),
