@@ -1,15 +1,31 @@
--- What the contracts of the gathered crates speak of.
+-- What the public clauses of the gathered crates speak of: every file of their specs/ but the heap's own arrangement (Table and
+-- Tree), which no public clause cites.
 pub use Rattle.giputils_base.specs.Allocator
 pub use Rattle.giputils_base.specs.AllocatorRun
 pub use Rattle.giputils_base.specs.Gvec
 pub use Rattle.giputils_base.specs.Hash
+pub use Rattle.giputils_base.specs.Lends
+pub use Rattle.giputils_base.specs.LendsHashed
+pub use Rattle.giputils_base.specs.LendsValue
 pub use Rattle.giputils_base.specs.Others
+pub use Rattle.giputils_bits.specs.BitRun
+pub use Rattle.giputils_bits.specs.Bits
+pub use Rattle.giputils_bits.specs.Error
+pub use Rattle.giputils_bits.specs.Extended
+pub use Rattle.giputils_bits.specs.Hashed
+pub use Rattle.giputils_bits.specs.Logic
+pub use Rattle.giputils_bits.specs.Places
+pub use Rattle.giputils_bits.specs.Spelt
+pub use Rattle.giputils_bits.specs.Text
 pub use Rattle.giputils_heap.specs.Bounds
+pub use Rattle.giputils_heap.specs.Comparers
 pub use Rattle.giputils_heap.specs.Counted
 pub use Rattle.giputils_heap.specs.InOrder
 pub use Rattle.giputils_heap.specs.Keys
-pub use Rattle.giputils_heap.specs.Relations
+pub use Rattle.giputils_heap.specs.Laws
 pub use Rattle.giputils_heap.specs.Record
+pub use Rattle.giputils_heap.specs.Relations
+pub use Rattle.giputils_heap.specs.Stands
 pub use Rattle.giputils_stat.specs.Decimals
 pub use Rattle.giputils_stat.specs.Due
 pub use Rattle.giputils_stat.specs.Tally

@@ -3,19 +3,19 @@
 //! This crate has no code of its own: it gathers the crates beside it.
 #![tactic(auto)]
 
+#[cfg(test)]
+mod tests;
+
 pub use giputils_base::others::{OptionU8, OptionU32};
 pub use giputils_base::{allocator, grc, gvec, hash, others};
 pub use giputils_bits::bitvec;
-pub use giputils_stat::{logger, statistic};
+pub use giputils_stat::{decimal, logger, statistic};
 
 /// A set of small keys that gives up a greatest one and repairs a changed one, lent its comparer at each call.
 pub mod heap {
     pub use giputils_heap::{
         BinaryHeap, BinaryHeapCmp, ByNumber, ByRank, Counting, HeapCall, HeapKey, HeapReply,
-        HeapStep, answers_at_each_step, heap_run, keeps_counts_at_each_step, one_order_is_steady,
-        order_laws, pops_list_downward,
+        HeapStep, RankTable, answers_at_each_step, heap_run, keeps_counts_at_each_step,
+        one_order_is_steady, order_laws, pops_list_downward,
     };
 }
-
-#[cfg(test)]
-mod tests;

@@ -2,11 +2,11 @@
 use Rattle.std.proofs.Common.{ℕ}
 use Rattle.std.specs.List.{list_all}
 use Rattle.std.proofs.lemmas.Bool.{and_parts}
-use Rattle.giputils_heap.specs.Comparers.{by_rank, reverse_of}
-use Rattle.giputils_heap.specs.Keys.{is_held}
-use Rattle.giputils_heap.specs.Relations.{IsGreatest}
+use Rattle.giputils.specs.Comparers.{by_rank, reverse_of}
+use Rattle.giputils.specs.Keys.{is_held}
+use Rattle.giputils.specs.Relations.{IsGreatest}
 use Rattle.giputils_uses.specs.Clock.{Clock, IsEarliest}
-use Rattle.giputils_heap.proofs.Ranks.{least_rank}
+use Rattle.giputils.proofs.Ranks.{least_rank}
 
 -- a greatest key the other way round is an earliest timer
 pub IsEarliest-greatest : (clock : Clock) (timer : ℕ) → IsGreatest (λ k. k) (reverse_of (by_rank (λ k. k) clock.deadlines)) clock.running timer → IsEarliest clock timer

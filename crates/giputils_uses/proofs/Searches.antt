@@ -2,17 +2,13 @@
 use Rattle.std.proofs.Common.{◌≡◌, ◌≢◌, ℕ, ◌+◌, ◌*◌, ◌<◌, ◌≤◌, Bool, true, false, List, [], ◌∷◌, ◌++◌, length, get_or, set, Some, slice_index, arith, refl, sym, ap, subst, ◌∙◌, ◌⊎◌, ⊎_elim, inl, inr, ◌||◌, eqb, min, sum_by, unwrap_or, zero, suc, ltb, ◌&&◌}
 use Rattle.std.specs.Prelude.{slice_get}
 use Rattle.std.specs.List.{list_all}
-use Rattle.std.proofs.lemmas.Bool.{and_parts, ltb-true, cases_lt, eqb-false, ne_eqb, false≢true}
+use Rattle.std.proofs.lemmas.Bool.{and_parts, or_parts, ltb-true, cases_lt, eqb-false, ne_eqb, false≢true}
 use Rattle.std.proofs.lemmas.Bool.Decides.{eqb_tells}
 use Rattle.std.proofs.lemmas.List.{get_or-set_same, get_or-set_other, get_or_default, length-set}
 use Rattle.std.proofs.lemmas.List.Sums.{sum_by-set}
 use Rattle.std.proofs.lemmas.Option.{slice_get_within, slice_get_read}
-use Rattle.giputils_heap.specs.Keys.{is_held, IsHeld, IsAbsent, HoldAlike}
+use Rattle.giputils.specs.Keys.{is_held, IsHeld, IsAbsent, HoldAlike}
 use Rattle.giputils_uses.specs.Paths.{Edge, IsEdge, HasNodesBelow, IsPath, HasPath, cost}
-
-neither : (a b : Bool) → (a || b) ≡ false → (a ≡ false) × (b ≡ false)
-neither true b none = absurd (false≢true (sym none))
-neither false b none = (refl, none)
 
 -- what a written distance leaves
 module _ (far : List ℕ) (x t : ℕ) (inside : x < length far) (nearer : t < slice_index far x) where
@@ -123,14 +119,14 @@ module _ (edges : List Edge) where
 
     settled_still : (f : Edge) → IsSettled far waiting f → IsSettled (set far e.1 through) waits_too f
     settled_still f was absent =
-        let parts = neither (eqb f.0 e.1) (is_held (λ k. k) waiting f.0) (sym (alike f.0) ∙ absent) in
+        let parts = or_parts (eqb f.0 e.1) (is_held (λ k. k) waiting f.0) (sym (alike f.0) ∙ absent) in
         let less = falls far e.1 through inside nearer f.1 in
         let same = stays_at far e.1 through inside nearer f.0 (eqb-false f.0 e.1 parts.0) in
         omega (arith, was parts.1, less, same)
 
     settled_itself : IsSettled (set far e.1 through) waits_too e
     settled_itself absent =
-        let parts = neither (eqb e.0 e.1) (is_held (λ k. k) waiting e.0) (sym (alike e.0) ∙ absent) in
+        let parts = or_parts (eqb e.0 e.1) (is_held (λ k. k) waiting e.0) (sym (alike e.0) ∙ absent) in
         let now = falls_at far e.1 through inside nearer e.1 refl in
         let same = stays_at far e.1 through inside nearer e.0 (eqb-false e.0 e.1 parts.0) in
         omega (arith, now, same, by_edge)

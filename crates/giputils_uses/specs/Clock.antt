@@ -1,7 +1,7 @@
 -- Timers, by their numbers, each with a deadline.
 use Rattle.std.specs.Prelude.{ℕ, ◌≤◌, List, IsTrue}
-use Rattle.giputils_heap.specs.Comparers.{rank_of}
-use Rattle.giputils_heap.specs.Keys.{is_held}
+use Rattle.giputils.specs.Comparers.{rank_of}
+use Rattle.giputils.specs.Keys.{is_held}
 
 -- the timers that run, and the deadline of each timer
 pub record Clock : Type 0 where

@@ -1,5 +1,8 @@
+-- What the contracts of the uses speak of.
 pub mod Activity
 pub mod Clock
+pub mod Compaction
+pub mod Drained
 pub mod Paths
 pub mod Primes
 pub mod Reachable

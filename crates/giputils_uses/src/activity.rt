@@ -1,13 +1,13 @@
 //! The order in which a solver picks its variables: the most active first.
-ghost use Rattle.std.specs.Prelude.{◌≡◌, ◌+◌, ◌<◌, [], ◌∷◌, length, min, replicate, slice_index, slice_set, IfSome, IfNone, IfOk, OnOk, OnErr};
+ghost use Rattle.std.specs.Prelude.{◌≡◌, ◌<◌, [], ◌∷◌, length, replicate, IfSome, IfNone, IfOk, OnOk, OnErr};
 ghost use Rattle.std.specs.List.Sorted.{IsPermutation};
-ghost use Rattle.giputils_heap.specs.Keys.{HoldAlike};
-ghost use Rattle.giputils_uses.specs.Activity.{IsMostActive};
+ghost use Rattle.giputils.specs.Keys.{HoldAlike};
+ghost use Rattle.giputils_uses.specs.Activity.{IsMostActive, bumped};
 
 #[cfg(test)]
 mod tests;
 
-use giputils_heap::{BinaryHeap, ByRank};
+use giputils::heap::{BinaryHeap, ByRank};
 use std::alloc::{AllocError, Allocator, Global};
 use std::marker::Model;
 
@@ -22,8 +22,8 @@ pub struct Activity<A: Allocator = Global> {
 }
 
 impl<A: Allocator> Model for Activity<A> {
-    ghost use Rattle.giputils_heap.specs.Comparers.{by_rank};
-    ghost use Rattle.giputils_heap.specs.InOrder.{IsInOrder};
+    ghost use Rattle.giputils.specs.Comparers.{by_rank};
+    ghost use Rattle.giputils.specs.InOrder.{IsInOrder};
     ghost use Rattle.giputils_uses.specs.Activity.{Order};
 
     ghost Value = { Order };
@@ -35,6 +35,9 @@ impl<A: Allocator> Model for Activity<A> {
 
 impl<A: Allocator + Copy> Activity<A> {
     /// So many variables of score 0, none of them queued.
+    ///
+    /// # Errors
+    /// `AllocError` where memory for the scores is refused.
     pub fn new(alloc: A, count: usize) -> Result<Self, AllocError>
         ensures queued { IfOk result (λ a. a.queued ≡ []) }
         ensures scores { IfOk result (λ a. a.scores ≡ replicate count 0) }
@@ -44,7 +47,7 @@ impl<A: Allocator + Copy> Activity<A> {
         Ok(Activity { queue, scores })
     }
 
-    /// Queues a variable, unless it is queued.
+    /// Queues a variable, unless it is queued. Any number below `u32::MAX` may be; one without a score has score 0.
     ///
     /// # Errors
     /// `AllocError` where memory for it is refused. Nothing changes then.
@@ -52,7 +55,7 @@ impl<A: Allocator + Copy> Activity<A> {
         requires { variable < u32.MAX }
         ensures queued { OnOk result (HoldAlike (λ k. k) self.new.queued (variable ∷ self.old.queued)) }
         ensures scores { self.new.scores ≡ self.old.scores }
-        ensures refused { OnErr result (self.new.queued ≡ self.old.queued) }
+        ensures err { OnErr result (self.new.queued ≡ self.old.queued) }
     {
         self.queue.push(variable, &ByRank(&self.scores))
     }
@@ -61,7 +64,7 @@ impl<A: Allocator + Copy> Activity<A> {
     pub fn bump(&mut self, variable: u32)
         requires { variable < length self.old.scores }
         ensures queued { IsPermutation self.old.queued self.new.queued }
-        ensures scores { self.new.scores ≡ slice_set self.old.scores variable (min (slice_index self.old.scores variable + 1) u32.MAX) }
+        ensures scores { self.new.scores ≡ bumped self.old.scores variable }
     {
         let score = self.scores[variable as usize].saturating_add(1);
         self.scores[variable as usize] = score;

@@ -1,12 +1,13 @@
 //! Lists of indexes into an index allocator, renamed by a collection.
-ghost use Rattle.std.specs.Prelude.{◌≡◌, map, filter, is_some, IfOk, OnOk, OnErr};
+ghost use Rattle.std.specs.Prelude.{◌≡◌, IfOk, OnOk, OnErr};
 ghost use Rattle.std.specs.List.{filter_map};
-ghost use Rattle.giputils_base.specs.Allocator.{value_at, index_map, survivors, unmarked_slots};
+ghost use Rattle.giputils.specs.Allocator.{index_map, survivors, unmarked_slots};
+ghost use Rattle.giputils_uses.specs.Compaction.{ReadsAlike};
 
 #[cfg(test)]
 mod tests;
 
-use giputils_base::allocator::Gallocator;
+use giputils::allocator::Gallocator;
 use std::alloc::{AllocError, Allocator};
 
 /// Collects the removed clauses, and answers the watched ones that are left by their new indexes, in order.
@@ -23,8 +24,8 @@ pub fn compact<T: Drop, A: Allocator + Copy>(
 ) -> Result<Vec<usize, A>, AllocError>
     ensures collected { OnOk result (clauses.new ≡ unmarked_slots (survivors clauses.old)) }
     ensures renamed { IfOk result (λ left. left.items ≡ filter_map (index_map clauses.old) watched.now) }
-    ensures same_clauses { IfOk result (λ left. map (value_at clauses.new) left.items ≡ map (value_at clauses.old) (filter (λ i. is_some (index_map clauses.old i)) watched.now)) }
-    ensures refused { OnErr result (clauses.new ≡ clauses.old) }
+    ensures same_clauses { IfOk result (λ left. ReadsAlike clauses.old clauses.new watched.now left.items) }
+    ensures err { OnErr result (clauses.new ≡ clauses.old) }
 {
     let mut left = Vec::with_capacity(alloc, watched.len())?;
     let moved = clauses.gc()?;

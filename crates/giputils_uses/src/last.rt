@@ -1,11 +1,11 @@
 //! Of several values of one key, the last.
 ghost use Rattle.std.specs.Prelude.{◌≡◌, nat_eq, IfOk};
-ghost use Rattle.giputils_base.specs.Hash.{last_value};
+ghost use Rattle.giputils.specs.Hash.{last_value};
 
 #[cfg(test)]
 mod tests;
 
-use giputils_base::hash::GHashMap;
+use giputils::hash::GHashMap;
 use std::alloc::{AllocError, Allocator};
 
 /// The value of the last of the pairs with this key, as of a setting that is given twice.

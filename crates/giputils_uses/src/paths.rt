@@ -1,11 +1,11 @@
 //! Shortest distances over a graph that is given as a list of edges.
-ghost use Rattle.std.specs.Prelude.{◌≡◌, ℕ, ◌<◌, ◌≤◌, List, length, slice_index, IfOk};
-ghost use Rattle.giputils_uses.specs.Paths.{Edge, HasNodesBelow, IsPath, HasPath, cost};
+ghost use Rattle.std.specs.Prelude.{◌≡◌, ◌<◌, length, IfOk};
+ghost use Rattle.giputils_uses.specs.Paths.{HasNodesBelow, AreCosts, AreLeast};
 
 #[cfg(test)]
 mod tests;
 
-use giputils_heap::{BinaryHeap, ByRank};
+use giputils::heap::{BinaryHeap, ByRank};
 use std::alloc::{AllocError, Allocator};
 use std::cmp::Reverse;
 
@@ -28,8 +28,8 @@ pub fn distances<A: Allocator + Copy>(
     requires source { source < count }
     requires nodes { HasNodesBelow count edges.now }
     ensures len { IfOk result (λ far. length far.items ≡ count) }
-    ensures reached { IfOk result (λ far. (v : ℕ) → v < count → slice_index far.items v < u32.MAX → HasPath edges.now source v (slice_index far.items v)) }
-    ensures least { IfOk result (λ far. (v : ℕ) (path : List Edge) → IsPath edges.now source path v → slice_index far.items v ≤ cost path) }
+    ensures reached { IfOk result (λ far. AreCosts edges.now source count far.items) }
+    ensures least { IfOk result (λ far. AreLeast edges.now source far.items) }
 {
     let mut far = vec![in alloc; u32::MAX; count]?;
     far[usize::from(source)] = 0;

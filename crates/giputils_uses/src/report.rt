@@ -2,15 +2,15 @@
 ghost use Rattle.std.specs.Prelude.{◌≡◌, ◌++◌, codes, Some};
 ghost use Rattle.std.specs.Bool.{OnTrue, OnFalse};
 ghost use Rattle.std.specs.Duration.{as_nanos};
-ghost use Rattle.giputils_stat.specs.Due.{is_due};
-ghost use Rattle.giputils_stat.specs.Tally.{with_term};
-ghost use Rattle.giputils_stat.specs.Texts.{average_text};
+ghost use Rattle.giputils.specs.Due.{is_due};
+ghost use Rattle.giputils.specs.Tally.{with_term};
+ghost use Rattle.giputils.specs.Texts.{average_text};
 
 #[cfg(test)]
 mod tests;
 
-use giputils_stat::logger::IntervalLogger;
-use giputils_stat::statistic::Average;
+use giputils::logger::IntervalLogger;
+use giputils::statistic::Average;
 use log::{Level, Log};
 use std::fmt;
 use std::time::Duration;

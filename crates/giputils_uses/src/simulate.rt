@@ -1,11 +1,11 @@
 //! A step of a simulator over two vectors of bits.
 ghost use Rattle.std.specs.Prelude.{◌≡◌, length, OnOk, OnErr, IfOk};
-ghost use Rattle.giputils_bits.specs.Logic.{and_of, xor_of};
+ghost use Rattle.giputils.specs.Logic.{and_of, xor_of};
 
 #[cfg(test)]
 mod tests;
 
-use giputils_bits::bitvec::{BitVec, BitVecError};
+use giputils::bitvec::{BitVec, BitVecError};
 use std::alloc::Allocator;
 
 /// A column of half adders: the state becomes its sum with the input, place by place, and the answer has the carries.
@@ -22,7 +22,7 @@ pub fn half_add<A: Allocator + Copy>(
     requires { length state.old ≡ length input.now }
     ensures sum { OnOk result (state.new ≡ xor_of state.old input.now) }
     ensures carries { IfOk result (λ carries. carries ≡ and_of state.old input.now) }
-    ensures refused { OnErr result (state.new ≡ state.old) }
+    ensures err { OnErr result (state.new ≡ state.old) }
 {
     let mut carries = state.clone()?;
     carries &= input;

@@ -2,13 +2,13 @@
 ghost use Rattle.std.specs.Prelude.{IfOk};
 ghost use Rattle.std.specs.Bool.{beq};
 ghost use Rattle.std.specs.Cmp.Lexicographic.{pointwise};
-ghost use Rattle.giputils_base.specs.Hash.{IsSetOf};
+ghost use Rattle.giputils.specs.Hash.{IsSetOf};
 
 #[cfg(test)]
 mod tests;
 
-use giputils_base::hash::GHashSet;
-use giputils_bits::bitvec::BitVec;
+use giputils::bitvec::BitVec;
+use giputils::hash::GHashSet;
 use std::alloc::{AllocError, Allocator};
 
 /// The states that a run went through, each once.

@@ -1,13 +1,13 @@
 //! A queue of timers: the earliest deadline first.
 ghost use Rattle.std.specs.Prelude.{◌≡◌, ◌<◌, [], ◌∷◌, length, replicate, slice_set, IfSome, IfNone, IfOk, OnOk, OnErr};
 ghost use Rattle.std.specs.List.Sorted.{IsPermutation};
-ghost use Rattle.giputils_heap.specs.Keys.{is_held, IsAbsent, HoldAlike};
+ghost use Rattle.giputils.specs.Keys.{is_held, IsAbsent, HoldAlike};
 ghost use Rattle.giputils_uses.specs.Clock.{Runs, IsEarliest};
 
 #[cfg(test)]
 mod tests;
 
-use giputils_heap::{BinaryHeap, ByRank};
+use giputils::heap::{BinaryHeap, ByRank};
 use std::alloc::{AllocError, Allocator, Global};
 use std::cmp::Reverse;
 use std::marker::Model;
@@ -23,8 +23,8 @@ pub struct Timers<A: Allocator = Global> {
 }
 
 impl<A: Allocator> Model for Timers<A> {
-    ghost use Rattle.giputils_heap.specs.Comparers.{by_rank, reverse_of};
-    ghost use Rattle.giputils_heap.specs.InOrder.{IsInOrder};
+    ghost use Rattle.giputils.specs.Comparers.{by_rank, reverse_of};
+    ghost use Rattle.giputils.specs.InOrder.{IsInOrder};
     ghost use Rattle.giputils_uses.specs.Clock.{Clock};
 
     ghost Value = { Clock };
@@ -36,6 +36,9 @@ impl<A: Allocator> Model for Timers<A> {
 
 impl<A: Allocator + Copy> Timers<A> {
     /// So many timers, none of which runs.
+    ///
+    /// # Errors
+    /// `AllocError` where memory for the deadlines is refused.
     pub fn new(alloc: A, count: usize) -> Result<Self, AllocError>
         ensures running { IfOk result (λ t. t.running ≡ []) }
         ensures deadlines { IfOk result (λ t. t.deadlines ≡ replicate count 0) }
@@ -54,7 +57,7 @@ impl<A: Allocator + Copy> Timers<A> {
         requires { timer < length self.old.deadlines }
         ensures runs { OnOk result (HoldAlike (λ k. k) self.new.running (timer ∷ self.old.running)) }
         ensures deadline { self.new.deadlines ≡ slice_set self.old.deadlines timer deadline }
-        ensures refused { OnErr result (IsPermutation self.old.running self.new.running) }
+        ensures err { OnErr result (IsPermutation self.old.running self.new.running) }
     {
         self.deadlines[usize::from(timer)] = deadline;
         let earliest = Reverse(ByRank(&self.deadlines));
@@ -71,6 +74,7 @@ impl<A: Allocator + Copy> Timers<A> {
     {
         self.running.pop(&Reverse(ByRank(&self.deadlines)))
     }
+
     /// Stops a timer, and answers whether it ran. The others run on.
     ///
     /// It takes no memory, and any number may be asked: one that is no timer's does not run.

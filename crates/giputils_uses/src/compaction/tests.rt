@@ -1,5 +1,5 @@
 use super::compact;
-use giputils_base::allocator::Gallocator;
+use giputils::allocator::Gallocator;
 use std::process::Abort;
 use std::test::Fail;
 

@@ -1,6 +1,6 @@
 use super::{Labelled, observe, report};
-use giputils_stat::logger::IntervalLogger;
-use giputils_stat::statistic::Average;
+use giputils::logger::IntervalLogger;
+use giputils::statistic::Average;
 use log::sink::Memory;
 use std::process::Abort;
 use std::test::Fail;

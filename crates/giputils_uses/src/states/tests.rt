@@ -1,5 +1,5 @@
 use super::visited;
-use giputils_bits::bitvec::BitVec;
+use giputils::bitvec::BitVec;
 use std::test::Fail;
 
 #[test]

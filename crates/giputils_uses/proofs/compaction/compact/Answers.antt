@@ -2,8 +2,8 @@
 use Rattle.std.proofs.Common.{◌≡◌, ◌++◌, [], ◌∷◌, get_or, nat_eq, Some, None, arith, sym, ap, ◌∙◌, append-nil}
 use Rattle.std.proofs.lemmas.List.{take_all}
 use Rattle.std.specs.Map.{lookup}
-use Rattle.giputils_base.specs.Allocator.{index_map, value_at}
-use Rattle.giputils_base.proofs.Renumbering.{map-renamed}
+use Rattle.giputils.specs.Allocator.{index_map, value_at}
+use Rattle.giputils.proofs.Renumbering.{map-renamed}
 use Rattle.giputils_uses.proofs.Renamed.{filter_map-more}
 use Rattle.giputils_uses.proofs.compaction.compact.Goals as goal
 use Rattle.giputils_uses.proofs.compaction.compact.Goals.{in-Some, in_default}

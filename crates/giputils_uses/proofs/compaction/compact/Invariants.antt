@@ -1,7 +1,7 @@
 -- The indexes so far that are left, by their new names.
 use Rattle.std.proofs.Common.{◌≡◌, ◌≤◌, length, take, vec_len, vec_capacity}
 use Rattle.std.specs.List.{filter_map}
-use Rattle.giputils_base.specs.Allocator.{index_map}
+use Rattle.giputils.specs.Allocator.{index_map}
 use Rattle.giputils_uses.proofs.compaction.compact.Given as goal
 
 abbrev pub invariant-loop-old : goal.invariant-loop-old

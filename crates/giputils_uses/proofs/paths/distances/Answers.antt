@@ -3,9 +3,9 @@ use Rattle.std.proofs.Common.{◌≡◌, ◌+◌, ◌<◌, ◌≤◌, [], ◌∷
 use Rattle.std.proofs.lemmas.Grind.{common_steps}
 use Rattle.std.proofs.lemmas.List.{get_or_default, get_or-set_same, get_or-set_other, get_or-replicate, length-set}
 use Rattle.std.proofs.lemmas.List.Sorted.{length_permutation}
-use Rattle.giputils_heap.specs.Keys.{HoldAlike}
-use Rattle.giputils_heap.proofs.HoldAlike.{HoldAlike-cons, HoldAlike-IsPermutation}
-use Rattle.giputils_heap.proofs.Pushes.{HoldAlike-pushed, length-pushed}
+use Rattle.giputils.specs.Keys.{HoldAlike}
+use Rattle.giputils.proofs.HoldAlike.{HoldAlike-cons, HoldAlike-IsPermutation}
+use Rattle.giputils.proofs.Pushes.{HoldAlike-pushed, length-pushed}
 use Rattle.giputils_uses.proofs.Searches.{IsSearch-start, IsSearch-taken, IsSearch-next, IsSearch-nearer, IsSearch-done, IsSearch-least, smaller_sum, nodes_below, edge_at}
 use Rattle.giputils_uses.proofs.paths.distances.Goals as goal
 use Rattle.giputils_uses.proofs.paths.distances.Goals.{then-from-node+then-through-index+in_ok-push-2, else-from-node, else-from-node-via-then-from-node+else-through-index, else-from-node-via-else-from-node}

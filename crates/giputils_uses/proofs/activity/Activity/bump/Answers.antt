@@ -1,9 +1,9 @@
 -- A score rose, and no other changed: `up` repairs the order.
 use Rattle.std.proofs.Common.{◌<◌, ◌≤◌, length, get_or, sym, ap, ◌∙◌, arith}
 use Rattle.std.proofs.lemmas.List.{get_or_default}
-use Rattle.giputils_heap.specs.Comparers.{by_rank}
-use Rattle.giputils_heap.proofs.Comparisons.{AgreesExcept-by_rank, HasRisen-by_rank}
-use Rattle.giputils_heap.proofs.Ranks.{IsLawful-by_rank}
+use Rattle.giputils.specs.Comparers.{by_rank}
+use Rattle.giputils.proofs.Comparisons.{AgreesExcept-by_rank, HasRisen-by_rank}
+use Rattle.giputils.proofs.Ranks.{IsLawful-by_rank}
 use Rattle.giputils_uses.proofs.activity.Activity.bump.Goals as goal
 
 pub invariant_of-self : goal.invariant_of-self

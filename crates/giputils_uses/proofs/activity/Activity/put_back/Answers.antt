@@ -1,8 +1,8 @@
 -- A push keeps the order by the scores.
 use Rattle.std.proofs.Common.{◌∷◌, sym}
 use Rattle.std.proofs.lemmas.Result.{on_ok_weaker}
-use Rattle.giputils_heap.proofs.Pushes.{HoldAlike-pushed}
-use Rattle.giputils_heap.proofs.Ranks.{IsLawful-by_rank}
+use Rattle.giputils.proofs.Pushes.{HoldAlike-pushed}
+use Rattle.giputils.proofs.Ranks.{IsLawful-by_rank}
 use Rattle.giputils_uses.proofs.activity.Activity.put_back.Goals as goal
 
 pub invariant_of-self : goal.invariant_of-self

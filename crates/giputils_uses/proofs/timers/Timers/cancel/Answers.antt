@@ -1,6 +1,6 @@
 -- The heap was in order by the deadlines, and is so without the timer.
 use Rattle.std.proofs.Common.{sym}
-use Rattle.giputils_heap.proofs.Ranks.{IsLawful-by_least_rank}
+use Rattle.giputils.proofs.Ranks.{IsLawful-by_least_rank}
 use Rattle.giputils_uses.proofs.timers.Timers.cancel.Goals as goal
 
 pub invariant_of-self : goal.invariant_of-self

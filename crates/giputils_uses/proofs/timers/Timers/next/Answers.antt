@@ -1,8 +1,8 @@
 -- The heap is in order by the deadlines, so what it gives up is earliest.
 use Rattle.std.proofs.Common.{sym}
-use Rattle.giputils_uses.proofs.Outcomes.{IfSome-weaker}
+use Rattle.std.proofs.lemmas.Option.{IfSome_then}
 use Rattle.giputils_uses.proofs.Deadlines.{IsEarliest-greatest}
-use Rattle.giputils_heap.proofs.Ranks.{IsLawful-by_least_rank}
+use Rattle.giputils.proofs.Ranks.{IsLawful-by_least_rank}
 use Rattle.giputils_uses.proofs.timers.Timers.next.Goals as goal
 
 pub invariant_of-self : goal.invariant_of-self
@@ -12,5 +12,6 @@ invariant_of-self g c =
 pub returns-clause-earliest : goal.returns-clause-earliest
 returns-clause-earliest g c =
     rw (sym c.self.view_is, sym c.deref.ensures.value)
-    (IfSome-weaker c.pop.result _ _ (λ timer greatest. IsEarliest-greatest _ timer
-    (greatest (rw c.deref.ensures.value c.self.invariant) (IsLawful-by_least_rank (λ k. k) c.deref.result.now c.self.inside.running))) c.pop.ensures.greatest)
+    (IfSome_then c.pop.result c.pop.ensures.greatest
+    (λ timer greatest. IsEarliest-greatest _ timer
+    (greatest (rw c.deref.ensures.value c.self.invariant) (IsLawful-by_least_rank (λ k. k) c.deref.result.now c.self.inside.running))))

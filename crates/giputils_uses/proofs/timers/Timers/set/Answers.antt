@@ -1,11 +1,11 @@
 -- One deadline changed: `update` repairs the order, and a push keeps it.
 use Rattle.std.proofs.Common.{◌∷◌, sym, ◌∙◌}
 use Rattle.std.proofs.lemmas.Result.{on_ok_weaker}
-use Rattle.giputils_heap.specs.Comparers.{by_rank, reverse_of}
-use Rattle.giputils_heap.proofs.Comparisons.{AgreesExcept-by_rank}
-use Rattle.giputils_heap.proofs.HoldAlike.{HoldAlike-cons, HoldAlike-IsPermutation}
-use Rattle.giputils_heap.proofs.Pushes.{HoldAlike-pushed}
-use Rattle.giputils_heap.proofs.Ranks.{IsLawful-by_least_rank, AgreesExcept-reverse_of}
+use Rattle.giputils.specs.Comparers.{by_rank, reverse_of}
+use Rattle.giputils.proofs.Comparisons.{AgreesExcept-by_rank}
+use Rattle.giputils.proofs.HoldAlike.{HoldAlike-cons, HoldAlike-IsPermutation}
+use Rattle.giputils.proofs.Pushes.{HoldAlike-pushed}
+use Rattle.giputils.proofs.Ranks.{IsLawful-by_least_rank, AgreesExcept-reverse_of}
 use Rattle.giputils_uses.proofs.timers.Timers.set.Goals as goal
 
 pub invariant_of-self : goal.invariant_of-self

@@ -1,0 +1,24 @@
+-- The lemmas of the gathered crates that callers may cite. Where two crates have a file of one name, it says whose it is.
+pub use Rattle.giputils_base.proofs.Renumbering
+pub use Rattle.giputils_base.proofs.Runs as IndexRuns
+pub use Rattle.giputils_base.proofs.Slots
+pub use Rattle.giputils_base.proofs.Vectors
+pub use Rattle.giputils_bits.proofs.Digits as BitDigits
+pub use Rattle.giputils_bits.proofs.Logic
+pub use Rattle.giputils_bits.proofs.Runs as BitRuns
+pub use Rattle.giputils_bits.proofs.Words
+pub use Rattle.giputils_heap.proofs.CallBounds
+pub use Rattle.giputils_heap.proofs.Comparisons
+pub use Rattle.giputils_heap.proofs.Falling
+pub use Rattle.giputils_heap.proofs.Greatest
+pub use Rattle.giputils_heap.proofs.HoldAlike
+pub use Rattle.giputils_heap.proofs.KeySets
+pub use Rattle.giputils_heap.proofs.Levels
+pub use Rattle.giputils_heap.proofs.OrderLaws
+pub use Rattle.giputils_heap.proofs.Preorders
+pub use Rattle.giputils_heap.proofs.Pushes
+pub use Rattle.giputils_heap.proofs.Ranks
+pub use Rattle.giputils_heap.proofs.Relations
+pub use Rattle.giputils_stat.proofs.Decimals
+pub use Rattle.giputils_stat.proofs.Digits as DecimalDigits
+pub use Rattle.giputils_stat.proofs.Rounding
