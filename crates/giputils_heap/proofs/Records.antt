@@ -4,22 +4,23 @@ use Rattle.std.specs.Prelude.{slice_get, filter, if◌then◌else◌}
 use Rattle.std.specs.List.{All, list_all}
 use Rattle.std.proofs.Math.Path.{fun_ext}
 use Rattle.std.proofs.Math.Seq.{take-append_seam, take-append-add}
-use Rattle.std.proofs.lemmas.Bool.{and_parts, and_from, or_left, cases_Bool, false≢true, eq-eqb}
+use Rattle.std.proofs.lemmas.Bool.{and_parts, and_from, cases_Bool, false≢true, eq-eqb}
 use Rattle.std.proofs.lemmas.Map.Steps.{list_any_congr}
 use Rattle.std.proofs.Math.Bool.{and-true, and-false}
 use Rattle.std.proofs.lemmas.List.Elements.{All-head, All-tail}
 use Rattle.giputils_heap.specs.Keys.{same_key, is_held, AreDistinct, AreBelow, HoldAlike, without, key_limit}
-use Rattle.giputils_heap.specs.Relations.{is_lawful, IsLawful, agree_on, agrees_except, has_risen, has_fallen, is_greatest}
+use Rattle.giputils_heap.specs.Relations.{is_lawful, IsLawful, agree_on, is_greatest}
 use Rattle.giputils_heap.specs.Record.{Entry, Progress, start, start_if_empty, start_anew, is_nil, agrees_with_last, compared_keys, may_compare, held_after, after_call, may_answer, may_reply, progress_from, answers_from, held_from, held_before, Answers, is_steady_at, IsSteady}
 use Rattle.giputils_heap.specs.Laws.{IsTotalPreorder, Compares, PopUntilNone, is_descending, ListsDownward}
 use Rattle.giputils_heap.specs.declared.run.HeapCall.{HeapCall}
-use Rattle.giputils_heap.specs.declared.run.HeapCall.TheVariants.{Push, Pop, Up, Down, Update, Rebuild, Clear}
+use Rattle.giputils_heap.specs.declared.run.HeapCall.TheVariants.{Push, Pop, Rebuild, Clear}
 use Rattle.giputils_heap.specs.declared.run.HeapReply.{HeapReply}
 use Rattle.giputils_heap.specs.declared.run.HeapReply.TheVariants.{Done, Popped}
 use Rattle.giputils_heap.proofs.BoolsAndLists.{or-and_not}
 use Rattle.giputils_heap.proofs.KeySets.{is_held-head, same_key-equiv, AreDistinct-nil, pass_at_held}
 use Rattle.giputils_heap.proofs.HoldAlike.{AreDistinct-cons, AreDistinct-filter, HoldsWithin-without, is_held-without, IsLawful-fewer}
 use Rattle.giputils_heap.proofs.Preorders.{agree_on-refl, IsLawful-everywhere}
+use Rattle.giputils_heap.proofs.Steady.{agrees_with_last-same}
 
 module _ {T C : Type 0} (at_least : C → T → T → Bool) where
   relation_is : (R : T → T → Bool) (c : C) → Compares at_least R c → at_least c ≡ R
@@ -232,21 +233,6 @@ module _ {T C : Type 0} (number : T → ℕ) (one_value : (x y : T) → number x
       ∙ ap (λ (q : Progress T C). q.steady) (progress_from-append number at_least start before (take 1 pops))) ∙ steady)))
 
 module _ {T C : Type 0} (number : T → ℕ) (at_least : C → T → T → Bool) (R : T → T → Bool) (order : IsTotalPreorder R) where
-  one_relation : (b c : C) (keys : List T) → at_least b ≡ R → at_least c ≡ R → agree_on (at_least b) (at_least c) keys ≡ true
-  one_relation b c keys was is = ap (λ Q. agree_on Q (at_least c) keys) was ∙ ap (λ Q. agree_on R Q keys) is ∙ agree_on-refl R keys
-
-  agrees_under_one_order : (last : Option C) (call : HeapCall T) (c : C) (held : List T) → at_least c ≡ R → ((b : C) → last ≡ Some b → at_least b ≡ R)
-      → agrees_with_last number at_least last call c held ≡ true
-  agrees_under_one_order None call c held is was = refl
-  agrees_under_one_order (Some b) (Up v) c held is was =
-      or_left (agree_on (at_least b) (at_least c) held)
-      (agrees_except number v (at_least b) (at_least c) held && has_risen v (at_least b) (at_least c) held) (one_relation b c held (was b refl) is)
-  agrees_under_one_order (Some b) (Down v) c held is was =
-      or_left (agree_on (at_least b) (at_least c) held)
-      (agrees_except number v (at_least b) (at_least c) held && has_fallen v (at_least b) (at_least c) held) (one_relation b c held (was b refl) is)
-  agrees_under_one_order (Some b) (Update v) c held is was = one_relation b c (without number held v) (was b refl) is
-  agrees_under_one_order (Some b) call c held is was = one_relation b c held (was b refl) is
-
   -- the comparer that was last lent since nothing was held has the relation too
   last_once_empty : (held : List T) (steady : Bool) (last : Option C) → ((b : C) → last ≡ Some b → at_least b ≡ R)
       → (b : C) → (start_if_empty record { held = held; steady = steady; last = last }).last ≡ Some b → at_least b ≡ R
@@ -282,7 +268,7 @@ module _ {T C : Type 0} (number : T → ℕ) (at_least : C → T → T → Bool)
       let compared : (q.steady && (is_lawful (at_least c) (compared_keys p.held call) && agrees_with_last number at_least q.last call c p.held)) ≡ true =
       and_from q.steady (is_lawful (at_least c) (compared_keys p.held call) && agrees_with_last number at_least q.last call c p.held) q_steady
       (and_from (is_lawful (at_least c) (compared_keys p.held call)) (agrees_with_last number at_least q.last call c p.held) lawful
-      (agrees_under_one_order q.last call c p.held is q_last))
+      (agrees_with_last-same number at_least q.last call c p.held (λ b was. q_last b was ∙ sym is)))
       in
       elim (may_compare call) as (λ b. ((if b then (q.steady && (is_lawful (at_least c) (compared_keys p.held call) && agrees_with_last number at_least q.last call c p.held)) else q.steady) ≡ true)
       × ((d : C) → (if b then Some c else q.last) ≡ Some d → at_least d ≡ R)) [
