@@ -1,4 +1,4 @@
-// The table of places: for the number of each held key the place where it stands in the array of keys.
+//! The table of places: for the number of each held key the place where it stands in the array of keys.
 ghost use Rattle.std.specs.Prelude.{◌≡◌, ℕ, ◌<◌, length, slice_set, None};
 ghost use Rattle.giputils_heap.specs.Keys.{key_limit};
 ghost use Rattle.giputils_heap.specs.Table.{place_in, IsTable, SaysAlso, SaysNothing};
@@ -8,7 +8,7 @@ use giputils_base::others::OptionU32;
 
 // The place that the table has of a key.
 #[inline]
-pub fn place_of<T: HeapKey>(places: &[OptionU32], key: T) -> Option<usize>
+pub(crate) fn place_of<T: HeapKey>(places: &[OptionU32], key: T) -> Option<usize>
     ensures { result ≡ place_in places.now (T.number key) }
 {
     match places.get(key.key() as usize) {
@@ -19,7 +19,7 @@ pub fn place_of<T: HeapKey>(places: &[OptionU32], key: T) -> Option<usize>
 
 // Writes a key into a place, and the place into the table.
 #[inline]
-pub fn put<T: HeapKey>(keys: &mut [T], places: &mut [OptionU32], place: usize, key: T)
+pub(crate) fn put<T: HeapKey>(keys: &mut [T], places: &mut [OptionU32], place: usize, key: T)
     requires inside { place < length keys.old }
     requires number { T.number key < length places.old }
     requires limit { place < key_limit }
@@ -33,7 +33,7 @@ pub fn put<T: HeapKey>(keys: &mut [T], places: &mut [OptionU32], place: usize, k
 
 // Writes the place of a key into the table.
 #[inline]
-pub fn remember<T: HeapKey>(places: &mut [OptionU32], key: T, place: usize)
+pub(crate) fn remember<T: HeapKey>(places: &mut [OptionU32], key: T, place: usize)
     requires number { T.number key < length places.old }
     requires limit { place < key_limit }
     ensures places { SaysAlso (place_in places.old) (place_in places.new) (T.number key) place }
@@ -44,7 +44,7 @@ pub fn remember<T: HeapKey>(places: &mut [OptionU32], key: T, place: usize)
 
 // Takes a key out of the table.
 #[inline]
-pub fn forget<T: HeapKey>(places: &mut [OptionU32], key: T)
+pub(crate) fn forget<T: HeapKey>(places: &mut [OptionU32], key: T)
     requires number { T.number key < length places.old }
     ensures places { SaysNothing (place_in places.old) (place_in places.new) (T.number key) }
     ensures size { length places.new ≡ length places.old }
@@ -53,7 +53,7 @@ pub fn forget<T: HeapKey>(places: &mut [OptionU32], key: T)
 }
 
 // Takes every key out of the table.
-pub fn forget_all<T: HeapKey>(keys: &[T], places: &mut [OptionU32])
+pub(crate) fn forget_all<T: HeapKey>(keys: &[T], places: &mut [OptionU32])
     requires table { IsTable T.number keys.now (place_in places.old) }
     ensures none { (n : ℕ) → place_in places.new n ≡ None }
     ensures size { length places.new ≡ length places.old }

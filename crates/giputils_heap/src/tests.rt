@@ -1,4 +1,4 @@
-// The calls once each at concrete types.
+//! The calls once each at concrete types.
 ghost use Rattle.std.specs.Prelude.{true};
 
 use super::{BinaryHeap, BinaryHeapCmp, ByNumber, ByRank, Counting, HeapKey, HeapStep, heap_run};
