@@ -3,7 +3,7 @@ use Rattle.std.proofs.Common.{◌≡◌, ℕ, zero, suc, ◌+◌, ◌<◌, ◌�
 use Rattle.std.proofs.lemmas.List.{take_more}
 use Rattle.std.proofs.Math.Seq.{drop-cons}
 use Rattle.std.proofs.Math.Nat.{add-zero}
-use Rattle.std.proofs.Math.Numerals.{suc-eq-add-one}
+use Rattle.std.proofs.Math.Numerals.{add-one, suc-eq-add-one}
 use Rattle.std.proofs.lemmas.List.{get_or-drop, length-drop}
 use Rattle.gip_lines.specs.Scripts.Steps.{Table, call_of, gives_ranks, step_of, steps_from, tables_from}
 use Rattle.std.proofs.lemmas.List.Elements.{All-nil, All-cons}
@@ -63,14 +63,11 @@ pub IsAtTable-item : (tables : List Table) (t : ℕ) (ranks : List ℕ) (lines :
     → get_or tables t d ≡ record { 0 = ranks }
 IsAtTable-item tables t ranks lines d at = rw (get_or-drop t tables 0 d, add-zero) at (ap (λ xs. get_or xs 0 d) at.rest)
 
-suc_add_one : (t : ℕ) → suc t + 1 ≡ suc (t + 1)
-suc_add_one t = omega arith
-
 step_rest : (tables : List Table) (t : ℕ) (x : Table) (rest : List Table) → drop t tables ≡ x ∷ rest → drop (t + 1) tables ≡ rest
 step_rest [] zero x rest e = cc
 step_rest (y ∷ tables) zero x rest e = cc
 step_rest [] (suc t) x rest e = cc
-step_rest (y ∷ tables) (suc t) x rest e = rw (suc_add_one t) (step_rest tables t x rest e)
+step_rest (y ∷ tables) (suc t) x rest e = rw (add-one (suc t)) (rw (add-one t) at (step_rest tables t x rest e))
 
 pub added-le_one : (n : ℕ) (b : Bool) → n ≡ cond b 1 0 → n ≤ 1
 added-le_one n true is = omega (arith, is)

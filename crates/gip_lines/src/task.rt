@@ -25,7 +25,7 @@ impl Task {
     /// [`Watched::failed`] tells.
     ///
     /// # Errors
-    /// As those answer.
+    /// Those of [`script`] or of [`bits`].
     pub fn run<A: Allocator + Copy, R: Read, W: Write>(
         self,
         alloc: A,

@@ -52,6 +52,9 @@ impl<D> Watched<D> {
 
 impl<R: Read> Watched<R> {
     /// One read of the device.
+    ///
+    /// # Errors
+    /// That of the device, which has failed from then on.
     pub fn read(&mut self, buf: &mut [u8]) -> io::Result<usize>
         ensures bound { ReadsAtMost result buf.new }
         ensures bytes { ReadConsumes (R.remaining self.old.device) (R.remaining self.new.device) result buf.new }
@@ -67,6 +70,9 @@ impl<R: Read> Watched<R> {
 
 impl<W: Write> Watched<W> {
     /// One write to the device. One that takes none of some bytes has failed.
+    ///
+    /// # Errors
+    /// That of the device, which has failed from then on.
     pub fn write(&mut self, buf: &[u8]) -> io::Result<usize>
         ensures bound { WritesAtMost result buf.now }
         ensures bytes { WriteAppends (W.contents self.old.device) (W.contents self.new.device) result buf.now }

@@ -17,10 +17,10 @@ replies_to-requires g c =
 
 pub returns-clause-is_script : goal.returns-clause-is_script
 returns-clause-is_script g c =
+    let input = c.in_ok-input.input.items in
     let read = rw c.deref.ensures.value at c.in_ok-lines.ensures.ok in
-    on_ok_weaker _
-    (λ _. whole_input IsScript _ _ _ c.in_ok-input.ensures.input c.in_ok-input.ensures.end (HasForm-read line_of c.in_ok-input.input.items c.in_ok-lines.lines.items read))
-    c.write_all.ensures.ok
+    let form = HasForm-read line_of input c.in_ok-lines.lines.items read in
+    on_ok_weaker _ (λ _. whole_input IsScript _ _ input c.in_ok-input.ensures.input c.in_ok-input.ensures.end form) c.write_all.ensures.ok
 
 pub returns-clause-written : goal.returns-clause-written
 returns-clause-written g c =

@@ -10,10 +10,10 @@ use Rattle.gip_lines.proofs.vectors.bits.Goals as goal
 
 pub returns-clause-are_bits : goal.returns-clause-are_bits
 returns-clause-are_bits g c =
+    let input = c.in_ok-input.input.items in
     let read = rw c.deref.ensures.value at c.in_ok-lines.ensures.ok in
-    on_ok_weaker _
-    (λ _. whole_input AreBits _ _ _ c.in_ok-input.ensures.input c.in_ok-input.ensures.end (HasForm-read bits_of_line c.in_ok-input.input.items c.in_ok-lines.lines.items read))
-    c.write_all.ensures.ok
+    let form = HasForm-read bits_of_line input c.in_ok-lines.lines.items read in
+    on_ok_weaker _ (λ _. whole_input AreBits _ _ input c.in_ok-input.ensures.input c.in_ok-input.ensures.end form) c.write_all.ensures.ok
 
 pub returns-clause-written : goal.returns-clause-written
 returns-clause-written g c =
