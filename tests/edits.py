@@ -1,5 +1,5 @@
 #!/usr/bin/env python3
-"""Tells why the prover refuses each must-fail edit. By hand: the gate asks only whether it refuses, and all are checked again here.
+"""Tells why the prover refuses each must-fail edit. By hand: the gate asks only whether it refuses.
 
     tests/edits.py [CRATE..] [--only WORD] [--jobs N] [--said FOLDER]
 
@@ -14,8 +14,8 @@ other, in a copy of the repository; --said keeps what `rt check` said of each. A
     other   none of these, as where the edit cannot be applied
     none    it is not refused
 
-`false` after a goal's name says that the prover found values at which it does not hold; `also` tells of other reasons
-beside it. The status is 0 where each edit is refused by a goal.
+`false` after a goal's name says that the prover found values at which it does not hold, `limit` that a search gave up
+there; `also` tells of other reasons beside it. The status is 0 where each edit is refused by a goal.
 """
 
 import argparse
@@ -36,7 +36,7 @@ OPEN = re.compile(r"^note: \S+:\d+:\d+: it is not proved that .*?\(`([^`]+)`\)(.
 UNPROVED = re.compile(r"`search` did not prove ((?:`[^`]+`(?:, )?)+)")
 ANSWER = re.compile(r"^(?:\./)?(?:src|specs|proofs)/\S+:\d+:\d+: error: (?:`([^`]*)`: )?(.*(?:\n  .*)*)", re.MULTILINE)
 FALSE = re.compile(r"may be false|allow values at which")
-DOES_NOT_FOLLOW = re.compile(r"does not follow|may be false|did not prove|does not hold|found no proof|no proof found")
+DOES_NOT_FOLLOW = re.compile(r"does not follow|may be false|did not prove|found no proof|no proof (?:of|was found)")
 LIMIT = re.compile(r"the goal may hold|limit of|gave up|ran out")
 NAME = re.compile(r"has no field|is not in scope|has no `|was not admitted|is no name")
 TYPE = re.compile(r"expected type|types? first differ|does not fit|has this type|no occurrence of")
@@ -45,7 +45,7 @@ FOLLOWS = re.compile(r"\d+ declarations? that depends? on")
 
 
 def edited(edit, folder):
-    """The texts of the files that an edit changes, by their paths; or None where a text does not stand once in its file."""
+    """The texts of the files that an edit changes, by their paths; or None where one of its texts does not stand once."""
     texts, path, old = {}, None, None
     for line in edit.read_text(encoding="utf-8").splitlines():
         key, _, value = line.partition(":")
@@ -64,27 +64,37 @@ def edited(edit, folder):
 
 def reason_of(said):
     """Why the prover refuses, by what `rt check` said: a reason, and the goals or the first words that show it."""
+    # What is known of each goal: that it is false, that nothing was found out, or that a search gave up at its limit.
     goals, found = {}, {}
+
+    def note(name, text):
+        known = "false" if FALSE.search(text) else "limit" if LIMIT.search(text) else ""
+        if goals.get(name) != "false":
+            goals[name] = known
+
     for name, rest in OPEN.findall(said):
-        goals[name] = goals.get(name, False) or bool(FALSE.search(rest))
+        note(name, rest)
     for names in UNPROVED.findall(said):
         for name in re.findall(r"`([^`]+)`", names):
-            goals.setdefault(name, False)
+            goals.setdefault(name, "")
     for name, text in ANSWER.findall(said):
         if FOLLOWS.match(text):
             continue
         reasons = {"goal": DOES_NOT_FOLLOW, "limit": LIMIT, "name": NAME, "type": TYPE}
         reason = next((each for each, words in reasons.items() if words.search(text)), "other")
-        if reason == "goal" and name:
-            goals[name] = goals.get(name, False) or bool(FALSE.search(text))
+        if reason in ("goal", "limit") and name:
+            note(name, text)
         else:
             found.setdefault(reason, f"{name}: {text.splitlines()[0]}" if name else text.splitlines()[0])
     if FORM.search(said):
         found["form"] = next(line for line in said.splitlines() if FORM.search(line))
+    told = ", ".join(" ".join(filter(None, each)) for each in goals.items())
+    if set(goals.values()) - {"limit"}:
+        return "goal", told + ("; also " + ", ".join(sorted(found)) if found else "")
     if goals:
-        names = ", ".join(name + " false" * is_false for name, is_false in goals.items())
-        return "goal", names + ("; also " + ", ".join(sorted(found)) if found else "")
-    return next(((each, found[each]) for each in ("type", "limit", "form", "name", "other") if each in found), ("other", ""))
+        found["limit"] = told
+    order = ("goal", "type", "limit", "form", "name", "other")
+    return next(((each, found[each]) for each in order if each in found), ("other", ""))
 
 
 def check(folder, jobs):
@@ -155,7 +165,8 @@ def main():
         with concurrent.futures.ThreadPoolExecutor(asked.jobs) as pool:
             runs = [pool.submit(tried, each, room, asked.only, jobs, asked.said) for each in chosen]
             reasons = collections.Counter(reason for run in runs for reason in run.result())
-    print(f"{sum(reasons.values())} edits: " + ", ".join(f"{count} {reason}" for reason, count in reasons.most_common()))
+    counts = ", ".join(f"{count} {reason}" for reason, count in reasons.most_common())
+    print(f"{sum(reasons.values())} edits: {counts}")
     return 0 if set(reasons) <= {"goal"} else 1
 
 
