@@ -45,7 +45,7 @@ FOLLOWS = re.compile(r"\d+ declarations? that depends? on")
 
 
 def edited(edit, folder):
-    """The texts of the files that an edit changes, by their paths; or None where one of its texts does not stand once."""
+    """The texts of the files that an edit changes, by their paths; or None where an 'old:' text does not stand once."""
     texts, path, old = {}, None, None
     for line in edit.read_text(encoding="utf-8").splitlines():
         key, _, value = line.partition(":")

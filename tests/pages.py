@@ -1,5 +1,7 @@
 #!/usr/bin/env python3
-"""Compares the pages with the sources, and ends with 'N passed, M failed'; `tests/pages.py --write` writes the quotes anew.
+"""Compares the pages with the sources, and ends with 'N passed, M failed'.
+
+`tests/pages.py --write` writes the quotes anew.
 
 A page for callers, crates/NAME/CALLING.md, quotes the sources between a line `<!-- quote ... -->` and the next line
 `<!-- end -->`; all else is written by hand.
@@ -13,12 +15,13 @@ A page for callers, crates/NAME/CALLING.md, quotes the sources between a line `<
     <!-- quote lemmas Ranks: name name -->           statements of public lemmas of the crate, from proofs/Ranks.antt
 
 In a contract `S` is what `self` points to at the call, and `S'` at the return. An item is public if it is `pub` in a
-public module, or if a public module names it by `pub use`. A public function that is not quoted stands on the page by name.
+public module, or if a public module names it by `pub use`. A public function that is not quoted stands on the page by
+name.
 
 Of the README, each example in Rust stands in the tests of the crate `giputils`, and the script is the one that `gip` is
-run on. docs/DEFINITIONS.md lists, in items that begin with `- `, each word of specs/ that a public contract uses, and no
-name that no specs/ defines. Each file that a page names is there, and no line has more than 120 columns, but for imports
-that are quoted.
+run on. docs/DEFINITIONS.md lists, in items that begin with `- `, each word of specs/ that a public contract uses, and
+no name that no specs/ defines. Each file that a page names is there, and no line has more than 120 columns, but for
+imports that are quoted.
 """
 
 import pathlib
@@ -36,6 +39,7 @@ MEMBER = re.compile(r"^    ghost (?!use\b)\w+ ?[=:].*?;$", re.DOTALL | re.MULTIL
 OWN = re.compile(r"^(pub )?(?:pub\(\w+\) )?(?:const )?(?:fn|struct|enum|trait|type) (\w+)", re.MULTILINE)
 USE = re.compile(r"^ *pub use ((?:\w+::)*)(\w+|\*|\{[^}]*\});", re.MULTILINE)
 METHOD = re.compile(r"(?:^    (?://|#)[^\n]*\n)*^    (?:pub )?fn (\w+).*?^    \}\n\n?", re.DOTALL | re.MULTILINE)
+DEFINED = re.compile(r"^ *(?:\w+ +)*([^\s:(){}]+)(?=[ :({])", re.MULTILINE)
 LEMMA = re.compile(r"^( *)(pub )?(?:unfoldable )?([^\s:(){}]+) :(?= |$)(.*(?:\n(?:\1 +.*)?)*)", re.MULTILINE)
 
 
@@ -212,8 +216,9 @@ def lost_files(text):
     """The files that a page names and that are not there."""
     lost = []
     for path in re.findall(r"`((?:src|specs|proofs|tests|docs|crates)/[\w/.-]+)`", QUOTE.sub("", text)):
-        ways = [ROOT] if path.startswith(("tests", "docs", "crates")) else [each for each in CRATES.iterdir() if each.is_dir()]
-        if "NAME" not in path and not any((way / f"{path}{end}").exists() for way in ways for end in ("", ".rt", ".antt")):
+        ways = [ROOT] if path.startswith(("tests", "docs", "crates")) else CRATES.iterdir()
+        found = [way for way in ways for end in ("", ".rt", ".antt") if (way / f"{path}{end}").exists()]
+        if not found and "NAME" not in path:
             lost.append(f"there is no {path}")
     return lost
 
@@ -243,7 +248,7 @@ def packed(text):
 
 
 def readme(page):
-    """What is wrong with the README: lines of its examples that no test has, and another script than the one that is run."""
+    """What is wrong with the README: lines of examples that no test has, and another script than the one that is run."""
     text = page.read_text(encoding="utf-8")
     tests = packed((CRATES / "giputils/src/tests.rt").read_text(encoding="utf-8"))
     complaints = sound(text)
@@ -258,34 +263,37 @@ def readme(page):
 
 def words_of_contracts():
     """The words of specs/ that public contracts use, each with the crate whose contract it is."""
+    imports = re.compile(r"ghost use Rattle\.gip\w*\.specs\.(?!contracts|declared)[\w.]+\.\{([^}]*)\}")
     found = {}
     for folder in sorted(path.parent for path in CRATES.glob("*/CALLING.md")):
         crate = Crate(folder)
         for path, text in crate.texts.items():
             lines = "\n".join(contracts(crate, text, set(), set(), set()))
-            for names in re.findall(r"ghost use Rattle\.gip\w*\.specs\.(?!contracts|declared)[\w.]+\.\{([^}]*)\}", text):
-                used = [name for name in re.split(r",\s*", names.strip()) if re.search(rf"\b{re.escape(name)}\b", lines)]
-                found |= {name: folder.name for name in used if path.stem != "tests"}
+            names = [name for group in imports.findall(text) for name in re.split(r",\s*", group.strip())]
+            used = [name for name in names if re.search(rf"\b{re.escape(name)}\b", lines)]
+            found |= {name: folder.name for name in used if path.stem != "tests"}
     return found
 
 
 def definitions(page):
-    """What is wrong with the list of definitions: names that no specs/ has, and words of public contracts that it lacks."""
+    """What is wrong with the list of definitions: names that no specs/ has, and words of contracts that it lacks."""
     text = page.read_text(encoding="utf-8")
     files = sorted(CRATES.glob("*/specs/**/*.antt"))
     known = {path.stem for path in files} | {path.name for path in CRATES.iterdir()}
     known |= {f"{path.parent.name}/{path.stem}" for path in files}
-    specs = "\n".join(path.read_text(encoding="utf-8") for path in files)
+    known |= {name for path in files for name in DEFINED.findall(path.read_text(encoding="utf-8"))}
     heads = re.findall(r"^- (.*?)(?:: |$)", re.sub(r"\n  +", " ", text), re.MULTILINE)
     names = [name for head in heads for name in re.findall(r"`([^`]+)`", head)]
-    lost = [name for name in names if not re.search(rf"(?m)^ *(?:\w+ +)*{re.escape(name)}(?=[ :({{])", specs) and name not in known]
-    missing = [f"{name} of a contract of {crate} is not listed" for name, crate in words_of_contracts().items() if name not in names]
-    return sound(text) + [f"no specs/ has {name}" for name in lost] + missing
+    complaints = [f"no specs/ has {name}" for name in names if name not in known]
+    for name, crate in words_of_contracts().items():
+        complaints += [f"{name} of a contract of {crate} is not listed"] if name not in names else []
+    return sound(text) + complaints
 
 
 def main():
     pages = {page: page_for_callers for page in sorted(CRATES.glob("*/CALLING.md"))}
-    pages |= {page: lambda page: sound(page.read_text(encoding="utf-8")) for page in sorted((ROOT / "docs").glob("*.md"))}
+    plain = lambda page: sound(page.read_text(encoding="utf-8"))
+    pages |= {page: plain for page in sorted((ROOT / "docs").glob("*.md"))}
     pages |= {ROOT / "docs/DEFINITIONS.md": definitions, ROOT / "README.md": readme}
     failed = 0
     for page, look in pages.items():
