@@ -19,8 +19,9 @@ use Rattle.giputils_heap.specs.declared.run.HeapCall.{HeapCall}
 use Rattle.giputils_heap.specs.declared.run.HeapCall.TheVariants as call
 use Rattle.giputils_heap.specs.declared.run.HeapReply.{HeapReply}
 use Rattle.giputils_heap.specs.declared.run.HeapStep.{HeapStep}
-use Rattle.giputils_heap.proofs.Preorders.{agree_on-refl, IsLawful-everywhere}
-use Rattle.giputils_heap.proofs.Comparisons.{IsTotalPreorder-by_rank, AgreesExcept-by_rank}
+use Rattle.giputils_heap.proofs.Preorders.{IsLawful-everywhere}
+use Rattle.giputils_heap.proofs.ComparerOrders.{IsTotalPreorder-by_rank, AgreesExcept-by_rank}
+use Rattle.giputils_heap.proofs.Steady.{agrees_with_last-same}
 
 -- the replies are the script's for some refusals, and each is one that a line can have
 abbrev pub Match : List ℕ → List ℕ → List Line → List (HeapReply ℕ) → Type 0
@@ -49,11 +50,8 @@ steady-if_empty (k ∷ held) steady last so_far = so_far
 -- a call that is lent the ranks of the last one agrees with it
 agrees_unchanged : (last : Option Ranks) (ranks : List ℕ) (made : HeapCall ℕ) (held : List ℕ) → HasRanks ranks last
     → run.agrees_with_last number at_least last made record { 0 = ranks } held ≡ true
-agrees_unchanged None ranks made held has = refl
-agrees_unchanged (Some c) ranks (call.Update key) held has =
-    ap (λ rs. agree_on (by_rank number rs) (by_rank number ranks) (without number held key)) has ∙ agree_on-refl (by_rank number ranks) (without number held key)
-agrees_unchanged (Some c) ranks made held has =
-    ap (λ rs. agree_on (by_rank number rs) (by_rank number ranks) held) has ∙ agree_on-refl (by_rank number ranks) held
+agrees_unchanged last ranks made held has =
+    agrees_with_last-same number at_least last made record { 0 = ranks } held (λ b is. ap (by_rank number) (subst (HasRanks ranks) is has))
 
 -- and so does an Update of the key whose rank has changed
 agrees_changed : (last : Option Ranks) (ranks : List ℕ) (key rank : ℕ) (held : List ℕ) → HasRanks ranks last

@@ -29,7 +29,8 @@ module _ {T : Type 0} (number : T → ℕ) where
       let log_next : floor_log2 (length held + 1) ≤ 32 = floor_log2-below 32 (length held + 1) (omega arith) in
       within call few log log_next
     where
-      within : (c : HeapCall T) → length held ≤ key_limit → floor_log2 (length held) ≤ 31 → floor_log2 (length held + 1) ≤ 32 → comparison_bound number held c ≤ most_comparisons c
+      within : (c : HeapCall T) → length held ≤ key_limit → floor_log2 (length held) ≤ 31 → floor_log2 (length held + 1) ≤ 32
+          → comparison_bound number held c ≤ most_comparisons c
       within (Push v) few log log_next = within_either (ltb (number v) key_limit && not (is_held number held v)) (floor_log2 (length held + 1)) 62 (omega arith)
       within Pop few log log_next = omega arith
       within (Up v) few log log_next = within_either (is_held number held v) (floor_log2 (length held)) 62 (omega arith)
@@ -47,8 +48,12 @@ module _ {T : Type 0} (number : T → ℕ) where
     keeps_count_at_step held [] keeps i e found = cc
     keeps_count_at_step held (x ∷ entries) keeps zero e found =
         let same : x ≡ e = cc in
-        let parts = and_parts (leb x.comparisons (comparison_bound number held x.call)) (keeps_counts_from number (held_after number held x.call x.reply) entries) keeps in
+        let parts =
+        and_parts (leb x.comparisons (comparison_bound number held x.call))
+        (keeps_counts_from number (held_after number held x.call x.reply) entries) keeps
+        in
         rw (← same) (leb-true x.comparisons (comparison_bound number held x.call) parts.0)
     keeps_count_at_step held (x ∷ entries) keeps (suc i) e found =
         keeps_count_at_step (held_after number held x.call x.reply) entries
-        (and_parts (leb x.comparisons (comparison_bound number held x.call)) (keeps_counts_from number (held_after number held x.call x.reply) entries) keeps).1 i e found
+        (and_parts (leb x.comparisons (comparison_bound number held x.call)) (keeps_counts_from number (held_after number held x.call x.reply) entries) keeps).1
+        i e found

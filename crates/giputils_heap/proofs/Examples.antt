@@ -150,24 +150,69 @@ pops_a_smaller_key_after_an_update = refl
 pops_by_old_ranks_after_an_update : answers (updated (Popped (Some 0))) ≡ false
 pops_by_old_ranks_after_an_update = refl
 
--- an Up or a Down of the changed key does not make its step steady: any held key may come
-abbrev changed_at : HeapCall ℕ → List (Entry ℕ Comparer)
-changed_at call =
+-- the rank of key 0 falls from 5 to 1 at this call: popping it next is what no heap may do where the step is steady
+abbrev fallen_at : HeapCall ℕ → HeapReply ℕ → List (Entry ℕ Comparer)
+fallen_at call reply =
     step (ranked (5 ∷ 3 ∷ 4 ∷ [])) (Push 0) Done ∷ step (ranked (5 ∷ 3 ∷ 4 ∷ [])) (Push 1) Done
     ∷ step (ranked (5 ∷ 3 ∷ 4 ∷ [])) (Push 2) Done ∷ step (ranked (1 ∷ 3 ∷ 4 ∷ [])) call Done
-    ∷ step (ranked (1 ∷ 3 ∷ 4 ∷ [])) Pop (Popped (Some 0)) ∷ []
+    ∷ step (ranked (1 ∷ 3 ∷ 4 ∷ [])) Pop reply ∷ []
 
-changed_at_an_up : answers (changed_at (Up 0)) ≡ true
-changed_at_an_up = refl
+-- a Down of the key makes it good
+pops_by_new_ranks_after_a_down : answers (fallen_at (Down 0) (Popped (Some 2))) ≡ true
+pops_by_new_ranks_after_a_down = refl
 
-changed_at_a_down : answers (changed_at (Down 0)) ≡ true
-changed_at_a_down = refl
+pops_by_old_ranks_after_a_down : answers (fallen_at (Down 0) (Popped (Some 0))) ≡ false
+pops_by_old_ranks_after_a_down = refl
 
--- nor does an Update of another key
-updated_another_key : answers (changed_at (Update 1)) ≡ true
+-- an Up of a key that has fallen does not: any held key may come
+fallen_at_an_up : answers (fallen_at (Up 0) (Popped (Some 0))) ≡ true
+fallen_at_an_up = refl
+
+-- nor does a Down of another key
+fallen_at_another_key : answers (fallen_at (Down 1) (Popped (Some 0))) ≡ true
+fallen_at_another_key = refl
+
+-- the rank of key 1 rises from 3 to 9 at this call
+abbrev risen_at : HeapCall ℕ → HeapReply ℕ → List (Entry ℕ Comparer)
+risen_at call reply =
+    step (ranked (5 ∷ 3 ∷ 4 ∷ [])) (Push 0) Done ∷ step (ranked (5 ∷ 3 ∷ 4 ∷ [])) (Push 1) Done
+    ∷ step (ranked (5 ∷ 3 ∷ 4 ∷ [])) (Push 2) Done ∷ step (ranked (5 ∷ 9 ∷ 4 ∷ [])) call Done
+    ∷ step (ranked (5 ∷ 9 ∷ 4 ∷ [])) Pop reply ∷ []
+
+-- an Up of the key makes it good
+pops_by_new_ranks_after_an_up : answers (risen_at (Up 1) (Popped (Some 1))) ≡ true
+pops_by_new_ranks_after_an_up = refl
+
+pops_by_old_ranks_after_an_up : answers (risen_at (Up 1) (Popped (Some 0))) ≡ false
+pops_by_old_ranks_after_an_up = refl
+
+-- a Down of a key that has risen does not, nor does an Up of another key
+risen_at_a_down : answers (risen_at (Down 1) (Popped (Some 0))) ≡ true
+risen_at_a_down = refl
+
+risen_at_another_key : answers (risen_at (Up 0) (Popped (Some 0))) ≡ true
+risen_at_another_key = refl
+
+-- where nothing changed, either is as good as the other, also of a key that is not held
+unchanged_at_an_up_and_a_down : answers (
+    step greater (Push 1) Done ∷ step greater (Push 2) Done ∷ step greater (Up 1) Done ∷ step greater (Down 3) Done
+    ∷ step greater Pop (Popped (Some 1)) ∷ []
+    ) ≡ false
+unchanged_at_an_up_and_a_down = refl
+
+-- two keys that rise at once are not made good by the Up of one
+two_keys_risen_at_once : answers (
+    step (ranked (5 ∷ 3 ∷ 4 ∷ [])) (Push 0) Done ∷ step (ranked (5 ∷ 3 ∷ 4 ∷ [])) (Push 1) Done
+    ∷ step (ranked (5 ∷ 3 ∷ 4 ∷ [])) (Push 2) Done ∷ step (ranked (5 ∷ 9 ∷ 8 ∷ [])) (Up 1) Done
+    ∷ step (ranked (5 ∷ 9 ∷ 8 ∷ [])) Pop (Popped (Some 0)) ∷ []
+    ) ≡ true
+two_keys_risen_at_once = refl
+
+-- an Update of another key makes nothing good
+updated_another_key : answers (fallen_at (Update 1) (Popped (Some 0))) ≡ true
 updated_another_key = refl
 
-updated_that_key : answers (changed_at (Update 0)) ≡ false
+updated_that_key : answers (fallen_at (Update 0) (Popped (Some 0))) ≡ false
 updated_that_key = refl
 
 -- four keys of ranks 10, 8, 2, 6

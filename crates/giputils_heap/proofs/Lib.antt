@@ -1,5 +1,5 @@
 pub mod CallBounds
-pub mod Comparisons
+pub mod ComparerOrders
 pub mod Falling
 pub mod Greatest
 pub mod HoldAlike
@@ -10,7 +10,9 @@ pub mod Preorders
 pub mod Pushes
 pub mod Ranks
 pub mod Relations
+pub mod Steady
 mod AtPlaces
+mod BoolsAndLists
 mod Examples
 mod InOrder
 mod Places

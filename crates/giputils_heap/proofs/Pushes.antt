@@ -25,7 +25,8 @@ module _ {T : Type 0} (number : T → ℕ) where
     pub AreDistinct-pushed : AreDistinct number old → AreDistinct number new
     AreDistinct-pushed distinct =
         ⊎_elim (λ held. subst (AreDistinct number) (sym (stays held)) distinct)
-        (λ absent. AreDistinct-IsPermutation number (v ∷ old) new (added absent) (AreDistinct-cons number v old distinct absent)) (cases_Bool (is_held number old v))
+        (λ absent. AreDistinct-IsPermutation number (v ∷ old) new (added absent) (AreDistinct-cons number v old distinct absent))
+        (cases_Bool (is_held number old v))
 
     -- one more at most
     pub length-pushed : length new ≤ length old + 1

@@ -7,7 +7,7 @@ use Rattle.std.proofs.lemmas.Bool.Decides.{nat_tests}
 use Rattle.giputils_heap.specs.Comparers.{by_rank, rank_of, reverse_of}
 use Rattle.giputils_heap.specs.Keys.{is_held, without}
 use Rattle.giputils_heap.specs.Relations.{IsLawful, IsGreatest, AgreesExcept}
-use Rattle.giputils_heap.proofs.Comparisons.{IsTotalPreorder-by_rank, IsTotalPreorder-reverse_of}
+use Rattle.giputils_heap.proofs.ComparerOrders.{IsTotalPreorder-by_rank, IsTotalPreorder-reverse_of}
 use Rattle.giputils_heap.proofs.KeySets.{pass_at_held, all_pass_from_held}
 use Rattle.giputils_heap.proofs.Preorders.{IsLawful-everywhere}
 
@@ -26,20 +26,23 @@ module _ {T : Type 0} (number : T → ℕ) where
 
   module _ (one_value : (x y : T) → number x ≡ number y → x ≡ y) (ranks : List ℕ) (keys : List T) (k : T) where
     -- a greatest key by rank has the greatest rank
-    pub greatest_rank : IsGreatest number (by_rank number ranks) keys k → (x : T) → is_held number keys x ≡ true → rank_of ranks (number x) ≤ rank_of ranks (number k)
+    pub greatest_rank : IsGreatest number (by_rank number ranks) keys k → (x : T) → is_held number keys x ≡ true
+        → rank_of ranks (number x) ≤ rank_of ranks (number k)
     greatest_rank greatest x held =
         let parts = and_parts (is_held number keys k) (list_all (by_rank number ranks k) keys) greatest in
         by_rank-le ranks k x (pass_at_held number one_value (by_rank number ranks k) keys x parts.1 held)
 
     -- the other way round, the least
-    pub least_rank : IsGreatest number (reverse_of (by_rank number ranks)) keys k → (x : T) → is_held number keys x ≡ true → rank_of ranks (number k) ≤ rank_of ranks (number x)
+    pub least_rank : IsGreatest number (reverse_of (by_rank number ranks)) keys k → (x : T) → is_held number keys x ≡ true
+        → rank_of ranks (number k) ≤ rank_of ranks (number x)
     least_rank greatest x held =
         let parts = and_parts (is_held number keys k) (list_all (reverse_of (by_rank number ranks) k) keys) greatest in
         by_rank-le ranks x k (pass_at_held number one_value (reverse_of (by_rank number ranks) k) keys x parts.1 held)
 
   module _ (one_value : (x y : T) → number x ≡ number y → x ≡ y) where
     -- relations that agree but for a key do so the other way round
-    pub AgreesExcept-reverse_of : (v : T) (R Q : T → T → Bool) (keys : List T) → AgreesExcept number v R Q keys → AgreesExcept number v (reverse_of R) (reverse_of Q) keys
+    pub AgreesExcept-reverse_of : (v : T) (R Q : T → T → Bool) (keys : List T) → AgreesExcept number v R Q keys
+        → AgreesExcept number v (reverse_of R) (reverse_of Q) keys
     AgreesExcept-reverse_of v R Q keys agree =
         let kept = without number keys v in
         all_pass_from_held number one_value (λ x. list_all (λ y. beq (R y x) (Q y x)) kept) kept

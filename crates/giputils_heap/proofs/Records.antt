@@ -13,12 +13,14 @@ use Rattle.giputils_heap.specs.Relations.{is_lawful, IsLawful, agree_on, is_grea
 use Rattle.giputils_heap.specs.Record.{Entry, Progress, start, start_if_empty, start_anew, is_nil, agrees_with_last, compared_keys, may_compare, held_after, after_call, may_answer, may_reply, progress_from, answers_from, held_from, held_before, Answers, is_steady_at, IsSteady}
 use Rattle.giputils_heap.specs.Laws.{IsTotalPreorder, Compares, PopUntilNone, is_descending, ListsDownward}
 use Rattle.giputils_heap.specs.declared.run.HeapCall.{HeapCall}
-use Rattle.giputils_heap.specs.declared.run.HeapCall.TheVariants.{Push, Pop, Update, Rebuild, Clear}
+use Rattle.giputils_heap.specs.declared.run.HeapCall.TheVariants.{Push, Pop, Rebuild, Clear}
 use Rattle.giputils_heap.specs.declared.run.HeapReply.{HeapReply}
 use Rattle.giputils_heap.specs.declared.run.HeapReply.TheVariants.{Done, Popped}
+use Rattle.giputils_heap.proofs.BoolsAndLists.{or-and_not}
 use Rattle.giputils_heap.proofs.KeySets.{is_held-head, same_key-equiv, AreDistinct-nil, pass_at_held}
 use Rattle.giputils_heap.proofs.HoldAlike.{AreDistinct-cons, AreDistinct-filter, HoldsWithin-without, is_held-without, IsLawful-fewer}
 use Rattle.giputils_heap.proofs.Preorders.{agree_on-refl, IsLawful-everywhere}
+use Rattle.giputils_heap.proofs.Steady.{agrees_with_last-same}
 
 module _ {T C : Type 0} (at_least : C → T → T → Bool) where
   relation_is : (R : T → T → Bool) (c : C) → Compares at_least R c → at_least c ≡ R
@@ -44,7 +46,8 @@ module _ {T C : Type 0} (number : T → ℕ) (at_least : C → T → T → Bool)
       answers_last next xs ys (and_parts (may_answer number at_least p x.call x.comparer x.reply) (answers_from number at_least next (xs ++ ys)) answers).1
 
   -- a step of a record that answers may reply as it did after the steps before it
-  pub answers_at_step : (p : Progress T C) (entries : List (Entry T C)) → answers_from number at_least p entries ≡ true → (i : ℕ) (e : Entry T C) → slice_get entries i ≡ Some e
+  pub answers_at_step : (p : Progress T C) (entries : List (Entry T C)) → answers_from number at_least p entries ≡ true
+      → (i : ℕ) (e : Entry T C) → slice_get entries i ≡ Some e
       → may_reply number (at_least e.comparer) (progress_from number at_least p (take (i + 1) entries)).steady (held_from number p.held (take i entries)) e.call e.reply ≡ true
   answers_at_step p [] answers i e found = cc
   answers_at_step p (x ∷ entries) answers zero e found =
@@ -55,10 +58,12 @@ module _ {T C : Type 0} (number : T → ℕ) (at_least : C → T → T → Bool)
       let next : Progress T C = after_call number at_least p x.call x.comparer x.reply in
       let later : suc i + 1 ≡ suc (i + 1) = omega arith in
       rw later
-      (answers_at_step next entries (and_parts (may_answer number at_least p x.call x.comparer x.reply) (answers_from number at_least next entries) answers).1 i e found)
+      (answers_at_step next entries
+      (and_parts (may_answer number at_least p x.call x.comparer x.reply) (answers_from number at_least next entries) answers).1 i e found)
 
   -- each held key is listed once after a call as before it
-  AreDistinct-after : (held : List T) (call : HeapCall T) (reply : HeapReply T) → AreDistinct number held → AreDistinct number (held_after number held call reply)
+  AreDistinct-after : (held : List T) (call : HeapCall T) (reply : HeapReply T) → AreDistinct number held
+      → AreDistinct number (held_after number held call reply)
   AreDistinct-after held (Push v) Done once =
       ⊎_elim (λ here. rw here once) (λ absent. rw absent (AreDistinct-cons number v held once absent)) (cases_Bool (is_held number held v))
   AreDistinct-after held Pop (Popped (Some k)) once = AreDistinct-filter number (λ x. not (same_key number k x)) held once
@@ -74,7 +79,9 @@ module _ {T C : Type 0} (number : T → ℕ) (at_least : C → T → T → Bool)
   list_all-filter q p (k ∷ keys) all =
       let parts = and_parts (q k) (list_all q keys) all in
       let rest = list_all-filter q p keys parts.1 in
-      elim (p k) as (λ b. list_all q (cond b (k ∷ filter p keys) (filter p keys)) ≡ true) [ true ↦ and_from (q k) (list_all q (filter p keys)) parts.0 rest | false ↦ rest ]
+      elim (p k) as
+      (λ b. list_all q (cond b (k ∷ filter p keys) (filter p keys)) ≡ true)
+      [ true ↦ and_from (q k) (list_all q (filter p keys)) parts.0 rest | false ↦ rest ]
 
   -- and has a number below the limit
   AreBelow-after : (p : Progress T C) (call : HeapCall T) (c : C) (reply : HeapReply T) → may_answer number at_least p call c reply ≡ true
@@ -96,11 +103,6 @@ module _ {T C : Type 0} (number : T → ℕ) (at_least : C → T → T → Bool)
       let next : Progress T C = after_call number at_least p e.call e.comparer e.reply in
       let parts = and_parts (may_answer number at_least p e.call e.comparer e.reply) (answers_from number at_least next es) answers in
       AreBelow-from next es (AreBelow-after p e.call e.comparer e.reply parts.0 below) parts.1
-
--- a test or that and not another
-joined : (a b : Bool) → (a ≡ true → b ≡ true) → (a || (b && not a)) ≡ b
-joined true b follows = sym (follows refl)
-joined false b follows = and-true b
 
 -- what has no element is nothing
 nil_from : {X : Type 0} (xs : List X) → is_nil xs ≡ true → xs ≡ []
@@ -160,11 +162,12 @@ module _ {T C : Type 0} (number : T → ℕ) (one_value : (x y : T) → number x
       and_from (R k x) (is_descending R (x ∷ keys)) (pass_at_held number one_value (R k) held x all x_held) descending
 
   -- a key and those but for it hold what it is one of
-  HoldAlike-popped : (k : T) (held keys : List T) → is_held number held k ≡ true → HoldAlike number keys (without number held k) → HoldAlike number (k ∷ keys) held
+  HoldAlike-popped : (k : T) (held keys : List T) → is_held number held k ≡ true → HoldAlike number keys (without number held k)
+      → HoldAlike number (k ∷ keys) held
   HoldAlike-popped k held keys here alike q =
       let kept : is_held number keys q ≡ (is_held number held q && not (same_key number k q)) = alike q ∙ is_held-without number k held q in
       rw (kept, (same_key-equiv number).symm k q)
-      (joined (same_key number q k) (is_held number held q) (λ same. list_any_congr (same_key-equiv number) q k held same ∙ here))
+      (or-and_not (same_key number q k) (is_held number held q) (λ same. list_any_congr (same_key-equiv number) q k held same ∙ here))
 
   not_itself : (k : T) (held : List T) → (is_held number held k && not (same_key number k k)) ≡ false
   not_itself k held = rw (eq-eqb (number k) (number k) refl) (and-false (is_held number held k))
@@ -175,15 +178,26 @@ module _ {T C : Type 0} (number : T → ℕ) (one_value : (x y : T) → number x
       → ListsDownward number R p.held keys
   pops_down p keys [] once answers popping steady = absurd (no_pops at_least R keys popping)
   pops_down p [] (e ∷ pops) once answers popping steady =
-      let none : is_nil p.held ≡ true = rw (popping.0.call, popping.0.reply) at (and_parts (may_answer number at_least p e.call e.comparer e.reply) (answers_from number at_least (after_call number at_least p e.call e.comparer e.reply) pops) answers).0 in
+      let none : is_nil p.held ≡ true =
+      rw (popping.0.call, popping.0.reply) at
+      (and_parts (may_answer number at_least p e.call e.comparer e.reply) (answers_from number at_least (after_call number at_least p e.call e.comparer e.reply) pops) answers).0
+      in
       record { alike = rw (nil_from p.held none) (λ q. refl); each_once = AreDistinct-nil number [] refl; descending = refl }
   pops_down p (k ∷ keys) (e ∷ pops) once answers popping steady =
       let is : at_least e.comparer ≡ R = relation_is at_least R e.comparer popping.0.comparer in
-      let parts = and_parts (may_answer number at_least p e.call e.comparer e.reply) (answers_from number at_least (after_call number at_least p e.call e.comparer e.reply) pops) answers in
+      let parts =
+      and_parts (may_answer number at_least p e.call e.comparer e.reply)
+      (answers_from number at_least (after_call number at_least p e.call e.comparer e.reply) pops) answers
+      in
       let may : may_answer number at_least p Pop e.comparer (Popped (Some k)) ≡ true = rw (popping.0.call, popping.0.reply) at parts.0 in
-      let rest : answers_from number at_least (after_call number at_least p Pop e.comparer (Popped (Some k))) pops ≡ true = rw (popping.0.call, popping.0.reply) at parts.1 in
+      let rest : answers_from number at_least (after_call number at_least p Pop e.comparer (Popped (Some k))) pops ≡ true =
+      rw (popping.0.call, popping.0.reply) at parts.1
+      in
       let now : is_steady_at number at_least p Pop e.comparer ≡ true = steady e.comparer is in
-      let owed = and_parts (is_held number p.held k) (not (is_steady_at number at_least p Pop e.comparer) || is_greatest number (at_least e.comparer) p.held k) may in
+      let owed =
+      and_parts (is_held number p.held k)
+      (not (is_steady_at number at_least p Pop e.comparer) || is_greatest number (at_least e.comparer) p.held k) may
+      in
       let greatest : is_greatest number R p.held k ≡ true = rw is at (rw now at owed.1) in
       let later = pops_down (after_call number at_least p Pop e.comparer (Popped (Some k))) keys pops
       (AreDistinct-filter number (λ x. not (same_key number k x)) p.held once) rest popping.1 (λ d is'. steady_again p e.comparer d k is is' now)
@@ -219,22 +233,14 @@ module _ {T C : Type 0} (number : T → ℕ) (one_value : (x y : T) → number x
       ∙ ap (λ (q : Progress T C). q.steady) (progress_from-append number at_least start before (take 1 pops))) ∙ steady)))
 
 module _ {T C : Type 0} (number : T → ℕ) (at_least : C → T → T → Bool) (R : T → T → Bool) (order : IsTotalPreorder R) where
-  one_relation : (b c : C) (keys : List T) → at_least b ≡ R → at_least c ≡ R → agree_on (at_least b) (at_least c) keys ≡ true
-  one_relation b c keys was is = ap (λ Q. agree_on Q (at_least c) keys) was ∙ ap (λ Q. agree_on R Q keys) is ∙ agree_on-refl R keys
-
-  agrees_under_one_order : (last : Option C) (call : HeapCall T) (c : C) (held : List T) → at_least c ≡ R → ((b : C) → last ≡ Some b → at_least b ≡ R)
-      → agrees_with_last number at_least last call c held ≡ true
-  agrees_under_one_order None call c held is was = refl
-  agrees_under_one_order (Some b) (Update v) c held is was = one_relation b c (without number held v) (was b refl) is
-  agrees_under_one_order (Some b) call c held is was = one_relation b c held (was b refl) is
-
   -- the comparer that was last lent since nothing was held has the relation too
   last_once_empty : (held : List T) (steady : Bool) (last : Option C) → ((b : C) → last ≡ Some b → at_least b ≡ R)
       → (b : C) → (start_if_empty record { held = held; steady = steady; last = last }).last ≡ Some b → at_least b ≡ R
   last_once_empty [] steady last was b is = cc
   last_once_empty (k ∷ held) steady last was b is = was b is
 
-  steady_once_empty : (held : List T) (steady : Bool) (last : Option C) → steady ≡ true → (start_if_empty record { held = held; steady = steady; last = last }).steady ≡ true
+  steady_once_empty : (held : List T) (steady : Bool) (last : Option C) → steady ≡ true
+      → (start_if_empty record { held = held; steady = steady; last = last }).steady ≡ true
   steady_once_empty [] steady last was = refl
   steady_once_empty (k ∷ held) steady last was = was
 
@@ -249,7 +255,8 @@ module _ {T C : Type 0} (number : T → ℕ) (at_least : C → T → T → Bool)
   steady_anew p call was = steady_once_empty p.held p.steady p.last was
 
   -- one more call is steady under the one order, and so is the comparer that it was lent
-  steady_after : (p : Progress T C) (call : HeapCall T) (c : C) (reply : HeapReply T) → at_least c ≡ R → p.steady ≡ true → ((b : C) → p.last ≡ Some b → at_least b ≡ R)
+  steady_after : (p : Progress T C) (call : HeapCall T) (c : C) (reply : HeapReply T) → at_least c ≡ R → p.steady ≡ true
+      → ((b : C) → p.last ≡ Some b → at_least b ≡ R)
       → ((after_call number at_least p call c reply).steady ≡ true) × ((b : C) → (after_call number at_least p call c reply).last ≡ Some b → at_least b ≡ R)
   steady_after p call c reply is steady was =
       let q : Progress T C = start_anew p call in
@@ -261,7 +268,7 @@ module _ {T C : Type 0} (number : T → ℕ) (at_least : C → T → T → Bool)
       let compared : (q.steady && (is_lawful (at_least c) (compared_keys p.held call) && agrees_with_last number at_least q.last call c p.held)) ≡ true =
       and_from q.steady (is_lawful (at_least c) (compared_keys p.held call) && agrees_with_last number at_least q.last call c p.held) q_steady
       (and_from (is_lawful (at_least c) (compared_keys p.held call)) (agrees_with_last number at_least q.last call c p.held) lawful
-      (agrees_under_one_order q.last call c p.held is q_last))
+      (agrees_with_last-same number at_least q.last call c p.held (λ b was. q_last b was ∙ sym is)))
       in
       elim (may_compare call) as (λ b. ((if b then (q.steady && (is_lawful (at_least c) (compared_keys p.held call) && agrees_with_last number at_least q.last call c p.held)) else q.steady) ≡ true)
       × ((d : C) → (if b then Some c else q.last) ≡ Some d → at_least d ≡ R)) [

@@ -21,7 +21,8 @@ pub entry_of : {T C : Type 0} → HeapStep T C → HeapStep T C → HeapReply T 
 entry_of s t r = record { call = s.call; comparer = s.cmp.comparer; comparisons = t.cmp.count - s.cmp.count; reply = r }
 
 module _ {T C : Type 0} where
-  record_of-append : (xs ys : List (HeapStep T C)) (rs : List (HeapReply T)) (s t : HeapStep T C) (r : HeapReply T) → length xs ≡ length rs → length ys ≡ length rs
+  record_of-append : (xs ys : List (HeapStep T C)) (rs : List (HeapReply T)) (s t : HeapStep T C) (r : HeapReply T) → length xs ≡ length rs
+      → length ys ≡ length rs
       → record_of (xs ++ s ∷ []) (ys ++ t ∷ []) (rs ++ r ∷ []) ≡ record_of xs ys rs ++ entry_of s t r ∷ []
   unfolding entry_of
   record_of-append [] [] [] s t r xs_long ys_long = refl
@@ -45,8 +46,12 @@ module _ {T C : Type 0} (number : T → ℕ) (at_least : C → T → T → Bool)
       → answers_from number at_least p (es ++ e ∷ []) ≡ true
   answers_from-append p [] e answers may = and_from (may_answer number at_least p e.call e.comparer e.reply) true may refl
   answers_from-append p (x ∷ es) e answers may =
-      let parts = and_parts (may_answer number at_least p x.call x.comparer x.reply) (answers_from number at_least (after_call number at_least p x.call x.comparer x.reply) es) answers in
-      and_from (may_answer number at_least p x.call x.comparer x.reply) (answers_from number at_least (after_call number at_least p x.call x.comparer x.reply) (es ++ e ∷ []))
+      let parts =
+      and_parts (may_answer number at_least p x.call x.comparer x.reply)
+      (answers_from number at_least (after_call number at_least p x.call x.comparer x.reply) es) answers
+      in
+      and_from (may_answer number at_least p x.call x.comparer x.reply)
+      (answers_from number at_least (after_call number at_least p x.call x.comparer x.reply) (es ++ e ∷ []))
       parts.0 (answers_from-append (after_call number at_least p x.call x.comparer x.reply) es e parts.1 may)
 
   keeps_counts_from-append : (held : List T) (es : List (Entry T C)) (e : Entry T C)
@@ -55,7 +60,10 @@ module _ {T C : Type 0} (number : T → ℕ) (at_least : C → T → T → Bool)
   keeps_counts_from-append held [] e keeps within =
       and_from (leb e.comparisons (comparison_bound number held e.call)) true (le-leb e.comparisons (comparison_bound number held e.call) within) refl
   keeps_counts_from-append held (x ∷ es) e keeps within =
-      let parts = and_parts (leb x.comparisons (comparison_bound number held x.call)) (keeps_counts_from number (held_after number held x.call x.reply) es) keeps in
+      let parts =
+      and_parts (leb x.comparisons (comparison_bound number held x.call))
+      (keeps_counts_from number (held_after number held x.call x.reply) es) keeps
+      in
       and_from (leb x.comparisons (comparison_bound number held x.call)) (keeps_counts_from number (held_after number held x.call x.reply) (es ++ e ∷ []))
       parts.0 (keeps_counts_from-append (held_after number held x.call x.reply) es e parts.1 within)
 
@@ -70,7 +78,8 @@ module _ {T C : Type 0} (number : T → ℕ) (at_least : C → T → T → Bool)
     pub rest : drop i now ≡ drop i old
 
   -- at first nothing was run
-  pub HasRun-start : (steps : List (HeapStep T C)) (replies : List (HeapReply T)) (keys : List T) → replies ≡ [] → keys ≡ [] → ((R : T → T → Bool) → IsInOrder R keys)
+  pub HasRun-start : (steps : List (HeapStep T C)) (replies : List (HeapReply T)) (keys : List T) → replies ≡ [] → keys ≡ []
+      → ((R : T → T → Bool) → IsInOrder R keys)
       → HasRun steps steps 0 replies keys
   HasRun-start steps replies keys no_replies no_keys ordered =
       record {
@@ -88,7 +97,8 @@ module _ {T C : Type 0} (number : T → ℕ) (at_least : C → T → T → Bool)
         rest = refl;
       }
 
-  module _ (old now : List (HeapStep T C)) (i : ℕ) (replies : List (HeapReply T)) (keys : List T) (inside : i < length old) (run : HasRun old now i replies keys) (d : HeapStep T C) where
+  module _ (old now : List (HeapStep T C)) (i : ℕ) (replies : List (HeapReply T)) (keys : List T) (inside : i < length old)
+      (run : HasRun old now i replies keys) (d : HeapStep T C) where
     -- the step that comes next is as it was handed in
     pub next_is_old : get_or now i d ≡ get_or old i d
     next_is_old = rw (get_or-drop i now 0 d, get_or-drop i old 0 d, add-zero) at (ap (λ xs. get_or xs 0 d) run.rest)
@@ -108,9 +118,11 @@ module _ {T C : Type 0} (number : T → ℕ) (at_least : C → T → T → Bool)
         let now_inside : i < length now = omega (arith, run.same_length) in
         let old_more : take (i + 1) old ≡ take i old ++ s ∷ [] = rw next_is_old (take_more old i d inside) in
         let now_more : take (i + 1) (set now i t) ≡ take i now ++ t ∷ [] = take_more_set now i t now_inside in
-        let recorded : record_of (take (i + 1) old) (take (i + 1) (set now i t)) (replies ++ r ∷ []) ≡ record_of (take i old) (take i now) replies ++ entry_of s t r ∷ [] =
+        let recorded : record_of (take (i + 1) old) (take (i + 1) (set now i t)) (replies ++ r ∷ []) ≡ record_of (take i old) (take i now)
+        replies ++ entry_of s t r ∷ [] =
         rw (old_more, now_more)
-        (record_of-append (take i old) (take i now) replies s t r (omega (arith, length-take-le i old, run.replied)) (omega (arith, length-take-le i now, run.replied)))
+        (record_of-append (take i old) (take i now) replies s t r (omega (arith, length-take-le i old, run.replied))
+        (omega (arith, length-take-le i now, run.replied)))
         in
         let so_far : List (Entry T C) = record_of (take i old) (take i now) replies in
         let before : Progress T C = progress_from number at_least start so_far in
@@ -126,7 +138,10 @@ module _ {T C : Type 0} (number : T → ℕ) (at_least : C → T → T → Bool)
           answers = rw recorded (answers_from-append start so_far (entry_of s t r) run.answers (may before run.stands));
           counts = rw recorded (keeps_counts_from-append [] so_far (entry_of s t r) run.counts (rw (← held) (omega arith)));
           stands = rw (recorded, progress_from-append start so_far (entry_of s t r)) (stands' before run.stands);
-          kept = rw (old_more, now_more) (AllZip-push KeepsStep (take i old) (take i now) s t run.kept record { call = refl; comparer = comparer; rises = rises; comparisons = omega arith; uncompared = uncompared });
+          kept =
+              rw (old_more, now_more)
+              (AllZip-push KeepsStep (take i old) (take i now) s t run.kept record
+              { call = refl; comparer = comparer; rises = rises; comparisons = omega arith; uncompared = uncompared });
           rest = drop-set-lt (i + 1) now i t (omega arith) ∙ drop_more_same now old i run.rest;
         }
 
@@ -148,4 +163,5 @@ module _ {T C : Type 0} (number : T → ℕ) (at_least : C → T → T → Bool)
 -- steps that nothing was done to are kept
 pub KeepsSteps-refl : {T C : Type 0} (steps : List (HeapStep T C)) → KeepsSteps steps steps
 KeepsSteps-refl [] = tt
-KeepsSteps-refl (s ∷ steps) = (record { call = refl; comparer = refl; rises = omega arith; comparisons = omega arith; uncompared = λ _. refl }, KeepsSteps-refl steps)
+KeepsSteps-refl (s ∷ steps) =
+    (record { call = refl; comparer = refl; rises = omega arith; comparisons = omega arith; uncompared = λ _. refl }, KeepsSteps-refl steps)

@@ -1,14 +1,15 @@
 -- One call of a heap, and the record that it adds to.
-use Rattle.std.proofs.Common.{◌≡◌, ℕ, ◌+◌, ◌*◌, ◌<◌, ◌≤◌, Bool, cond, true, false, ◌&&◌, ◌||◌, not, List, [], ◌∷◌, length, Option, Some, None, refl, ap, sym, ◌∙◌, ⊎_elim, arith}
-use Rattle.std.specs.Prelude.{MatchOption, IfSome, IfNone, IsSome, ◌↔◌}
+use Rattle.std.proofs.Common.{◌≡◌, ℕ, ◌+◌, ◌*◌, ◌<◌, ◌≤◌, Bool, cond, true, false, ◌&&◌, ◌||◌, not, List, [], ◌∷◌, length, Option, Some, None, refl, ap, sym, ◌∙◌, subst, ⊎_elim, arith}
+use Rattle.std.specs.Prelude.{IsTrue, MatchOption, IfSome, IfNone, IsSome, ◌↔◌}
 use Rattle.std.specs.Bool.{beq}
+use Rattle.std.specs.List.{list_all}
 use Rattle.std.specs.List.Sorted.{IsPermutation}
-use Rattle.std.proofs.lemmas.Bool.{and_parts, and_from, cases_Bool, false≢true, lt-ltb}
+use Rattle.std.proofs.lemmas.Bool.{and_parts, and_from, or_cases, cases_Bool, false≢true, lt-ltb}
 use Rattle.std.proofs.lemmas.List.Sorted.{IsPermutation-sym}
 use Rattle.std.proofs.lemmas.Map.Keys.{IsDistinct-tail}
 use Rattle.giputils_heap.specs.Keys.{same_key, is_held, AreDistinct, HoldAlike, without, key_limit}
-use Rattle.giputils_heap.specs.Relations.{is_lawful, IsLawful, agree_on, AgreesExcept, is_greatest, IsGreatest}
-use Rattle.giputils_heap.specs.InOrder.{IsInOrder}
+use Rattle.giputils_heap.specs.Relations.{is_lawful, IsLawful, agree_on, AgreeOn, agrees_except, AgreesExcept, is_greatest, IsGreatest}
+use Rattle.giputils_heap.specs.InOrder.{IsInOrder, KeepsOrder, RepairsChanged, RepairsRisen, RepairsFallen}
 use Rattle.giputils_heap.proofs.OrderLaws.{IsInOrder-empty, IsInOrder-agree}
 use Rattle.giputils_heap.specs.Bounds.{floor_log2}
 use Rattle.giputils_heap.specs.Record.{Progress, start_if_empty, agrees_with_last, is_nil, is_steady_at, after_call, may_answer, comparison_bound}
@@ -16,14 +17,10 @@ use Rattle.giputils_heap.specs.declared.run.HeapCall.{HeapCall}
 use Rattle.giputils_heap.specs.declared.run.HeapCall.TheVariants.{Push, Pop, Up, Down, Update, Rebuild, Clear}
 use Rattle.giputils_heap.specs.declared.run.HeapReply.TheVariants.{Done, Popped}
 use Rattle.giputils_heap.specs.Stands.{Stands, IsInOrderSince}
+use Rattle.giputils_heap.proofs.BoolsAndLists.{implied_from}
 use Rattle.giputils_heap.proofs.KeySets.{is_held-head, AreDistinct-nil, AreDistinct-IsPermutation}
 use Rattle.giputils_heap.proofs.Preorders.{agree_on-refl}
-use Rattle.giputils_heap.proofs.HoldAlike.{nil_from_alike, is_nil-HoldAlike, length-HoldAlike, HoldAlike-cons, HoldAlike-IsPermutation, HoldAlike-taken, AreDistinct-cons, AreDistinct-filter, HoldsWithin, HoldsWithin-alike, HoldsWithin-cons, HoldAlike-without, all_pairs-fewer, IsLawful-fewer, IsGreatest-HoldAlike}
-
--- what follows from a fact that may fail
-implies_from : (a b : Bool) → (a ≡ true → b ≡ true) → (not a || b) ≡ true
-implies_from true b follows = follows refl
-implies_from false b follows = refl
+use Rattle.giputils_heap.proofs.HoldAlike.{nil_from_alike, is_nil-HoldAlike, length-HoldAlike, HoldAlike-cons, HoldAlike-IsPermutation, HoldAlike-taken, AreDistinct-cons, AreDistinct-filter, HoldsWithin, HoldsWithin-alike, HoldsWithin-cons, HoldAlike-without, list_all-fewer, all_pairs-fewer, IsLawful-fewer, IsGreatest-HoldAlike}
 
 -- where a key would be popped and none is, there is none
 nil_from_no_some : {T : Type 0} (keys : List T) → (0 < length keys → IsSome {T = T} None) → keys ≡ []
@@ -44,7 +41,8 @@ module _ {T C : Type 0} (number : T → ℕ) (one_value : (x y : T) → number x
   ordered_once_empty (k ∷ held) steady last keys alike ordered = ordered
 
   -- a heap stands where its keys do, and its order does unless nothing is held
-  stands_from : (p : Progress T C) (keys : List T) → HoldAlike number keys p.held → AreDistinct number keys → AreDistinct number p.held → IsInOrderSince number at_least p keys → Stands number at_least p keys
+  stands_from : (p : Progress T C) (keys : List T) → HoldAlike number keys p.held → AreDistinct number keys → AreDistinct number p.held
+      → IsInOrderSince number at_least p keys → Stands number at_least p keys
   stands_from p keys alike keys_once held_once ordered =
       record {
         alike = alike;
@@ -53,29 +51,61 @@ module _ {T C : Type 0} (number : T → ℕ) (one_value : (x y : T) → number x
         in_order = ordered_once_empty p.held p.steady p.last keys alike ordered;
       }
 
-  -- order under the last comparer is order under one that compares the held keys as that did
+  -- comparers that agree on what is held agree on the keys
+  agreed : (b c : C) (keys held : List T) → HoldAlike number keys held → agree_on (at_least b) (at_least c) held ≡ true
+      → AgreeOn (at_least b) (at_least c) keys
+  agreed b c keys held alike agrees =
+      all_pairs-fewer number one_value (λ x y. beq (at_least b x y) (at_least c x y)) keys held (HoldsWithin-alike number keys held alike) agrees
+
+  -- but for v too
+  agreed_except : (v : T) (b c : C) (keys held : List T) → HoldAlike number keys held → agrees_except number v (at_least b) (at_least c) held ≡ true
+      → AgreesExcept number v (at_least b) (at_least c) keys
+  agreed_except v b c keys held alike agrees =
+      agreed b c (without number keys v) (without number held v) (HoldAlike-without number v keys held alike) agrees
+
+  -- order under the last comparer, which is lawful, or under all
+  abbrev OrderedByLast : Option C → List T → Type 0
+  OrderedByLast last keys =
+      MatchOption last ((R : T → T → Bool) → IsInOrder R keys) (λ b. IsInOrder (at_least b) keys × IsLawful (at_least b) keys)
+
+  -- is order under one that compares the held keys as that did
   ordered_by_last : (last : Option C) (call : HeapCall T) (c : C) (keys held : List T) → HoldAlike number keys held
       → ((b : C) → agrees_with_last number at_least (Some b) call c held ≡ agree_on (at_least b) (at_least c) held)
-      → MatchOption last ((R : T → T → Bool) → IsInOrder R keys) (λ b. IsInOrder (at_least b) keys × IsLawful (at_least b) keys)
-      → agrees_with_last number at_least last call c held ≡ true → IsInOrder (at_least c) keys
+      → OrderedByLast last keys → agrees_with_last number at_least last call c held ≡ true → IsInOrder (at_least c) keys
   ordered_by_last None call c keys held alike whole ordered agrees = ordered (at_least c)
   ordered_by_last (Some b) call c keys held alike whole ordered agrees =
-      IsInOrder-agree (at_least b) (at_least c) keys ordered.0
-      (all_pairs-fewer number one_value (λ x y. beq (at_least b x y) (at_least c x y)) keys held (HoldsWithin-alike number keys held alike) (sym (whole b) ∙ agrees))
+      IsInOrder-agree (at_least b) (at_least c) keys ordered.0 (agreed b c keys held alike (sym (whole b) ∙ agrees))
 
   -- an Update of v makes good what the last comparer's relation and this one do not agree on
   repaired_from_last : (last : Option C) (v : T) (c : C) (keys held new : List T) → HoldAlike number keys held → IsLawful (at_least c) keys
-      → MatchOption last ((R : T → T → Bool) → IsInOrder R keys) (λ b. IsInOrder (at_least b) keys × IsLawful (at_least b) keys)
-      → agrees_with_last number at_least last (Update v) c held ≡ true
-      → ((R : T → T → Bool) → IsInOrder R keys → IsLawful R keys → AgreesExcept number v R (at_least c) keys → IsLawful (at_least c) keys → IsInOrder (at_least c) new)
+      → OrderedByLast last keys → agrees_with_last number at_least last (Update v) c held ≡ true → RepairsChanged number v (at_least c) keys new keys
       → IsInOrder (at_least c) new
   repaired_from_last None v c keys held new alike lawful ordered agrees repaired =
       repaired (at_least c) (ordered (at_least c)) lawful (agree_on-refl (at_least c) (without number keys v)) lawful
   repaired_from_last (Some b) v c keys held new alike lawful ordered agrees repaired =
-      repaired (at_least b) ordered.0 ordered.1
-      (all_pairs-fewer number one_value (λ x y. beq (at_least b x y) (at_least c x y)) (without number keys v) (without number held v)
-      (HoldsWithin-alike number (without number keys v) (without number held v) (HoldAlike-without number v keys held alike)) agrees)
-      lawful
+      repaired (at_least b) ordered.0 ordered.1 (agreed_except v b c keys held alike agrees) lawful
+
+  -- an Up or a Down of v does where v has gone its way: `gone` tells whether it has, beside another key
+  repaired_one_way : (gone : (T → T → Bool) → (T → T → Bool) → T → Bool) (last : Option C) (v : T) (c : C) (keys held new : List T)
+      → HoldAlike number keys held → IsLawful (at_least c) keys → OrderedByLast last keys
+      → ((b : C) → last ≡ Some b → (agree_on (at_least b) (at_least c) held
+      || (agrees_except number v (at_least b) (at_least c) held && list_all (gone (at_least b) (at_least c)) held)) ≡ true)
+      → KeepsOrder (at_least c) keys new
+      → ((R : T → T → Bool) → IsInOrder R keys → IsLawful R keys → AgreesExcept number v R (at_least c) keys
+      → IsTrue (list_all (gone R (at_least c)) keys) → IsLawful (at_least c) keys → IsInOrder (at_least c) new)
+      → IsInOrder (at_least c) new
+  repaired_one_way gone None v c keys held new alike lawful ordered agrees keeps_order repaired = keeps_order (ordered (at_least c)) lawful
+  repaired_one_way gone (Some b) v c keys held new alike lawful ordered agrees keeps_order repaired =
+      let same : Bool = agree_on (at_least b) (at_least c) held in
+      let except : Bool = agrees_except number v (at_least b) (at_least c) held in
+      let went : Bool = list_all (gone (at_least b) (at_least c)) held in
+      ⊎_elim
+      (λ unchanged. keeps_order (IsInOrder-agree (at_least b) (at_least c) keys ordered.0 (agreed b c keys held alike unchanged)) lawful)
+      (λ changed.
+      let parts = and_parts except went changed in
+      repaired (at_least b) ordered.0 ordered.1 (agreed_except v b c keys held alike parts.0)
+      (list_all-fewer number one_value (gone (at_least b) (at_least c)) keys held (HoldsWithin-alike number keys held alike) parts.1) lawful)
+      (or_cases same (except && went) (agrees b refl))
 
 module _ {T C : Type 0} {number : T → ℕ} (one_value : (x y : T) → number x ≡ number y → x ≡ y) {at_least : C → T → T → Bool}
     {p : Progress T C} {keys : List T} (stands : Stands number at_least p keys) (c : C) where
@@ -84,7 +114,8 @@ module _ {T C : Type 0} {number : T → ℕ} (one_value : (x y : T) → number x
       → (is_steady_at number at_least p call c ≡ true → IsInOrder (at_least c) new × IsLawful (at_least c) new)
       → Stands number at_least record { held = held; steady = is_steady_at number at_least p call c; last = Some c } new
   stands_compared call held new alike new_once held_once ordered =
-      stands_from number one_value at_least record { held = held; steady = is_steady_at number at_least p call c; last = Some c } new alike new_once held_once ordered
+      stands_from number one_value at_least record { held = held; steady = is_steady_at number at_least p call c; last = Some c } new alike
+      new_once held_once ordered
 
   -- where the comparisons stay steady, the heap is in order under this comparer's relation, which is lawful on the keys concerned
   order_at : (call : HeapCall T) (concerned : List T) → HoldsWithin number keys concerned
@@ -92,7 +123,10 @@ module _ {T C : Type 0} {number : T → ℕ} (one_value : (x y : T) → number x
       → ((start_if_empty p).steady && (is_lawful (at_least c) concerned && agrees_with_last number at_least (start_if_empty p).last call c p.held)) ≡ true
       → IsInOrder (at_least c) keys × (IsLawful (at_least c) keys × IsLawful (at_least c) concerned)
   order_at call concerned within whole steady =
-      let parts = and_parts (start_if_empty p).steady (is_lawful (at_least c) concerned && agrees_with_last number at_least (start_if_empty p).last call c p.held) steady in
+      let parts =
+      and_parts (start_if_empty p).steady
+      (is_lawful (at_least c) concerned && agrees_with_last number at_least (start_if_empty p).last call c p.held) steady
+      in
       let laws = and_parts (is_lawful (at_least c) concerned) (agrees_with_last number at_least (start_if_empty p).last call c p.held) parts.1 in (
         ordered_by_last number one_value at_least (start_if_empty p).last call c keys p.held stands.alike whole (stands.in_order parts.0) laws.1,
         (IsLawful-fewer number one_value (at_least c) keys concerned within laws.0, laws.0),
@@ -101,14 +135,16 @@ module _ {T C : Type 0} {number : T → ℕ} (one_value : (x y : T) → number x
   held_within : HoldsWithin number keys p.held
   held_within = HoldsWithin-alike number keys p.held stands.alike
 
-  order_at_push : (v : T) → is_steady_at number at_least p (Push v) c ≡ true → IsInOrder (at_least c) keys × (IsLawful (at_least c) keys × IsLawful (at_least c) (v ∷ p.held))
+  order_at_push : (v : T) → is_steady_at number at_least p (Push v) c ≡ true
+      → IsInOrder (at_least c) keys × (IsLawful (at_least c) keys × IsLawful (at_least c) (v ∷ p.held))
   order_at_push v steady = order_at (Push v) (v ∷ p.held) (HoldsWithin-cons number v keys p.held held_within) (λ b. refl) steady
 
   order_at_pop : is_steady_at number at_least p Pop c ≡ true → IsInOrder (at_least c) keys × (IsLawful (at_least c) keys × IsLawful (at_least c) p.held)
   order_at_pop steady = order_at Pop p.held held_within (λ b. refl) steady
 
   -- a push that changes no key
-  pub stands_where_push_fails : (v : T) → Stands number at_least record { held = p.held; steady = is_steady_at number at_least p (Push v) c; last = Some c } keys
+  pub stands_where_push_fails : (v : T)
+      → Stands number at_least record { held = p.held; steady = is_steady_at number at_least p (Push v) c; last = Some c } keys
   stands_where_push_fails v =
       stands_compared (Push v) p.held keys stands.alike stands.keys_distinct stands.held_distinct
       (λ steady. let order = order_at_push v steady in (order.0, order.1.0))
@@ -168,7 +204,7 @@ module _ {T C : Type 0} {number : T → ℕ} (one_value : (x y : T) → number x
   may_pop k new moved greatest =
       and_from (is_held number p.held k) (not (is_steady_at number at_least p Pop c) || is_greatest number (at_least c) p.held k)
       (sym (stands.alike k) ∙ HoldAlike-IsPermutation number keys (k ∷ new) moved k ∙ is_held-head number k new)
-      (implies_from (is_steady_at number at_least p Pop c) (is_greatest number (at_least c) p.held k) (λ steady.
+      (implied_from (is_steady_at number at_least p Pop c) (is_greatest number (at_least c) p.held k) (λ steady.
       let order = order_at_pop steady in
       IsGreatest-HoldAlike number one_value (at_least c) keys p.held k stands.alike (greatest order.0 order.1.0)))
 
@@ -198,28 +234,46 @@ module _ {T C : Type 0} {number : T → ℕ} (one_value : (x y : T) → number x
       (AreDistinct-IsPermutation number keys new moved stands.keys_distinct) stands.held_distinct
       (λ steady. ((ordered steady).0, IsLawful-fewer number one_value (at_least c) new keys (HoldsWithin-alike number new keys back) (ordered steady).1))
 
-  pub stands_at_up : (v : T) (new : List T) → IsPermutation keys new → (IsInOrder (at_least c) keys → IsLawful (at_least c) keys → IsInOrder (at_least c) new)
+  -- what a call on a key that stays steady says of what was before it
+  said_at_key : (call : HeapCall T) (v : T)
+      → ((start_if_empty p).steady && (is_lawful (at_least c) (v ∷ p.held) && agrees_with_last number at_least (start_if_empty p).last call c p.held)) ≡ true
+      → IsLawful (at_least c) keys × OrderedByLast number one_value at_least (start_if_empty p).last keys
+      × (agrees_with_last number at_least (start_if_empty p).last call c p.held ≡ true)
+  said_at_key call v steady =
+      let agrees : Bool = agrees_with_last number at_least (start_if_empty p).last call c p.held in
+      let parts = and_parts (start_if_empty p).steady (is_lawful (at_least c) (v ∷ p.held) && agrees) steady in
+      let laws = and_parts (is_lawful (at_least c) (v ∷ p.held)) agrees parts.1 in (
+        IsLawful-fewer number one_value (at_least c) keys (v ∷ p.held) (HoldsWithin-cons number v keys p.held held_within) laws.0,
+        stands.in_order parts.0,
+        laws.1,
+      )
+
+  pub stands_at_up : (v : T) (new : List T) → IsPermutation keys new → KeepsOrder (at_least c) keys new → RepairsRisen number v (at_least c) keys new
       → Stands number at_least (after_call number at_least p (Up v) c Done) new
-  stands_at_up v new moved keeps_order =
+  stands_at_up v new moved keeps_order repaired =
       stands_moved (Up v) new moved (λ steady.
-      let order = order_at (Up v) (v ∷ p.held) (HoldsWithin-cons number v keys p.held held_within) (λ b. refl) steady in (keeps_order order.0 order.1.0, order.1.0))
+      let said = said_at_key (Up v) v steady in (
+        repaired_one_way number one_value at_least (λ R Q x. not (R v x) || Q v x) (start_if_empty p).last v c keys p.held new stands.alike said.0 said.1
+            (λ b is. subst (λ o. agrees_with_last number at_least o (Up v) c p.held ≡ true) is said.2) keeps_order repaired,
+        said.0,
+      ))
 
-  pub stands_at_down : (v : T) (new : List T) → IsPermutation keys new → (IsInOrder (at_least c) keys → IsLawful (at_least c) keys → IsInOrder (at_least c) new)
+  pub stands_at_down : (v : T) (new : List T) → IsPermutation keys new → KeepsOrder (at_least c) keys new → RepairsFallen number v (at_least c) keys new
       → Stands number at_least (after_call number at_least p (Down v) c Done) new
-  stands_at_down v new moved keeps_order =
+  stands_at_down v new moved keeps_order repaired =
       stands_moved (Down v) new moved (λ steady.
-      let order = order_at (Down v) (v ∷ p.held) (HoldsWithin-cons number v keys p.held held_within) (λ b. refl) steady in (keeps_order order.0 order.1.0, order.1.0))
+      let said = said_at_key (Down v) v steady in (
+        repaired_one_way number one_value at_least (λ R Q x. not (R x v) || Q x v) (start_if_empty p).last v c keys p.held new stands.alike said.0 said.1
+            (λ b is. subst (λ o. agrees_with_last number at_least o (Down v) c p.held ≡ true) is said.2) keeps_order repaired,
+        said.0,
+      ))
 
-  pub stands_updated : (v : T) (new : List T) → IsPermutation keys new
-      → ((R : T → T → Bool) → IsInOrder R keys → IsLawful R keys → AgreesExcept number v R (at_least c) keys → IsLawful (at_least c) keys → IsInOrder (at_least c) new)
+  pub stands_updated : (v : T) (new : List T) → IsPermutation keys new → RepairsChanged number v (at_least c) keys new keys
       → Stands number at_least (after_call number at_least p (Update v) c Done) new
   stands_updated v new moved repaired =
       stands_moved (Update v) new moved (λ steady.
-      let last : Option C = (start_if_empty p).last in
-      let parts = and_parts (start_if_empty p).steady (is_lawful (at_least c) (v ∷ p.held) && agrees_with_last number at_least last (Update v) c p.held) steady in
-      let laws = and_parts (is_lawful (at_least c) (v ∷ p.held)) (agrees_with_last number at_least last (Update v) c p.held) parts.1 in
-      let lawful : IsLawful (at_least c) keys = IsLawful-fewer number one_value (at_least c) keys (v ∷ p.held) (HoldsWithin-cons number v keys p.held held_within) laws.0 in
-      (repaired_from_last number one_value at_least last v c keys p.held new stands.alike lawful (stands.in_order parts.0) laws.1 repaired, lawful))
+      let said = said_at_key (Update v) v steady in
+      (repaired_from_last number one_value at_least (start_if_empty p).last v c keys p.held new stands.alike said.0 said.1 said.2 repaired, said.0))
 
   -- a Rebuild needs no order to begin with
   pub stands_rebuilt : (new : List T) → IsPermutation keys new → (IsLawful (at_least c) keys → IsInOrder (at_least c) new)
@@ -240,10 +294,14 @@ module _ {T C : Type 0} {number : T → ℕ} (one_value : (x y : T) → number x
 
   -- a call that neither compares nor changes a key
   pub stands_unchanged : Stands number at_least record { held = p.held; steady = (start_if_empty p).steady; last = (start_if_empty p).last } keys
-  stands_unchanged = stands_from number one_value at_least record { held = p.held; steady = (start_if_empty p).steady; last = (start_if_empty p).last } keys stands.alike stands.keys_distinct stands.held_distinct stands.in_order
+  stands_unchanged =
+      let q : Progress T C = start_if_empty p in
+      stands_from number one_value at_least record { held = p.held; steady = q.steady; last = q.last } keys
+      stands.alike stands.keys_distinct stands.held_distinct stands.in_order
 
   -- after a clear nothing is held
-  pub stands_cleared : (new : List T) → new ≡ [] → ((R : T → T → Bool) → IsInOrder R new) → Stands number at_least (after_call number at_least p Clear c Done) new
+  pub stands_cleared : (new : List T) → new ≡ [] → ((R : T → T → Bool) → IsInOrder R new)
+      → Stands number at_least (after_call number at_least p Clear c Done) new
   stands_cleared new none ordered =
       record {
         alike = rw none (λ q. refl);

@@ -3,7 +3,7 @@ use Rattle.std.specs.Prelude.{◌≡◌, ℕ, ◌+◌, ◌-◌, ◌*◌, ◌≤�
 use Rattle.std.specs.Bool.{beq}
 use Rattle.std.specs.List.{All, AllZip}
 use Rattle.giputils_heap.specs.Keys.{is_held, without, key_limit}
-use Rattle.giputils_heap.specs.Relations.{is_lawful, agree_on, agrees_except, is_greatest}
+use Rattle.giputils_heap.specs.Relations.{is_lawful, agree_on, agrees_except, has_risen, has_fallen, is_greatest}
 use Rattle.giputils_heap.specs.Bounds.{count_limit, push_bound, pop_bound, up_bound, down_bound, update_bound, rebuild_bound}
 use Rattle.giputils_heap.specs.declared.run.HeapCall.{HeapCall}
 use Rattle.giputils_heap.specs.declared.run.HeapCall.TheVariants.{Push, Pop, Up, Down, Update, Rebuild, Clear, Len, IsEmpty}
@@ -103,9 +103,15 @@ module _ {T C : Type 0} where
 
 module _ {T C : Type 0} (number : T → ℕ) (at_least : C → T → T → Bool) where
   -- whether a call's comparer compares the held keys as the last comparer did, if there is one; an Update may come with
-  -- other comparisons of its own key
+  -- other comparisons of its own key, an Up with some by which that has risen, a Down with some by which it has fallen
   abbrev pub agrees_with_last : Option C → HeapCall T → C → List T → Bool
   agrees_with_last None call c held = true
+  agrees_with_last (Some b) (Up v) c held =
+      agree_on (at_least b) (at_least c) held
+      || (agrees_except number v (at_least b) (at_least c) held && has_risen v (at_least b) (at_least c) held)
+  agrees_with_last (Some b) (Down v) c held =
+      agree_on (at_least b) (at_least c) held
+      || (agrees_except number v (at_least b) (at_least c) held && has_fallen v (at_least b) (at_least c) held)
   agrees_with_last (Some b) (Update v) c held = agrees_except number v (at_least b) (at_least c) held
   agrees_with_last (Some b) call c held = agree_on (at_least b) (at_least c) held
 
@@ -146,7 +152,7 @@ module _ {T C : Type 0} (number : T → ℕ) (at_least : C → T → T → Bool)
   Answers entries = IsTrue (answers_from start entries)
 
   -- whether up to step i, since nothing was last held or all was last rebuilt, the comparisons were lawful and changed for
-  -- one key at a time, at an Update of that key
+  -- one key at a time, at an Update of that key, at an Up where it has risen, or at a Down where it has fallen
   abbrev pub is_steady : List (Entry T C) → ℕ → Bool
   is_steady entries i = (progress_from start (take (i + 1) entries)).steady
 

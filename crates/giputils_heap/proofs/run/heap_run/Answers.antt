@@ -8,12 +8,18 @@ pub returns-in_err-replies-clause-kept : goal.returns-in_err-replies-clause-kept
 returns-in_err-replies-clause-kept g c = KeepsSteps-refl c.args.steps.now
 
 pub loop-step-init : goal.loop-step-init
-loop-step-init g c =
-    (HasRun-start g.T.HeapKey.number g.C.BinaryHeapCmp.at_least c.args.steps.now c.in_ok-replies.replies.items c.new-heap.result c.in_ok-replies.ensures.items c.new-heap.ensures.empty c.new-heap.ensures.in_order, c.in_ok-replies.ensures.len, c.in_ok-replies.ensures.capacity)
+loop-step-init g c = (
+  HasRun-start g.T.HeapKey.number g.C.BinaryHeapCmp.at_least c.args.steps.now c.in_ok-replies.replies.items c.new-heap.result
+      c.in_ok-replies.ensures.items c.new-heap.ensures.empty c.new-heap.ensures.in_order,
+  c.in_ok-replies.ensures.len,
+  c.in_ok-replies.ensures.capacity,
+)
 
 pub make_call-requires : goal.make_call-requires
 make_call-requires g c =
-    rw (next_is_old g.T.HeapKey.number g.C.BinaryHeapCmp.at_least c.args.steps.now c.loop-step.steps c.loop-step.step-index c.loop-step.replies.items c.loop-step.heap c.loop-step-test.true c.loop-step.invariant.0 c.step-item.result)
+    rw
+    (next_is_old g.T.HeapKey.number g.C.BinaryHeapCmp.at_least c.args.steps.now c.loop-step.steps c.loop-step.step-index
+    c.loop-step.replies.items c.loop-step.heap c.loop-step-test.true c.loop-step.invariant.0 c.step-item.result)
     (All-get_or (λ s. s.cmp.count ≤ count_limit) c.args.steps.now c.loop-step.step-index c.step-item.result c.loop-step-test.true c.requires)
 
 pub push_reserved-requires : goal.push_reserved-requires
@@ -31,15 +37,18 @@ loop-step-preserved g c = (
 
 pub returns-clause-record : goal.returns-clause-record
 returns-clause-record g c =
-    HasRun-answers g.T.HeapKey.number g.C.BinaryHeapCmp.at_least c.args.steps.now c.loop-step.steps c.loop-step.step-index c.loop-step.replies.items c.loop-step.heap c.loop-step-test.false c.loop-step.invariant.0
+    HasRun-answers g.T.HeapKey.number g.C.BinaryHeapCmp.at_least c.args.steps.now c.loop-step.steps c.loop-step.step-index
+    c.loop-step.replies.items c.loop-step.heap c.loop-step-test.false c.loop-step.invariant.0
 
 pub returns-clause-counts : goal.returns-clause-counts
 returns-clause-counts g c =
-    HasRun-counts g.T.HeapKey.number g.C.BinaryHeapCmp.at_least c.args.steps.now c.loop-step.steps c.loop-step.step-index c.loop-step.replies.items c.loop-step.heap c.loop-step-test.false c.loop-step.invariant.0
+    HasRun-counts g.T.HeapKey.number g.C.BinaryHeapCmp.at_least c.args.steps.now c.loop-step.steps c.loop-step.step-index
+    c.loop-step.replies.items c.loop-step.heap c.loop-step-test.false c.loop-step.invariant.0
 
 pub returns-clause-replies : goal.returns-clause-replies
 returns-clause-replies g c = omega (arith, c.loop-step.invariant.0.replied, c.loop-step-test.false)
 
 pub returns-clause-kept : goal.returns-clause-kept
 returns-clause-kept g c =
-    HasRun-kept g.T.HeapKey.number g.C.BinaryHeapCmp.at_least c.args.steps.now c.loop-step.steps c.loop-step.step-index c.loop-step.replies.items c.loop-step.heap c.loop-step-test.false c.loop-step.invariant.0
+    HasRun-kept g.T.HeapKey.number g.C.BinaryHeapCmp.at_least c.args.steps.now c.loop-step.steps c.loop-step.step-index
+    c.loop-step.replies.items c.loop-step.heap c.loop-step-test.false c.loop-step.invariant.0

@@ -47,12 +47,14 @@ returns-in-Pop-clause-stands g c p stands =
 pub returns-in-Pop-clause-comparisons : goal.returns-in-Pop-clause-comparisons
 returns-in-Pop-clause-comparisons g c p stands =
     rw c.in-Pop.is
-    (pop_within g.met.T.HeapKey.one_value stands c.args.cmp.now.comparer c.args.cmp.now.count c.pop_counted.new.cmp.count c.pop_counted.ensures.asks.comparisons)
+    (pop_within g.met.T.HeapKey.one_value stands c.args.cmp.now.comparer c.args.cmp.now.count c.pop_counted.new.cmp.count
+    c.pop_counted.ensures.asks.comparisons)
 
 pub returns-in-Up-clause-stands : goal.returns-in-Up-clause-stands
 returns-in-Up-clause-stands g c p stands =
     rw c.in-Up.is
-    (stands_at_up g.met.T.HeapKey.one_value stands c.args.cmp.now.comparer c.in-Up.v c.up_counted.new.self c.up_counted.ensures.moved c.up_counted.ensures.in_order)
+    (stands_at_up g.met.T.HeapKey.one_value stands c.args.cmp.now.comparer c.in-Up.v c.up_counted.new.self c.up_counted.ensures.moved
+    c.up_counted.ensures.in_order c.up_counted.ensures.repaired)
 
 pub returns-in-Up-clause-comparisons : goal.returns-in-Up-clause-comparisons
 returns-in-Up-clause-comparisons g c p stands =
@@ -63,7 +65,8 @@ returns-in-Up-clause-comparisons g c p stands =
 pub returns-in-Down-clause-stands : goal.returns-in-Down-clause-stands
 returns-in-Down-clause-stands g c p stands =
     rw c.in-Down.is
-    (stands_at_down g.met.T.HeapKey.one_value stands c.args.cmp.now.comparer c.in-Down.v c.down_counted.new.self c.down_counted.ensures.moved c.down_counted.ensures.in_order)
+    (stands_at_down g.met.T.HeapKey.one_value stands c.args.cmp.now.comparer c.in-Down.v c.down_counted.new.self c.down_counted.ensures.moved
+    c.down_counted.ensures.in_order c.down_counted.ensures.repaired)
 
 pub returns-in-Down-clause-comparisons : goal.returns-in-Down-clause-comparisons
 returns-in-Down-clause-comparisons g c p stands =
@@ -74,7 +77,8 @@ returns-in-Down-clause-comparisons g c p stands =
 pub returns-in-Update-clause-stands : goal.returns-in-Update-clause-stands
 returns-in-Update-clause-stands g c p stands =
     rw c.in-Update.is
-    (stands_updated g.met.T.HeapKey.one_value stands c.args.cmp.now.comparer c.in-Update.v c.update_counted.new.self c.update_counted.ensures.moved c.update_counted.ensures.repaired)
+    (stands_updated g.met.T.HeapKey.one_value stands c.args.cmp.now.comparer c.in-Update.v c.update_counted.new.self
+    c.update_counted.ensures.moved c.update_counted.ensures.repaired)
 
 pub returns-in-Update-clause-comparisons : goal.returns-in-Update-clause-comparisons
 returns-in-Update-clause-comparisons g c p stands =
@@ -85,12 +89,14 @@ returns-in-Update-clause-comparisons g c p stands =
 pub returns-in-Rebuild-clause-stands : goal.returns-in-Rebuild-clause-stands
 returns-in-Rebuild-clause-stands g c p stands =
     rw c.in-Rebuild.is
-    (stands_rebuilt g.met.T.HeapKey.one_value stands c.args.cmp.now.comparer c.rebuild_counted.new.self c.rebuild_counted.ensures.moved c.rebuild_counted.ensures.in_order)
+    (stands_rebuilt g.met.T.HeapKey.one_value stands c.args.cmp.now.comparer c.rebuild_counted.new.self c.rebuild_counted.ensures.moved
+    c.rebuild_counted.ensures.in_order)
 
 pub returns-in-Rebuild-clause-comparisons : goal.returns-in-Rebuild-clause-comparisons
 returns-in-Rebuild-clause-comparisons g c p stands =
     rw c.in-Rebuild.is
-    (rebuild_within g.met.T.HeapKey.one_value stands c.args.cmp.now.comparer c.args.cmp.now.count c.rebuild_counted.new.cmp.count c.rebuild_counted.ensures.asks.comparisons)
+    (rebuild_within g.met.T.HeapKey.one_value stands c.args.cmp.now.comparer c.args.cmp.now.count c.rebuild_counted.new.cmp.count
+    c.rebuild_counted.ensures.asks.comparisons)
 
 pub returns-in-Clear-clause-stands : goal.returns-in-Clear-clause-stands
 returns-in-Clear-clause-stands g c p stands =
@@ -106,7 +112,11 @@ returns-in-Len-clause-stands g c p stands = rw c.in-Len.is (stands_unchanged g.m
 
 pub returns-in-IsEmpty-clause-reply : goal.returns-in-IsEmpty-clause-reply
 returns-in-IsEmpty-clause-reply g c p stands =
-    rw (c.in-IsEmpty.is, is_nil-iff c.is_empty.result c.args.heap.now c.is_empty.ensures, is_nil_of_held g.met.T.HeapKey.one_value stands c.args.cmp.now.comparer)
+    rw (
+      c.in-IsEmpty.is,
+      is_nil-iff c.is_empty.result c.args.heap.now c.is_empty.ensures,
+      is_nil_of_held g.met.T.HeapKey.one_value stands c.args.cmp.now.comparer,
+    )
     (beq-refl _)
 
 pub returns-in-IsEmpty-clause-stands : goal.returns-in-IsEmpty-clause-stands

@@ -1,12 +1,16 @@
 use Rattle.std.proofs.Common.{◌≡◌, ◌≢◌, ℕ, get_or, Option, Some, None, refl, ap, sym, ◌∙◌, arith}
+use Rattle.std.proofs.lemmas.Option.{none-some}
 use Rattle.giputils_heap.specs.Table.{place_in}
-use Rattle.giputils_heap.proofs.Places.{number-within, none≢some}
+use Rattle.giputils_heap.proofs.Places.{number-within}
 use Rattle.giputils_heap.proofs.table.forget_all.Goals as goal
 
 pub forget-requires : goal.forget-requires
 forget-requires g c = record {
   number =
-      let within = number-within g.T.HeapKey.number c.args.keys.now c.args.places.now c.loop-key.key-index c.key-item.result c.loop-key-test.true c.key-item.is c.requires.table in
+      let within =
+      number-within g.T.HeapKey.number c.args.keys.now c.args.places.now c.loop-key.key-index c.key-item.result c.loop-key-test.true
+      c.key-item.is c.requires.table
+      in
       omega (arith, within, c.loop-key.invariant.size);
 }
 
@@ -20,7 +24,7 @@ loop-key-preserved g c =
     record {
       size = c.forget.ensures.size ∙ i.size;
       left = λ n j found.
-          let other : n ≢ number key = λ e. none≢some j (sym says.here ∙ ap (place_in c.forget.new.places) (sym e) ∙ found) in
+          let other : n ≢ number key = λ e. none-some j (sym says.here ∙ ap (place_in c.forget.new.places) (sym e) ∙ found) in
           let was = i.left n j (sym (says.others n other) ∙ found) in
           let here : j ≢ c.loop-key.key-index = λ e.
           other (sym ((c.requires.table.held n j was.1).1 key) ∙ ap (λ m. number (get_or keys m key)) e ∙ ap number (sym c.key-item.is))

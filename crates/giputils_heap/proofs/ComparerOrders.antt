@@ -11,6 +11,7 @@ use Rattle.giputils_heap.specs.Keys.{same_key}
 use Rattle.giputils_heap.specs.Relations.{AgreesExcept, HasRisen, HasFallen, HasNoTies}
 use Rattle.giputils_heap.specs.Comparers.{reverse_of, rank_of, by_number, by_rank}
 use Rattle.giputils_heap.specs.Laws.{IsTotalPreorder}
+use Rattle.giputils_heap.proofs.BoolsAndLists.{list_all-filter}
 use Rattle.giputils_heap.proofs.Greatest.{HasNoTies-everywhere}
 use Rattle.giputils_heap.proofs.Preorders.{beq-refl, list_all-always}
 
@@ -54,15 +55,9 @@ module _ {T : Type 0} where
     pub HasNoTies-by_rank : (ranks : List ℕ) (keys : List T) → HasNoTies number (by_rank number ranks) keys
     HasNoTies-by_rank ranks keys = HasNoTies-everywhere number (by_rank number ranks) (by_rank-tie ranks) keys
 
-    -- what follows of each key that is kept
-    list_all-kept : (p q : T → Bool) → ((k : T) → p k ≡ true → q k ≡ true) → (keys : List T) → list_all q (filter p keys) ≡ true
-    list_all-kept p q follows [] = refl
-    list_all-kept p q follows (k ∷ keys) =
-        ⊎_elim (λ kept. rw kept (and_from (q k) (list_all q (filter p keys)) (follows k kept) (list_all-kept p q follows keys)))
-        (λ dropped. rw dropped (list_all-kept p q follows keys)) (cases_Bool (p k))
-
     -- a key of another number keeps its rank
-    rank_of-other : (v x : T) (ranks : List ℕ) (r : ℕ) → not (same_key number v x) ≡ true → rank_of (set ranks (number v) r) (number x) ≡ rank_of ranks (number x)
+    rank_of-other : (v x : T) (ranks : List ℕ) (r : ℕ) → not (same_key number v x) ≡ true
+        → rank_of (set ranks (number v) r) (number x) ≡ rank_of ranks (number x)
     rank_of-other v x ranks r other =
         let apart : number x ≢ number v = λ same. false≢true (sym (ap not (eq-eqb (number v) (number x) (sym same))) ∙ other) in
         get_or-set_other ranks (number v) (number x) r 0 apart
@@ -72,8 +67,8 @@ module _ {T : Type 0} where
         → AgreesExcept number v (by_rank number ranks) (by_rank number (slice_set ranks (number v) r)) keys
     AgreesExcept-by_rank v ranks r keys =
         let kept : T → Bool = λ k. not (same_key number v k) in
-        list_all-kept kept (λ x. list_all (λ y. beq (by_rank number ranks x y) (by_rank number (set ranks (number v) r) x y)) (filter kept keys))
-        (λ x x_kept. list_all-kept kept (λ y. beq (by_rank number ranks x y) (by_rank number (set ranks (number v) r) x y))
+        list_all-filter kept (λ x. list_all (λ y. beq (by_rank number ranks x y) (by_rank number (set ranks (number v) r) x y)) (filter kept keys))
+        (λ x x_kept. list_all-filter kept (λ y. beq (by_rank number ranks x y) (by_rank number (set ranks (number v) r) x y))
         (λ y y_kept. rw (rank_of-other v x ranks r x_kept, rank_of-other v y ranks r y_kept) (beq-refl (by_rank number ranks x y))) keys) keys
 
     -- where the rank rises, so does the key
