@@ -187,8 +187,17 @@ impl<T, A: Allocator> Gallocator<T, A> {
         ensures err { OnErr result (self.new ≡ self.old) }
     {
         let indexes = self.index_map()?;
-        self.slots.retain(|slot| !slot.is_removed());
+        self.close_gaps();
         Ok(indexes)
+    }
+
+    // Drops the marked values. The others keep their order.
+    fn close_gaps(&mut self)
+    where
+        T: Drop,
+        ensures { self.new ≡ unmarked_slots (survivors self.old) }
+    {
+        self.slots.retain(|slot| !slot.is_removed());
     }
 
     // The new index of each unmarked slot. The map has room for half of the slots, and grows where more are unmarked.

@@ -1,14 +1,15 @@
 //! A hashed set and a hashed map, whose hasher has a fixed seed.
-ghost use Rattle.std.specs.Prelude.{◌≡◌, []};
-ghost use Rattle.std.specs.List.{AllZip};
+ghost use Rattle.std.specs.Prelude.{◌≡◌, ◌+◌, [], length, false, not, None, is_some, if◌then◌else◌, IfOk, IfErr, OnOk, OnErr};
+ghost use Rattle.std.specs.List.{AllZip, IsDistinct};
+ghost use Rattle.std.specs.Option.{option_copied};
 ghost use Rattle.std.specs.Map.Iter.{GivesInOrder};
 ghost use Rattle.std.specs.Borrow.{sem};
-ghost use Rattle.giputils_base.specs.Hash.{IsMapOf, IsSetOf, ListsMembers, ListsEntries};
+ghost use Rattle.giputils_base.specs.Hash.{get, contains, PutsValue, TakesKey, PutsMember, TakesMember, IsMapOf, IsSetOf, ListsMembers, ListsEntries, HasUniqueKeys};
 
 #[cfg(test)]
 mod tests;
 
-use std::alloc::{AllocError, Allocator, Global};
+use std::alloc::{AllocError, AllocFailed, Allocator, Global};
 use std::collections::{HashMap, HashSet, hash_map, hash_set};
 use std::fmt;
 use std::hash::{BuildHasher, BuildHasherDefault, FoldHasher, Hash, Hasher};
@@ -42,6 +43,47 @@ impl<T: Eq + Hash, A: Allocator> GHashSet<T, A> {
         GHashSet {
             set: HashSet::new(alloc),
         }
+    }
+
+    /// Whether `item` is a member.
+    #[inline]
+    pub fn contains(&self, item: &T) -> bool
+        ensures { result ≡ contains T.eq self.now item.now }
+    {
+        self.set.contains(item)
+    }
+
+    /// Puts `item` in, if no member is equal to it. Answers whether it is new.
+    ///
+    /// # Errors
+    /// `item`, where memory is refused. The set is then as it was. Of a member there is no such answer.
+    #[inline]
+    pub fn insert(&mut self, item: T) -> Result<bool, AllocFailed<T>>
+    where
+        T: Drop,
+        A: Clone,
+        ensures is_new { IfOk result (λ is_new. is_new ≡ not (contains T.eq self.old item)) }
+        ensures members { OnOk result (PutsMember T.eq item self.old self.new) }
+        ensures len { IfOk result (λ is_new. length self.new ≡ length self.old + (if is_new then 1 else 0)) }
+        ensures unique { IsDistinct T.eq self.new }
+        ensures value_returned { IfErr result (λ failed. failed.value ≡ item) }
+        ensures err { OnErr result (self.new ≡ self.old) }
+        ensures absent { OnErr result (contains T.eq self.old item ≡ false) }
+    {
+        self.set.insert(item)
+    }
+
+    /// Takes the member out that is equal to `item`. Answers whether there was one.
+    #[inline]
+    pub fn remove(&mut self, item: &T) -> bool
+    where
+        T: Drop,
+        ensures was_member { result ≡ contains T.eq self.old item.now }
+        ensures members { TakesMember T.eq item.now self.old self.new }
+        ensures len { length self.new + (if result then 1 else 0) ≡ length self.old }
+        ensures unique { IsDistinct T.eq self.new }
+    {
+        self.set.remove(item)
     }
 }
 
@@ -149,6 +191,56 @@ impl<K: Eq + Hash, V, A: Allocator> GHashMap<K, V, A> {
         GHashMap {
             map: HashMap::new(alloc),
         }
+    }
+
+    /// The value at `key`, if it has one.
+    #[inline]
+    pub fn get(&self, key: &K) -> Option<&V>
+        ensures { option_copied result ≡ get K.eq self.now key.now }
+    {
+        self.map.get(key)
+    }
+
+    /// Whether `key` has a value.
+    #[inline]
+    pub fn contains_key(&self, key: &K) -> bool
+        ensures { result ≡ is_some (get K.eq self.now key.now) }
+    {
+        self.map.contains_key(key)
+    }
+
+    /// Puts `value` at `key`. Answers the value that it takes the place of, if there was one.
+    ///
+    /// # Errors
+    /// `key` and `value`, where memory is refused. The map is then as it was. Of a key with a value there is no such
+    /// answer.
+    #[inline]
+    pub fn insert(&mut self, key: K, value: V) -> Result<Option<V>, AllocFailed<(K, V)>>
+    where
+        K: Drop,
+        A: Clone,
+        ensures replaced { IfOk result (λ replaced. replaced ≡ get K.eq self.old key) }
+        ensures values { OnOk result (PutsValue K.eq key value self.old self.new) }
+        ensures len { IfOk result (λ replaced. length self.new ≡ length self.old + (if is_some replaced then 0 else 1)) }
+        ensures unique { HasUniqueKeys K.eq self.new }
+        ensures value_returned { IfErr result (λ failed. failed.value ≡ (key, value)) }
+        ensures err { OnErr result (self.new ≡ self.old) }
+        ensures absent { OnErr result (get K.eq self.old key ≡ None) }
+    {
+        self.map.insert(key, value)
+    }
+
+    /// Takes `key` out, and answers the value that it had, if it had one.
+    #[inline]
+    pub fn remove(&mut self, key: &K) -> Option<V>
+    where
+        K: Drop,
+        ensures taken { result ≡ get K.eq self.old key.now }
+        ensures values { TakesKey K.eq key.now self.old self.new }
+        ensures len { length self.new + (if is_some result then 1 else 0) ≡ length self.old }
+        ensures unique { HasUniqueKeys K.eq self.new }
+    {
+        self.map.remove(key)
     }
 }
 

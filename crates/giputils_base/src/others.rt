@@ -44,6 +44,17 @@ impl OptionU8 {
     {
         *self == Self::NONE
     }
+
+    /// The number that it holds, if it holds one.
+    #[inline]
+    pub fn get(self) -> Option<u8>
+        ensures { result ≡ option_u8 self }
+    {
+        match self.0 {
+            u8::MAX => None,
+            number => Some(number),
+        }
+    }
 }
 
 /// Equal as options.
@@ -126,6 +137,17 @@ impl OptionU32 {
         ensures { result ≡ is_none (option_u32 self.now) }
     {
         *self == Self::NONE
+    }
+
+    /// The number that it holds, if it holds one.
+    #[inline]
+    pub fn get(self) -> Option<u32>
+        ensures { result ≡ option_u32 self }
+    {
+        match self.0 {
+            u32::MAX => None,
+            number => Some(number),
+        }
     }
 }
 

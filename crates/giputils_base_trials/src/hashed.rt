@@ -66,6 +66,20 @@ fn each_request_of_a_hashed_collection_is_refused_in_turn(rt: HostRuntime) {
 }
 
 #[test]
+fn collections_of_no_items_take_no_memory(rt: HostRuntime) {
+    let memory = Refusing::from(rt.alloc(), 1);
+    let set: Result<_, _> = GHashSet::<u32, _>::new(&memory).clone();
+    let map: Result<_, _> = GHashMap::<u32, u32, _>::new(&memory).clone();
+    let is_made = [
+        set.is_ok(),
+        map.is_ok(),
+        GHashSet::<u32, _>::from_iter(&memory, []).is_ok(),
+        GHashMap::<u32, u32, _>::from_iter(&memory, []).is_ok(),
+    ];
+    assert_eq!(rt; (is_made, memory.requests()), ([true; 4], 0));
+}
+
+#[test]
 fn a_set_is_lent_in_place(rt: HostRuntime) -> Result<(), Fail> {
     let memory = Refusing::from(rt.alloc(), GROWTH + 1);
     let mut set = GHashSet::<u32, &Refusing>::new(&memory);

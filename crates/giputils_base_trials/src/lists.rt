@@ -77,6 +77,24 @@ fn a_vector_is_used_in_place(rt: HostRuntime) -> Result<(), Fail> {
 }
 
 #[test]
+fn lists_of_no_items_take_no_memory(rt: HostRuntime) {
+    let memory = Refusing::from(rt.alloc(), 1);
+    let mut empty = Gvec::<u32, &Refusing>::new(&memory);
+    let is_filled_up = empty.reserve(0).is_ok();
+    let copy: Result<_, _> = empty.clone();
+    let mut drawn = 0u32;
+    let is_made = [
+        is_filled_up,
+        copy.is_ok(),
+        Gvec::<u32, _>::from_iter(&memory, []).is_ok(),
+        Gvec::new_rand(&memory, 0, &mut drawn, |drawn| *drawn).is_ok(),
+    ];
+    assert_eq!(rt; (is_made, memory.requests()), ([true; 4], 0));
+    // std's array of no items is asked for as well, as a block of no bytes.
+    assert!(rt; Gvec::<u32>::from_array(rt.alloc(), []).is_ok());
+}
+
+#[test]
 fn a_shared_value_is_read_in_place(rt: HostRuntime) -> Result<(), Fail> {
     let memory = Refusing::from(rt.alloc(), 2);
     let owner = Grc::new(&memory, 8u32)?;

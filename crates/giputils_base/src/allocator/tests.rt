@@ -48,6 +48,11 @@ fn a_collection_drops_marked_values_and_renumbers_the_others(rt: HostRuntime) ->
     assert!(rt; !allocator.is_removed(2));
     assert_eq!(rt; read(&allocator, 1), 20);
     let indexes = allocator.gc()?;
+    assert_eq!(rt;
+        format!(in rt.alloc(); "{allocator:?}")?.as_str(),
+        "Gallocator { slots: Gvec { items: [GallocElem { value: 10, removed: false }, \
+         GallocElem { value: 30, removed: false }] } }"
+    );
     assert_eq!(rt; indexes.len(), 2);
     assert_eq!(rt;
         (indexes.get(&0).copied(), indexes.get(&2).copied()),

@@ -1,5 +1,5 @@
 //! What callers learn through the clauses, and the calls once each.
-ghost use Rattle.std.specs.Prelude.{◌≡◌, Some, None, nat_eq, true, false, is_some, IfOk, OnOk, OnErr};
+ghost use Rattle.std.specs.Prelude.{◌≡◌, ◌≢◌, ℕ, Some, None, nat_eq, true, false, IfOk, OnOk, OnErr};
 ghost use Rattle.giputils_base.specs.Hash.{get, contains};
 
 use super::{GHashMap, GHashSet};
@@ -8,6 +8,7 @@ use std::test::Fail;
 
 fn put(map: &mut GHashMap<u32, u32>, key: u32, value: u32) -> Result<(), AllocError>
     ensures ok { OnOk result (get nat_eq map.new key ≡ Some value) }
+    ensures others { (k : ℕ) → k ≢ key → get nat_eq map.new k ≡ get nat_eq map.old k }
     ensures err { OnErr result (map.new ≡ map.old) }
 {
     map.insert(key, value)?;
@@ -26,10 +27,13 @@ fn has(set: &GHashSet<u32>, key: u32) -> bool
     set.contains(&key)
 }
 
-fn remove(set: &mut GHashSet<u32>, key: u32)
-    ensures { contains nat_eq set.new key ≡ false }
+fn exchange(set: &mut GHashSet<u32>, out: u32, within: u32) -> Result<bool, AllocError>
+    ensures out { OnOk result (out ≢ within → contains nat_eq set.new out ≡ false) }
+    ensures within { OnOk result (contains nat_eq set.new within ≡ true) }
 {
-    set.remove(&key);
+    set.remove(&out);
+    let is_new = set.insert(within)?;
+    Ok(is_new)
 }
 
 fn cloned(map: &GHashMap<u32, u32>) -> Result<GHashMap<u32, u32>, AllocError>
@@ -69,8 +73,12 @@ fn a_set_has_each_member_once(rt: HostRuntime) -> Result<(), Fail> {
     assert_eq!(rt; clone.len(), 1);
     assert!(rt; has(&clone, 3));
     assert_eq!(rt; format!(in rt.alloc(); "{clone:?}")?.as_str(), "{3}");
-    remove(&mut set, 3);
-    assert_eq!(rt; set.len(), 0);
+    assert_eq!(rt;
+        (exchange(&mut set, 3, 4)?, exchange(&mut set, 3, 4)?),
+        (true, false)
+    );
+    assert_eq!(rt; (set.len(), has(&set, 3), has(&set, 4)), (1, false, true));
+    assert_eq!(rt; (set.remove(&4), set.remove(&4)), (true, false));
     assert!(rt; has(&clone, 3));
     Ok(())
 }
@@ -82,6 +90,9 @@ fn a_map_is_filled_and_gives_each_pair_once(rt: HostRuntime) -> Result<(), Fail>
     put(&mut map, 4, 20)?;
     assert_eq!(rt; format!(in rt.alloc(); "{map:?}")?.as_str(), "{4: 20}");
     put(&mut map, 5, 25)?;
+    put(&mut map, 6, 36)?;
+    assert_eq!(rt; (map.remove(&6), map.remove(&6)), (Some(36), None));
+    assert_eq!(rt; (map.contains_key(&6), map.contains_key(&5)), (false, true));
     let mut pairs: Vec<(u32, u32)> = map.into_iter().collect(rt.alloc())?;
     pairs.sort_unstable();
     assert_eq!(rt; pairs.as_slice(), [(4, 20), (5, 25)].as_slice());

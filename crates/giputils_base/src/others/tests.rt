@@ -3,6 +3,7 @@ ghost use Rattle.std.specs.Prelude.{◌≡◌, ◌<◌, Some, None};
 ghost use Rattle.giputils_base.specs.Others.{option_u8, option_u32, option_of};
 
 use super::{OptionU8, OptionU32};
+use std::test::Fail;
 
 fn write(o: &mut OptionU8, n: u8)
     ensures { option_u8 o.new ≡ option_of 255 n }
@@ -20,7 +21,7 @@ fn write_some(o: &mut OptionU32, n: u32)
 fn number(o: OptionU32) -> Option<u32>
     ensures { result ≡ option_u32 o }
 {
-    if o.is_some() { Some(*o) } else { None }
+    o.get()
 }
 
 fn none() -> OptionU8
@@ -34,8 +35,10 @@ fn writing_the_greatest_number_leaves_none(rt: HostRuntime) {
     let mut o = OptionU8::some(254);
     assert!(rt; o.is_some());
     assert_eq!(rt; *o, 254);
+    assert_eq!(rt; o.get(), Some(254));
     write(&mut o, 255);
     assert!(rt; o.is_none());
+    assert_eq!(rt; o.get(), None);
     assert_eq!(rt; o, OptionU8::NONE);
     assert_eq!(rt; o, none());
 }
@@ -49,4 +52,11 @@ fn holds_every_number_below_the_greatest(rt: HostRuntime) {
     assert_eq!(rt; number(o), Some(4294967294));
     assert_eq!(rt; o, OptionU32::some(4294967294));
     assert_ne!(rt; o, OptionU32::NONE);
+}
+
+#[test]
+fn shows_the_number_that_is_kept(rt: HostRuntime) -> Result<(), Fail> {
+    let text = format!(in rt.alloc(); "{:?} {:?}", OptionU8::NONE, OptionU32::some(7))?;
+    assert_eq!(rt; text.as_str(), "OptionU8(255) OptionU32(7)");
+    Ok(())
 }

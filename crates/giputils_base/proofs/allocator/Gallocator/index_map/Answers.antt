@@ -33,8 +33,7 @@ loop-old-preserved g c =
           rw (w.indexes-is, w.next-is) (record {
             next = sym (more ∙ ap (λ b. c.loop-old.next + cond (not b) 1 0) unmarked);
             indexed = up_to-put (index_map slots) (get nat_eq c.loop-old.indexes) _ c.loop-old.old c.loop-old.invariant.indexed (λ q.
-                w.in_ok-insert.ensures.updates.0 q
-                ∙ ap (λ es. cond (nat_eq c.loop-old.old q) (Some c.loop-old.next) (get nat_eq es q)) w.deref_mut-then-not-is_removed.ensures.value
+                w.in_ok-insert.ensures.values q
                 ∙ ap (λ v. cond (nat_eq c.loop-old.old q) v (get nat_eq c.loop-old.indexes q)) (sym new));
             unique = w.in_ok-insert.ensures.unique;
           })
