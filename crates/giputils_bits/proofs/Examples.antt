@@ -1,5 +1,5 @@
 -- The definitions, computed on worked examples.
-use Rattle.std.specs.Prelude.{◌≡◌, ◌≢◌, ℕ, ◌+◌, ◌^◌, Bool, true, false, List, [], ◌∷◌, ◌++◌, length, replicate, codes, None, refl}
+use Rattle.std.specs.Prelude.{◌≡◌, ◌≢◌, ℕ, zero, suc, ◌+◌, ◌^◌, Bool, true, false, List, [], ◌∷◌, ◌++◌, length, replicate, codes, None, refl}
 use Rattle.std.specs.Borrow.{Bor}
 use Rattle.std.proofs.Common.{arith, ap, get_or}
 use Rattle.giputils_bits.specs.declared.bitvec.error.BitVecError.TheVariants.{Memory}
@@ -7,6 +7,7 @@ use Rattle.giputils_bits.specs.declared.bitvec.run.BitCall.TheVariants.{Push, Pu
 use Rattle.giputils_bits.specs.declared.bitvec.run.BitReply.TheVariants.{Done, Refused, Skipped, Bit, MaybeBit, Number}
 use Rattle.giputils_bits.specs.BitRun.{Answers}
 use Rattle.giputils_bits.specs.Bits.{digits_of, value_of, words_of, one_of}
+use Rattle.giputils_bits.specs.Ones.{true_count, true_places, HasOne}
 use Rattle.giputils_bits.specs.Text.{binary_text, hex_text}
 use Rattle.std.specs.Fmt.{digits}
 use Rattle.giputils_bits.specs.Logic.{and_of, or_of, xor_of, not_of}
@@ -107,6 +108,34 @@ not_of_five = refl
 
 not_of_ones_has_no_true_place : not_of (replicate 65 true) ≡ replicate 65 false
 not_of_ones_has_no_true_place = refl
+
+-- true places
+
+-- the list of the text 01101
+abbrev five : List Bool
+five = true ∷ false ∷ true ∷ true ∷ false ∷ []
+
+three_of_five : true_count five ≡ 3
+three_of_five = refl
+
+none_of_none : true_count [] ≡ 0
+none_of_none = refl
+
+all_of_sixty_five : true_count (replicate 65 true) ≡ 65
+all_of_sixty_five = refl
+
+true_places_rise : true_places 0 five ≡ 0 ∷ 2 ∷ 3 ∷ []
+true_places_rise = refl
+
+true_places_are_numbered_from_the_start : true_places 64 five ≡ 64 ∷ 66 ∷ 67 ∷ []
+true_places_are_numbered_from_the_start = refl
+
+one_of_five_is_true : HasOne five
+one_of_five_is_true = (3, refl)
+
+none_of_zeros_is_true : ¬ (HasOne (false ∷ []))
+none_of_zeros_is_true (zero, e) = cc
+none_of_zeros_is_true (suc i, e) = cc
 
 -- runs
 

@@ -5,6 +5,7 @@ mod Examples
 mod Gathered
 mod Kept
 pub mod Logic
+pub mod Ones
 mod Patterns
 mod Places
 mod Rewritten

@@ -103,6 +103,11 @@ words_of_ones bs last count e k within =
     let below : k < last = omega (arith, length-take last (words_of bs)) in
     get_or-take last (words_of bs) k 0 below ∙ get_or-words_of_same bs (replicate (length bs) true) k e (omega arith) ∙ ones_word (length bs) k (omega (arith, length-words_of bs))
 
+-- a list without a place has each pattern
+pub empty_is_replicate : (bs : List Bool) (b : Bool) → length bs ≡ 0 → bs ≡ replicate (length bs) b
+empty_is_replicate [] b e = refl
+empty_is_replicate (x ∷ xs) b e = absurd (omega (arith, e))
+
 -- ---- the words that constructors write
 single : (w v : ℕ) (k : ℕ) → k < 1 → w ≡ v → get_or (w ∷ []) k 0 ≡ v
 single w v zero below e = e

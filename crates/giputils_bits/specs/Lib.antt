@@ -4,6 +4,7 @@ pub mod Error
 pub mod Extended
 pub mod Hashed
 pub mod Logic
+pub mod Ones
 pub mod Places
 pub mod Spelt
 pub mod Text

@@ -13,7 +13,7 @@ use super::words::with_bit;
 use std::alloc::{AllocError, Allocator};
 
 impl<A: Allocator> BitVec<A> {
-    /// Leaves no bit. Memory that is there is kept for the next growth.
+    /// Leaves no bit. Memory that is there is kept for the next growth: to free it, assign [`BitVec::new`].
     #[inline]
     pub fn clear(&mut self)
         ensures { self.new ≡ [] }
@@ -51,8 +51,8 @@ impl<A: Allocator> BitVec<A> {
     /// Appends the 64 binary digits of `word`, the lowest first.
     ///
     /// # Errors
-    /// `TooLong` where the length would be above `usize::MAX`; `Memory` where memory for a word more is refused. Nothing
-    /// changes then.
+    /// `TooLong` where the length would be above `usize::MAX`; `Memory` where memory for a word more is refused.
+    /// Nothing changes then.
     #[inline]
     #[tactic(auto, using(crate::proofs::Kept::kept))]
     pub fn push_word(&mut self, word: u64) -> Result<(), BitVecError>

@@ -1,5 +1,5 @@
 //! The iterators of a bit vector. Each is seen as the list of the bits that it has left.
-ghost use Rattle.std.specs.Prelude.{◌≡◌, ⊤, IfSome, Some, length};
+ghost use Rattle.std.specs.Prelude.{◌≡◌, ◌<◌, ◌^◌, ⊤, IfSome, Some, length};
 ghost use Rattle.std.specs.Iterator.{YieldsFirst, YieldsLast, UpTo, at_most, item_count};
 ghost use Rattle.std.specs.Iterator.SizeHint.{IsWithinCount};
 
@@ -35,12 +35,13 @@ impl<A: Allocator> BitVec<A> {
     /// An iterator over the bits, in order.
     #[inline]
     pub fn iter(&self) -> Iter<'_>
-        ensures { result ≡ self.now }
+        ensures items { result ≡ self.now }
+        ensures fits { length self.now < 2 ^ 64 }
     {
         Iter {
             words: self.words.as_slice(),
             start: 0,
-            end: self.len,
+            end: self.len(),
         }
     }
 }

@@ -12,7 +12,8 @@ use std::ops::{BitAnd, BitAndAssign, BitOr, BitOrAssign, BitXor, BitXorAssign};
 impl<A: Allocator> BitVec<A> {
     /// A vector with each bit turned round.
     ///
-    /// It makes one request for memory at most, and none for up to 64 bits.
+    /// # Errors
+    /// `Memory` where there are more than 64 bits and the one request for memory is refused.
     pub fn not(&self) -> Result<Self, BitVecError>
     where
         A: Copy,
@@ -35,7 +36,7 @@ impl<A: Allocator> BitVec<A> {
     }
 }
 
-/// True at each place where both places are, of two vectors of one length. It takes no memory.
+/// True at each place where both places are, of two vectors of one length ([`BitVec::len`]). It takes no memory.
 impl<A: Allocator, B: Allocator> BitAnd<BitVec<B>> for BitVec<A> {
     type Output = BitVec<A>;
 
@@ -50,7 +51,7 @@ impl<A: Allocator, B: Allocator> BitAnd<BitVec<B>> for BitVec<A> {
     }
 }
 
-/// True at each place where both places are, of two vectors of one length. It takes no memory.
+/// True at each place where both places are, of two vectors of one length ([`BitVec::len`]). It takes no memory.
 impl<A: Allocator, B: Allocator> BitAndAssign<&BitVec<B>> for BitVec<A> {
     ghost can_bitand_assign = { λ v w. length v ≡ length w.now };
 
@@ -61,7 +62,7 @@ impl<A: Allocator, B: Allocator> BitAndAssign<&BitVec<B>> for BitVec<A> {
     }
 }
 
-/// True at each place where one place at least is, of two vectors of one length. It takes no memory.
+/// True at each place where one place at least is, of two vectors of one length ([`BitVec::len`]). It takes no memory.
 impl<A: Allocator, B: Allocator> BitOr<BitVec<B>> for BitVec<A> {
     type Output = BitVec<A>;
 
@@ -76,7 +77,7 @@ impl<A: Allocator, B: Allocator> BitOr<BitVec<B>> for BitVec<A> {
     }
 }
 
-/// True at each place where one place at least is, of two vectors of one length. It takes no memory.
+/// True at each place where one place at least is, of two vectors of one length ([`BitVec::len`]). It takes no memory.
 impl<A: Allocator, B: Allocator> BitOrAssign<&BitVec<B>> for BitVec<A> {
     ghost can_bitor_assign = { λ v w. length v ≡ length w.now };
 
@@ -87,7 +88,7 @@ impl<A: Allocator, B: Allocator> BitOrAssign<&BitVec<B>> for BitVec<A> {
     }
 }
 
-/// True at each place where one place alone is, of two vectors of one length. It takes no memory.
+/// True at each place where one place alone is, of two vectors of one length ([`BitVec::len`]). It takes no memory.
 impl<A: Allocator, B: Allocator> BitXor<BitVec<B>> for BitVec<A> {
     type Output = BitVec<A>;
 
@@ -102,7 +103,7 @@ impl<A: Allocator, B: Allocator> BitXor<BitVec<B>> for BitVec<A> {
     }
 }
 
-/// True at each place where one place alone is, of two vectors of one length. It takes no memory.
+/// True at each place where one place alone is, of two vectors of one length ([`BitVec::len`]). It takes no memory.
 impl<A: Allocator, B: Allocator> BitXorAssign<&BitVec<B>> for BitVec<A> {
     ghost can_bitxor_assign = { λ v w. length v ≡ length w.now };
 

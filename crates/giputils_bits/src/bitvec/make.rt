@@ -25,7 +25,9 @@ impl<A: Allocator> BitVec<A> {
 
     /// A vector of `64 * num_word` bits, drawn from `rng`. Of the bits nothing is claimed.
     ///
-    /// Memory is asked for before anything is drawn: at an error `rng` is as it was.
+    /// # Errors
+    /// `TooLong` where there would be more than `usize::MAX` bits; `Memory` where there are more than 64 and memory for
+    /// them is refused. Nothing was drawn then.
     #[tactic(auto, using(crate::proofs::Kept::kept))]
     pub fn new_rand<R: Rng>(alloc: A, num_word: usize, rng: &mut R) -> Result<Self, BitVecError>
         ensures len { IfOk result (λ v. length v ≡ 64 * num_word) }
@@ -53,6 +55,9 @@ impl<A: Allocator> BitVec<A> {
     }
 
     /// `len` times `val`.
+    ///
+    /// # Errors
+    /// `Memory` where there are more than 64 bits and memory for them is refused.
     pub fn from_elem(alloc: A, len: usize, val: bool) -> Result<Self, BitVecError>
         ensures ok { IfOk result (λ v. v ≡ replicate len val) }
         ensures inline { len ≤ 64 → IsOk result }
@@ -73,6 +78,9 @@ impl<A: Allocator> BitVec<A> {
     }
 
     /// `len` times false.
+    ///
+    /// # Errors
+    /// `Memory` where there are more than 64 bits and memory for them is refused.
     pub fn zero(alloc: A, len: usize) -> Result<Self, BitVecError>
         ensures ok { IfOk result (λ v. v ≡ replicate len false) }
         ensures inline { len ≤ 64 → IsOk result }
@@ -81,7 +89,10 @@ impl<A: Allocator> BitVec<A> {
         Self::from_elem(alloc, len, false)
     }
 
-    /// `len` times true. There is one at least.
+    /// `len` times true, where `len` is above 0.
+    ///
+    /// # Errors
+    /// `Memory` where there are more than 64 bits and memory for them is refused.
     pub fn ones(alloc: A, len: usize) -> Result<Self, BitVecError>
         requires { 0 < len }
         ensures ok { IfOk result (λ v. v ≡ replicate len true) }
@@ -91,7 +102,10 @@ impl<A: Allocator> BitVec<A> {
         Self::from_elem(alloc, len, true)
     }
 
-    /// `len` bits, of which bit 0 alone is true. There is one at least.
+    /// `len` bits, of which bit 0 alone is true, where `len` is above 0.
+    ///
+    /// # Errors
+    /// `Memory` where there are more than 64 bits and memory for them is refused.
     pub fn one(alloc: A, len: usize) -> Result<Self, BitVecError>
         requires { 0 < len }
         ensures ok { IfOk result (λ v. v ≡ one_of len) }
@@ -102,6 +116,9 @@ impl<A: Allocator> BitVec<A> {
     }
 
     /// The `len` lowest binary digits of `v`, the lowest first. Digits past the 64th are false.
+    ///
+    /// # Errors
+    /// `Memory` where there are more than 64 bits and memory for them is refused.
     pub fn from_usize(alloc: A, len: usize, v: usize) -> Result<Self, BitVecError>
         ensures ok { IfOk result (λ bits. bits ≡ digits_of len v) }
         ensures inline { len ≤ 64 → IsOk result }
@@ -122,6 +139,9 @@ impl<A: Allocator> BitVec<A> {
     }
 
     /// An equal vector.
+    ///
+    /// # Errors
+    /// `Memory` where there are more than 64 bits and memory for them is refused.
     pub fn clone(&self) -> Result<Self, BitVecError>
     where
         A: Copy,

@@ -1,7 +1,7 @@
 //! What a bit vector answers, and a place set.
 ghost use Rattle.std.specs.Prelude.{◌≡◌, ◌≢◌, ◌<◌, ◌≤◌, ◌-◌, ◌*◌, ◌/◌, ◌^◌, ◌↔◌, [], ◌∷◌, true, false, length, take, replicate, slice_index, slice_index_or, slice_set, EachIndex, IsTrue, MatchOption};
 ghost use Rattle.giputils_bits.specs.Bits.{value_of, word_count, words_of, one_of};
-ghost use Rattle.giputils_bits.specs.Places.{place, SetsDigit};
+ghost use Rattle.giputils_bits.specs.Ones.{HasOne, true_count};
 
 use super::BitVec;
 use super::words::{bit_at, low_mask, with_bit};
@@ -28,17 +28,19 @@ impl<A: Allocator> BitVec<A> {
 
     /// The number of words: the length divided by 64, rounded up.
     #[inline]
-    #[tactic(auto, using(crate::proofs::Kept::kept))]
     pub fn word_len(&self) -> usize
-        ensures { result ≡ word_count (length self.now) }
+        ensures words { result ≡ word_count (length self.now) }
+        ensures fits { length self.now < 2 ^ 64 }
     {
-        self.len / BitVec::WORD_SIZE + usize::from(self.len % BitVec::WORD_SIZE != 0)
+        let len = self.len();
+        len / BitVec::WORD_SIZE + usize::from(len % BitVec::WORD_SIZE != 0)
     }
 
     /// The words, in order, with zeros past the last bit. The empty vector has none.
     #[inline]
     pub fn words(&self) -> &[u64]
-        ensures { result.now ≡ words_of self.now }
+        ensures words { result.now ≡ words_of self.now }
+        ensures fits { length self.now < 2 ^ 64 }
     {
         let words = self.words.as_slice();
         &words[..self.word_len()]
@@ -52,7 +54,7 @@ impl<A: Allocator> BitVec<A> {
         self.words.as_slice()[0] as usize
     }
 
-    /// Bit `index`, which is below the length.
+    /// Bit `index`, which is below [`BitVec::len`].
     #[inline]
     pub fn get(&self, index: usize) -> bool
         requires { index < length self.now }
@@ -61,7 +63,7 @@ impl<A: Allocator> BitVec<A> {
         bit_at(self.words.as_slice(), index)
     }
 
-    /// Sets bit `index`, which is below the length. It takes no memory.
+    /// Sets bit `index`, which is below [`BitVec::len`]. It takes no memory.
     #[inline]
     pub fn set(&mut self, index: usize, val: bool)
         requires { index < length self.old }
@@ -73,15 +75,56 @@ impl<A: Allocator> BitVec<A> {
             .put(k, with_bit(word, index % BitVec::WORD_SIZE, val));
     }
 
-    /// Whether each bit is false. The vector is not empty.
-    pub fn is_zero(&self) -> bool
-        requires { 0 < length self.now }
+    /// The number of true bits.
+    pub fn count_ones(&self) -> usize
+        ensures { result ≡ true_count self.now }
+    {
+        let words = self.words();
+        let mut count = 0;
+        for k in 0..words.len() {
+            count += words[k].count_ones() as usize;
+        }
+        count
+    }
+
+    /// Whether a bit is true: never in the empty vector.
+    #[inline]
+    pub fn any(&self) -> bool
+        ensures { IsTrue result ↔ HasOne self.now }
+    {
+        !self.none()
+    }
+
+    /// Whether each bit is true, as in the empty vector.
+    pub fn all(&self) -> bool
+        ensures { IsTrue result ↔ (self.now ≡ replicate (length self.now) true) }
+    {
+        if self.len == 0 {
+            return true;
+        }
+        let words = self.words();
+        let last = words.len() - 1;
+        words[last] == low_mask(self.len - BitVec::WORD_SIZE * last)
+            && all_equal(&words[..last], u64::MAX)
+    }
+
+    /// Whether no bit is true, as in the empty vector.
+    pub fn none(&self) -> bool
         ensures { IsTrue result ↔ (self.now ≡ replicate (length self.now) false) }
     {
         all_equal(self.words(), 0)
     }
 
-    /// Whether bit 0 alone is true. The vector is not empty.
+    /// Whether each bit is false, of a vector that is not empty ([`BitVec::is_empty`]). [`BitVec::none`] asks for no bit.
+    #[inline]
+    pub fn is_zero(&self) -> bool
+        requires { 0 < length self.now }
+        ensures { IsTrue result ↔ (self.now ≡ replicate (length self.now) false) }
+    {
+        self.none()
+    }
+
+    /// Whether bit 0 alone is true, of a vector that is not empty ([`BitVec::is_empty`]).
     pub fn is_one(&self) -> bool
         requires { 0 < length self.now }
         ensures { IsTrue result ↔ (self.now ≡ one_of (length self.now)) }
@@ -90,18 +133,16 @@ impl<A: Allocator> BitVec<A> {
         words[0] == 1 && all_equal(&words[1..], 0)
     }
 
-    /// Whether each bit is true. The vector is not empty.
+    /// Whether each bit is true, of a vector that is not empty ([`BitVec::is_empty`]). [`BitVec::all`] asks for no bit.
+    #[inline]
     pub fn is_ones(&self) -> bool
         requires { 0 < length self.now }
         ensures { IsTrue result ↔ (self.now ≡ replicate (length self.now) true) }
     {
-        let words = self.words();
-        let last = words.len() - 1;
-        words[last] == low_mask(self.len - BitVec::WORD_SIZE * last)
-            && all_equal(&words[..last], u64::MAX)
+        self.all()
     }
 
-    /// The bit of a vector that has one.
+    /// The bit of a vector that has one and no more; [`BitVec::try_bool`] tests that.
     #[inline]
     pub fn bool(&self) -> bool
         requires { length self.now ≡ 1 }

@@ -5,7 +5,7 @@ use Rattle.giputils_bits.proofs.Words.{length-words_of}
 use Rattle.giputils_bits.proofs.bitvec.run.make_call.Goals as goal
 
 pub returns-in-WordLen-clause-reply : goal.returns-in-WordLen-clause-reply
-returns-in-WordLen-clause-reply g c = rw c.in-WordLen.is (ap Number (c.word_len.ensures ∙ sym (length-words_of c.args.bits.now)))
+returns-in-WordLen-clause-reply g c = rw c.in-WordLen.is (ap Number (c.word_len.ensures.words ∙ sym (length-words_of c.args.bits.now)))
 
 pub returns-in-ToUsize-clause-reply : goal.returns-in-ToUsize-clause-reply
 returns-in-ToUsize-clause-reply g c = rw c.in-ToUsize.is (ap Number (c.to_usize.ensures ∙ first_word c.args.bits.now))

@@ -18,14 +18,14 @@ pub returns-then-is_zero-clause-writes : goal.returns-then-is_zero-clause-writes
 returns-then-is_zero-clause-writes g c = plain_too g.W.Write.write_str_gives _ _ _ _ (returns-then-is_zero-clause-styled g c)
 
 pub bounds-words-last : goal.bounds-words-last
-bounds-words-last g c = rw c.words-words.ensures (omega (arith, c.len-len.ensures, c.if-len-eq0.false, length-words_of c.args.bits.now))
+bounds-words-last g c = rw c.words-words.ensures.words (omega (arith, c.len-len.ensures, c.if-len-eq0.false, length-words_of c.args.bits.now))
 
 pub bounds-words-last-2 : goal.bounds-words-last-2
-bounds-words-last-2 g c = rw c.words-words.ensures (omega (arith, c.len-len.ensures, c.if-len-eq0.false, length-words_of c.args.bits.now))
+bounds-words-last-2 g c = rw c.words-words.ensures.words (omega (arith, c.len-len.ensures, c.if-len-eq0.false, length-words_of c.args.bits.now))
 
 pub slice_bounds-write_words-end : goal.slice_bounds-write_words-end
 slice_bounds-write_words-end g c =
-    let within : (c.len-len.result - 1) / 64 < length c.words-words.result.now = rw c.words-words.ensures (omega (arith, c.len-len.ensures, c.if-len-eq0.false, length-words_of c.args.bits.now)) in
+    let within : (c.len-len.result - 1) / 64 < length c.words-words.result.now = rw c.words-words.ensures.words (omega (arith, c.len-len.ensures, c.if-len-eq0.false, length-words_of c.args.bits.now)) in
     sym (length-take-le ((c.len-len.result - 1) / 64) c.words-words.result.now (omega arith))
 
 pub returns-clause-styled : goal.returns-clause-styled
@@ -39,8 +39,8 @@ returns-clause-styled g c = λ flush ok.
     let first = c.in_ok-write_str.ensures.styled flush refl in
     let second = c.in_ok-write_str-2.ensures.styled first.flush refl in
     styled_more g.W.Write.write_str_gives _ _ _ _ _ _ first (styled_more g.W.Write.write_str_gives _ _ _ _ _ _ second (c.write_words.ensures second.flush ok) refl)
-    (rw (c.spell.ensures, c.hex_len.ensures.len, c.words-words.ensures, c.len-len.ensures, get_or-words_of bits last (omega (arith, count)))
-    (sym (hex_text_is c.args.upper bits last count not_zero (rw c.words-words.ensures at fits))))
+    (rw (c.spell.ensures, c.hex_len.ensures.len, c.words-words.ensures.words, c.len-len.ensures, get_or-words_of bits last (omega (arith, count)))
+    (sym (hex_text_is c.args.upper bits last count not_zero (rw c.words-words.ensures.words at fits))))
 
 pub returns-clause-writes : goal.returns-clause-writes
 returns-clause-writes g c = plain_too g.W.Write.write_str_gives _ _ _ _ (returns-clause-styled g c)

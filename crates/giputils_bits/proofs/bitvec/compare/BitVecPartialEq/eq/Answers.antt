@@ -9,14 +9,14 @@ use Rattle.giputils_bits.proofs.bitvec.compare.BitVecPartialEq.eq.Goals as goal
 pub same_words-requires : goal.same_words-requires
 same_words-requires g c =
     let long = sym c.len.ensures ∙ c.if-len.true ∙ c.len-2.ensures in
-    ap length c.words.ensures ∙ length-words_of c.args.self.now ∙ ap word_count long ∙ sym (ap length c.words-then-len.ensures ∙ length-words_of c.args.other.now)
+    ap length c.words.ensures.words ∙ length-words_of c.args.self.now ∙ ap word_count long ∙ sym (ap length c.words-then-len.ensures.words ∙ length-words_of c.args.other.now)
 
 pub returns-then-len : goal.returns-then-len
 returns-then-len g c =
     let same = c.same_words.ensures in
     let long = sym c.len.ensures ∙ c.if-len.true ∙ c.len-2.ensures in
     one_answer _ _ (
-      λ e. same_from_words_of c.args.self.now c.args.other.now long (sym c.words.ensures ∙ same.0 e ∙ c.words-then-len.ensures),
-      λ e. same.1 (c.words.ensures ∙ ap words_of e ∙ sym c.words-then-len.ensures),
+      λ e. same_from_words_of c.args.self.now c.args.other.now long (sym c.words.ensures.words ∙ same.0 e ∙ c.words-then-len.ensures.words),
+      λ e. same.1 (c.words.ensures.words ∙ ap words_of e ∙ sym c.words-then-len.ensures.words),
     )
     (slice_eq-Decides booleans_Decides _ _ _ refl)
