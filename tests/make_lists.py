@@ -9,16 +9,19 @@ one line. The answer to `new NAME ..` is that line itself, so that line n of std
 
 The kept answers come from a program over the Rust crate giputils 0.3.6 that makes each call of a list on the crate's
 own container (command: `tests/make_lists.py giputils-oracle`). A call whose condition doesn't hold it answers by
-`skipped`, without making it.
+`skipped`, without making it. What it answers of a heap is compared with what a set of keys with ranks would.
 
-A container's lists come from a seed of their own, so that a change of one container's lists leaves the others' as they
-are.
+The list `new texts` is of lines that ask for a text of a statistic. PROGRAM isn't asked: texts.py beside this answers.
+
+Each sort of list comes from a seed of its own, so that a change of one sort leaves the others as they are.
 """
 
 import random
 import subprocess
 import sys
 from pathlib import Path
+
+import texts
 
 REPLAY = Path(__file__).resolve().parent.parent / "crates" / "giputils_replay"
 
@@ -157,6 +160,34 @@ def logic_list(rng):
             yield name
 
 
+# Vectors at the ends of words, and what is asked of them. Each is a list of its own.
+BITS_ROWS = [
+    ["from_usize 10 12345", "to_usize", "len", "bin", "hex", "HEX"],
+    ["from_usize 64 12345", "to_usize", "word_len", "bin", "hex", "HEX"],
+    ["from_usize 128 12345", "to_usize", "word_len", "bin", "hex"],
+    ["from_usize 70 18446744073709551615", "to_usize", "word_len", "bin", "hex"],
+    ["push_word 18446744073709551615", "push_word 1", "len", "word_len", "to_usize", "bin", "hex", "HEX"],
+    ["ones 65", "len", "word_len", "is_ones", "bin", "hex", "HEX", "invert", "is_zero", "bin", "hex"],
+    ["from_elem 65 1", "is_ones", "bin", "invert", "invert", "is_ones", "push 1", "is_ones", "bin"],
+    ["bin", "hex", "HEX", "len", "word_len", "to_usize", "is_empty", "try_bool", "invert", "bin"],
+    ["push 1", "from_elem 0 1", "bin", "hex", "len", "word_len", "to_usize", "is_empty", "try_bool"],
+    ["from 10101", "get 0", "get 1", "get 2", "get 3", "get 4", "get 5", "iter nnnnnn"],
+    ["from 10110", "bin", "iter nbnn", "iter nnnnnn", "iter bbbbbb", "len"],
+    ["from 10110100", "iter nbnbnbnbnb", "iter bnbnbnbnbn"],
+    ["extend 101", "extend 01", "len", "bin", "get 3", "get 4"],
+    ["extend " + "10" * 35, "len", "word_len", "to_usize", "bin", "hex", "push 1", "extend " + "1" * 58, "len", "bin"],
+    ["one 65", "word_len", "to_usize", "is_one", "set 64 1", "is_one", "is_ones", "set 0 0", "set 64 0", "is_zero", "hex"],
+    ["ones 65", "clear", "len", "word_len", "bin", "push 1", "len", "is_one", "is_ones", "bin"],
+    ["from_elem 3 1", "invert", "hex", "from 111" + "0" * 61, "hex", "invert", "hex"],
+]
+
+
+def row_lists():
+    """The hand-written lists."""
+    for row in BITS_ROWS:
+        yield ["new bits", *row]
+
+
 HEAP_KEYS = 64
 
 # How often each call of the heap comes. After `rank KEY RANK` comes `update KEY`.
@@ -204,36 +235,122 @@ def heap_list(rng):
             yield f"{name} {key}"
         else:
             if name == "pop" and held:
-                held.remove(max(held, key=lambda held_key: (ranks[held_key], held_key)))
+                held.remove(first_of(held, ranks))
             elif name == "clear":
                 held.clear()
             yield name
 
 
-# For each container what makes one list, how many lists, and the seed.
-CONTAINERS = [
+# How often each call of a heap comes whose ranks change.
+REPAIR_WEIGHTS = {
+    "rank": 40,
+    "push": 10,
+    "pop": 10,
+    "elements": 4,
+    "len": 2,
+}
+
+
+def repair_list(rng):
+    """Calls of a heap in which ranks of held keys change, and the order is repaired by one call each: `up` or `update`
+    where a rank rose, `down` or `update` where it fell. In the end all keys are popped."""
+    ranks = [0] * HEAP_KEYS
+    held = set()
+    yield "new heap"
+    for key in rng.sample(range(HEAP_KEYS), rng.randint(3, HEAP_KEYS)):
+        ranks[key] = rng.randrange(100)
+        held.add(key)
+        yield f"rank {key} {ranks[key]}"
+        yield f"push {key}"
+    for _ in range(rng.randint(5, 30)):
+        (name,) = rng.choices(list(REPAIR_WEIGHTS), list(REPAIR_WEIGHTS.values()))
+        key = rng.choice(sorted(held)) if held and rng.random() < 0.9 else rng.randrange(HEAP_KEYS)
+        if name == "rank":
+            rank = rng.choice([0, rng.randrange(100), rng.randrange(100), LARGEST_VALUE])
+            repairs = ["update"] + ["up"] * (rank >= ranks[key]) + ["down"] * (rank <= ranks[key])
+            ranks[key] = rank
+            yield f"rank {key} {rank}"
+            yield f"{rng.choice(repairs)} {key}"
+        elif name == "push":
+            held.add(key)
+            yield f"push {key}"
+        else:
+            if name == "pop" and held:
+                held.remove(first_of(held, ranks))
+            yield name
+    for _ in range(len(held) + 1):
+        yield "pop"
+
+
+def first_of(held, ranks):
+    """The key that a pop takes."""
+    return max(held, key=lambda key: (ranks[key], key))
+
+
+def heap_answers(calls):
+    """What a heap answers that is in order whenever a key is popped: a set of keys with ranks."""
+    ranks = [0] * HEAP_KEYS
+    held = set()
+    for call in calls:
+        name, *numbers = call.split()
+        if name == "pop":
+            answer = first_of(held, ranks) if held else "none"
+            held.discard(answer)
+        elif name == "len":
+            answer = len(held)
+        elif name == "is_empty":
+            answer = "false" if held else "true"
+        elif name == "elements":
+            answer = f"[{' '.join(map(str, sorted(held)))}]"
+        else:
+            if name == "push":
+                held.add(int(numbers[0]))
+            elif name == "rank":
+                ranks[int(numbers[0])] = int(numbers[1])
+            elif name == "clear":
+                held.clear()
+            answer = "ok"
+        yield str(answer)
+
+
+def text_list(rng):
+    """Lines that ask for texts."""
+    yield "new texts"
+    for words in texts.questions(rng):
+        yield " ".join(map(str, words))
+
+
+# What makes one list, how many lists, and the seed.
+SORTS = [
     (galloc_list, 300, 36),
     (bits_list, 300, 64),
     (heap_list, 300, 64),
     (logic_list, 100, 65),
+    (repair_list, 60, 66),
+    (text_list, 1, 79),
 ]
 
 
 def all_lists():
-    for make_list, count, seed in CONTAINERS:
+    for make_list, count, seed in SORTS:
         rng = random.Random(seed)
         for _ in range(count):
             yield list(make_list(rng))
+    yield from row_lists()
 
 
 def answers_of(program, header, calls):
-    """What the program answers to one list's calls."""
+    """What the program answers to one list's calls, or what texts.py does."""
+    if header == "new texts":
+        return [texts.text(call) for call in calls]
     text = "".join(f"{call}\n" for call in calls)
     arguments = header.split()[1:]
     run = subprocess.run([program, *arguments], input=text, stdout=subprocess.PIPE, text=True, check=True)
     answers = run.stdout.splitlines()
     if len(answers) != len(calls):
         sys.exit(f"{header}: {len(answers)} answers to {len(calls)} calls")
+    if header == "new heap" and answers != list(heap_answers(calls)):
+        sys.exit(f"{header}: the program and a set of keys with ranks answer differently")
     return answers
 
 

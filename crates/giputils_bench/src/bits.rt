@@ -31,8 +31,8 @@ pub fn push(
     Ok(())
 }
 
-/// Compares a drawn vector with a copy, turns one bit of the copy, compares again and turns it back, and mixes which bit
-/// and both answers.
+/// Compares a drawn vector with a copy, turns one bit of the copy, compares again and turns it back, and
+/// mixes which bit and both answers.
 pub fn eq(
     alloc: Global,
     size: u32,

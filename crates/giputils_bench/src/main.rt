@@ -1,9 +1,9 @@
 //! Workloads of the containers, to be timed: `giputils_bench WORKLOAD SIZE SEED [REPS]`.
 //!
-//! A run makes the workload REPS times (once where it isn't given), each with a generator of its own, and writes a
-//! checksum of all that was answered, in 16 hexadecimal digits. By it the runs of several programs over one workload are
-//! known to have done the same. `all` makes each workload, and writes a line for each. A name of no workload ends with
-//! status 3.
+//! A run makes the workload REPS times (once where it isn't given), each with a generator of its own, and
+//! writes a checksum of all that was answered, in 16 hexadecimal digits. By it the runs of several programs
+//! over one workload are known to have done the same. `all` makes each workload, and writes a line for each.
+//! A name of no workload ends with status 3.
 #![tactic(auto)]
 
 mod bits;

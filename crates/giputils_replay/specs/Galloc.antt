@@ -16,9 +16,11 @@ pub record Parses (words : Words) (r : Result (GallocCall ℕ) NotACall) : Type 
   pub dealloc : ReadsIndex words r (codes "dealloc") Dealloc
   pub is_removed : ReadsIndex words r (codes "is_removed") IsRemoved
   pub read : ReadsIndex words r (codes "read") Read
-  pub write : HasForm words (codes "write") 2 → OkIff r (IsNumber 64 words 1 × IsNumber 32 words 2) (Write (number words 1) (number words 2))
+  pub write : HasForm words (codes "write") 2
+      → OkIff r (IsNumber 64 words 1 × IsNumber 32 words 2) (Write (number words 1) (number words 2))
   pub gc : HasForm words (codes "gc") 0 → r ≡ Ok Gc
   pub len : HasForm words (codes "len") 0 → r ≡ Ok Len
   -- no other words are a call
-  pub others : IsOk r → HasForm words (codes "alloc") 1 ⊎ (HasForm words (codes "dealloc") 1 ⊎ (HasForm words (codes "is_removed") 1
-      ⊎ (HasForm words (codes "read") 1 ⊎ (HasForm words (codes "write") 2 ⊎ (HasForm words (codes "gc") 0 ⊎ HasForm words (codes "len") 0)))))
+  pub others : IsOk r → HasForm words (codes "alloc") 1 ⊎ (HasForm words (codes "dealloc") 1
+      ⊎ (HasForm words (codes "is_removed") 1 ⊎ (HasForm words (codes "read") 1 ⊎ (HasForm words (codes "write") 2
+      ⊎ (HasForm words (codes "gc") 0 ⊎ HasForm words (codes "len") 0)))))

@@ -27,7 +27,8 @@ pub record Parses (words : Words) (r : Result Call NotACall) : Type 0 where
   pub up : ReadsKey words r (codes "up") Up
   pub down : ReadsKey words r (codes "down") Down
   pub update : ReadsKey words r (codes "update") Update
-  pub rank : HasForm words (codes "rank") 2 → OkIff r (IsKeyText (word words 1) × IsNumber 32 words 2) (Rank (number words 1) (number words 2))
+  pub rank : HasForm words (codes "rank") 2
+      → OkIff r (IsKeyText (word words 1) × IsNumber 32 words 2) (Rank (number words 1) (number words 2))
   pub clear : HasForm words (codes "clear") 0 → r ≡ Ok Clear
   pub len : HasForm words (codes "len") 0 → r ≡ Ok Len
   pub is_empty : HasForm words (codes "is_empty") 0 → r ≡ Ok IsEmpty
@@ -35,4 +36,5 @@ pub record Parses (words : Words) (r : Result Call NotACall) : Type 0 where
   -- no other words are a call
   pub others : IsOk r → HasForm words (codes "push") 1 ⊎ (HasForm words (codes "pop") 0 ⊎ (HasForm words (codes "up") 1
       ⊎ (HasForm words (codes "down") 1 ⊎ (HasForm words (codes "update") 1 ⊎ (HasForm words (codes "rank") 2
-      ⊎ (HasForm words (codes "clear") 0 ⊎ (HasForm words (codes "len") 0 ⊎ (HasForm words (codes "is_empty") 0 ⊎ HasForm words (codes "elements") 0))))))))
+      ⊎ (HasForm words (codes "clear") 0 ⊎ (HasForm words (codes "len") 0 ⊎ (HasForm words (codes "is_empty") 0
+      ⊎ HasForm words (codes "elements") 0))))))))

@@ -115,8 +115,8 @@ fn ask<W: Write>(
     Ok(())
 }
 
-// Joins the vector by `and`, `or` or `xor` with the one that has this text, the last bit first, and writes `ok`, or `skipped`
-// where their lengths differ.
+// Joins the vector by `and`, `or` or `xor` with the one that has this text, the last bit first, and writes `ok`, or
+// `skipped` where their lengths differ.
 fn join<W: Write>(
     alloc: Global,
     out: &mut W,

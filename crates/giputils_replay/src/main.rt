@@ -1,15 +1,18 @@
 //! Runs lists of calls on the containers, and answers each line with a line.
 //!
-//! A line `new NAME ..` begins a list and names the container that its calls are made on, which is empty at first. It
-//! is answered by itself. A container has a module of its own, which parses its calls and writes its replies. The lists
-//! of the file `stdin` and the answers of the file `stdout`, which are those of the Rust crate, are made by
-//! `tests/make_lists.py`.
+//! A line `new NAME ..` begins a list and names the container that its calls are made on, which is
+//! empty at first. It is answered by itself. A container has a module of its own, which parses its
+//! calls and writes its replies. `new texts` begins a list of lines that ask for texts of statistics.
+//!
+//! The lists of the file `stdin` and the answers of the file `stdout` are made by
+//! `tests/make_lists.py`: the texts are python's, all others those of the Rust crate.
 #![tactic(auto)]
 
 mod bits;
 mod calls;
 mod galloc;
 mod heap;
+mod texts;
 
 use anyhow::{Context, bail};
 use std::alloc::Global;
@@ -58,6 +61,7 @@ fn replay<W: Write>(alloc: Global, out: &mut W, list: &List) -> anyhow::Result<(
         ["new", "bits"] => bits::replay(alloc, out, &list.calls),
         ["new", "galloc"] => galloc::replay(alloc, out, &list.calls),
         ["new", "heap"] => heap::replay(alloc, out, &list.calls),
+        ["new", "texts"] => texts::replay(alloc, out, &list.calls),
         _ => bail!("line {}: no container has this name", list.first),
     };
     outcome.context(format_args!("the list at line {}", list.first))

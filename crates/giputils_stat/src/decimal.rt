@@ -42,6 +42,25 @@ pub struct Decimal {
 }
 
 impl Decimal {
+    /// How many of a hundred `part` is of `whole`, to be shown with 1 to 19 places.
+    ///
+    /// `whole` must be above 0.
+    #[inline]
+    pub fn percent(part: u64, whole: u64, places: u32) -> Decimal
+        requires divides { 0 < whole }
+        requires some_places { 0 < places }
+        requires few_places { places ≤ 19 }
+        ensures part { result.numerator ≡ 100 * part }
+        ensures whole { result.denominator ≡ whole }
+        ensures places { result.places ≡ places }
+    {
+        Decimal {
+            numerator: 100 * part as u128,
+            denominator: whole,
+            places,
+        }
+    }
+
     // The whole part and the decimals. The rest of the division is below the denominator, so that no product runs over.
     fn parts(&self) -> (u128, u64)
         ensures value { result.0 * 10 ^ self.now.places + result.1

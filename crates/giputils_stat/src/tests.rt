@@ -60,6 +60,32 @@ fn averages_are_rounded_to_six_decimals(rt: HostRuntime) -> Result<(), Fail> {
 }
 
 #[test]
+fn sums_and_means_are_told(rt: HostRuntime) -> Result<(), Fail> {
+    let average = average_of(&rt, &[usize::MAX, usize::MAX, 0]);
+    assert_eq!(rt; average.sum(), 36_893_488_147_419_103_230);
+    let mean = average.mean(2).ok_or("a number was added")?;
+    displays(&rt, &mean, "12297829382473034410.00")?;
+    assert!(rt; Average::default().mean(1).is_none());
+
+    let (average, counted) = durations_of(
+        &rt,
+        &[
+            Duration::from_nanos(1),
+            Duration::MAX - Duration::from_nanos(1),
+        ],
+    );
+    assert_eq!(rt; average.sum(), Duration::MAX);
+    assert_eq!(rt; counted.sum(), Duration::MAX);
+    let mean = average.mean().ok_or("a duration was added")?;
+    assert_eq!(rt; mean, Duration::new(9_223_372_036_854_775_807, 999_999_999));
+    assert!(rt; AverageDuration::default().mean().is_none());
+
+    let rate = rate_of(&rt, 2, 1);
+    assert_eq!(rt; (rate.successes(), rate.failures()), (2, 1));
+    displays(&rt, &Decimal::percent(2, 3, 3), "66.667")
+}
+
+#[test]
 fn decimals_have_up_to_19_places(rt: HostRuntime) -> Result<(), Fail> {
     let cases = [
         ((9_999_995, 10_000_000, 6), "1.000000"),

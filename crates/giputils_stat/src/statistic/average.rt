@@ -1,9 +1,9 @@
 //! The average of whole numbers.
-ghost use Rattle.std.specs.Prelude.{◌≡◌, ◌↔◌, Some, IsTrue};
+ghost use Rattle.std.specs.Prelude.{◌≡◌, ◌↔◌, ◌<◌, ◌≤◌, Some, IsTrue, IsNone, IfSome};
 ghost use Rattle.giputils_stat.specs.Tally.{no_terms, with_term, with_terms, CanCount, CanCountBoth};
 ghost use Rattle.giputils_stat.specs.Texts.{average_text};
 
-use crate::decimal::Ratio;
+use crate::decimal::{Decimal, Ratio};
 use std::fmt::{self, Debug, Display};
 use std::marker::Model;
 use std::ops::{Add, AddAssign};
@@ -29,12 +29,40 @@ impl Model for Average {
 }
 
 impl Average {
+    /// The sum of the numbers.
+    #[inline]
+    pub fn sum(&self) -> u128
+        ensures { result ≡ self.now.sum }
+    {
+        self.sum
+    }
+
     /// How many numbers were added.
     #[inline]
     pub fn count(&self) -> usize
         ensures { result ≡ self.now.count }
     {
         self.count
+    }
+
+    /// The average, to be shown with 1 to 19 places, or `None` where nothing was added.
+    #[inline]
+    pub fn mean(&self, places: u32) -> Option<Decimal>
+        requires some_places { 0 < places }
+        requires few_places { places ≤ 19 }
+        ensures none { IsNone result ↔ (self.now.count ≡ 0) }
+        ensures sum { IfSome result (λ d. d.numerator ≡ self.now.sum) }
+        ensures count { IfSome result (λ d. d.denominator ≡ self.now.count) }
+        ensures places { IfSome result (λ d. d.places ≡ places) }
+    {
+        if self.count == 0 {
+            return None;
+        }
+        Some(Decimal {
+            numerator: self.sum,
+            denominator: self.count as u64,
+            places,
+        })
     }
 
     /// Whether one more number can be added: the count stays at most `usize::MAX`.

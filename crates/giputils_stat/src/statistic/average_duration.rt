@@ -1,5 +1,5 @@
 //! The average of durations.
-ghost use Rattle.std.specs.Prelude.{◌≡◌, ◌↔◌, Some, IsTrue};
+ghost use Rattle.std.specs.Prelude.{◌≡◌, ◌↔◌, ◌/◌, Some, IsTrue, IsNone, IfSome};
 ghost use Rattle.std.specs.Duration.{as_nanos};
 ghost use Rattle.giputils_stat.specs.Tally.{no_terms, with_term, with_terms, CanAddNanos, CanAddBoth};
 ghost use Rattle.giputils_stat.specs.Texts.{average_duration_text};
@@ -28,12 +28,33 @@ impl Model for AverageDuration {
 }
 
 impl AverageDuration {
+    /// The sum of the durations.
+    #[inline]
+    pub fn sum(&self) -> Duration
+        ensures { as_nanos result ≡ self.now.sum }
+    {
+        self.total.sum()
+    }
+
     /// How many durations were added.
     #[inline]
     pub fn count(&self) -> usize
         ensures { result ≡ self.now.count }
     {
         self.total.count()
+    }
+
+    /// The average, rounded down to whole nanoseconds, or `None` where nothing was added.
+    #[inline]
+    pub fn mean(&self) -> Option<Duration>
+        ensures none { IsNone result ↔ (self.now.count ≡ 0) }
+        ensures mean { IfSome result (λ d. as_nanos d ≡ self.now.sum / self.now.count) }
+    {
+        let count = self.count();
+        if count == 0 {
+            return None;
+        }
+        Some(Duration::from_nanos_u128(self.total.nanos() / count as u128))
     }
 
     /// Whether `duration` can be added.
@@ -96,12 +117,11 @@ impl Debug for AverageDuration {
     ghost debug_output = { λ a. Some (average_duration_text a) };
 
     fn fmt<W: fmt::Write>(&self, f: &mut fmt::Formatter<W>) -> fmt::Result {
-        let count = self.count();
-        if count == 0 {
+        let Some(average) = self.mean() else {
             return f.write_str("None");
-        }
+        };
         let average = Seconds {
-            nanos: self.total.nanos() / count as u128,
+            nanos: average.as_nanos(),
             places: 9,
         };
         Display::fmt(&average, f)

@@ -28,6 +28,14 @@ impl Model for CountedDuration {
 }
 
 impl CountedDuration {
+    /// The sum of the durations.
+    #[inline]
+    pub fn sum(&self) -> Duration
+        ensures { as_nanos result ≡ self.now.sum }
+    {
+        self.total.sum()
+    }
+
     /// How many durations were added.
     #[inline]
     pub fn count(&self) -> usize

@@ -1,6 +1,6 @@
 //! A sum of durations with their number, which an average and a counted sum hold.
 ghost use Rattle.std.specs.Prelude.{◌≡◌, ◌↔◌, IsTrue};
-ghost use Rattle.std.specs.Duration.{as_nanos};
+ghost use Rattle.std.specs.Duration.{as_nanos, FitsDuration};
 ghost use Rattle.giputils_stat.specs.Tally.{no_terms, with_term, with_terms, CanAddNanos, CanAddBoth};
 
 use std::marker::Model;
@@ -34,9 +34,18 @@ impl DurationSum {
     // The sum in nanoseconds.
     #[inline]
     pub(crate) fn nanos(&self) -> u128
-        ensures { result ≡ self.now.sum }
+        ensures value { result ≡ self.now.sum }
+        ensures fits { FitsDuration result }
     {
         self.nanos
+    }
+
+    // The sum.
+    #[inline]
+    pub(crate) fn sum(&self) -> Duration
+        ensures { as_nanos result ≡ self.now.sum }
+    {
+        Duration::from_nanos_u128(self.nanos)
     }
 
     // How many durations were added.

@@ -29,6 +29,22 @@ impl Model for SuccessRate {
 }
 
 impl SuccessRate {
+    /// How often it succeeded.
+    #[inline]
+    pub fn successes(&self) -> usize
+        ensures { result ≡ self.now.successes }
+    {
+        self.successes
+    }
+
+    /// How often it failed.
+    #[inline]
+    pub fn failures(&self) -> usize
+        ensures { result ≡ self.now.failures }
+    {
+        self.failures
+    }
+
     /// How often it was tried: successes and failures together.
     #[inline]
     pub fn count(&self) -> usize

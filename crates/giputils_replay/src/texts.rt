@@ -1,13 +1,40 @@
-use anyhow::{Result, bail, ensure};
+//! Texts of statistics.
+//!
+//! A line is the name of a statistic and numbers: `decimal NUMERATOR DENOMINATOR PLACES`,
+//! `average NUMBER..`, `average_duration NANOSECONDS..`, `counted_duration NANOSECONDS..`,
+//! `success_rate SUCCESSES FAILURES` or `running_time BEGINNING NOW`.
+
+use anyhow::{Context, Result, bail, ensure};
 use giputils_stat::decimal::Decimal;
 use giputils_stat::statistic::{
     Average, AverageDuration, CountedDuration, RunningTime, SuccessRate,
 };
 use std::alloc::Global;
+use std::io::Write;
 use std::time::Duration;
 
-/// The text of the statistic of this name over these numbers.
-pub fn text_of(alloc: Global, name: &str, numbers: &[u64]) -> Result<String> {
+/// Writes the text that each line asks for.
+pub fn replay<W: Write>(alloc: Global, out: &mut W, lines: &[String]) -> Result<()> {
+    for (i, line) in lines.iter().enumerate() {
+        let text = text_of_line(alloc, line.as_str()).context(format_args!("call {}", i + 1))?;
+        writeln!(out, "{text}")?;
+    }
+    Ok(())
+}
+
+// The text that a line asks for.
+fn text_of_line(alloc: Global, line: &str) -> Result<String> {
+    let mut words = line.split(' ');
+    let name = words.next().context("no words")?;
+    let mut numbers = Vec::new(alloc);
+    for word in words {
+        numbers.push(word.parse::<u64>()?)?;
+    }
+    text_of(alloc, name, &numbers)
+}
+
+// The text of the statistic of this name over these numbers.
+fn text_of(alloc: Global, name: &str, numbers: &[u64]) -> Result<String> {
     match name {
         "decimal" => decimal(alloc, numbers),
         "average" => average(alloc, numbers),

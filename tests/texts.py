@@ -1,19 +1,12 @@
-#!/usr/bin/env python3
-"""Makes the lines that giputils_texts reads, and the texts that it must write for them.
-
-    make_texts.py lines > stdin       writes the lines, from a fixed seed
-    make_texts.py texts < stdin > stdout       writes the text of each line
+"""The texts of statistics, and lines that ask for them, for tests/make_lists.py.
 
 The texts come from python's module `decimal` alone: a quotient of 200 digits is rounded by its ROUND_HALF_EVEN. A
 fraction whose denominator is below 2 ** 64 is a tie or farther from one than those digits tell, so that rounding twice
 makes no difference.
 """
 
-import random
-import sys
 from decimal import ROUND_HALF_EVEN, Decimal, getcontext
 
-SEED = 79
 GREATEST = 2**64 - 1
 BILLION = 10**9
 
@@ -31,7 +24,10 @@ def seconds(nanos, places):
     return decimal_text(nanos, BILLION, places) + "s"
 
 
-def text(name, numbers):
+def text(line):
+    """The text of a statistic, of a line with its name and its numbers."""
+    name, *words = line.split()
+    numbers = [int(word) for word in words]
     if name == "decimal":
         return decimal_text(*numbers)
     if name == "average":
@@ -55,7 +51,8 @@ def number(rng):
     return rng.randrange(2 ** rng.randint(1, 64))
 
 
-def lines(rng):
+def questions(rng):
+    """The words of each line."""
     for name in ["average", "average_duration", "counted_duration"]:
         yield [name]
         yield [name, 0]
@@ -92,19 +89,3 @@ def lines(rng):
         yield ["running_time", start, min(start + number(rng), GREATEST)]
         yield ["running_time", start, rng.randrange(start + 1)]
         yield ["running_time", 0, 10**7 * rng.randrange(10**6) + rng.choice([4999999, 5000000, 5000001])]
-
-
-def main():
-    if sys.argv[1:] == ["lines"]:
-        for words in lines(random.Random(SEED)):
-            print(*words)
-    elif sys.argv[1:] == ["texts"]:
-        for line in sys.stdin:
-            name, *numbers = line.split()
-            print(text(name, [int(n) for n in numbers]))
-    else:
-        sys.exit(__doc__)
-
-
-if __name__ == "__main__":
-    main()
