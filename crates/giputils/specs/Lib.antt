@@ -1,5 +1,5 @@
--- What the public clauses of the gathered crates speak of: every file of their specs/ but the heap's own arrangement (Table and
--- Tree), which no public clause cites.
+-- What the public clauses of the gathered crates speak of: every file of their specs/ but those that only a crate's own
+-- functions speak of (Places and Spelt of the bits, Stands, Table and Tree of the heap).
 pub use Rattle.giputils_base.specs.Allocator
 pub use Rattle.giputils_base.specs.AllocatorRun
 pub use Rattle.giputils_base.specs.Gvec
@@ -14,8 +14,6 @@ pub use Rattle.giputils_bits.specs.Error
 pub use Rattle.giputils_bits.specs.Extended
 pub use Rattle.giputils_bits.specs.Hashed
 pub use Rattle.giputils_bits.specs.Logic
-pub use Rattle.giputils_bits.specs.Places
-pub use Rattle.giputils_bits.specs.Spelt
 pub use Rattle.giputils_bits.specs.Text
 pub use Rattle.giputils_heap.specs.Bounds
 pub use Rattle.giputils_heap.specs.Comparers
@@ -25,7 +23,6 @@ pub use Rattle.giputils_heap.specs.Keys
 pub use Rattle.giputils_heap.specs.Laws
 pub use Rattle.giputils_heap.specs.Record
 pub use Rattle.giputils_heap.specs.Relations
-pub use Rattle.giputils_heap.specs.Stands
 pub use Rattle.giputils_stat.specs.Decimals
 pub use Rattle.giputils_stat.specs.Due
 pub use Rattle.giputils_stat.specs.Tally

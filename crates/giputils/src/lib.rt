@@ -1,4 +1,4 @@
-//! Containers for solvers, model checkers, simulators and schedulers, under the module names of the Rust crate giputils.
+//! Containers for solvers, model checkers, simulators and schedulers, under the module names of the crate giputils.
 //!
 //! This crate has no code of its own: it gathers the crates beside it.
 #![tactic(auto)]

@@ -1,6 +1,7 @@
 mod Actives
 mod Deadlines
 mod Examples
+mod Gathered
 mod Multiples
 mod Outcomes
 mod Reaching

@@ -6,3 +6,4 @@ pub mod Drained
 pub mod Paths
 pub mod Primes
 pub mod Reachable
+pub mod Rows

@@ -9,6 +9,7 @@ pub mod last;
 pub mod paths;
 pub mod reachable;
 pub mod report;
+pub mod rows;
 pub mod sieve;
 pub mod simulate;
 pub mod sorting;
