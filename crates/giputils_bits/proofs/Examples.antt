@@ -7,7 +7,7 @@ use Rattle.giputils_bits.specs.declared.bitvec.run.BitCall.TheVariants.{Push, Pu
 use Rattle.giputils_bits.specs.declared.bitvec.run.BitReply.TheVariants.{Done, Refused, Skipped, Bit, MaybeBit, Number}
 use Rattle.giputils_bits.specs.BitRun.{Answers}
 use Rattle.giputils_bits.specs.Bits.{digits_of, value_of, words_of, one_of}
-use Rattle.giputils_bits.specs.Ones.{true_count, true_places, HasOne}
+use Rattle.giputils_bits.specs.Ones.{true_count, true_places, HasNoneFrom, IsNextOne, HasOne}
 use Rattle.giputils_bits.specs.Text.{binary_text, hex_text}
 use Rattle.std.specs.Fmt.{digits}
 use Rattle.giputils_bits.specs.Logic.{and_of, or_of, xor_of, not_of}
@@ -129,6 +129,20 @@ true_places_rise = refl
 
 true_places_are_numbered_from_the_start : true_places 64 five ≡ 64 ∷ 66 ∷ 67 ∷ []
 true_places_are_numbered_from_the_start = refl
+
+the_next_of_five_from_one : IsNextOne five 1 2
+the_next_of_five_from_one = record { past = omega arith; holds = refl; least = λ k from before. let e : k ≡ 1 = omega arith in rw e refl }
+
+the_next_is_the_least : ¬ (IsNextOne five 1 3)
+the_next_is_the_least next = let never = next.least 2 (omega arith) (omega arith) in cc
+
+none_of_five_from_four : HasNoneFrom five 4
+none_of_five_from_four zero from = absurd (omega arith)
+none_of_five_from_four (suc zero) from = absurd (omega arith)
+none_of_five_from_four (suc (suc zero)) from = absurd (omega arith)
+none_of_five_from_four (suc (suc (suc zero))) from = absurd (omega arith)
+none_of_five_from_four (suc (suc (suc (suc zero)))) from = refl
+none_of_five_from_four (suc (suc (suc (suc (suc k))))) from = refl
 
 one_of_five_is_true : HasOne five
 one_of_five_is_true = (3, refl)

@@ -6,6 +6,7 @@ mod Gathered
 mod Kept
 pub mod Logic
 pub mod Ones
+mod OnesLeft
 mod Patterns
 mod Places
 mod Rewritten

@@ -1,0 +1,38 @@
+//! Bit vectors as sets of small numbers.
+
+use giputils_bits::bitvec::BitVec;
+use std::test::Fail;
+
+#[test]
+fn true_places_are_counted_and_found(rt: HostRuntime) -> Result<(), Fail> {
+    let bits = BitVec::from(rt.alloc(), [true, false, true, true, false])?;
+    assert_eq!(rt; bits.count_ones(), 3);
+    assert_eq!(rt; (bits.any(), bits.all(), bits.none()), (true, false, false));
+    assert_eq!(rt;
+        (bits.first_one(), bits.next_one(1), bits.next_one(4)),
+        (Some(0), Some(2), None)
+    );
+    assert!(rt; bits.iter_ones().eq([0, 2, 3]));
+    Ok(())
+}
+
+#[test]
+fn words_without_a_true_place_are_stepped_over(rt: HostRuntime) -> Result<(), Fail> {
+    let mut bits = BitVec::zero(rt.alloc(), 200)?;
+    bits.set(64, true);
+    bits.set(199, true);
+    assert_eq!(rt;
+        (bits.first_one(), bits.next_one(65), bits.next_one(usize::MAX)),
+        (Some(64), Some(199), None)
+    );
+    assert!(rt; bits.iter_ones().eq([64, 199]));
+    assert_eq!(rt; bits.count_ones(), 2);
+    Ok(())
+}
+
+#[test]
+fn a_vector_without_a_place_has_none_and_all(rt: HostRuntime) {
+    let bits = BitVec::new(rt.alloc());
+    assert_eq!(rt; (bits.any(), bits.all(), bits.none()), (false, true, true));
+    assert_eq!(rt; (bits.count_ones(), bits.first_one()), (0, None));
+}
