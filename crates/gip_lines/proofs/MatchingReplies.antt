@@ -1,5 +1,5 @@
 -- A reply that a heap may give, comparing by rank and number, is the script's.
-use Rattle.std.proofs.Common.{◌≡◌, ℕ, ◌≤◌, Bool, true, false, ◌||◌, not, nat_lt, List, [], ◌∷◌, length, refl, ap, arith, Some, None, leb-true, eqb-true, decimal}
+use Rattle.std.proofs.Common.{◌≡◌, ℕ, ◌≤◌, Bool, true, false, not, nat_lt, List, [], ◌∷◌, length, refl, ap, arith, Some, None, leb-true, eqb-true, decimal}
 use Rattle.std.proofs.lemmas.Bool.{and_parts, and_right, or_right}
 use Rattle.std.proofs.Math.Bool.{or-false}
 use Rattle.std.specs.List.{list_all}

@@ -1,8 +1,8 @@
 -- The pairs of a key and its rank in a line, as far as they have been read.
-use Rattle.std.proofs.Common.{◌≡◌, ℕ, zero, suc, ◌+◌, ◌<◌, ◌≤◌, List, [], ◌∷◌, length, take, get_or, refl, ap, arith, Option, Some, None, add-one}
+use Rattle.std.proofs.Common.{◌≡◌, ℕ, zero, suc, ◌+◌, ◌<◌, List, [], ◌∷◌, length, take, get_or, refl, ap, arith, Option, Some, None, add-one}
 use Rattle.std.specs.Prelude.{◌&&◌, nat_lt, nat_le, if◌then◌else◌, slice_set}
 use Rattle.std.specs.Option.{option_map_or}
-use Rattle.gip_lines.specs.Scripts.Lines.{greatest_key, greatest_rank, most_pairs, number_up_to, without_words, only_key, with_pair, pairs_of, rank_line, none_given, given_with, ranks_line}
+use Rattle.gip_lines.specs.Scripts.Lines.{greatest_key, greatest_rank, most_pairs, number_up_to, without_words, only_key, with_pair, pairs_of, rank_line, given_with}
 use Rattle.gip_lines.specs.Scripts.Replies.{ranks_with}
 use Rattle.gip_lines.specs.Texts.{space, pieces}
 use Rattle.gip_lines.specs.declared.scripts.lines.Line.{Line}
