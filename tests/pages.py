@@ -27,6 +27,7 @@ imports that are quoted.
 import pathlib
 import re
 import sys
+import textwrap
 
 ROOT = pathlib.Path(__file__).resolve().parent.parent
 CRATES = ROOT / "crates"
@@ -178,6 +179,12 @@ def lemmas(path, chosen):
     return sum((found[name] for name in chosen if name in found), []), lost
 
 
+def marker(line):
+    """The lines of a marker."""
+    words = " ".join(line.split())
+    return textwrap.wrap(words, WIDTH, subsequent_indent="     ", break_long_words=False, break_on_hyphens=False)
+
+
 def quote(page, what, complaints):
     """The lines that a quote on the page should have."""
     kind, _, names = what.partition(":")
@@ -232,7 +239,7 @@ def page_for_callers(page):
     """What is wrong with a page for callers."""
     complaints = []
     text = page.read_text(encoding="utf-8")
-    wanted = QUOTE.sub(lambda m: m[1] + "\n".join(quote(page, m[2], complaints)) + "\n" + m[3], text)
+    wanted = QUOTE.sub(lambda m: "\n".join([*marker(m[1]), *quote(page, m[2], complaints), m[3]]), text)
     if "--write" in sys.argv:
         page.write_text(wanted, encoding="utf-8")
     elif text != wanted:
