@@ -18,10 +18,10 @@ In a contract `S` is what `self` points to at the call, and `S'` at the return. 
 public module, or if a public module names it by `pub use`. A public function that is not quoted stands on the page by
 name.
 
-Of the README, each example in Rust stands in the tests of the crate `giputils`, and the script is the one that `gip` is
-run on. docs/DEFINITIONS.md lists, in items that begin with `- `, each word of specs/ that a public contract uses, and
-no name that no specs/ defines. Each file that a page names is there, and no line has more than 120 columns, but for
-imports that are quoted.
+Of the README, each example in Rust stands in the tests of the crate `giputils`, and the script is the one that `gip`
+is run on. docs/DEFINITIONS.md lists, in items that begin with `- `, each word of specs/ that a public contract uses,
+and no name that no specs/ defines; the crate `giputils` hands out the files that have these words, and all public
+lemmas. Each file that a page names is there, and no line has more than 120 columns, but for imports that are quoted.
 """
 
 import pathlib
@@ -31,6 +31,7 @@ import textwrap
 
 ROOT = pathlib.Path(__file__).resolve().parent.parent
 CRATES = ROOT / "crates"
+GATHERED = ("giputils_base", "giputils_bits", "giputils_heap", "giputils_stat")
 WIDTH = 120
 
 QUOTE = re.compile(r"(<!-- quote (.*?) -->\n).*?(<!-- end -->\n)", re.DOTALL)
@@ -269,17 +270,28 @@ def readme(page):
 
 
 def words_of_contracts():
-    """The words of specs/ that public contracts use, each with the crate whose contract it is."""
-    imports = re.compile(r"ghost use Rattle\.gip\w*\.specs\.(?!contracts|declared)[\w.]+\.\{([^}]*)\}")
+    """The words of specs/ that public contracts use, each with the file of specs/ that it comes from."""
+    imports = re.compile(r"ghost use Rattle\.(gip\w*\.specs\.(?!contracts|declared)[\w.]+)\.\{([^}]*)\}")
     found = {}
     for folder in sorted(path.parent for path in CRATES.glob("*/CALLING.md")):
         crate = Crate(folder)
         for path, text in crate.texts.items():
             lines = "\n".join(contracts(crate, text, set(), set(), set()))
-            names = [name for group in imports.findall(text) for name in re.split(r",\s*", group.strip())]
-            used = [name for name in names if re.search(rf"\b{re.escape(name)}\b", lines)]
-            found |= {name: folder.name for name in used if path.stem != "tests"}
+            names = [(name, file) for file, group in imports.findall(text) for name in re.split(r",\s*", group.strip())]
+            used = {name: file for name, file in names if re.search(rf"\b{re.escape(name)}\b", lines)}
+            found |= used if path.stem != "tests" else {}
     return found
+
+
+def not_gathered(files):
+    """Of these files of specs/ and of all files of public lemmas, those that the crate `giputils` does not hand out."""
+    wanted = {file for file in files if file.split(".")[0] in GATHERED}
+    for crate in GATHERED:
+        lemmas_of = (CRATES / crate / "proofs/Lib.antt").read_text(encoding="utf-8")
+        wanted |= {f"{crate}.proofs.{name}" for name in re.findall(r"^pub mod (\w+)", lemmas_of, re.MULTILINE)}
+    lists = "".join((CRATES / f"giputils/{part}/Lib.antt").read_text(encoding="utf-8") for part in ("specs", "proofs"))
+    handed_out = set(re.findall(r"^pub use Rattle\.([\w.]+)", lists, re.MULTILINE))
+    return [f"giputils does not hand out {file}" for file in sorted(wanted - handed_out)]
 
 
 def definitions(page):
@@ -292,9 +304,9 @@ def definitions(page):
     heads = re.findall(r"^- (.*?)(?:: |$)", re.sub(r"\n  +", " ", text), re.MULTILINE)
     names = [name for head in heads for name in re.findall(r"`([^`]+)`", head)]
     complaints = [f"no specs/ has {name}" for name in names if name not in known]
-    for name, crate in words_of_contracts().items():
-        complaints += [f"{name} of a contract of {crate} is not listed"] if name not in names else []
-    return sound(text) + complaints
+    words = words_of_contracts()
+    complaints += [f"{name} of {file} is not listed" for name, file in words.items() if name not in names]
+    return sound(text) + complaints + not_gathered(set(words.values()))
 
 
 def main():
