@@ -6,7 +6,7 @@ use Rattle.std.proofs.Math.Path.{fun_ext}
 use Rattle.std.proofs.Math.Seq.{take-append_seam, take-append-add}
 use Rattle.std.proofs.lemmas.Bool.{and_parts, and_from, cases_Bool, false≢true, eq-eqb}
 use Rattle.std.proofs.lemmas.Map.Steps.{list_any_congr}
-use Rattle.std.proofs.Math.Bool.{and-true, and-false}
+use Rattle.std.proofs.Math.Bool.{and-false}
 use Rattle.std.proofs.lemmas.List.Elements.{All-head, All-tail}
 use Rattle.giputils_heap.specs.Keys.{same_key, is_held, AreDistinct, AreBelow, HoldAlike, without, key_limit}
 use Rattle.giputils_heap.specs.Relations.{is_lawful, IsLawful, agree_on, is_greatest}
