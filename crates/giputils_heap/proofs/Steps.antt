@@ -1,6 +1,6 @@
 -- One call of a heap, and the record that it adds to.
 use Rattle.std.proofs.Common.{◌≡◌, ℕ, ◌+◌, ◌*◌, ◌<◌, ◌≤◌, Bool, cond, true, false, ◌&&◌, ◌||◌, not, List, [], ◌∷◌, length, Option, Some, None, refl, ap, sym, ◌∙◌, subst, ⊎_elim, arith}
-use Rattle.std.specs.Prelude.{IsTrue, MatchOption, IfSome, IfNone, IsSome, ◌↔◌}
+use Rattle.std.specs.Prelude.{IsTrue, IfSome, IfNone, IsSome, ◌↔◌}
 use Rattle.std.specs.Bool.{beq}
 use Rattle.std.specs.List.{list_all}
 use Rattle.std.specs.List.Sorted.{IsPermutation}
