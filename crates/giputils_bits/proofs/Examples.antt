@@ -6,7 +6,7 @@ use Rattle.giputils_bits.specs.declared.bitvec.error.BitVecError.TheVariants.{Me
 use Rattle.giputils_bits.specs.declared.bitvec.run.BitCall.TheVariants.{Push, PushWord, SetBit, GetBit, Clear, Extend, Len, ToUsize, IsZero, IsOne, Bool as BoolCall, TryBool}
 use Rattle.giputils_bits.specs.declared.bitvec.run.BitReply.TheVariants.{Done, Refused, Skipped, Bit, MaybeBit, Number}
 use Rattle.giputils_bits.specs.BitRun.{Answers}
-use Rattle.giputils_bits.specs.Bits.{digits_of, value_of, words_of, one_of}
+use Rattle.giputils_bits.specs.Bits.{digits_of, value_of, words_of, one_of, with_word}
 use Rattle.giputils_bits.specs.Ones.{true_count, true_places, HasNoneFrom, IsNextOne, HasOne}
 use Rattle.giputils_bits.specs.Text.{binary_text, hex_text}
 use Rattle.std.specs.Fmt.{digits}
@@ -77,6 +77,20 @@ two_words = refl
 a_hundred_and_thirty_places : words_of (one_of 130) ≡ 1 ∷ 0 ∷ 0 ∷ []
 unfolding words_of
 a_hundred_and_thirty_places = refl
+
+-- a word put anew
+
+a_word_of_three_places : with_word 0 6 (replicate 3 true) ≡ false ∷ true ∷ true ∷ []
+unfolding digits_of
+a_word_of_three_places = refl
+
+digits_past_the_list_are_left_out : with_word 1 7 (replicate 65 false) ≡ replicate 64 false ++ true ∷ []
+unfolding digits_of
+digits_past_the_list_are_left_out = refl
+
+other_words_stay : with_word 0 0 (replicate 66 true) ≡ replicate 64 false ++ (true ∷ true ∷ [])
+unfolding digits_of
+other_words_stay = refl
 
 -- what is no list of words
 

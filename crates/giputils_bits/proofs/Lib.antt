@@ -16,4 +16,5 @@ mod SameWords
 mod Taken
 mod Text
 pub mod Words
+mod Written
 mod Writes

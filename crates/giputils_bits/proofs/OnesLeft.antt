@@ -11,7 +11,7 @@ use Rattle.giputils_bits.specs.Ones.{true_places, HasNoneFrom, IsNextOne}
 use Rattle.giputils_bits.specs.Places.{place, bits_of, IsPacked, SetsDigit, words_from}
 use Rattle.giputils_bits.proofs.Digits.{has_digit-zero, has_digit-ones, has_digit-shl_low, has_digit-shl_high}
 use Rattle.giputils_bits.proofs.Rewritten.{has_digit-and}
-use Rattle.giputils_bits.proofs.Places.{place_is, place-past, SetsPlace, length-bits_of, get_or-bits_of, bits_of_is, bits_of-SetsPlace}
+use Rattle.giputils_bits.proofs.Places.{place_is, place-past, SetsPlace, length-bits_of, get_or-bits_of, get_or-bits_of_all, bits_of_is, bits_of-SetsPlace}
 
 -- ---- true places of a list
 -- a list of which no place is true
@@ -153,13 +153,6 @@ lowest_one w some fits =
     (low.0, ap (λ n. eqb n 1) low.1, λ i l. ap (λ n. eqb n 1) (low.2 i l))
 
 -- ---- what is left
--- each place of words, also past the bits that are kept
-pub get_or-bits_of_all : (n : ℕ) (ws : List ℕ) → ((i : ℕ) → n ≤ i → place ws i ≡ false) → (i : ℕ) → get_or (bits_of n ws) i false ≡ place ws i
-get_or-bits_of_all n ws padding i = elim (cases_lt i n) [
-  | inl l ↦ get_or-bits_of n ws i false l
-  | inr l ↦ get_or_past (bits_of n ws) i false (omega (arith, length-bits_of n ws)) ∙ sym (padding i l)
-]
-
 module _ (k w : ℕ) (ws : List ℕ) (within : k < length ws) where
   -- the bits of the words from k on, of which the k-th is w
   abbrev pub left : List Bool

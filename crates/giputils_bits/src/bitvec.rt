@@ -16,6 +16,7 @@ mod storage;
 mod tests;
 mod text;
 mod words;
+mod writes;
 
 pub use error::BitVecError;
 pub use iter::{IntoIter, Iter};

@@ -1,6 +1,7 @@
 //! Bit vectors as sets of small numbers.
 
-use giputils_bits::bitvec::BitVec;
+use giputils_bits::bitvec::{BitVec, BitVecError};
+use std::alloc::Global;
 use std::test::Fail;
 
 #[test]
@@ -35,4 +36,42 @@ fn a_vector_without_a_place_has_none_and_all(rt: HostRuntime) {
     let bits = BitVec::new(rt.alloc());
     assert_eq!(rt; (bits.any(), bits.all(), bits.none()), (false, true, true));
     assert_eq!(rt; (bits.count_ones(), bits.first_one()), (0, None));
+}
+
+// Two vectors of one length.
+fn five_places(alloc: Global) -> Result<(BitVec, BitVec), BitVecError> {
+    let bits = BitVec::from(alloc, [true, false, true, true, false])?;
+    let mask = BitVec::from(alloc, [true, true, true, false, false])?;
+    Ok((bits, mask))
+}
+
+#[test]
+fn one_set_is_within_another(rt: HostRuntime) -> Result<(), Fail> {
+    let (mut bits, mask) = five_places(rt.alloc())?;
+    assert_eq!(rt; bits.len(), mask.len());
+    assert_eq!(rt; (bits.is_subset(&mask), bits.is_disjoint(&mask)), (false, false));
+    bits.difference_with(&mask);
+    assert_eq!(rt; bits.to_usize(), 0b01000);
+    assert_eq!(rt; bits.len(), mask.len());
+    assert_eq!(rt; (bits.is_subset(&mask), bits.is_disjoint(&mask)), (false, true));
+    Ok(())
+}
+
+#[test]
+fn a_vector_is_written_in_place(rt: HostRuntime) -> Result<(), Fail> {
+    let mut bits = BitVec::zero(rt.alloc(), 66)?;
+    bits.flip(65);
+    assert!(rt; !bits.put(0, true));
+    assert_eq!(rt; bits.words(), [1, 2].as_slice());
+    bits.negate();
+    assert_eq!(rt; bits.words(), [u64::MAX - 1, 1].as_slice());
+    bits.set_word(1, 6);
+    assert_eq!(rt; bits.words(), [u64::MAX - 1, 2].as_slice());
+    bits.fill(true);
+    assert_eq!(rt; bits.words(), [u64::MAX, 3].as_slice());
+    let zeros = BitVec::zero(rt.alloc(), 66)?;
+    assert_eq!(rt; bits.len(), zeros.len());
+    bits.copy_from(&zeros);
+    assert!(rt; bits.none());
+    Ok(())
 }
