@@ -5,10 +5,11 @@ pub use Rattle.giputils_base.proofs.Slots
 pub use Rattle.giputils_base.proofs.Vectors
 pub use Rattle.giputils_bits.proofs.Digits as BitDigits
 pub use Rattle.giputils_bits.proofs.Logic
+pub use Rattle.giputils_bits.proofs.Ones
 pub use Rattle.giputils_bits.proofs.Runs as BitRuns
 pub use Rattle.giputils_bits.proofs.Words
 pub use Rattle.giputils_heap.proofs.CallBounds
-pub use Rattle.giputils_heap.proofs.Comparisons
+pub use Rattle.giputils_heap.proofs.ComparerOrders
 pub use Rattle.giputils_heap.proofs.Falling
 pub use Rattle.giputils_heap.proofs.Greatest
 pub use Rattle.giputils_heap.proofs.HoldAlike
@@ -19,6 +20,7 @@ pub use Rattle.giputils_heap.proofs.Preorders
 pub use Rattle.giputils_heap.proofs.Pushes
 pub use Rattle.giputils_heap.proofs.Ranks
 pub use Rattle.giputils_heap.proofs.Relations
+pub use Rattle.giputils_heap.proofs.Steady
 pub use Rattle.giputils_stat.proofs.Decimals
 pub use Rattle.giputils_stat.proofs.Digits as DecimalDigits
 pub use Rattle.giputils_stat.proofs.Rounding

@@ -5,7 +5,7 @@ use giputils_heap::BinaryHeapCmp;
 
 /// One answer to all questions. No order: either every key is at least every other, or no key is even at least itself.
 #[derive(Clone, Copy)]
-pub struct Constant(pub bool);
+pub(crate) struct Constant(pub(crate) bool);
 
 impl BinaryHeapCmp<u32> for Constant {
     ghost at_least = { λ constant _ _. constant.0 };
@@ -15,8 +15,9 @@ impl BinaryHeapCmp<u32> for Constant {
     }
 }
 
-/// A circle of the remainders by three: 1 is at least 0, 2 at least 1, and 0 at least 2. No order: it is not transitive.
-pub struct Circle;
+/// A circle of the remainders by three: 1 is at least 0, 2 at least 1, and 0 at least 2. No order, since it is not
+/// transitive.
+pub(crate) struct Circle;
 
 impl BinaryHeapCmp<u32> for Circle {
     ghost at_least = { λ _ s o. nat_le ((s % 3 + 3 - o % 3) % 3) 1 };

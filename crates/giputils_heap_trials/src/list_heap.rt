@@ -1,9 +1,9 @@
 //! The heap's calls on a plain list, to compare the heap with.
-ghost use Rattle.std.specs.Prelude.{◌≡◌, ◌<◌, ◌↔◌, ◌++◌, ◌∷◌, [], length, slice_index_or, IsTrue, IsSome, IfSome, IfNone, OnOk, OnErr, Ok};
+ghost use Rattle.std.specs.Prelude.{◌≡◌, ◌<◌, ◌↔◌, ◌++◌, ◌∷◌, [], length, IsTrue, IsSome, IfSome, IfNone, OnOk, OnErr, Ok};
 ghost use Rattle.std.specs.List.{list_all};
 ghost use Rattle.std.specs.List.Sorted.{IsPermutation};
 ghost use Rattle.giputils_heap.specs.Keys.{is_held, IsHeld, IsAbsent, without};
-ghost use Rattle.giputils_heap_trials.specs.ListHeap.{IsGreatestIfAny};
+ghost use Rattle.giputils_heap_trials.specs.ListHeap.{IsGreatestIfAny, HasGreatestAt};
 
 use giputils_heap::{BinaryHeapCmp, HeapKey};
 use std::alloc::{AllocError, Allocator, Global};
@@ -134,7 +134,7 @@ impl<T: HeapKey, A: Allocator> ListHeap<T, A> {
 fn greatest_place<T: HeapKey, C: BinaryHeapCmp<T>>(keys: &[T], cmp: &C) -> usize
     requires { 0 < length keys.now }
     ensures inside { result < length keys.now }
-    ensures greatest { (d : T) → IsGreatestIfAny T.number (C.at_least cmp.now) keys.now (slice_index_or keys.now result d) }
+    ensures greatest { HasGreatestAt T.number (C.at_least cmp.now) keys.now result }
 {
     for place in 0..keys.len() {
         if is_above(keys, keys[place], cmp) {

@@ -27,6 +27,7 @@ pub use Rattle.giputils.specs.Laws.{PopsListDownward, OneOrderIsSteady}
 pub use Rattle.giputils.specs.Lends.{lends_item}
 pub use Rattle.giputils.specs.LendsHashed.{lends_map, lends_set}
 pub use Rattle.giputils.specs.LendsValue.{lends_value}
+pub use Rattle.giputils.specs.Ones.{IsNextOne, true_count, true_places}
 pub use Rattle.giputils.specs.Record.{Answers, KeepsCounts, record_of}
 pub use Rattle.giputils.specs.Tally.{CanCount, with_term}
 pub use Rattle.giputils.specs.Texts.{average_text}

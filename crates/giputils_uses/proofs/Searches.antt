@@ -52,7 +52,8 @@ module _ (edges : List Edge) where
     pub here : slice_index far source ≡ 0
 
   -- the edge at place i is settled too
-  pub IsSearch-next : (source count : ℕ) (far waiting : List ℕ) (node i : ℕ) (e : Edge) → slice_get edges i ≡ Some e → (e.0 ≡ node → IsSettled far waiting e)
+  pub IsSearch-next : (source count : ℕ) (far waiting : List ℕ) (node i : ℕ) (e : Edge) → slice_get edges i ≡ Some e
+      → (e.0 ≡ node → IsSettled far waiting e)
       → IsSearch source count far waiting node i → IsSearch source count far waiting node (i + 1)
   IsSearch-next source count far waiting node i e at here so_far = record {
     len = so_far.len;
@@ -136,7 +137,8 @@ module _ (edges : List Edge) where
         let (path, goes, costs) = so_far.reached e.0 (nodes e (i, at)).0 near in
         (path ++ e ∷ [], IsPath-append source e.0 path e goes (i, at) refl, cost-append path e ∙ omega (arith, costs, is))
 
-    reached_now : (v : ℕ) → v < count → slice_index (set far e.1 through) v < 4294967295 → HasPath edges source v (slice_index (set far e.1 through) v)
+    reached_now : (v : ℕ) → v < count → slice_index (set far e.1 through) v < 4294967295
+        → HasPath edges source v (slice_index (set far e.1 through) v)
     reached_now v v_inside near =
         ⊎_elim
         (λ is. let now = falls_at far e.1 through inside nearer v is.1 in

@@ -1,7 +1,6 @@
 -- An index that has a new one joins the list by it; each other is passed over.
-use Rattle.std.proofs.Common.{◌≡◌, ◌++◌, [], ◌∷◌, get_or, nat_eq, Some, None, arith, sym, ap, ◌∙◌, append-nil}
+use Rattle.std.proofs.Common.{◌≡◌, ◌++◌, [], ◌∷◌, get_or, Some, None, arith, sym, ap, ◌∙◌, append-nil}
 use Rattle.std.proofs.lemmas.List.{take_all}
-use Rattle.std.specs.Map.{lookup}
 use Rattle.giputils.specs.Allocator.{index_map, value_at}
 use Rattle.giputils.proofs.Renumbering.{map-renamed}
 use Rattle.giputils_uses.proofs.Renamed.{filter_map-more}
@@ -13,22 +12,20 @@ loop-old-preserved g c =
     let slots = c.args.clauses.now in
     let watched = c.args.watched.now in
     let i = c.loop-old.old-index in
-    let old = get_or c.args.watched.now c.loop-old.old-index 0 in
-    let indexed : lookup (nat_eq old) c.deref.result.now.entries ≡ index_map slots old =
-    ap (lookup (nat_eq old)) c.deref.ensures ∙ c.in_ok-moved.ensures.map.0 old
-    in
+    let indexed = c.in_ok-moved.ensures.map.0 (get_or watched i 0) in
     elim c.match-get.branch [
       | in-Some w ↦
+          let new = w.in-Some.new.now in
           rw w.left-is (record {
-            renamed = w.push_reserved.ensures.items ∙ ap (λ is. is ++ w.in-Some.new.now ∷ []) c.loop-old.invariant.renamed
-                ∙ sym (filter_map-more (index_map slots) watched i 0 (Some w.in-Some.new.now) c.loop-old-test.true (w.in-Some.ensures.value ∙ indexed));
+            renamed = w.push_reserved.ensures.items ∙ ap (λ is. is ++ new ∷ []) c.loop-old.invariant.renamed
+                ∙ sym (filter_map-more (index_map slots) watched i 0 (Some new) c.loop-old-test.true (w.in-Some.ensures ∙ indexed));
             few = omega (arith, w.push_reserved.ensures.len, c.loop-old.invariant.few);
             room = omega (arith, w.push_reserved.ensures.capacity, c.loop-old.invariant.room);
           })
       | in_default w ↦
-          let none : None ≡ lookup (nat_eq old) c.deref.result.now.entries = w.in_default.ensures.value in
           rw w.left-is (record {
-            renamed = c.loop-old.invariant.renamed ∙ sym (append-nil _) ∙ sym (filter_map-more (index_map slots) watched i 0 None c.loop-old-test.true (none ∙ indexed));
+            renamed = c.loop-old.invariant.renamed ∙ sym (append-nil _)
+                ∙ sym (filter_map-more (index_map slots) watched i 0 None c.loop-old-test.true (w.in_default.ensures ∙ indexed));
             few = omega (arith, c.loop-old.invariant.few);
             room = c.loop-old.invariant.room;
           })

@@ -71,7 +71,8 @@ loop-from-preserved g c =
     elim c.if-from-node.branch [
       | then-from-node+then-through-index+in_ok-push-2 w ↦
           let there : w.index-then-from-node.result.now ≡ slice_index far e.1 =
-          w.index-then-from-node.ensures ∙ ap (λ v. get_or far v w.index-then-from-node.result.now) w.from-then-from-node.ensures ∙ get_or_default far e.1 w.index-then-from-node.result.now 0 ends
+          w.index-then-from-node.ensures ∙ ap (λ v. get_or far v w.index-then-from-node.result.now) w.from-then-from-node.ensures
+          ∙ get_or_default far e.1 w.index-then-from-node.result.now 0 ends
           in
           let nearer : through < slice_index far e.1 = rw (sym there) w.if-through-index.true in
           let moved = w.update.new.self in
@@ -84,17 +85,23 @@ loop-from-preserved g c =
           rw (sym (length_permutation waiting moved w.update.ensures.moved)) (length-pushed (λ k. k) e.1 moved w.push-then-through-index.new.self clauses.held_stays clauses.added)
           in
           rw (w.far-is, w.waiting-is, w.from-then-through-index.ensures) (record {
-            search = IsSearch-nearer edges c.args.source c.args.count far waiting w.push-then-through-index.new.self c.in-Some.node i e through at nodes nearer by_edge alike so_far.search;
-            smaller = let less = smaller_sum edges c.args.source c.args.count far waiting w.push-then-through-index.new.self c.in-Some.node i e through at nodes nearer by_edge alike so_far.search few in
+            search = IsSearch-nearer edges c.args.source c.args.count far waiting w.push-then-through-index.new.self
+                c.in-Some.node i e through at nodes nearer by_edge alike so_far.search;
+            smaller =
+                let less = smaller_sum edges c.args.source c.args.count far waiting w.push-then-through-index.new.self
+                c.in-Some.node i e through at nodes nearer by_edge alike so_far.search few
+                in
                 omega (arith, less, so_far.smaller);
           })
       | else-from-node w ↦ elim w.else-from-node.branch [
         | else-from-node-via-then-from-node+else-through-index w' ↦
             let there : w'.index-then-from-node.result.now ≡ slice_index far e.1 =
-            w'.index-then-from-node.ensures ∙ ap (λ v. get_or far v w'.index-then-from-node.result.now) w'.from-then-from-node.ensures ∙ get_or_default far e.1 w'.index-then-from-node.result.now 0 ends
+            w'.index-then-from-node.ensures ∙ ap (λ v. get_or far v w'.index-then-from-node.result.now) w'.from-then-from-node.ensures
+            ∙ get_or_default far e.1 w'.index-then-from-node.result.now 0 ends
             in
             rw (w.far-is, w.waiting-is) (record {
-              search = IsSearch-next edges c.args.source c.args.count far waiting c.in-Some.node i e at (λ same absent. omega (arith, there, by_edge, w'.if-through-index.false)) so_far.search;
+              search = IsSearch-next edges c.args.source c.args.count far waiting c.in-Some.node i e at
+                  (λ same absent. omega (arith, there, by_edge, w'.if-through-index.false)) so_far.search;
               smaller = so_far.smaller;
             })
         | else-from-node-via-else-from-node w' ↦

@@ -2,7 +2,7 @@
 use Rattle.std.proofs.Common.{◌<◌, ◌≤◌, length, get_or, sym, ap, ◌∙◌, arith}
 use Rattle.std.proofs.lemmas.List.{get_or_default}
 use Rattle.giputils.specs.Comparers.{by_rank}
-use Rattle.giputils.proofs.Comparisons.{AgreesExcept-by_rank, HasRisen-by_rank}
+use Rattle.giputils.proofs.ComparerOrders.{AgreesExcept-by_rank, HasRisen-by_rank}
 use Rattle.giputils.proofs.Ranks.{IsLawful-by_rank}
 use Rattle.giputils_uses.proofs.activity.Activity.bump.Goals as goal
 

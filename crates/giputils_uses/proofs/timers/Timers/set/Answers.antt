@@ -2,7 +2,7 @@
 use Rattle.std.proofs.Common.{◌∷◌, sym, ◌∙◌}
 use Rattle.std.proofs.lemmas.Result.{on_ok_weaker}
 use Rattle.giputils.specs.Comparers.{by_rank, reverse_of}
-use Rattle.giputils.proofs.Comparisons.{AgreesExcept-by_rank}
+use Rattle.giputils.proofs.ComparerOrders.{AgreesExcept-by_rank}
 use Rattle.giputils.proofs.HoldAlike.{HoldAlike-cons, HoldAlike-IsPermutation}
 use Rattle.giputils.proofs.Pushes.{HoldAlike-pushed}
 use Rattle.giputils.proofs.Ranks.{IsLawful-by_least_rank, AgreesExcept-reverse_of}
