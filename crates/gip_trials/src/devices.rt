@@ -3,17 +3,17 @@
 use std::alloc::Global;
 use std::io::{self, Error, ErrorKind, Read, Write};
 
-/// A reader of bytes in memory that gives at most so many at a time, fails at one call, and counts its calls.
+// A reader of bytes in memory that gives at most so many at a time, fails at one call, and counts its calls.
 #[derive(Drop)]
-pub struct Source<'a> {
+pub(crate) struct Source<'a> {
     rest: &'a [u8],
     most: usize,
     fails_at: u64,
-    pub calls: u64,
+    pub(crate) calls: u64,
 }
 
 impl<'a> Source<'a> {
-    pub fn new(rest: &'a [u8], most: usize, fails_at: u64) -> Self {
+    pub(crate) fn new(rest: &'a [u8], most: usize, fails_at: u64) -> Self {
         Source {
             rest,
             most,
@@ -34,25 +34,25 @@ impl Read for Source<'_> {
     }
 }
 
-/// What a writer does at the call at which it fails.
+// What a writer does at the call at which it fails.
 #[derive(Clone, Copy, Debug)]
-pub enum Failure {
+pub(crate) enum Failure {
     Refuses,
     TakesNone,
 }
 
-/// A writer into memory that takes at most so many bytes at a time, fails at one call, and counts its calls.
+// A writer into memory that takes at most so many bytes at a time, fails at one call, and counts its calls.
 #[derive(Drop)]
-pub struct Sink {
-    pub text: Vec<u8>,
+pub(crate) struct Sink {
+    pub(crate) text: Vec<u8>,
     most: usize,
     fails_at: u64,
     failure: Failure,
-    pub calls: u64,
+    pub(crate) calls: u64,
 }
 
 impl Sink {
-    pub fn new(alloc: Global, most: usize, fails_at: u64, failure: Failure) -> Self {
+    pub(crate) fn new(alloc: Global, most: usize, fails_at: u64, failure: Failure) -> Self {
         Sink {
             text: Vec::new(alloc),
             most,

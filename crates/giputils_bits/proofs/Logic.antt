@@ -78,6 +78,11 @@ pub not_of_none : (xs : List Bool) → length xs ≡ 0 → not_of xs ≡ xs
 not_of_none [] e = refl
 not_of_none (x ∷ xs) e = absurd (omega (arith, e))
 
+-- a list without a place
+pub empty_is_none : (bs : List Bool) → length bs ≡ 0 → bs ≡ []
+empty_is_none [] e = refl
+empty_is_none (b ∷ bs) e = absurd (omega (arith, e))
+
 -- ---- sets
 within_from_none : (xs ys : List Bool) → length xs ≡ length ys → zip_with (λ x y. x && not y) xs ys ≡ replicate (length xs) false → and_of xs ys ≡ xs
 within_from_none [] ys long none = refl

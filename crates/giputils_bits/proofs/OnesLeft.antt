@@ -9,8 +9,7 @@ use Rattle.std.proofs.lemmas.List.{same_lists, length-append, length-replicate, 
 use Rattle.giputils_bits.specs.Bits.{has_digit}
 use Rattle.giputils_bits.specs.Ones.{true_places, HasNoneFrom, IsNextOne}
 use Rattle.giputils_bits.specs.Places.{place, bits_of, IsPacked, SetsDigit, words_from}
-use Rattle.giputils_bits.proofs.Digits.{has_digit-zero, has_digit-ones, has_digit-shl_low, has_digit-shl_high}
-use Rattle.giputils_bits.proofs.Rewritten.{has_digit-and}
+use Rattle.giputils_bits.proofs.Digits.{has_digit-zero, has_digit-ones, has_digit-shl_low, has_digit-shl_high, has_digit-and}
 use Rattle.giputils_bits.proofs.Places.{place_is, place-past, SetsPlace, length-bits_of, get_or-bits_of, get_or-bits_of_all, bits_of_is, bits_of-SetsPlace}
 
 -- ---- true places of a list

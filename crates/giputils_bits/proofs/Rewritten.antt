@@ -9,40 +9,9 @@ use Rattle.std.proofs.lemmas.Bool.{cases_eq, cases_lt}
 use Rattle.giputils_bits.specs.Bits.{has_digit}
 use Rattle.giputils_bits.specs.Logic.{zip_with, xor, not_of}
 use Rattle.giputils_bits.specs.Places.{place, bits_of, IsPacked, MakesZeros, Rewrites, SetsDigit, without_digits}
-use Rattle.giputils_bits.proofs.Digits.{has_digit-zero, has_digit-above, has_digit-ones, has_digit-ones_above, has_digit-shl_low, has_digit-shl_high, same_digit}
+use Rattle.giputils_bits.proofs.Digits.{has_digit-and, has_digit-xor, has_digit-not, has_digit-zero, has_digit-above, has_digit-ones, has_digit-ones_above, has_digit-shl_low, has_digit-shl_high, same_digit}
 use Rattle.giputils_bits.proofs.Logic.{length-zip_with, get_or-zip_with, get_or-zip_with_all, get_or-falses, length-not_of, get_or-not_of}
 use Rattle.giputils_bits.proofs.Places.{place_is, place-past, kept-length, length-bits_of, get_or-bits_of, get_or-bits_of_all, bits_of_is}
-
--- ---- one digit
-and_test : (a b : ℕ) → a < 2 → b < 2 → eqb (min a b) 1 ≡ (eqb a 1 && eqb b 1)
-and_test zero zero p q = refl
-and_test zero (suc zero) p q = refl
-and_test (suc zero) zero p q = refl
-and_test (suc zero) (suc zero) p q = refl
-and_test (suc (suc a)) b p q = absurd (omega arith)
-and_test a (suc (suc b)) p q = absurd (omega arith)
-
-xor_test : (a b : ℕ) → a < 2 → b < 2 → eqb ((a + b) % 2) 1 ≡ xor (eqb a 1) (eqb b 1)
-xor_test zero zero p q = refl
-xor_test zero (suc zero) p q = refl
-xor_test (suc zero) zero p q = refl
-xor_test (suc zero) (suc zero) p q = refl
-xor_test (suc (suc a)) b p q = absurd (omega arith)
-xor_test a (suc (suc b)) p q = absurd (omega arith)
-
-not_test : (a : ℕ) → a < 2 → eqb (1 - a) 1 ≡ not (eqb a 1)
-not_test zero p = refl
-not_test (suc zero) p = refl
-not_test (suc (suc a)) p = absurd (omega arith)
-
-pub has_digit-and : (a b i : ℕ) → has_digit (bit_and a b) i ≡ (has_digit a i && has_digit b i)
-has_digit-and a b i = ap (λ x. eqb x 1) (bit_at_and a b i) ∙ and_test (bit_at a i) (bit_at b i) (bit_at-lt a i) (bit_at-lt b i)
-
-pub has_digit-xor : (a b i : ℕ) → has_digit (bit_xor a b) i ≡ xor (has_digit a i) (has_digit b i)
-has_digit-xor a b i = ap (λ x. eqb x 1) (bit_at_xor a b i) ∙ xor_test (bit_at a i) (bit_at b i) (bit_at-lt a i) (bit_at-lt b i)
-
-pub has_digit-not : (a i : ℕ) → a < 2 ^ 64 → i < 64 → has_digit (bit_not w64 a) i ≡ not (has_digit a i)
-has_digit-not a i fits within = ap (λ x. eqb x 1) (bit_at_not w64 a i fits within) ∙ not_test (bit_at a i) (bit_at-lt a i)
 
 -- the digits of one that another has not
 without_test : (a b : Bool) → xor a (a && b) ≡ (a && not b)

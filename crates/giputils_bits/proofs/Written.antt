@@ -1,14 +1,13 @@
 -- Words written in place: a word of the list put anew, and the same word everywhere.
-use Rattle.std.proofs.Common.{◌≡◌, ℕ, ◌+◌, ◌-◌, ◌*◌, ◌/◌, ◌%◌, ◌^◌, ◌<◌, ◌≤◌, min, Bool, false, ◌&&◌, List, ◌++◌, length, get_or, set, take, drop, refl, sym, ap, ◌∙◌, arith, inl, inr}
+use Rattle.std.proofs.Common.{◌≡◌, ℕ, ◌+◌, ◌-◌, ◌*◌, ◌/◌, ◌%◌, ◌^◌, ◌<◌, ◌≤◌, min, Bool, false, ◌&&◌, List, [], ◌∷◌, ◌++◌, length, get_or, set, take, drop, refl, sym, ap, ◌∙◌, arith, inl, inr}
 use Rattle.std.specs.Prelude.{bit_and}
 use Rattle.std.proofs.Math.Bool.{and-true, and-false}
 use Rattle.std.proofs.lemmas.Bool.{cases_eq, cases_lt}
-use Rattle.std.proofs.lemmas.List.{length-set, length-take, length-drop, length-append, get_or-take, get_or-drop, get_or-set_same, get_or-set_other, get_or_append_left, get_or-append_right}
+use Rattle.std.proofs.lemmas.List.{take_all, take_more, length-set, length-take, length-drop, length-append, get_or-take, get_or-drop, get_or-set_same, get_or-set_other, get_or_append_left, get_or-append_right}
 use Rattle.giputils_bits.specs.Bits.{has_digit, digits_of, with_word}
 use Rattle.giputils_bits.specs.Places.{place, bits_of, IsPacked}
-use Rattle.giputils_bits.proofs.Digits.{has_digit-ones, has_digit-ones_above, length-digits_of, get_or-digits_of}
-use Rattle.giputils_bits.proofs.Rewritten.{has_digit-and}
-use Rattle.giputils_bits.proofs.Places.{place_is, length-bits_of, get_or-bits_of, bits_of_is}
+use Rattle.giputils_bits.proofs.Digits.{has_digit-ones, has_digit-ones_above, length-digits_of, get_or-digits_of, has_digit-and}
+use Rattle.giputils_bits.proofs.Places.{place_is, place-past, length-bits_of, get_or-bits_of, bits_of_is}
 
 -- the digits of a word that a list of n places has room for from place 64 * k on
 abbrev pub cut_word : ℕ → ℕ → ℕ → ℕ
@@ -67,3 +66,44 @@ module _ (n : ℕ) (ws : List ℕ) (k word : ℕ) (within : k < length ws) where
               ∙ get_or-bits_of n ws i false below
         ])
       ])
+
+-- ---- the places past a shorter length taken away
+module _ (n m : ℕ) (ws : List ℕ) (some : 0 < m) (shorter : m ≤ n) (p : IsPacked n ws) where
+  -- the words of m places, the last of them without the digits past them
+  abbrev pub shortened : List ℕ
+  shortened = set (take ((m - 1) / 64 + 1) ws) ((m - 1) / 64) (bit_and (get_or (take ((m - 1) / 64 + 1) ws) ((m - 1) / 64) 0) (2 ^ (m - 64 * ((m - 1) / 64)) - 1))
+
+  count_shortened : length (take ((m - 1) / 64 + 1) ws) ≡ (m - 1) / 64 + 1
+  count_shortened = omega (arith, length-take ((m - 1) / 64 + 1) ws, p.count)
+
+  place-shortened_last : (i : ℕ) → i / 64 ≡ (m - 1) / 64 → place shortened i ≡ (place ws i && has_digit (2 ^ (m - 64 * ((m - 1) / 64)) - 1) (i % 64))
+  place-shortened_last i e =
+      rw (place_is shortened i, place_is ws i, e, get_or-set_same (take ((m - 1) / 64 + 1) ws) ((m - 1) / 64) _ 0 (omega (arith, count_shortened)), get_or-take ((m - 1) / 64 + 1) ws ((m - 1) / 64) 0 (omega arith))
+      (has_digit-and _ _ (i % 64))
+
+  place-shortened : (i : ℕ) → i / 64 < (m - 1) / 64 → place shortened i ≡ place ws i
+  place-shortened i l =
+      rw (place_is shortened i, place_is ws i, get_or-set_other (take ((m - 1) / 64 + 1) ws) ((m - 1) / 64) (i / 64) (bit_and (get_or (take ((m - 1) / 64 + 1) ws) ((m - 1) / 64) 0) (2 ^ (m - 64 * ((m - 1) / 64)) - 1)) 0 (λ e. omega arith), get_or-take ((m - 1) / 64 + 1) ws (i / 64) 0 (omega arith)) refl
+
+  pub IsPacked-shortened : IsPacked m shortened
+  IsPacked-shortened = record {
+    count = length-set (take ((m - 1) / 64 + 1) ws) ((m - 1) / 64) _ ∙ omega (arith, count_shortened);
+    padding = λ i past. elim (cases_eq (i / 64) ((m - 1) / 64)) [
+      | inl e ↦ place-shortened_last i e ∙ ap (λ b. place ws i && b) (has_digit-ones_above (m - 64 * ((m - 1) / 64)) (i % 64) (omega arith)) ∙ and-false _
+      | inr o ↦ place-past shortened i (omega (arith, length-set (take ((m - 1) / 64 + 1) ws) ((m - 1) / 64) (bit_and (get_or (take ((m - 1) / 64 + 1) ws) ((m - 1) / 64) 0) (2 ^ (m - 64 * ((m - 1) / 64)) - 1)), count_shortened))
+    ];
+  }
+
+  pub bits_of-shortened : bits_of m shortened ≡ take m (bits_of n ws)
+  bits_of-shortened = bits_of_is m shortened (take m (bits_of n ws)) (omega (arith, length-take m (bits_of n ws), length-bits_of n ws)) (λ i below.
+      elim (cases_eq (i / 64) ((m - 1) / 64)) [
+        | inl e ↦ place-shortened_last i e ∙ ap (λ b. place ws i && b) (has_digit-ones (m - 64 * ((m - 1) / 64)) (i % 64) (omega arith)) ∙ and-true _
+        | inr o ↦ place-shortened i (omega arith)
+      ]
+      ∙ sym (get_or-take m (bits_of n ws) i false below ∙ get_or-bits_of n ws i false (omega arith)))
+
+-- a list is all but its last place, and then that one
+pub last_taken : (bs : List Bool) → 0 < length bs → bs ≡ take (length bs - 1) bs ++ get_or bs (length bs - 1) false ∷ []
+last_taken bs some =
+    let all : length bs - 1 + 1 ≡ length bs = omega arith in
+    sym (take_all (length bs) bs (omega arith)) ∙ ap (λ n. take n bs) (sym all) ∙ take_more bs (length bs - 1) false (omega arith)

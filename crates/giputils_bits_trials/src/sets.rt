@@ -75,3 +75,16 @@ fn a_vector_is_written_in_place(rt: HostRuntime) -> Result<(), Fail> {
     assert!(rt; bits.none());
     Ok(())
 }
+
+#[test]
+fn the_last_bits_are_taken_away(rt: HostRuntime) -> Result<(), Fail> {
+    let mut bits = BitVec::ones(rt.alloc(), 130)?;
+    bits.truncate(65);
+    assert_eq!(rt; bits.words(), [u64::MAX, 1].as_slice());
+    assert_eq!(rt; (bits.pop(), bits.len()), (Some(true), 64));
+    bits.push(false)?;
+    assert_eq!(rt; bits.words(), [u64::MAX, 0].as_slice());
+    bits.truncate(0);
+    assert_eq!(rt; bits.pop(), None);
+    Ok(())
+}

@@ -1,5 +1,5 @@
 //! The words of a bit vector: one in the value itself, or several in a `Gvec`.
-ghost use Rattle.std.specs.Prelude.{◌≡◌, ◌<◌, [], ◌∷◌, ◌++◌, length, replicate, slice_index, slice_set, OnErr, OnOk, IfOk, IsOk};
+ghost use Rattle.std.specs.Prelude.{◌≡◌, ◌<◌, [], ◌∷◌, ◌++◌, length, replicate, slice_index, slice_set, take, OnErr, OnOk, IfOk, IsOk};
 ghost use Rattle.std.specs.Int.{bit_not, w64};
 ghost use Rattle.giputils_bits.specs.Places.{Rewrites};
 
@@ -155,6 +155,15 @@ impl<A: Allocator> Storage<A> {
         } else {
             negate_words(heap);
         }
+    }
+
+    // Leaves the first `count` words. The memory is kept for the next growth.
+    #[inline]
+    pub(crate) fn truncate(&mut self, count: usize)
+        requires { 0 < count }
+        ensures { self.new ≡ take count self.old }
+    {
+        self.heap.truncate(count);
     }
 
     // Back to one word, which is zero. The memory is kept for the next growth.

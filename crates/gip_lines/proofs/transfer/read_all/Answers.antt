@@ -3,7 +3,8 @@ use Rattle.std.proofs.Common.{ℕ, ◌≤◌, ◌<◌, List, length, take, ap, a
 use Rattle.std.specs.Io.KnownBytes.{Consumes}
 use Rattle.gip_lines.proofs.transfer.read_all.Goals as goal
 
-consumed_more : (most n : ℕ) (buf : List ℕ) (old new : Option (List ℕ)) → Consumes old new (take n buf) → n ≤ length buf → most < n → IfSome old (λ input. most < length input)
+consumed_more : (most n : ℕ) (buf : List ℕ) (old new : Option (List ℕ)) → Consumes old new (take n buf) → n ≤ length buf
+    → most < n → IfSome old (λ input. most < length input)
 consumed_more most n buf None new bytes within more = tt
 consumed_more most n buf (Some input) None bytes within more = absurd bytes
 consumed_more most n buf (Some input) (Some rest) bytes within more =

@@ -1,6 +1,7 @@
 use Rattle.std.proofs.Common.{◌&&◌, ◌<◌, ◌^◌, ℕ, get_or, refl, rules}
 use Rattle.std.specs.Prelude.{bit_and}
-use Rattle.giputils_bits.proofs.Rewritten.{has_digit-and, same_count, joins_to_none}
+use Rattle.giputils_bits.proofs.Digits.{has_digit-and}
+use Rattle.giputils_bits.proofs.Rewritten.{same_count, joins_to_none}
 use Rattle.giputils_bits.proofs.bitvec.BitVec.is_disjoint.Goals as goal
 
 pub makes_zeros-requires : goal.makes_zeros-requires
