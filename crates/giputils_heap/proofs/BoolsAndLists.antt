@@ -35,6 +35,11 @@ pub or-and_not : (a b : Bool) → (a ≡ true → b ≡ true) → (a || (b && no
 or-and_not true b follows = sym (follows refl)
 or-and_not false b follows = and-true b
 
+-- a test is one of two without the other, where that fails with it
+pub and_not-or : (a b : Bool) → (a ≡ true → b ≡ false) → b ≡ ((a || b) && not a)
+and_not-or true b fails = fails refl
+and_not-or false b fails = sym (and-true b)
+
 -- tests that agree are equal
 pub beq-true : (a b : Bool) → beq a b ≡ true → a ≡ b
 beq-true true true e = refl

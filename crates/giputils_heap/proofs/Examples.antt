@@ -1,21 +1,24 @@
 -- The definitions of a run on short records, computed by the check: records that a heap may have, and one for each way to
 -- answer wrongly.
-use Rattle.std.specs.Prelude.{◌≡◌, ℕ, ◌+◌, Bool, true, false, List, [], ◌∷◌, Some, None, refl}
+use Rattle.std.proofs.Common.{◌≡◌, ℕ, ◌+◌, Bool, true, false, ◌||◌, List, [], ◌∷◌, Some, None, refl, sym, arith}
+use Rattle.std.specs.Prelude.{◌%◌, ◌==◌}
+use Rattle.std.specs.List.{IsDistinct}
 use Rattle.std.proofs.lemmas.Bool.{false≢true}
 use Rattle.giputils_heap.specs.Comparers.{by_number, reverse_of, by_rank}
 use Rattle.giputils_heap.specs.Bounds.{floor_log2}
-use Rattle.giputils_heap.specs.Record.{Entry, start, answers_from, is_steady, keeps_counts_from}
-use Rattle.giputils_heap.specs.Laws.{is_descending}
-use Rattle.giputils_heap.specs.Relations.{agrees_except, has_no_ties, HasRisen, HasFallen}
+use Rattle.giputils_heap.specs.Record.{Entry, start, answers_from, is_steady, keeps_counts_from, record_of, held_before, KeepsSteps}
+use Rattle.giputils_heap.specs.Laws.{is_descending, PopUntilNone, ListsDownward}
+use Rattle.giputils_heap.specs.Relations.{is_total, is_transitive, is_lawful, agrees_except, has_no_ties, HasRisen, HasFallen}
 use Rattle.giputils_heap.specs.declared.run.HeapCall.{HeapCall}
 use Rattle.giputils_heap.specs.declared.run.HeapCall.TheVariants.{Push, Pop, Up, Down, Update, Rebuild, Clear, Len, IsEmpty}
 use Rattle.giputils_heap.specs.declared.run.HeapReply.{HeapReply}
+use Rattle.giputils_heap.specs.declared.run.HeapStep.{HeapStep}
 use Rattle.giputils_heap.specs.declared.run.HeapReply.TheVariants.{Done, Refused, Skipped, Popped, Length, Empty}
 
 -- comparers of numbers: the greater is at least the smaller, the other way round, any is at least any, none is at least any,
--- and by ranks
+-- of each three in turn one is at least itself and the one before, and by ranks
 data Comparer : Type 0 where
-  greater smaller either neither : Comparer
+  greater smaller either neither circle : Comparer
   ranked : List ℕ → Comparer
 
 abbrev number : ℕ → ℕ
@@ -26,6 +29,7 @@ at_least greater = by_number number
 at_least smaller = reverse_of (by_number number)
 at_least either = λ s o. true
 at_least neither = λ s o. false
+at_least circle = λ s o. (s % 3 == o % 3) || (s % 3 == (o % 3 + 1) % 3)
 at_least (ranked ranks) = by_rank number ranks
 
 -- a step under a comparer that compares nothing, with its reply
@@ -437,6 +441,79 @@ no_ties_by_number = refl
 all_tie : has_no_ties number (at_least either) (0 ∷ 1 ∷ 2 ∷ []) ≡ false
 all_tie = refl
 
+-- ---- lawful relations
+
+-- ties are allowed
+lawful_with_ties : is_lawful (at_least either) (0 ∷ 1 ∷ 2 ∷ []) ≡ true
+lawful_with_ties = refl
+
+-- a relation that says nothing of a key with itself is not total
+not_total : is_total (at_least neither) (0 ∷ []) ≡ false
+not_total = refl
+
+-- of 0, 1 and 2 one of any two is at least the other, and yet they have no order
+total_in_a_circle : is_total (at_least circle) (0 ∷ 1 ∷ 2 ∷ []) ≡ true
+total_in_a_circle = refl
+
+not_transitive_in_a_circle : is_transitive (at_least circle) (0 ∷ 1 ∷ 2 ∷ []) ≡ false
+not_transitive_in_a_circle = refl
+
+not_lawful_in_a_circle : is_lawful (at_least circle) (0 ∷ 1 ∷ 2 ∷ []) ≡ false
+not_lawful_in_a_circle = refl
+
+-- two of them have
+lawful_on_two_of_a_circle : is_lawful (at_least circle) (0 ∷ 1 ∷ []) ≡ true
+lawful_on_two_of_a_circle = refl
+
+-- so a run under it owes no greatest key
+popped_in_a_circle : answers (
+    step circle (Push 0) Done ∷ step circle (Push 1) Done ∷ step circle (Push 2) Done ∷ step circle Pop (Popped (Some 1)) ∷ []
+    ) ≡ true
+popped_in_a_circle = refl
+
+-- ---- the record of a run
+
+-- a step that is lent the comparer by number, asked so often
+abbrev asked : HeapCall ℕ → ℕ → HeapStep ℕ Comparer
+asked call n = record { call = call; cmp = record { comparer = greater; count = n } }
+
+-- each entry has the call, the comparer, what its counter has risen by, and the reply
+recorded : record_of (asked (Push 3) 5 ∷ asked Len 0 ∷ []) (asked (Push 3) 7 ∷ asked Len 0 ∷ []) (Done ∷ Length 1 ∷ [])
+    ≡ counted (Push 3) Done 2 ∷ counted Len (Length 1) 0 ∷ []
+recorded = refl
+
+-- a step that has no reply has no entry
+recorded_short : record_of (asked Len 0 ∷ asked Pop 0 ∷ []) (asked Len 0 ∷ asked Pop 0 ∷ []) (Length 0 ∷ []) ≡ counted Len (Length 0) 0 ∷ []
+recorded_short = refl
+
+-- the keys that are held before a step: five were pushed, and then the least was popped
+held_before_the_first : held_before number smallest_first 0 ≡ []
+held_before_the_first = refl
+
+held_before_the_pops : held_before number smallest_first 5 ≡ 1 ∷ 5 ∷ 4 ∷ 2 ∷ 3 ∷ []
+held_before_the_pops = refl
+
+held_after_a_pop : held_before number smallest_first 6 ≡ 5 ∷ 4 ∷ 2 ∷ 3 ∷ []
+held_after_a_pop = refl
+
+-- a step that compared twice is kept, and one that compares nothing
+kept_steps : KeepsSteps (asked (Push 3) 5 ∷ asked Len 0 ∷ []) (asked (Push 3) 7 ∷ asked Len 0 ∷ [])
+kept_steps = (
+  record { call = refl; comparer = refl; rises = omega arith; comparisons = omega arith; uncompared = λ never. absurd (false≢true (sym never)) },
+  (record { call = refl; comparer = refl; rises = omega arith; comparisons = omega arith; uncompared = λ _. refl }, tt),
+)
+
+-- a step whose call is another one is not
+another_call_is_not_kept : KeepsSteps (asked Len 0 ∷ []) (asked Pop 0 ∷ []) → ⊥
+another_call_is_not_kept kept = let same = kept.0.call in cc
+
+-- nor is one that is lost, or that asked where its call compares nothing
+a_lost_step_is_not_kept : KeepsSteps (asked Len 0 ∷ []) [] → ⊥
+a_lost_step_is_not_kept kept = kept
+
+an_asking_length_is_not_kept : KeepsSteps (asked Len 0 ∷ []) (asked Len 1 ∷ []) → ⊥
+an_asking_length_is_not_kept kept = let same = kept.0.uncompared refl in omega (arith, same)
+
 -- ---- steady steps, and keys listed downward
 
 steady_under_one_comparer : is_steady number at_least smallest_first 10 ≡ true
@@ -456,6 +533,28 @@ listed_downward = refl
 
 not_listed_downward : is_descending (at_least greater) (5 ∷ 1 ∷ 4 ∷ []) ≡ false
 not_listed_downward = refl
+
+-- two pops by number that answer 3, and then nothing
+popped_until_none : PopUntilNone at_least (by_number number) (3 ∷ []) (step greater Pop (Popped (Some 3)) ∷ step greater Pop (Popped None) ∷ [])
+popped_until_none = (
+  record { call = refl; comparer = λ x y. refl; reply = refl },
+  (record { call = refl; comparer = λ x y. refl; reply = refl }, tt),
+)
+
+-- the last of them has to answer nothing
+not_popped_until_none : PopUntilNone at_least (by_number number) (3 ∷ []) (step greater Pop (Popped (Some 3)) ∷ []) → ⊥
+not_popped_until_none popped = popped.1
+
+-- keys listed downward are all of them, each once, each at least the next
+lists_downward : ListsDownward number (by_number number) (3 ∷ 2 ∷ []) (3 ∷ 2 ∷ [])
+unfolding IsDistinct
+lists_downward = record { alike = λ q. refl; each_once = ((refl, tt), (tt, tt)); descending = refl }
+
+lists_upward : ListsDownward number (by_number number) (3 ∷ 2 ∷ []) (2 ∷ 3 ∷ []) → ⊥
+lists_upward lists = false≢true lists.descending
+
+leaves_a_key_out : ListsDownward number (by_number number) (3 ∷ 2 ∷ []) (3 ∷ []) → ⊥
+leaves_a_key_out lists = false≢true (lists.alike 2)
 
 -- ---- ranks: the greater first, ties by number, and 0 past the table's end
 

@@ -6,7 +6,7 @@ use Rattle.std.proofs.Math.Path.{fun_ext}
 use Rattle.std.proofs.Math.Seq.{take-append_seam, take-append-add}
 use Rattle.std.proofs.lemmas.Bool.{and_parts, and_from, cases_Bool, false≢true, eq-eqb}
 use Rattle.std.proofs.lemmas.Map.Steps.{list_any_congr}
-use Rattle.std.proofs.Math.Bool.{and-true, and-false}
+use Rattle.std.proofs.Math.Bool.{and-false}
 use Rattle.std.proofs.lemmas.List.Elements.{All-head, All-tail}
 use Rattle.giputils_heap.specs.Keys.{same_key, is_held, AreDistinct, AreBelow, HoldAlike, without, key_limit}
 use Rattle.giputils_heap.specs.Relations.{is_lawful, IsLawful, agree_on, is_greatest}
@@ -48,7 +48,8 @@ module _ {T C : Type 0} (number : T → ℕ) (at_least : C → T → T → Bool)
   -- a step of a record that answers may reply as it did after the steps before it
   pub answers_at_step : (p : Progress T C) (entries : List (Entry T C)) → answers_from number at_least p entries ≡ true
       → (i : ℕ) (e : Entry T C) → slice_get entries i ≡ Some e
-      → may_reply number (at_least e.comparer) (progress_from number at_least p (take (i + 1) entries)).steady (held_from number p.held (take i entries)) e.call e.reply ≡ true
+      → may_reply number (at_least e.comparer) (progress_from number at_least p (take (i + 1) entries)).steady
+      (held_from number p.held (take i entries)) e.call e.reply ≡ true
   answers_at_step p [] answers i e found = cc
   answers_at_step p (x ∷ entries) answers zero e found =
       let same : x ≡ e = cc in
@@ -180,7 +181,8 @@ module _ {T C : Type 0} (number : T → ℕ) (one_value : (x y : T) → number x
   pops_down p [] (e ∷ pops) once answers popping steady =
       let none : is_nil p.held ≡ true =
       rw (popping.0.call, popping.0.reply) at
-      (and_parts (may_answer number at_least p e.call e.comparer e.reply) (answers_from number at_least (after_call number at_least p e.call e.comparer e.reply) pops) answers).0
+      (and_parts (may_answer number at_least p e.call e.comparer e.reply)
+      (answers_from number at_least (after_call number at_least p e.call e.comparer e.reply) pops) answers).0
       in
       record { alike = rw (nil_from p.held none) (λ q. refl); each_once = AreDistinct-nil number [] refl; descending = refl }
   pops_down p (k ∷ keys) (e ∷ pops) once answers popping steady =
@@ -270,7 +272,9 @@ module _ {T C : Type 0} (number : T → ℕ) (at_least : C → T → T → Bool)
       (and_from (is_lawful (at_least c) (compared_keys p.held call)) (agrees_with_last number at_least q.last call c p.held) lawful
       (agrees_with_last-same number at_least q.last call c p.held (λ b was. q_last b was ∙ sym is)))
       in
-      elim (may_compare call) as (λ b. ((if b then (q.steady && (is_lawful (at_least c) (compared_keys p.held call) && agrees_with_last number at_least q.last call c p.held)) else q.steady) ≡ true)
+      elim (may_compare call) as (λ b. ((if b
+      then (q.steady && (is_lawful (at_least c) (compared_keys p.held call) && agrees_with_last number at_least q.last call c p.held))
+      else q.steady) ≡ true)
       × ((d : C) → (if b then Some c else q.last) ≡ Some d → at_least d ≡ R)) [
         | true ↦ (compared, λ d same. let this : c ≡ d = cc in ap at_least (sym this) ∙ is)
         | false ↦ (q_steady, q_last)

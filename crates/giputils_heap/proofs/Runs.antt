@@ -106,7 +106,8 @@ module _ {T C : Type 0} (number : T → ℕ) (at_least : C → T → T → Bool)
     -- and after it one more step was run
     pub HasRun-more : (cmp : Counted C) (r : HeapReply T) (keys' : List T)
         → ((p : Progress T C) → Stands number at_least p keys → may_answer number at_least p (get_or now i d).call (get_or now i d).cmp.comparer r ≡ true)
-        → ((p : Progress T C) → Stands number at_least p keys → Stands number at_least (after_call number at_least p (get_or now i d).call (get_or now i d).cmp.comparer r) keys')
+        → ((p : Progress T C) → Stands number at_least p keys
+        → Stands number at_least (after_call number at_least p (get_or now i d).call (get_or now i d).cmp.comparer r) keys')
         → ((p : Progress T C) → Stands number at_least p keys → cmp.count ≤ (get_or now i d).cmp.count + comparison_bound number p.held (get_or now i d).call)
         → cmp.comparer ≡ (get_or now i d).cmp.comparer → (get_or now i d).cmp.count ≤ cmp.count
         → (IsFalse (may_compare (get_or now i d).call) → cmp.count ≡ (get_or now i d).cmp.count)

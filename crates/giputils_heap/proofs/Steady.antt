@@ -1,5 +1,5 @@
 -- When a step of a run agrees with the comparer that was last lent.
-use Rattle.std.proofs.Common.{◌≡◌, ℕ, Bool, true, ◌&&◌, List, Option, Some, None, refl, ap, sym, ◌∙◌}
+use Rattle.std.proofs.Common.{◌≡◌, ℕ, Bool, true, ◌&&◌, List, Option, Some, None, refl, ap, ◌∙◌}
 use Rattle.std.proofs.lemmas.Bool.{or_left}
 use Rattle.giputils_heap.specs.Keys.{without}
 use Rattle.giputils_heap.specs.Record.{agrees_with_last}

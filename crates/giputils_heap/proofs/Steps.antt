@@ -1,6 +1,6 @@
 -- One call of a heap, and the record that it adds to.
 use Rattle.std.proofs.Common.{◌≡◌, ℕ, ◌+◌, ◌*◌, ◌<◌, ◌≤◌, Bool, cond, true, false, ◌&&◌, ◌||◌, not, List, [], ◌∷◌, length, Option, Some, None, refl, ap, sym, ◌∙◌, subst, ⊎_elim, arith}
-use Rattle.std.specs.Prelude.{IsTrue, MatchOption, IfSome, IfNone, IsSome, ◌↔◌}
+use Rattle.std.specs.Prelude.{IsTrue, IfSome, IfNone, IsSome, ◌↔◌}
 use Rattle.std.specs.Bool.{beq}
 use Rattle.std.specs.List.{list_all}
 use Rattle.std.specs.List.Sorted.{IsPermutation}
@@ -16,7 +16,7 @@ use Rattle.giputils_heap.specs.Record.{Progress, start_if_empty, agrees_with_las
 use Rattle.giputils_heap.specs.declared.run.HeapCall.{HeapCall}
 use Rattle.giputils_heap.specs.declared.run.HeapCall.TheVariants.{Push, Pop, Up, Down, Update, Rebuild, Clear}
 use Rattle.giputils_heap.specs.declared.run.HeapReply.TheVariants.{Done, Popped}
-use Rattle.giputils_heap.specs.Stands.{Stands, IsInOrderSince}
+use Rattle.giputils_heap.specs.Stands.{Stands, IsInOrderByLast, IsInOrderSince}
 use Rattle.giputils_heap.proofs.BoolsAndLists.{implied_from}
 use Rattle.giputils_heap.proofs.KeySets.{is_held-head, AreDistinct-nil, AreDistinct-IsPermutation}
 use Rattle.giputils_heap.proofs.Preorders.{agree_on-refl}
@@ -52,42 +52,37 @@ module _ {T C : Type 0} (number : T → ℕ) (one_value : (x y : T) → number x
       }
 
   -- comparers that agree on what is held agree on the keys
-  agreed : (b c : C) (keys held : List T) → HoldAlike number keys held → agree_on (at_least b) (at_least c) held ≡ true
+  AgreeOn-from_held : (b c : C) (keys held : List T) → HoldAlike number keys held → agree_on (at_least b) (at_least c) held ≡ true
       → AgreeOn (at_least b) (at_least c) keys
-  agreed b c keys held alike agrees =
+  AgreeOn-from_held b c keys held alike agrees =
       all_pairs-fewer number one_value (λ x y. beq (at_least b x y) (at_least c x y)) keys held (HoldsWithin-alike number keys held alike) agrees
 
   -- but for v too
-  agreed_except : (v : T) (b c : C) (keys held : List T) → HoldAlike number keys held → agrees_except number v (at_least b) (at_least c) held ≡ true
+  AgreesExcept-from_held : (v : T) (b c : C) (keys held : List T) → HoldAlike number keys held → agrees_except number v (at_least b) (at_least c) held ≡ true
       → AgreesExcept number v (at_least b) (at_least c) keys
-  agreed_except v b c keys held alike agrees =
-      agreed b c (without number keys v) (without number held v) (HoldAlike-without number v keys held alike) agrees
+  AgreesExcept-from_held v b c keys held alike agrees =
+      AgreeOn-from_held b c (without number keys v) (without number held v) (HoldAlike-without number v keys held alike) agrees
 
-  -- order under the last comparer, which is lawful, or under all
-  abbrev OrderedByLast : Option C → List T → Type 0
-  OrderedByLast last keys =
-      MatchOption last ((R : T → T → Bool) → IsInOrder R keys) (λ b. IsInOrder (at_least b) keys × IsLawful (at_least b) keys)
-
-  -- is order under one that compares the held keys as that did
+  -- order under the last comparer is order under one that compares the held keys as that did
   ordered_by_last : (last : Option C) (call : HeapCall T) (c : C) (keys held : List T) → HoldAlike number keys held
       → ((b : C) → agrees_with_last number at_least (Some b) call c held ≡ agree_on (at_least b) (at_least c) held)
-      → OrderedByLast last keys → agrees_with_last number at_least last call c held ≡ true → IsInOrder (at_least c) keys
+      → IsInOrderByLast at_least last keys → agrees_with_last number at_least last call c held ≡ true → IsInOrder (at_least c) keys
   ordered_by_last None call c keys held alike whole ordered agrees = ordered (at_least c)
   ordered_by_last (Some b) call c keys held alike whole ordered agrees =
-      IsInOrder-agree (at_least b) (at_least c) keys ordered.0 (agreed b c keys held alike (sym (whole b) ∙ agrees))
+      IsInOrder-agree (at_least b) (at_least c) keys ordered.0 (AgreeOn-from_held b c keys held alike (sym (whole b) ∙ agrees))
 
   -- an Update of v makes good what the last comparer's relation and this one do not agree on
   repaired_from_last : (last : Option C) (v : T) (c : C) (keys held new : List T) → HoldAlike number keys held → IsLawful (at_least c) keys
-      → OrderedByLast last keys → agrees_with_last number at_least last (Update v) c held ≡ true → RepairsChanged number v (at_least c) keys new keys
+      → IsInOrderByLast at_least last keys → agrees_with_last number at_least last (Update v) c held ≡ true → RepairsChanged number v (at_least c) keys new keys
       → IsInOrder (at_least c) new
   repaired_from_last None v c keys held new alike lawful ordered agrees repaired =
       repaired (at_least c) (ordered (at_least c)) lawful (agree_on-refl (at_least c) (without number keys v)) lawful
   repaired_from_last (Some b) v c keys held new alike lawful ordered agrees repaired =
-      repaired (at_least b) ordered.0 ordered.1 (agreed_except v b c keys held alike agrees) lawful
+      repaired (at_least b) ordered.0 ordered.1 (AgreesExcept-from_held v b c keys held alike agrees) lawful
 
   -- an Up or a Down of v does where v has gone its way: `gone` tells whether it has, beside another key
   repaired_one_way : (gone : (T → T → Bool) → (T → T → Bool) → T → Bool) (last : Option C) (v : T) (c : C) (keys held new : List T)
-      → HoldAlike number keys held → IsLawful (at_least c) keys → OrderedByLast last keys
+      → HoldAlike number keys held → IsLawful (at_least c) keys → IsInOrderByLast at_least last keys
       → ((b : C) → last ≡ Some b → (agree_on (at_least b) (at_least c) held
       || (agrees_except number v (at_least b) (at_least c) held && list_all (gone (at_least b) (at_least c)) held)) ≡ true)
       → KeepsOrder (at_least c) keys new
@@ -100,10 +95,10 @@ module _ {T C : Type 0} (number : T → ℕ) (one_value : (x y : T) → number x
       let except : Bool = agrees_except number v (at_least b) (at_least c) held in
       let went : Bool = list_all (gone (at_least b) (at_least c)) held in
       ⊎_elim
-      (λ unchanged. keeps_order (IsInOrder-agree (at_least b) (at_least c) keys ordered.0 (agreed b c keys held alike unchanged)) lawful)
+      (λ unchanged. keeps_order (IsInOrder-agree (at_least b) (at_least c) keys ordered.0 (AgreeOn-from_held b c keys held alike unchanged)) lawful)
       (λ changed.
       let parts = and_parts except went changed in
-      repaired (at_least b) ordered.0 ordered.1 (agreed_except v b c keys held alike parts.0)
+      repaired (at_least b) ordered.0 ordered.1 (AgreesExcept-from_held v b c keys held alike parts.0)
       (list_all-fewer number one_value (gone (at_least b) (at_least c)) keys held (HoldsWithin-alike number keys held alike) parts.1) lawful)
       (or_cases same (except && went) (agrees b refl))
 
@@ -237,7 +232,7 @@ module _ {T C : Type 0} {number : T → ℕ} (one_value : (x y : T) → number x
   -- what a call on a key that stays steady says of what was before it
   said_at_key : (call : HeapCall T) (v : T)
       → ((start_if_empty p).steady && (is_lawful (at_least c) (v ∷ p.held) && agrees_with_last number at_least (start_if_empty p).last call c p.held)) ≡ true
-      → IsLawful (at_least c) keys × OrderedByLast number one_value at_least (start_if_empty p).last keys
+      → IsLawful (at_least c) keys × IsInOrderByLast at_least (start_if_empty p).last keys
       × (agrees_with_last number at_least (start_if_empty p).last call c p.held ≡ true)
   said_at_key call v steady =
       let agrees : Bool = agrees_with_last number at_least (start_if_empty p).last call c p.held in

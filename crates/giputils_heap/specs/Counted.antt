@@ -10,7 +10,8 @@ pub record Counted (C : Type 0) : Type 0 where
 -- a counter is stored as the pair of its fields
 abbrev pub counted_code : {C : Type 0} → Coded C → Coded (Counted C)
 counted_code {C} code =
-    code_by (C × ℕ) (coded× code coded_ℕ) (λ c. (c.comparer, c.count)) (λ p. record { comparer = p.0; count = p.1 }) (λ _. refl)
+    code_by (C × ℕ) (coded× code coded_ℕ) (λ c. (c.comparer, c.count)) (λ p. record { comparer = p.0; count = p.1 })
+    (λ _. refl)
 
 -- who was lent a counter asked its comparer at most so often, and left it the comparer
 pub record AsksAtMost {C : Type 0} (old new : Counted C) (most : ℕ) : Type 0 where

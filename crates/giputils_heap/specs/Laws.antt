@@ -22,7 +22,8 @@ abbrev pub Compares : {T C : Type 0} → (C → T → T → Bool) → (T → T �
 Compares {T} at_least R c = (x y : T) → at_least c x y ≡ R x y
 
 -- a step that pops by a relation R, with this answer
-pub record IsPop {T C : Type 0} (at_least : C → T → T → Bool) (R : T → T → Bool) (answer : Option T) (e : Entry T C) : Type 0 where
+pub record IsPop {T C : Type 0} (at_least : C → T → T → Bool) (R : T → T → Bool) (answer : Option T) (e : Entry T C)
+    : Type 0 where
   pub call : e.call ≡ Pop
   pub comparer : Compares at_least R e.comparer
   pub reply : e.reply ≡ Popped answer
@@ -49,8 +50,8 @@ KeepsCountsAtEachStep T C =
     (number : T → ℕ) (entries : List (Entry T C)) → KeepsCounts number entries
     → (i : ℕ) (e : Entry T C) → slice_get entries i ≡ Some e → KeepsCountAt number entries i e
 
--- popping by one relation until nothing is held gives every key that was held once, and each is at least the next, where
--- the first of these pops is steady
+-- popping by one relation until nothing is held gives every key that was held once, and each is at least the next,
+-- where the first of these pops is steady
 abbrev pub PopsListDownward : {T C : Type 0} → (T → ℕ) → (C → T → T → Bool) → Type 0
 PopsListDownward {T} {C} number at_least =
     (before pops : List (Entry T C)) (R : T → T → Bool) (keys : List T) → Answers number at_least (before ++ pops)
@@ -60,5 +61,6 @@ PopsListDownward {T} {C} number at_least =
 -- where every comparer has one relation, which orders all keys, every step is steady
 abbrev pub OneOrderIsSteady : {T C : Type 0} → (T → ℕ) → (C → T → T → Bool) → Type 0
 OneOrderIsSteady {T} {C} number at_least =
-    (R : T → T → Bool) → IsTotalPreorder R → (entries : List (Entry T C)) → All (λ e. Compares at_least R e.comparer) entries
+    (R : T → T → Bool) → IsTotalPreorder R → (entries : List (Entry T C))
+    → All (λ e. Compares at_least R e.comparer) entries
     → (i : ℕ) → IsSteady number at_least entries i

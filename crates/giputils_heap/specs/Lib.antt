@@ -1,4 +1,4 @@
--- What the contracts of the heap speak of. Table and Tree are the heap's own arrangement.
+-- What the contracts of the heap speak of. Table, Tree and Stands are the heap's own.
 pub mod Bounds
 pub mod Comparers
 pub mod Counted

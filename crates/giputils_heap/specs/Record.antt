@@ -19,7 +19,8 @@ pub record Entry (T C : Type 0) : Type 0 where
   pub reply : HeapReply T
 
 -- what a record's steps so far have come to: the held keys, each once; whether the comparisons have been steady since
--- nothing was last held or all was last rebuilt; and the comparer that was last lent since then to a step that may compare
+-- nothing was last held or all was last rebuilt; and the comparer that was last lent since then to a step that may
+-- compare
 pub record Progress (T C : Type 0) : Type 0 where
   pub held : List T
   pub steady : Bool
@@ -31,9 +32,11 @@ is_nil [] = true
 is_nil (x ∷ xs) = false
 
 -- the record of a run, from its steps before and after it and from its replies
-abbrev pub record_of : {T C : Type 0} → List (HeapStep T C) → List (HeapStep T C) → List (HeapReply T) → List (Entry T C)
+abbrev pub record_of : {T C : Type 0} → List (HeapStep T C) → List (HeapStep T C) → List (HeapReply T)
+    → List (Entry T C)
 record_of (s ∷ before) (t ∷ after) (r ∷ replies) =
-    record { call = s.call; comparer = s.cmp.comparer; comparisons = t.cmp.count - s.cmp.count; reply = r } ∷ record_of before after replies
+    record { call = s.call; comparer = s.cmp.comparer; comparisons = t.cmp.count - s.cmp.count; reply = r }
+    ∷ record_of before after replies
 record_of _ _ _ = []
 
 module _ {T : Type 0} where
@@ -120,7 +123,8 @@ module _ {T C : Type 0} (number : T → ℕ) (at_least : C → T → T → Bool)
   is_steady_at p call c =
       let before : Progress T C = start_anew p call in
       if may_compare call
-      then (before.steady && (is_lawful (at_least c) (compared_keys p.held call) && agrees_with_last before.last call c p.held))
+      then (before.steady
+      && (is_lawful (at_least c) (compared_keys p.held call) && agrees_with_last before.last call c p.held))
       else before.steady
 
   -- the progress after one more call, which was lent this comparer and had this reply
@@ -151,8 +155,8 @@ module _ {T C : Type 0} (number : T → ℕ) (at_least : C → T → T → Bool)
   abbrev pub Answers : List (Entry T C) → Type 0
   Answers entries = IsTrue (answers_from start entries)
 
-  -- whether up to step i, since nothing was last held or all was last rebuilt, the comparisons were lawful and changed for
-  -- one key at a time, at an Update of that key, at an Up where it has risen, or at a Down where it has fallen
+  -- whether up to step i, since nothing was last held or all was last rebuilt, the comparisons were lawful and changed
+  -- for one key at a time, at an Update of that key, at an Up where it has risen, or at a Down where it has fallen
   abbrev pub is_steady : List (Entry T C) → ℕ → Bool
   is_steady entries i = (progress_from start (take (i + 1) entries)).steady
 
@@ -189,7 +193,8 @@ module _ {T C : Type 0} (number : T → ℕ) (at_least : C → T → T → Bool)
   -- step i of a record may reply as it did to the keys that are held before it
   abbrev pub AnswersAt : List (Entry T C) → ℕ → Entry T C → Type 0
   AnswersAt entries i e =
-      IsTrue (may_reply number (at_least e.comparer) (is_steady number at_least entries i) (held_before number entries i) e.call e.reply)
+      IsTrue (may_reply number (at_least e.comparer) (is_steady number at_least entries i)
+      (held_before number entries i) e.call e.reply)
 
 -- a call compares no oftener, whatever is held: fewer than 2^32 keys are
 abbrev pub most_comparisons : {T : Type 0} → HeapCall T → ℕ

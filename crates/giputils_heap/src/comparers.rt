@@ -2,6 +2,9 @@
 ghost use Rattle.std.specs.Prelude.{◌≡◌};
 ghost use Rattle.giputils_heap.specs.Comparers.{by_number, reverse_of, rank_of, by_rank};
 
+#[cfg(test)]
+mod tests;
+
 use crate::key::{BinaryHeapCmp, HeapKey};
 use std::cmp::Reverse;
 

@@ -6,7 +6,8 @@ use std::marker::Model;
 
 /// A lent comparer and the number of times that it was asked.
 ///
-/// The comparer can be asked through [`Counting::gte`] alone, which counts, and a counter can be neither cloned nor copied. So what a piece of code that is lent a counter has added to it is how often that code asked the comparer.
+/// The comparer can be asked through [`Counting::gte`] alone, which counts, and a counter can be neither cloned nor
+/// copied. So what a piece of code that is lent a counter has added to it is how often that code asked the comparer.
 #[derive(Drop, Debug)]
 pub struct Counting<'a, C> {
     comparer: &'a C,

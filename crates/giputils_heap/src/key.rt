@@ -39,7 +39,7 @@ impl HeapKey for u16 {
     ghost eq_by_number = { λ _ _. refl };
 
     fn key(&self) -> u32 {
-        (*self).into()
+        u32::from(*self)
     }
 }
 

@@ -9,8 +9,6 @@ pub mod run;
 mod sealed;
 mod sift;
 mod table;
-#[cfg(test)]
-mod tests;
 mod tree;
 
 pub use comparers::{ByNumber, ByRank, RankTable};

@@ -5,13 +5,13 @@ ghost use Rattle.giputils_heap.specs.Bounds.{count_limit};
 ghost use Rattle.giputils_heap.specs.Laws.{AnswersAtEachStep, KeepsCountsAtEachStep, PopsListDownward, OneOrderIsSteady};
 ghost use Rattle.giputils_heap.specs.Stands.{Stands};
 
+#[cfg(test)]
+mod tests;
+
 use crate::counting::Counting;
 use crate::heap::BinaryHeap;
 use crate::key::{BinaryHeapCmp, HeapKey};
 use std::alloc::{AllocError, Allocator};
-
-#[cfg(test)]
-mod tests;
 
 /// A call of a heap.
 #[derive(Clone, Copy, PartialEq, Eq, Debug)]
@@ -20,13 +20,13 @@ pub enum HeapCall<T> {
     Push(T),
     /// Takes out a key, a greatest one where the heap is in order.
     Pop,
-    /// Repairs the order where the key has risen.
+    /// Repairs the order where the key's comparisons alone have changed, and it has risen by them.
     Up(T),
-    /// Repairs the order where the key has fallen.
+    /// Repairs the order where the key's comparisons alone have changed, and it has fallen by them.
     Down(T),
-    /// Repairs the order where the key has changed.
+    /// Repairs the order where the key's comparisons alone have changed, in any way.
     Update(T),
-    /// Repairs the order, however the keys have changed.
+    /// Repairs the order, however the comparisons have changed.
     Rebuild,
     /// Holds nothing afterwards.
     Clear,
@@ -56,7 +56,9 @@ pub enum HeapReply<T> {
 /// A step of a run: a call, and the comparer that it is lent.
 #[derive(Drop, Debug)]
 pub struct HeapStep<'a, T, C> {
+    /// The call.
     pub call: HeapCall<T>,
+    /// The comparer that the call is lent, with how often it has been asked.
     pub cmp: Counting<'a, C>,
 }
 
@@ -80,7 +82,8 @@ pub const fn answers_at_each_step<T, C>()
     ensures { AnswersAtEachStep T C }
 {}
 
-/// A law of records: one that keeps its counts does so at each of its steps, by the number of keys that are held before it.
+/// A law of records: one that keeps its counts does so at each of its steps, by the number of keys that are held before
+/// it.
 pub const fn keeps_counts_at_each_step<T, C>()
     ensures { KeepsCountsAtEachStep T C }
 {}
@@ -91,16 +94,16 @@ pub const fn pops_list_downward<T: HeapKey, C: BinaryHeapCmp<T>>()
     ensures { PopsListDownward T.number C.at_least }
 {}
 
-/// A law of records: where the comparers of all steps have one relation, which is total and transitive on all keys, every
-/// step is steady.
+/// A law of records: where the comparers of all steps have one relation, which is total and transitive on all keys,
+/// every step is steady.
 pub const fn one_order_is_steady<T: HeapKey, C: BinaryHeapCmp<T>>()
     ensures { OneOrderIsSteady T.number C.at_least }
 {}
 
 /// Runs the steps in order from the empty heap, and answers one reply for each.
 ///
-/// Each counter must be at most 2^63, which [`Counting::count`] tells. The list of replies is asked for first. The steps
-/// keep their calls and comparers, and each counter rises by what its step compared.
+/// Each counter must be at most 2^63, which [`Counting::count`] tells. The list of replies is asked for first. The
+/// steps keep their calls and comparers, and each counter rises by what its step compared.
 ///
 /// # Errors
 /// `AllocError` where memory for the list of replies is refused. Nothing was run then.
@@ -109,9 +112,12 @@ pub fn heap_run<T: HeapKey, C: BinaryHeapCmp<T>, A: Allocator + Copy>(
     steps: &mut [HeapStep<'_, T, C>],
 ) -> Result<Vec<HeapReply<T>, A>, AllocError>
     requires { CanCount steps.old }
-    ensures record { IfOk result (λ replies. Answers T.number C.at_least (record_of steps.old steps.new replies.items)) }
+    ensures record { IfOk result (λ replies.
+        Answers T.number C.at_least (record_of steps.old steps.new replies.items)) }
     ensures counts { IfOk result (λ replies. KeepsCounts T.number (record_of steps.old steps.new replies.items)) }
     ensures replies { IfOk result (λ replies. length replies.items ≡ length steps.old) }
+
+    // Also where memory was refused.
     ensures kept { KeepsSteps steps.old steps.new }
     ensures refused { OnErr result (steps.new ≡ steps.old) }
 {

@@ -4,7 +4,15 @@ ghost use Rattle.std.specs.Prelude.{◌&&◌, nat_le};
 use super::{HeapCall, HeapReply, HeapStep, heap_run};
 use crate::comparers::{ByNumber, RankTable};
 use crate::key::BinaryHeapCmp;
+use std::alloc::{AllocError, Global};
 use std::test::Fail;
+
+#[test]
+fn a_run_of_no_steps_has_no_replies(rt: HostRuntime) -> Result<(), Fail> {
+    let mut steps: [HeapStep<u32, ByNumber>; 0] = [];
+    assert_eq!(rt; heap_run(rt.alloc(), &mut steps)?.len(), 0);
+    Ok(())
+}
 
 #[test]
 fn a_key_pushed_twice_is_held_once(rt: HostRuntime) -> Result<(), Fail> {
@@ -28,6 +36,7 @@ fn a_key_pushed_twice_is_held_once(rt: HostRuntime) -> Result<(), Fail> {
 fn a_run_skips_what_is_no_key(rt: HostRuntime) -> Result<(), Fail> {
     let mut steps = [
         HeapStep::new(HeapCall::Push(u32::MAX), &ByNumber),
+        HeapStep::new(HeapCall::Len, &ByNumber),
         HeapStep::new(HeapCall::IsEmpty, &ByNumber),
         HeapStep::new(HeapCall::Up(u32::MAX), &ByNumber),
         HeapStep::new(HeapCall::Push(7), &ByNumber),
@@ -37,6 +46,7 @@ fn a_run_skips_what_is_no_key(rt: HostRuntime) -> Result<(), Fail> {
     let replies = heap_run(rt.alloc(), &mut steps)?;
     let wanted = [
         HeapReply::Skipped,
+        HeapReply::Length(0),
         HeapReply::Empty(true),
         HeapReply::Done,
         HeapReply::Done,
@@ -47,31 +57,50 @@ fn a_run_skips_what_is_no_key(rt: HostRuntime) -> Result<(), Fail> {
     Ok(())
 }
 
-#[test]
-fn a_run_repairs_a_changed_rank(rt: HostRuntime) -> Result<(), Fail> {
-    let (before, after) = (RankTable([5, 3, 4, 0]), RankTable([1, 3, 4, 0]));
+// The replies of a run that pushes keys 0 to 2 of ranks 5, 3, 4, makes this call under other ranks and pops all; and how
+// often the call asked.
+fn repaired(
+    alloc: Global,
+    call: HeapCall<u8>,
+    ranks: [u32; 3],
+) -> Result<(Vec<HeapReply<u8>>, u64), AllocError> {
+    let (before, after) = (RankTable([5, 3, 4]), RankTable(ranks));
     let mut steps = [
-        HeapStep::new(HeapCall::Push(0u8), &before),
+        HeapStep::new(HeapCall::Push(0), &before),
         HeapStep::new(HeapCall::Push(1), &before),
         HeapStep::new(HeapCall::Push(2), &before),
-        HeapStep::new(HeapCall::Update(0), &after),
+        HeapStep::new(call, &after),
         HeapStep::new(HeapCall::Pop, &after),
         HeapStep::new(HeapCall::Pop, &after),
         HeapStep::new(HeapCall::Pop, &after),
     ];
-    let replies = heap_run(rt.alloc(), &mut steps)?;
+    let replies = heap_run(alloc, &mut steps)?;
+    Ok((replies, steps[3].cmp.count()))
+}
+
+#[test]
+fn a_run_repairs_a_changed_rank(rt: HostRuntime) -> Result<(), Fail> {
+    let (risen, fallen) = ([5, 9, 4], [1, 3, 4]);
     let done = HeapReply::Done;
-    let wanted = [
-        done,
-        done,
-        done,
-        done,
-        HeapReply::Popped(Some(2)),
-        HeapReply::Popped(Some(1)),
-        HeapReply::Popped(Some(0)),
-    ];
-    assert_eq!(rt; replies.as_slice(), wanted.as_slice());
-    assert!(rt; steps[3].cmp.count() <= 2);
+    for (call, ranks, most, [first, second, third]) in [
+        (HeapCall::Up(1), risen, 1, [1, 0, 2]),
+        (HeapCall::Down(0), fallen, 2, [2, 1, 0]),
+        (HeapCall::Update(1), risen, 2, [1, 0, 2]),
+        (HeapCall::Update(0), fallen, 2, [2, 1, 0]),
+    ] {
+        let (replies, count) = repaired(rt.alloc(), call, ranks)?;
+        let wanted = [
+            done,
+            done,
+            done,
+            done,
+            HeapReply::Popped(Some(first)),
+            HeapReply::Popped(Some(second)),
+            HeapReply::Popped(Some(third)),
+        ];
+        assert_eq!(rt; replies.as_slice(), wanted.as_slice());
+        assert!(rt; count <= most);
+    }
     Ok(())
 }
 

@@ -3,7 +3,8 @@ use Rattle.giputils_heap.proofs.Runs.{HasRun}
 use Rattle.giputils_heap.proofs.run.heap_run.Given as goal
 
 abbrev pub invariant-loop-step : goal.invariant-loop-step
-invariant-loop-step g l =
-    HasRun g.T.HeapKey.number g.C.BinaryHeapCmp.at_least l.fn.steps l.steps l.step-index l.replies.items l.heap
-    × (vec_len l.replies ≡ l.step-index)
-    × (length l.fn.steps ≤ vec_capacity l.replies)
+invariant-loop-step g l = record {
+  run : HasRun g.T.HeapKey.number g.C.BinaryHeapCmp.at_least l.fn.steps l.steps l.step-index l.replies.items l.heap;
+  replied : vec_len l.replies ≡ l.step-index;
+  room : length l.fn.steps ≤ vec_capacity l.replies;
+}
