@@ -16,6 +16,10 @@ module _ {T : Type 0} where
   abbrev pub mark_at : List (T × Bool) → ℕ → Option Bool
   mark_at slots i = option_map (λ slot. slot.1) (slice_get slots i)
 
+  -- the value of slot i, if it is unmarked
+  abbrev pub live_at : List (T × Bool) → ℕ → Option T
+  live_at slots i = option_and_then (λ slot. if slot.1 then None else Some slot.0) (slice_get slots i)
+
   -- slot i is marked, and keeps its value
   abbrev pub mark : List (T × Bool) → ℕ → List (T × Bool)
   mark slots i = option_map_or (λ slot. slice_set slots i (slot.0, true)) (slice_get slots i) slots

@@ -1,8 +1,9 @@
 //! An allocator of indexes: removed values are marked, and a collection drops them and renumbers the others.
 ghost use Rattle.std.specs.Prelude.{◌≡◌, ◌≢◌, ◌↔◌, ℕ, ◌<◌, [], ◌∷◌, ◌++◌, true, false, Some, length, IsTrue, IfOk, IfErr, OnOk, OnErr, nat_eq};
+ghost use Rattle.std.specs.Option.{option_copied};
 ghost use Rattle.std.specs.Borrow.{Lends, sem};
 ghost use Rattle.giputils_base.specs.Hash.{get};
-ghost use Rattle.giputils_base.specs.Allocator.{value_at, mark_at, mark, survivors, unmarked_slots, IsIndexMap, Renumbers};
+ghost use Rattle.giputils_base.specs.Allocator.{value_at, mark_at, live_at, mark, survivors, unmarked_slots, IsIndexMap, Renumbers};
 
 mod run;
 #[cfg(test)]
@@ -170,6 +171,17 @@ impl<T, A: Allocator> Gallocator<T, A> {
         ensures { mark_at self.now index ≡ Some result }
     {
         self.slots[index].is_removed()
+    }
+
+    /// The value of slot `index`, if there is such a slot and it is not marked as removed.
+    #[inline]
+    pub fn get(&self, index: usize) -> Option<&T>
+        ensures value { option_copied result ≡ live_at self.now index }
+    {
+        if index >= self.len() || self.is_removed(index) {
+            return None;
+        }
+        Some(&self[index])
     }
 
     /// Drops the marked values, and closes the gaps: the others keep their order and are unmarked. Answers the map from

@@ -196,7 +196,7 @@ impl<K: Eq + Hash, V, A: Allocator> GHashMap<K, V, A> {
     /// The value at `key`, if it has one.
     #[inline]
     pub fn get(&self, key: &K) -> Option<&V>
-        ensures { option_copied result ≡ get K.eq self.now key.now }
+        ensures value { option_copied result ≡ get K.eq self.now key.now }
     {
         self.map.get(key)
     }

@@ -16,6 +16,14 @@ fn is_map_collected(memory: &Refusing) -> bool {
     GHashMap::from_iter(memory, [(1u32, 5u32), (2, 6), (1, 7)]).is_ok()
 }
 
+fn is_member_put(memory: &Refusing) -> bool {
+    GHashSet::new(memory).insert(3u32).is_ok()
+}
+
+fn is_value_put(memory: &Refusing) -> bool {
+    GHashMap::new(memory).insert(4u32, 16u32).is_ok()
+}
+
 fn is_set_cloned(memory: &Refusing) -> bool {
     let mut set = GHashSet::new(memory);
     if set.insert(3u32).is_err() {
@@ -49,6 +57,8 @@ fn each_request_of_a_hashed_collection_is_refused_in_turn(rt: HostRuntime) {
             refuse_from_each(alloc, is_map_collected),
             GROWTH,
         ),
+        ("a set's insert", refuse_each(alloc, is_member_put), GROWTH),
+        ("a map's insert", refuse_each(alloc, is_value_put), GROWTH),
         (
             "a set's clone",
             refuse_each(alloc, is_set_cloned),

@@ -47,6 +47,14 @@ fn a_collection_drops_marked_values_and_renumbers_the_others(rt: HostRuntime) ->
     assert!(rt; allocator.is_removed(1));
     assert!(rt; !allocator.is_removed(2));
     assert_eq!(rt; read(&allocator, 1), 20);
+    assert_eq!(rt;
+        (
+            allocator.get(0).copied(),
+            allocator.get(1),
+            allocator.get(3)
+        ),
+        (Some(10), None, None)
+    );
     let indexes = allocator.gc()?;
     assert_eq!(rt;
         format!(in rt.alloc(); "{allocator:?}")?.as_str(),
