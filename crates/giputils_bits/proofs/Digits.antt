@@ -1,16 +1,17 @@
 -- Binary digits of a number, and the number that a list of digits is.
-use Rattle.std.proofs.Common.{◌≡◌, ℕ, zero, suc, ◌+◌, ◌-◌, ◌*◌, ◌/◌, ◌%◌, ◌^◌, ◌<◌, ◌≤◌, max, Bool, true, false, ◌||◌, eqb, cond, List, [], ◌∷◌, length, get_or, replicate, refl, sym, ap, ◌∙◌, arith, tests}
-use Rattle.std.specs.Prelude.{bit_or}
-use Rattle.std.specs.Int.{bit_at}
+use Rattle.std.proofs.Common.{◌≡◌, ℕ, zero, suc, ◌+◌, ◌-◌, ◌*◌, ◌/◌, ◌%◌, ◌^◌, ◌<◌, ◌≤◌, max, min, Bool, true, false, not, ◌&&◌, ◌||◌, eqb, cond, List, [], ◌∷◌, length, get_or, replicate, refl, sym, ap, ◌∙◌, arith, tests, w64}
+use Rattle.std.specs.Prelude.{bit_and, bit_or, bit_xor}
+use Rattle.std.specs.Int.{bit_at, bit_not}
 use Rattle.std.proofs.Math.Nat.{pow-suc}
 use Rattle.std.proofs.lemmas.Nat.{and_mask, shr-shr, pow_pos}
-use Rattle.std.proofs.lemmas.Nat.Bits.{bit_at-lt, bit_at-zero, bit_at-suc, bit_at_lowest, bit_at_and, bit_at_or, bit_at_ones, bit_at_ones_above, bit_at_above, bit_at_cat_low, bit_at_cat_high, same_from_bits_below}
+use Rattle.std.proofs.lemmas.Nat.Bits.{bit_at-lt, bit_at-zero, bit_at-suc, bit_at_lowest, bit_at_and, bit_at_or, bit_at_xor, bit_at_not, bit_at_ones, bit_at_ones_above, bit_at_above, bit_at_cat_low, bit_at_cat_high, same_from_bits_below}
 use Rattle.std.proofs.lemmas.List.{same_lists, get_or_default, get_or-replicate, length-replicate}
 use Rattle.std.proofs.lemmas.List.FromFn.{length-map-range_with_len, get_or-map-range_with_len}
 use Rattle.giputils_bits.specs.Bits.{has_digit, digits_of, value_of, one_of}
+use Rattle.giputils_bits.specs.Logic.{xor}
 
 -- ---- one digit
-same_digit : (a b : ℕ) → a < 2 → b < 2 → eqb a 1 ≡ eqb b 1 → a ≡ b
+pub same_digit : (a b : ℕ) → a < 2 → b < 2 → eqb a 1 ≡ eqb b 1 → a ≡ b
 same_digit a b p q e = grind (arith, tests)
 
 or_test : (a b : ℕ) → a < 2 → b < 2 → eqb (max a b) 1 ≡ (eqb a 1 || eqb b 1)
@@ -26,6 +27,37 @@ has_digit-zero i = rw (bit_at-zero i) refl
 
 pub has_digit-or : (a b i : ℕ) → has_digit (bit_or a b) i ≡ (has_digit a i || has_digit b i)
 has_digit-or a b i = ap (λ x. eqb x 1) (bit_at_or a b i) ∙ or_test (bit_at a i) (bit_at b i) (bit_at-lt a i) (bit_at-lt b i)
+
+-- the digits of a conjunction, of an exclusive or, and of the negated word
+and_test : (a b : ℕ) → a < 2 → b < 2 → eqb (min a b) 1 ≡ (eqb a 1 && eqb b 1)
+and_test zero zero p q = refl
+and_test zero (suc zero) p q = refl
+and_test (suc zero) zero p q = refl
+and_test (suc zero) (suc zero) p q = refl
+and_test (suc (suc a)) b p q = absurd (omega arith)
+and_test a (suc (suc b)) p q = absurd (omega arith)
+
+xor_test : (a b : ℕ) → a < 2 → b < 2 → eqb ((a + b) % 2) 1 ≡ xor (eqb a 1) (eqb b 1)
+xor_test zero zero p q = refl
+xor_test zero (suc zero) p q = refl
+xor_test (suc zero) zero p q = refl
+xor_test (suc zero) (suc zero) p q = refl
+xor_test (suc (suc a)) b p q = absurd (omega arith)
+xor_test a (suc (suc b)) p q = absurd (omega arith)
+
+not_test : (a : ℕ) → a < 2 → eqb (1 - a) 1 ≡ not (eqb a 1)
+not_test zero p = refl
+not_test (suc zero) p = refl
+not_test (suc (suc a)) p = absurd (omega arith)
+
+pub has_digit-and : (a b i : ℕ) → has_digit (bit_and a b) i ≡ (has_digit a i && has_digit b i)
+has_digit-and a b i = ap (λ x. eqb x 1) (bit_at_and a b i) ∙ and_test (bit_at a i) (bit_at b i) (bit_at-lt a i) (bit_at-lt b i)
+
+pub has_digit-xor : (a b i : ℕ) → has_digit (bit_xor a b) i ≡ xor (has_digit a i) (has_digit b i)
+has_digit-xor a b i = ap (λ x. eqb x 1) (bit_at_xor a b i) ∙ xor_test (bit_at a i) (bit_at b i) (bit_at-lt a i) (bit_at-lt b i)
+
+pub has_digit-not : (a i : ℕ) → a < 2 ^ 64 → i < 64 → has_digit (bit_not w64 a) i ≡ not (has_digit a i)
+has_digit-not a i fits within = ap (λ x. eqb x 1) (bit_at_not w64 a i fits within) ∙ not_test (bit_at a i) (bit_at-lt a i)
 
 -- a number below 2 ^ n has no digit from n on
 pub has_digit-above : (number n i : ℕ) → number < 2 ^ n → n ≤ i → has_digit number i ≡ false

@@ -6,8 +6,8 @@ use Rattle.giputils_bits.specs.declared.bitvec.error.BitVecError.TheVariants.{Me
 use Rattle.giputils_bits.specs.declared.bitvec.run.BitCall.TheVariants.{Push, PushWord, SetBit, GetBit, Clear, Extend, Len, ToUsize, IsZero, IsOne, Bool as BoolCall, TryBool}
 use Rattle.giputils_bits.specs.declared.bitvec.run.BitReply.TheVariants.{Done, Refused, Skipped, Bit, MaybeBit, Number}
 use Rattle.giputils_bits.specs.BitRun.{Answers}
-use Rattle.giputils_bits.specs.Bits.{digits_of, value_of, words_of, one_of}
-use Rattle.giputils_bits.specs.Ones.{true_count, true_places, HasOne}
+use Rattle.giputils_bits.specs.Bits.{digits_of, value_of, words_of, one_of, with_word}
+use Rattle.giputils_bits.specs.Ones.{true_count, true_places, HasNoneFrom, IsNextOne, HasOne}
 use Rattle.giputils_bits.specs.Text.{binary_text, hex_text}
 use Rattle.std.specs.Fmt.{digits}
 use Rattle.giputils_bits.specs.Logic.{and_of, or_of, xor_of, not_of}
@@ -78,6 +78,20 @@ a_hundred_and_thirty_places : words_of (one_of 130) ≡ 1 ∷ 0 ∷ 0 ∷ []
 unfolding words_of
 a_hundred_and_thirty_places = refl
 
+-- a word put anew
+
+a_word_of_three_places : with_word 0 6 (replicate 3 true) ≡ false ∷ true ∷ true ∷ []
+unfolding digits_of
+a_word_of_three_places = refl
+
+digits_past_the_list_are_left_out : with_word 1 7 (replicate 65 false) ≡ replicate 64 false ++ true ∷ []
+unfolding digits_of
+digits_past_the_list_are_left_out = refl
+
+other_words_stay : with_word 0 0 (replicate 66 true) ≡ replicate 64 false ++ (true ∷ true ∷ [])
+unfolding digits_of
+other_words_stay = refl
+
 -- what is no list of words
 
 a_word_too_many : words_of (replicate 64 true) ≢ 18446744073709551615 ∷ 0 ∷ []
@@ -129,6 +143,20 @@ true_places_rise = refl
 
 true_places_are_numbered_from_the_start : true_places 64 five ≡ 64 ∷ 66 ∷ 67 ∷ []
 true_places_are_numbered_from_the_start = refl
+
+the_next_of_five_from_one : IsNextOne five 1 2
+the_next_of_five_from_one = record { past = omega arith; holds = refl; least = λ k from before. let e : k ≡ 1 = omega arith in rw e refl }
+
+the_next_is_the_least : ¬ (IsNextOne five 1 3)
+the_next_is_the_least next = let never = next.least 2 (omega arith) (omega arith) in cc
+
+none_of_five_from_four : HasNoneFrom five 4
+none_of_five_from_four zero from = absurd (omega arith)
+none_of_five_from_four (suc zero) from = absurd (omega arith)
+none_of_five_from_four (suc (suc zero)) from = absurd (omega arith)
+none_of_five_from_four (suc (suc (suc zero))) from = absurd (omega arith)
+none_of_five_from_four (suc (suc (suc (suc zero)))) from = refl
+none_of_five_from_four (suc (suc (suc (suc (suc k))))) from = refl
 
 one_of_five_is_true : HasOne five
 one_of_five_is_true = (3, refl)

@@ -6,6 +6,7 @@ mod Gathered
 mod Kept
 pub mod Logic
 pub mod Ones
+mod OnesLeft
 mod Patterns
 mod Places
 mod Rewritten
@@ -15,4 +16,5 @@ mod SameWords
 mod Taken
 mod Text
 pub mod Words
+mod Written
 mod Writes

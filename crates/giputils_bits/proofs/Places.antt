@@ -71,6 +71,13 @@ length-bits_of n ws = length-places ws 0 n
 pub get_or-bits_of : (n : ℕ) (ws : List ℕ) (i : ℕ) (d : Bool) → i < n → get_or (bits_of n ws) i d ≡ place ws i
 get_or-bits_of n ws i d below = get_or-places ws 0 n i i d below (omega arith)
 
+-- each place of words, also past the bits that are kept
+pub get_or-bits_of_all : (n : ℕ) (ws : List ℕ) → ((i : ℕ) → n ≤ i → place ws i ≡ false) → (i : ℕ) → get_or (bits_of n ws) i false ≡ place ws i
+get_or-bits_of_all n ws padding i = elim (cases_lt i n) [
+  | inl l ↦ get_or-bits_of n ws i false l
+  | inr l ↦ get_or_past (bits_of n ws) i false (omega (arith, length-bits_of n ws)) ∙ sym (padding i l)
+]
+
 -- the length of a list that is kept
 pub kept-length : (n : ℕ) (ws : List ℕ) (bs : List Bool) → bits_of n ws ≡ bs → n ≡ length bs
 kept-length n ws bs e = sym (length-bits_of n ws) ∙ ap length e

@@ -1,48 +1,52 @@
 -- Words that are rewritten one by one, and the lists that they keep then.
-use Rattle.std.proofs.Common.{◌≡◌, ℕ, zero, suc, ◌+◌, ◌-◌, ◌*◌, ◌/◌, ◌%◌, ◌^◌, ◌<◌, min, Bool, true, false, ◌&&◌, not, eqb, List, length, get_or, set, refl, sym, ap, ◌∙◌, arith, inl, inr, w64}
+use Rattle.std.proofs.Common.{◌≡◌, ℕ, zero, suc, ◌+◌, ◌-◌, ◌*◌, ◌/◌, ◌%◌, ◌≢◌, ◌^◌, ◌<◌, min, Bool, true, false, ◌&&◌, not, eqb, List, length, replicate, ◌↔◌, ◌≤◌, get_or, set, refl, sym, ap, ◌∙◌, arith, inl, inr, w64}
 use Rattle.std.specs.Prelude.{bit_and, bit_xor}
 use Rattle.std.specs.Int.{bit_at, bit_not}
 use Rattle.std.proofs.Math.Bool.{and-true, and-false}
-use Rattle.std.proofs.lemmas.List.{length-set, get_or-set_same, get_or-set_other}
-use Rattle.std.proofs.lemmas.Nat.Bits.{bit_at-lt, bit_at_and, bit_at_xor, bit_at_not}
+use Rattle.std.proofs.lemmas.List.{same_lists, get_or_default, length-set, length-replicate, get_or-replicate, get_or-set_same, get_or-set_other, get_or_past}
+use Rattle.std.proofs.lemmas.Nat.Bits.{same_from_bits, bit_at-lt, bit_at_and, bit_at_xor, bit_at_not}
 use Rattle.std.proofs.lemmas.Bool.{cases_eq, cases_lt}
 use Rattle.giputils_bits.specs.Bits.{has_digit}
 use Rattle.giputils_bits.specs.Logic.{zip_with, xor, not_of}
-use Rattle.giputils_bits.specs.Places.{place, bits_of, IsPacked, Rewrites}
-use Rattle.giputils_bits.proofs.Digits.{has_digit-ones, has_digit-ones_above}
-use Rattle.giputils_bits.proofs.Logic.{length-zip_with, get_or-zip_with, length-not_of, get_or-not_of}
-use Rattle.giputils_bits.proofs.Places.{place_is, place-past, kept-length, length-bits_of, get_or-bits_of, bits_of_is}
+use Rattle.giputils_bits.specs.Places.{place, bits_of, IsPacked, MakesZeros, Rewrites, SetsDigit, without_digits}
+use Rattle.giputils_bits.proofs.Digits.{has_digit-and, has_digit-xor, has_digit-not, has_digit-zero, has_digit-above, has_digit-ones, has_digit-ones_above, has_digit-shl_low, has_digit-shl_high, same_digit}
+use Rattle.giputils_bits.proofs.Logic.{length-zip_with, get_or-zip_with, get_or-zip_with_all, get_or-falses, length-not_of, get_or-not_of}
+use Rattle.giputils_bits.proofs.Places.{place_is, place-past, kept-length, length-bits_of, get_or-bits_of, get_or-bits_of_all, bits_of_is}
 
--- ---- one digit
-and_test : (a b : ℕ) → a < 2 → b < 2 → eqb (min a b) 1 ≡ (eqb a 1 && eqb b 1)
-and_test zero zero p q = refl
-and_test zero (suc zero) p q = refl
-and_test (suc zero) zero p q = refl
-and_test (suc zero) (suc zero) p q = refl
-and_test (suc (suc a)) b p q = absurd (omega arith)
-and_test a (suc (suc b)) p q = absurd (omega arith)
+-- the digits of one that another has not
+without_test : (a b : Bool) → xor a (a && b) ≡ (a && not b)
+without_test true true = refl
+without_test true false = refl
+without_test false b = refl
 
-xor_test : (a b : ℕ) → a < 2 → b < 2 → eqb ((a + b) % 2) 1 ≡ xor (eqb a 1) (eqb b 1)
-xor_test zero zero p q = refl
-xor_test zero (suc zero) p q = refl
-xor_test (suc zero) zero p q = refl
-xor_test (suc zero) (suc zero) p q = refl
-xor_test (suc (suc a)) b p q = absurd (omega arith)
-xor_test a (suc (suc b)) p q = absurd (omega arith)
+pub has_digit-without : (a b i : ℕ) → has_digit (without_digits a b) i ≡ (has_digit a i && not (has_digit b i))
+has_digit-without a b i = has_digit-xor a (bit_and a b) i ∙ ap (xor (has_digit a i)) (has_digit-and a b i) ∙ without_test (has_digit a i) (has_digit b i)
 
-not_test : (a : ℕ) → a < 2 → eqb (1 - a) 1 ≡ not (eqb a 1)
-not_test zero p = refl
-not_test (suc zero) p = refl
-not_test (suc (suc a)) p = absurd (omega arith)
+-- ---- a digit turned round
+xor_true : (b : Bool) → xor b true ≡ not b
+xor_true true = refl
+xor_true false = refl
 
-pub has_digit-and : (a b i : ℕ) → has_digit (bit_and a b) i ≡ (has_digit a i && has_digit b i)
-has_digit-and a b i = ap (λ x. eqb x 1) (bit_at_and a b i) ∙ and_test (bit_at a i) (bit_at b i) (bit_at-lt a i) (bit_at-lt b i)
+xor_false : (b : Bool) → xor b false ≡ b
+xor_false true = refl
+xor_false false = refl
 
-pub has_digit-xor : (a b i : ℕ) → has_digit (bit_xor a b) i ≡ xor (has_digit a i) (has_digit b i)
-has_digit-xor a b i = ap (λ x. eqb x 1) (bit_at_xor a b i) ∙ xor_test (bit_at a i) (bit_at b i) (bit_at-lt a i) (bit_at-lt b i)
+one-here : (k : ℕ) → k < 64 → has_digit (1 * 2 ^ k % 2 ^ 64) k ≡ true
+one-here k within =
+    let none : k - k ≡ 0 = omega arith in
+    has_digit-shl_high 1 k k (omega arith) within ∙ ap (has_digit 1) none
 
-pub has_digit-not : (a i : ℕ) → a < 2 ^ 64 → i < 64 → has_digit (bit_not w64 a) i ≡ not (has_digit a i)
-has_digit-not a i fits within = ap (λ x. eqb x 1) (bit_at_not w64 a i fits within) ∙ not_test (bit_at a i) (bit_at-lt a i)
+one-elsewhere : (k j : ℕ) → j < 64 → j ≢ k → has_digit (1 * 2 ^ k % 2 ^ 64) j ≡ false
+one-elsewhere k j within other = elim (cases_lt j k) [
+  | inl l ↦ has_digit-shl_low 1 k j l within
+  | inr l ↦ has_digit-shl_high 1 k j l within ∙ has_digit-above 1 1 (j - k) (omega arith) (omega arith)
+]
+
+pub SetsDigit-flip : (w k : ℕ) → k < 64 → SetsDigit w (bit_xor w (1 * 2 ^ k % 2 ^ 64)) k (not (has_digit w k))
+SetsDigit-flip w k within = record {
+  at = has_digit-xor w _ k ∙ ap (xor (has_digit w k)) (one-here k within) ∙ xor_true (has_digit w k);
+  others = λ j l other. has_digit-xor w _ j ∙ ap (xor (has_digit w j)) (one-elsewhere k j l other) ∙ xor_false (has_digit w j);
+}
 
 -- ---- the loop
 pub Rewrites-none : (f : ℕ → ℕ → ℕ) (old : List ℕ) → Rewrites f old old 0
@@ -91,6 +95,39 @@ module _ (f : ℕ → ℕ → ℕ) (g : Bool → Bool → Bool) (law : (a b i : 
           padding = λ i h. place-joined old others new count r i ∙ rw (p.padding i h, q.padding i (omega (arith, same))) zeros;
         },
         bits_of-joined m old others new count r ∙ rw (v, same) (ap (λ zs. zip_with g xs zs) w),
+      )
+
+  -- words of which f makes zeros keep lists of which g has no true place
+  pub no_place_joined : (old others : List ℕ) → length old ≡ length others → MakesZeros f old others → (i : ℕ) → g (place old i) (place others i) ≡ false
+  no_place_joined old others e zero_each i = elim (cases_lt (i / 64) (length old)) [
+    | inl l ↦ rw (place_is old i, place_is others i) (sym (law _ _ (i % 64)) ∙ ap (λ w. has_digit w (i % 64)) (zero_each (i / 64) l) ∙ has_digit-zero (i % 64))
+    | inr m ↦ rw (place-past old i (omega arith), place-past others i (omega arith)) zeros
+  ]
+
+  zeros_from_places : (old others : List ℕ) → length old ≡ length others → ((k : ℕ) → get_or old k 0 < 2 ^ 64) → ((k : ℕ) → get_or others k 0 < 2 ^ 64)
+      → ((i : ℕ) → g (place old i) (place others i) ≡ false) → MakesZeros f old others
+  zeros_from_places old others e fits others_fit none k within = same_from_bits _ 0 (λ i. same_digit _ _ (bit_at-lt _ i) (bit_at-lt 0 i) (law _ _ i ∙ elim (cases_lt i 64) [
+    | inl l ↦
+        let word : (64 * k + i) / 64 ≡ k = omega arith in
+        let digit : (64 * k + i) % 64 ≡ i = omega arith in
+        (rw (place_is old (64 * k + i), place_is others (64 * k + i), word, digit) at (none (64 * k + i))) ∙ sym (has_digit-zero i)
+    | inr l ↦ rw (has_digit-above (get_or old k 0) 64 i (fits k) l, has_digit-above (get_or others k 0) 64 i (others_fit k) l) (zeros ∙ sym (has_digit-zero i))
+  ]))
+
+  -- f makes zeros of words exactly where g has no true place of the lists that they keep
+  pub joins_to_none : (m n : ℕ) (old others : List ℕ) (xs ys : List Bool) → bits_of m old ≡ xs → bits_of n others ≡ ys → IsPacked m old → IsPacked n others → length xs ≡ length ys
+      → ((k : ℕ) → get_or old k 0 < 2 ^ 64) → ((k : ℕ) → get_or others k 0 < 2 ^ 64)
+      → MakesZeros f old others ↔ (zip_with g xs ys ≡ replicate (length xs) false)
+  joins_to_none m n old others xs ys v w p q long fits others_fit =
+      let same : m ≡ n = kept-length m old xs v ∙ long ∙ sym (kept-length n others ys w) in
+      let count : length old ≡ length others = same_count m n old others xs ys v w p q long in
+      let old_at : (i : ℕ) → get_or xs i false ≡ place old i = λ i. ap (λ bs. get_or bs i false) (sym v) ∙ get_or-bits_of_all m old p.padding i in
+      let other_at : (i : ℕ) → get_or ys i false ≡ place others i = λ i. ap (λ bs. get_or bs i false) (sym w) ∙ get_or-bits_of_all n others q.padding i in
+      let joined_at : (i : ℕ) → get_or (zip_with g xs ys) i false ≡ g (place old i) (place others i) = λ i. get_or-zip_with_all g xs ys i zeros long ∙ rw (old_at i, other_at i) refl in (
+        λ each. same_lists _ _ (length-zip_with g xs ys long ∙ sym (length-replicate (length xs) false)) (λ i d within.
+            get_or_default _ i d false within ∙ joined_at i ∙ no_place_joined old others count each i
+            ∙ sym (get_or-replicate (length xs) i false d (omega (arith, length-zip_with g xs ys long)))),
+        λ none. zeros_from_places old others count fits others_fit (λ i. sym (joined_at i) ∙ ap (λ bs. get_or bs i false) none ∙ get_or-falses (length xs) i),
       )
 
 -- ---- words negated, and the digits past the last place taken away

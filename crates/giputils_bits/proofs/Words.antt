@@ -36,7 +36,8 @@ bits_of-words_of bs = bits_of_is (length bs) (words_of bs) bs refl (λ i below. 
 pub same_from_words_of : (xs ys : List Bool) → length xs ≡ length ys → words_of xs ≡ words_of ys → xs ≡ ys
 same_from_words_of xs ys long same = sym (bits_of-words_of xs) ∙ ap (λ n. bits_of n (words_of xs)) long ∙ ap (λ ws. bits_of (length ys) ws) same ∙ bits_of-words_of ys
 
-word_of-below : (bs : List Bool) (k : ℕ) → word_of bs k < 2 ^ 64
+-- a word fits 64 digits
+pub word_of-below : (bs : List Bool) (k : ℕ) → word_of bs k < 2 ^ 64
 word_of-below bs k =
     let part : List Bool = take 64 (drop (64 * k) bs) in
     let short : length part ≤ 64 = omega (arith, length-take 64 (drop (64 * k) bs)) in

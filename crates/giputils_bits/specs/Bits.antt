@@ -1,5 +1,5 @@
 -- A list of booleans as a number, and as words of 64 bits. Place 0 is the lowest.
-use Rattle.std.specs.Prelude.{ℕ, ◌+◌, ◌-◌, ◌*◌, ◌/◌, ◌==◌, Bool, true, false, List, [], ◌∷◌, map, length, take, drop, replicate, if◌then◌else◌}
+use Rattle.std.specs.Prelude.{ℕ, ◌+◌, ◌-◌, ◌*◌, ◌/◌, ◌==◌, Bool, true, false, List, [], ◌∷◌, ◌++◌, map, length, take, drop, replicate, if◌then◌else◌}
 use Rattle.std.specs.Int.{bit_at}
 use Rattle.std.specs.List.{range_with_len}
 
@@ -31,3 +31,7 @@ words_of bs = map (word_of bs) (range_with_len 0 (word_count (length bs)))
 -- n places, of which place 0 alone is true
 abbrev pub one_of : ℕ → List Bool
 one_of n = true ∷ replicate (n - 1) false
+
+-- the list with the 64 digits of the word from place 64 * k on, as far as the list goes
+abbrev pub with_word : ℕ → ℕ → List Bool → List Bool
+with_word k word bs = take (length bs) (take (64 * k) bs ++ (digits_of 64 word ++ drop (64 * k + 64) bs))

@@ -1,6 +1,6 @@
 -- How words keep a list of booleans: place i is digit i % 64 of word i / 64. Only this crate's own functions speak of
 -- it.
-use Rattle.std.specs.Prelude.{◌≡◌, ◌≢◌, ℕ, ◌+◌, ◌-◌, ◌/◌, ◌%◌, ◌<◌, ◌≤◌, max, Bool, false, List, [], ◌∷◌, map, length, slice_index}
+use Rattle.std.specs.Prelude.{◌≡◌, ◌≢◌, ℕ, ◌+◌, ◌-◌, ◌/◌, ◌%◌, ◌<◌, ◌≤◌, max, Bool, false, List, [], ◌∷◌, ◌++◌, map, length, drop, replicate, slice_index, bit_and, bit_xor}
 use Rattle.std.specs.List.{range_with_len}
 use Rattle.giputils_bits.specs.Bits.{has_digit, word_count}
 
@@ -20,6 +20,10 @@ places ws start n = map (place ws) (range_with_len start n)
 -- the first n places of the words
 abbrev pub bits_of : ℕ → List ℕ → List Bool
 bits_of n ws = places ws 0 n
+
+-- the words from the k-th on, which is this one, behind words of zeros
+abbrev pub words_from : ℕ → ℕ → List ℕ → List ℕ
+words_from k word ws = replicate k 0 ++ word ∷ drop (k + 1) ws
 
 -- the words are as many as n places take, but at least one, and all their places from n on are false
 pub record IsPacked (n : ℕ) (ws : List ℕ) : Type 0 where
@@ -47,3 +51,11 @@ pub record Rewrites (f : ℕ → ℕ → ℕ) (old new : List ℕ) (n : ℕ) : T
   pub count : length new ≡ length old
   pub done : (k : ℕ) → k < n → slice_index new k ≡ f k (slice_index old k)
   pub rest : (k : ℕ) → n ≤ k → slice_index new k ≡ slice_index old k
+
+-- the number without the digits that another has
+abbrev pub without_digits : ℕ → ℕ → ℕ
+without_digits a b = bit_xor a (bit_and a b)
+
+-- f makes 0 of each word and the one at its place
+abbrev pub MakesZeros : (ℕ → ℕ → ℕ) → List ℕ → List ℕ → Type 0
+MakesZeros f words others = (k : ℕ) → k < length words → f (slice_index words k) (slice_index others k) ≡ 0

@@ -16,3 +16,5 @@ mod in_place;
 mod left;
 #[cfg(test)]
 mod runs;
+#[cfg(test)]
+mod sets;

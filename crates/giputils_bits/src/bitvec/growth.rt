@@ -1,5 +1,5 @@
 //! How a bit vector grows and is emptied. What refuses stands before what writes.
-ghost use Rattle.std.specs.Prelude.{◌≡◌, ◌+◌, ◌*◌, ◌/◌, ◌%◌, ◌<◌, ◌≤◌, ◌↔◌, [], ◌∷◌, ◌++◌, length, IfOk, IfErr, OnErr, OnOk, IsOk};
+ghost use Rattle.std.specs.Prelude.{◌≡◌, ◌+◌, ◌*◌, ◌/◌, ◌%◌, ◌<◌, ◌≤◌, ◌↔◌, [], ◌∷◌, ◌++◌, length, take, IfOk, IfErr, OnErr, OnOk, IsOk, MatchOption};
 ghost use Rattle.std.specs.Iterator.{ExtendsWithItems};
 ghost use Rattle.giputils_bits.specs.Bits.{digits_of};
 ghost use Rattle.giputils_bits.specs.Error.{IsMemory};
@@ -9,7 +9,7 @@ ghost use Rattle.giputils_bits.specs.Places.{bits_of, IsPacked, HasRoom, Appends
 use super::BitVec;
 use super::error::BitVecError;
 use super::storage::Storage;
-use super::words::with_bit;
+use super::words::{low_mask, with_bit};
 use std::alloc::{AllocError, Allocator};
 
 impl<A: Allocator> BitVec<A> {
@@ -20,6 +20,37 @@ impl<A: Allocator> BitVec<A> {
     {
         self.len = 0;
         self.words.reset();
+    }
+
+    /// Leaves the first `len` bits, or all where there are no more. Memory is kept for the next growth.
+    pub fn truncate(&mut self, len: usize)
+        ensures { self.new ≡ take len self.old }
+    {
+        if len >= self.len {
+            return;
+        }
+        if len == 0 {
+            self.clear();
+            return;
+        }
+        let last = (len - 1) / BitVec::WORD_SIZE;
+        self.words.truncate(last + 1);
+        let word = self.words.as_slice()[last] & low_mask(len - BitVec::WORD_SIZE * last);
+        self.words.put(last, word);
+        self.len = len;
+    }
+
+    /// Takes the last bit away, if there is one, and answers it. Memory is kept for the next growth.
+    pub fn pop(&mut self) -> Option<bool>
+        ensures { MatchOption result ((self.old ≡ []) × (self.new ≡ [])) (λ bit. self.old ≡ self.new ++ bit ∷ []) }
+    {
+        if self.len == 0 {
+            return None;
+        }
+        let last = self.len - 1;
+        let bit = self.get(last);
+        self.truncate(last);
+        Some(bit)
     }
 
     /// Appends a bit.

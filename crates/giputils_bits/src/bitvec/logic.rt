@@ -1,11 +1,11 @@
 //! Logic, place by place. It works on whole words, and those of the left operand are reused.
-ghost use Rattle.std.specs.Prelude.{◌≡◌, ◌≤◌, length, IfOk, IfErr, IsOk};
+ghost use Rattle.std.specs.Prelude.{◌≡◌, ◌≤◌, ◌↔◌, false, length, replicate, IfOk, IfErr, IsOk, IsTrue};
 ghost use Rattle.giputils_bits.specs.Error.{IsMemory};
 ghost use Rattle.giputils_bits.specs.Logic.{and_of, or_of, xor_of, not_of, DeMorgan, DoubleNot, XorWithItself};
 
 use super::BitVec;
 use super::error::BitVecError;
-use super::words::{And, Or, Xor, low_mask};
+use super::words::{And, AndNot, Or, Xor, makes_zeros};
 use std::alloc::Allocator;
 use std::ops::{BitAnd, BitAndAssign, BitOr, BitOrAssign, BitXor, BitXorAssign};
 
@@ -21,18 +21,37 @@ impl<A: Allocator> BitVec<A> {
         ensures inline { length self.now ≤ 64 → IsOk result }
         ensures err { IfErr result IsMemory }
     {
-        if self.len == 0 {
-            return self.clone();
-        }
-        let last = (self.len - 1) / BitVec::WORD_SIZE;
-        let word = !self.words.as_slice()[last] & low_mask(self.len - BitVec::WORD_SIZE * last);
-        let mut words = self.words.try_clone()?;
-        words.negate();
-        words.put(last, word);
-        Ok(BitVec {
-            len: self.len,
-            words,
-        })
+        let mut bits = self.clone()?;
+        bits.negate();
+        Ok(bits)
+    }
+
+    /// Makes each place false that is true in `other`, a vector of the same length ([`BitVec::len`]). It takes no memory.
+    pub fn difference_with<B: Allocator>(&mut self, other: &BitVec<B>)
+        requires { length self.old ≡ length other.now }
+        ensures { self.new ≡ and_of self.old (not_of other.now) }
+    {
+        self.words.join::<AndNot>(other.words.as_slice());
+    }
+
+    /// Whether each place that is true is true in `other` too, a vector of the same length ([`BitVec::len`]).
+    pub fn is_subset<B: Allocator>(&self, other: &BitVec<B>) -> bool
+        requires { length self.now ≡ length other.now }
+        ensures { IsTrue result ↔ (and_of self.now other.now ≡ self.now) }
+    {
+        let words = self.words.as_slice();
+        let others = other.words.as_slice();
+        makes_zeros::<AndNot>(words, others)
+    }
+
+    /// Whether no place is true in both, of two vectors of one length ([`BitVec::len`]).
+    pub fn is_disjoint<B: Allocator>(&self, other: &BitVec<B>) -> bool
+        requires { length self.now ≡ length other.now }
+        ensures { IsTrue result ↔ (and_of self.now other.now ≡ replicate (length self.now) false) }
+    {
+        let words = self.words.as_slice();
+        let others = other.words.as_slice();
+        makes_zeros::<And>(words, others)
     }
 }
 
@@ -47,6 +66,21 @@ impl<A: Allocator, B: Allocator> BitAnd<BitVec<B>> for BitVec<A> {
     #[inline]
     fn bitand(mut self, rhs: BitVec<B>) -> BitVec<A> {
         self &= &rhs;
+        self
+    }
+}
+
+/// True at each place where both places are, of two vectors of one length ([`BitVec::len`]). It takes no memory.
+impl<A: Allocator, B: Allocator> BitAnd<&BitVec<B>> for BitVec<A> {
+    type Output = BitVec<A>;
+
+    ghost can_bitand = { λ v w. length v ≡ length w.now };
+
+    ghost bitand_gives = { λ v w r. r ≡ and_of v w.now };
+
+    #[inline]
+    fn bitand(mut self, rhs: &BitVec<B>) -> BitVec<A> {
+        self &= rhs;
         self
     }
 }
@@ -78,6 +112,21 @@ impl<A: Allocator, B: Allocator> BitOr<BitVec<B>> for BitVec<A> {
 }
 
 /// True at each place where one place at least is, of two vectors of one length ([`BitVec::len`]). It takes no memory.
+impl<A: Allocator, B: Allocator> BitOr<&BitVec<B>> for BitVec<A> {
+    type Output = BitVec<A>;
+
+    ghost can_bitor = { λ v w. length v ≡ length w.now };
+
+    ghost bitor_gives = { λ v w r. r ≡ or_of v w.now };
+
+    #[inline]
+    fn bitor(mut self, rhs: &BitVec<B>) -> BitVec<A> {
+        self |= rhs;
+        self
+    }
+}
+
+/// True at each place where one place at least is, of two vectors of one length ([`BitVec::len`]). It takes no memory.
 impl<A: Allocator, B: Allocator> BitOrAssign<&BitVec<B>> for BitVec<A> {
     ghost can_bitor_assign = { λ v w. length v ≡ length w.now };
 
@@ -99,6 +148,21 @@ impl<A: Allocator, B: Allocator> BitXor<BitVec<B>> for BitVec<A> {
     #[inline]
     fn bitxor(mut self, rhs: BitVec<B>) -> BitVec<A> {
         self ^= &rhs;
+        self
+    }
+}
+
+/// True at each place where one place alone is, of two vectors of one length ([`BitVec::len`]). It takes no memory.
+impl<A: Allocator, B: Allocator> BitXor<&BitVec<B>> for BitVec<A> {
+    type Output = BitVec<A>;
+
+    ghost can_bitxor = { λ v w. length v ≡ length w.now };
+
+    ghost bitxor_gives = { λ v w r. r ≡ xor_of v w.now };
+
+    #[inline]
+    fn bitxor(mut self, rhs: &BitVec<B>) -> BitVec<A> {
+        self ^= rhs;
         self
     }
 }

@@ -1,10 +1,10 @@
-//! What a bit vector answers, and a place set.
-ghost use Rattle.std.specs.Prelude.{◌≡◌, ◌≢◌, ◌<◌, ◌≤◌, ◌-◌, ◌*◌, ◌/◌, ◌^◌, ◌↔◌, [], ◌∷◌, true, false, length, take, replicate, slice_index, slice_index_or, slice_set, EachIndex, IsTrue, MatchOption};
+//! What a bit vector answers.
+ghost use Rattle.std.specs.Prelude.{◌≡◌, ◌≢◌, ◌<◌, ◌≤◌, ◌-◌, ◌*◌, ◌/◌, ◌^◌, ◌↔◌, [], ◌∷◌, true, false, length, take, replicate, slice_index, slice_index_or, EachIndex, IsTrue, MatchOption};
 ghost use Rattle.giputils_bits.specs.Bits.{value_of, word_count, words_of, one_of};
 ghost use Rattle.giputils_bits.specs.Ones.{HasOne, true_count};
 
 use super::BitVec;
-use super::words::{bit_at, low_mask, with_bit};
+use super::words::{bit_at, low_mask};
 use std::alloc::Allocator;
 
 impl<A: Allocator> BitVec<A> {
@@ -61,18 +61,6 @@ impl<A: Allocator> BitVec<A> {
         ensures { result ≡ slice_index_or self.now index false }
     {
         bit_at(self.words.as_slice(), index)
-    }
-
-    /// Sets bit `index`, which is below [`BitVec::len`]. It takes no memory.
-    #[inline]
-    pub fn set(&mut self, index: usize, val: bool)
-        requires { index < length self.old }
-        ensures { self.new ≡ slice_set self.old index val }
-    {
-        let k = index / BitVec::WORD_SIZE;
-        let word = self.words.as_slice()[k];
-        self.words
-            .put(k, with_bit(word, index % BitVec::WORD_SIZE, val));
     }
 
     /// The number of true bits.

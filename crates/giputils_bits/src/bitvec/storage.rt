@@ -1,5 +1,5 @@
 //! The words of a bit vector: one in the value itself, or several in a `Gvec`.
-ghost use Rattle.std.specs.Prelude.{◌≡◌, ◌<◌, [], ◌∷◌, ◌++◌, length, slice_index, slice_set, OnErr, OnOk, IfOk, IsOk};
+ghost use Rattle.std.specs.Prelude.{◌≡◌, ◌<◌, [], ◌∷◌, ◌++◌, length, replicate, slice_index, slice_set, take, OnErr, OnOk, IfOk, IsOk};
 ghost use Rattle.std.specs.Int.{bit_not, w64};
 ghost use Rattle.giputils_bits.specs.Places.{Rewrites};
 
@@ -85,6 +85,33 @@ impl<A: Allocator> Storage<A> {
         }
     }
 
+    // Puts a word in the place of each.
+    #[inline]
+    pub(crate) fn fill(&mut self, word: u64)
+        ensures { self.new ≡ replicate (length self.old) word }
+    {
+        let heap: &mut [u64] = &mut self.heap;
+        if heap.is_empty() {
+            self.inline = word;
+        } else {
+            heap.fill(word);
+        }
+    }
+
+    // Takes these words, which are as many.
+    #[inline]
+    pub(crate) fn copy_from(&mut self, words: &[u64])
+        requires { length self.old ≡ length words.now }
+        ensures { self.new ≡ words.now }
+    {
+        let heap: &mut [u64] = &mut self.heap;
+        if heap.is_empty() {
+            self.inline = words[0];
+        } else {
+            heap.copy_from_slice(words);
+        }
+    }
+
     // Appends a word. A second word takes the first along into memory, by one request.
     #[inline]
     pub(crate) fn push(&mut self, word: u64) -> Result<(), AllocError>
@@ -128,6 +155,15 @@ impl<A: Allocator> Storage<A> {
         } else {
             negate_words(heap);
         }
+    }
+
+    // Leaves the first `count` words. The memory is kept for the next growth.
+    #[inline]
+    pub(crate) fn truncate(&mut self, count: usize)
+        requires { 0 < count }
+        ensures { self.new ≡ take count self.old }
+    {
+        self.heap.truncate(count);
     }
 
     // Back to one word, which is zero. The memory is kept for the next growth.

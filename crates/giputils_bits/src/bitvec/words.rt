@@ -1,8 +1,8 @@
 //! Words: one of them, and loops over several.
-ghost use Rattle.std.specs.Prelude.{◌≡◌, ◌<◌, ◌≤◌, ◌-◌, ◌/◌, ◌^◌, ℕ, length, replicate, slice_index, bit_and, bit_or, bit_xor};
+ghost use Rattle.std.specs.Prelude.{◌≡◌, ◌↔◌, ◌<◌, ◌≤◌, ◌-◌, ◌/◌, ◌^◌, ℕ, IsTrue, not, length, replicate, slice_index, bit_and, bit_or, bit_xor};
 ghost use Rattle.std.specs.Int.{bit_not, w64};
-ghost use Rattle.giputils_bits.specs.Bits.{value_of};
-ghost use Rattle.giputils_bits.specs.Places.{place, Rewrites, SetsDigit};
+ghost use Rattle.giputils_bits.specs.Bits.{has_digit, value_of};
+ghost use Rattle.giputils_bits.specs.Places.{place, without_digits, MakesZeros, Rewrites, SetsDigit};
 
 use super::BitVec;
 
@@ -22,6 +22,15 @@ pub(crate) fn with_bit(word: u64, k: usize, val: bool) -> u64
     ensures { SetsDigit word result k val }
 {
     if val { word | 1 << k } else { word & !(1 << k) }
+}
+
+// The word with digit `k` turned round.
+#[inline]
+pub(crate) fn flipped_bit(word: u64, k: usize) -> u64
+    requires { k < 64 }
+    ensures { SetsDigit word result k (not (has_digit word k)) }
+{
+    word ^ 1 << k
 }
 
 // The word whose `count` lowest digits are `val`, where `count` is 1 to 64, and whose others are 0.
@@ -84,6 +93,32 @@ impl WordOp for Xor {
     fn apply(word: u64, other: u64) -> u64 {
         word ^ other
     }
+}
+
+// The digits of a word that another has not.
+pub(crate) struct AndNot;
+
+impl WordOp for AndNot {
+    ghost made = { without_digits };
+
+    #[inline]
+    fn apply(word: u64, other: u64) -> u64 {
+        word ^ (word & other)
+    }
+}
+
+// Whether the operation makes 0 of each word and the other at its place.
+#[inline]
+pub(crate) fn makes_zeros<O: WordOp>(words: &[u64], others: &[u64]) -> bool
+    requires { length words.now ≡ length others.now }
+    ensures { IsTrue result ↔ MakesZeros O.made words.now others.now }
+{
+    for k in 0..words.len() {
+        if O::apply(words[k], others[k]) != 0 {
+            return false;
+        }
+    }
+    true
 }
 
 // Joins each word with the other at its place.

@@ -1,6 +1,7 @@
 use Rattle.std.proofs.Common.{refl, ◌&&◌}
 use Rattle.std.specs.Prelude.{bit_and}
-use Rattle.giputils_bits.proofs.Rewritten.{has_digit-and, same_count, joined}
+use Rattle.giputils_bits.proofs.Digits.{has_digit-and}
+use Rattle.giputils_bits.proofs.Rewritten.{same_count, joined}
 use Rattle.giputils_bits.proofs.bitvec.logic.BitVecBitAndAssignRefBitVec.bitand_assign.Goals as goal
 
 pub join-requires : goal.join-requires

@@ -1,7 +1,8 @@
 use Rattle.std.proofs.Common.{refl}
 use Rattle.std.specs.Prelude.{bit_xor}
 use Rattle.giputils_bits.specs.Logic.{xor}
-use Rattle.giputils_bits.proofs.Rewritten.{has_digit-xor, same_count, joined}
+use Rattle.giputils_bits.proofs.Digits.{has_digit-xor}
+use Rattle.giputils_bits.proofs.Rewritten.{same_count, joined}
 use Rattle.giputils_bits.proofs.bitvec.logic.BitVecBitXorAssignRefBitVec.bitxor_assign.Goals as goal
 
 pub join-requires : goal.join-requires

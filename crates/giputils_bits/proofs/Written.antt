@@ -1,0 +1,109 @@
+-- Words written in place: a word of the list put anew, and the same word everywhere.
+use Rattle.std.proofs.Common.{◌≡◌, ℕ, ◌+◌, ◌-◌, ◌*◌, ◌/◌, ◌%◌, ◌^◌, ◌<◌, ◌≤◌, min, Bool, false, ◌&&◌, List, [], ◌∷◌, ◌++◌, length, get_or, set, take, drop, refl, sym, ap, ◌∙◌, arith, inl, inr}
+use Rattle.std.specs.Prelude.{bit_and}
+use Rattle.std.proofs.Math.Bool.{and-true, and-false}
+use Rattle.std.proofs.lemmas.Bool.{cases_eq, cases_lt}
+use Rattle.std.proofs.lemmas.List.{take_all, take_more, length-set, length-take, length-drop, length-append, get_or-take, get_or-drop, get_or-set_same, get_or-set_other, get_or_append_left, get_or-append_right}
+use Rattle.giputils_bits.specs.Bits.{has_digit, digits_of, with_word}
+use Rattle.giputils_bits.specs.Places.{place, bits_of, IsPacked}
+use Rattle.giputils_bits.proofs.Digits.{has_digit-ones, has_digit-ones_above, length-digits_of, get_or-digits_of, has_digit-and}
+use Rattle.giputils_bits.proofs.Places.{place_is, place-past, length-bits_of, get_or-bits_of, bits_of_is}
+
+-- the digits of a word that a list of n places has room for from place 64 * k on
+abbrev pub cut_word : ℕ → ℕ → ℕ → ℕ
+cut_word n k word = bit_and word (2 ^ min (n - 64 * k) 64 - 1)
+
+has_digit-cut : (n k word i : ℕ) → i < 64 → 64 * k + i < n → has_digit (cut_word n k word) i ≡ has_digit word i
+has_digit-cut n k word i below within =
+    has_digit-and word _ i ∙ ap (λ b. has_digit word i && b) (has_digit-ones (min (n - 64 * k) 64) i (omega arith)) ∙ and-true _
+
+has_digit-cut_past : (n k word i : ℕ) → i < 64 → n ≤ 64 * k + i → has_digit (cut_word n k word) i ≡ false
+has_digit-cut_past n k word i below past =
+    has_digit-and word _ i ∙ ap (λ b. has_digit word i && b) (has_digit-ones_above (min (n - 64 * k) 64) i (omega arith)) ∙ and-false _
+
+module _ (n : ℕ) (ws : List ℕ) (k word : ℕ) (within : k < length ws) where
+  -- the words, with the word put in
+  abbrev pub written : List ℕ
+  written = set ws k (cut_word n k word)
+
+  place-written : (i : ℕ) → i / 64 ≡ k → place written i ≡ has_digit (cut_word n k word) (i % 64)
+  place-written i e = rw (place_is written i, e, get_or-set_same ws k (cut_word n k word) 0 within) refl
+
+  place-unwritten : (i : ℕ) → (i / 64 ≡ k → ⊥) → place written i ≡ place ws i
+  place-unwritten i m = rw (place_is written i, get_or-set_other ws k (i / 64) (cut_word n k word) 0 m) (sym (place_is ws i))
+
+  pub IsPacked-written : IsPacked n ws → IsPacked n written
+  IsPacked-written p = record {
+    count = length-set ws k (cut_word n k word) ∙ p.count;
+    padding = λ i past. elim (cases_eq (i / 64) k) [
+      | inl e ↦ place-written i e ∙ has_digit-cut_past n k word (i % 64) (omega arith) (omega arith)
+      | inr m ↦ place-unwritten i m ∙ p.padding i past
+    ];
+  }
+
+  pub bits_of-written : 64 * k < n → bits_of n written ≡ with_word k word (bits_of n ws)
+  bits_of-written some =
+      let bs : List Bool = bits_of n ws in
+      let front : length (take (64 * k) bs) ≡ 64 * k = omega (arith, length-take (64 * k) bs, length-bits_of n ws) in
+      let all : length (take (64 * k) bs ++ (digits_of 64 word ++ drop (64 * k + 64) bs)) ≡ 64 * k + (64 + (n - (64 * k + 64))) =
+      omega (arith, length-append (take (64 * k) bs) (digits_of 64 word ++ drop (64 * k + 64) bs), length-append (digits_of 64 word) (drop (64 * k + 64) bs), front, length-digits_of 64 word, length-drop (64 * k + 64) bs, length-bits_of n ws) in
+      bits_of_is n written (with_word k word bs) (omega (arith, length-take (length bs) (take (64 * k) bs ++ (digits_of 64 word ++ drop (64 * k + 64) bs)), length-bits_of n ws, all)) (λ i below.
+      elim (cases_eq (i / 64) k) [
+        | inl e ↦
+            place-written i e ∙ has_digit-cut n k word (i % 64) (omega arith) (omega arith)
+            ∙ sym (get_or-take (length bs) _ i false (omega (arith, length-bits_of n ws))
+            ∙ get_or-append_right (take (64 * k) bs) _ (64 * k) i false front (omega arith)
+            ∙ get_or_append_left (digits_of 64 word) _ false (i - 64 * k) (omega (arith, length-digits_of 64 word))
+            ∙ get_or-digits_of 64 word (i - 64 * k) false (omega arith)
+            ∙ ap (has_digit word) (let digit : i - 64 * k ≡ i % 64 = omega arith in digit))
+        | inr m ↦ place-unwritten i m ∙ sym (get_or-take (length bs) _ i false (omega (arith, length-bits_of n ws)) ∙ elim (cases_lt i (64 * k)) [
+          | inl l ↦ get_or_append_left (take (64 * k) bs) _ false i (omega (arith, front)) ∙ get_or-take (64 * k) bs i false l ∙ get_or-bits_of n ws i false below
+          | inr l ↦
+              get_or-append_right (take (64 * k) bs) _ (64 * k) i false front l
+              ∙ get_or-append_right (digits_of 64 word) _ 64 (i - 64 * k) false (length-digits_of 64 word) (omega arith)
+              ∙ get_or-drop (64 * k + 64) bs (i - 64 * k - 64) false
+              ∙ ap (λ j. get_or bs j false) (let back : 64 * k + 64 + (i - 64 * k - 64) ≡ i = omega arith in back)
+              ∙ get_or-bits_of n ws i false below
+        ])
+      ])
+
+-- ---- the places past a shorter length taken away
+module _ (n m : ℕ) (ws : List ℕ) (some : 0 < m) (shorter : m ≤ n) (p : IsPacked n ws) where
+  -- the words of m places, the last of them without the digits past them
+  abbrev pub shortened : List ℕ
+  shortened = set (take ((m - 1) / 64 + 1) ws) ((m - 1) / 64) (bit_and (get_or (take ((m - 1) / 64 + 1) ws) ((m - 1) / 64) 0) (2 ^ (m - 64 * ((m - 1) / 64)) - 1))
+
+  count_shortened : length (take ((m - 1) / 64 + 1) ws) ≡ (m - 1) / 64 + 1
+  count_shortened = omega (arith, length-take ((m - 1) / 64 + 1) ws, p.count)
+
+  place-shortened_last : (i : ℕ) → i / 64 ≡ (m - 1) / 64 → place shortened i ≡ (place ws i && has_digit (2 ^ (m - 64 * ((m - 1) / 64)) - 1) (i % 64))
+  place-shortened_last i e =
+      rw (place_is shortened i, place_is ws i, e, get_or-set_same (take ((m - 1) / 64 + 1) ws) ((m - 1) / 64) _ 0 (omega (arith, count_shortened)), get_or-take ((m - 1) / 64 + 1) ws ((m - 1) / 64) 0 (omega arith))
+      (has_digit-and _ _ (i % 64))
+
+  place-shortened : (i : ℕ) → i / 64 < (m - 1) / 64 → place shortened i ≡ place ws i
+  place-shortened i l =
+      rw (place_is shortened i, place_is ws i, get_or-set_other (take ((m - 1) / 64 + 1) ws) ((m - 1) / 64) (i / 64) (bit_and (get_or (take ((m - 1) / 64 + 1) ws) ((m - 1) / 64) 0) (2 ^ (m - 64 * ((m - 1) / 64)) - 1)) 0 (λ e. omega arith), get_or-take ((m - 1) / 64 + 1) ws (i / 64) 0 (omega arith)) refl
+
+  pub IsPacked-shortened : IsPacked m shortened
+  IsPacked-shortened = record {
+    count = length-set (take ((m - 1) / 64 + 1) ws) ((m - 1) / 64) _ ∙ omega (arith, count_shortened);
+    padding = λ i past. elim (cases_eq (i / 64) ((m - 1) / 64)) [
+      | inl e ↦ place-shortened_last i e ∙ ap (λ b. place ws i && b) (has_digit-ones_above (m - 64 * ((m - 1) / 64)) (i % 64) (omega arith)) ∙ and-false _
+      | inr o ↦ place-past shortened i (omega (arith, length-set (take ((m - 1) / 64 + 1) ws) ((m - 1) / 64) (bit_and (get_or (take ((m - 1) / 64 + 1) ws) ((m - 1) / 64) 0) (2 ^ (m - 64 * ((m - 1) / 64)) - 1)), count_shortened))
+    ];
+  }
+
+  pub bits_of-shortened : bits_of m shortened ≡ take m (bits_of n ws)
+  bits_of-shortened = bits_of_is m shortened (take m (bits_of n ws)) (omega (arith, length-take m (bits_of n ws), length-bits_of n ws)) (λ i below.
+      elim (cases_eq (i / 64) ((m - 1) / 64)) [
+        | inl e ↦ place-shortened_last i e ∙ ap (λ b. place ws i && b) (has_digit-ones (m - 64 * ((m - 1) / 64)) (i % 64) (omega arith)) ∙ and-true _
+        | inr o ↦ place-shortened i (omega arith)
+      ]
+      ∙ sym (get_or-take m (bits_of n ws) i false below ∙ get_or-bits_of n ws i false (omega arith)))
+
+-- a list is all but its last place, and then that one
+pub last_taken : (bs : List Bool) → 0 < length bs → bs ≡ take (length bs - 1) bs ++ get_or bs (length bs - 1) false ∷ []
+last_taken bs some =
+    let all : length bs - 1 + 1 ≡ length bs = omega arith in
+    sym (take_all (length bs) bs (omega arith)) ∙ ap (λ n. take n bs) (sym all) ∙ take_more bs (length bs - 1) false (omega arith)
