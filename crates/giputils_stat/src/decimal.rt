@@ -42,9 +42,9 @@ pub struct Decimal {
 }
 
 impl Decimal {
-    /// How many of a hundred `part` is of `whole`, to be shown with 1 to 19 places.
+    /// How many of a hundred `part` is of `whole`.
     ///
-    /// `whole` must be above 0.
+    /// `whole` must be above 0, and there must be 1 to 19 places.
     #[inline]
     pub fn percent(part: u64, whole: u64, places: u32) -> Decimal
         requires divides { 0 < whole }
@@ -93,9 +93,9 @@ impl fmt::Display for Decimal {
 // A fraction whose denominator may be 0, where it has no value.
 #[derive(Clone, Copy)]
 pub(crate) struct Ratio {
-    pub numerator: u128,
-    pub denominator: u64,
-    pub places: u32,
+    pub(crate) numerator: u128,
+    pub(crate) denominator: u64,
+    pub(crate) places: u32,
     ghost some_places: { 0 < places },
     ghost few_places: { places ≤ 19 },
 }

@@ -45,7 +45,9 @@ impl Average {
         self.count
     }
 
-    /// The average, to be shown with 1 to 19 places, or `None` where nothing was added.
+    /// The average, or `None` where nothing was added.
+    ///
+    /// There must be 1 to 19 places.
     #[inline]
     pub fn mean(&self, places: u32) -> Option<Decimal>
         requires some_places { 0 < places }

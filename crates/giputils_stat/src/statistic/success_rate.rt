@@ -1,5 +1,5 @@
 //! Successes and failures.
-ghost use Rattle.std.specs.Prelude.{◌≡◌, ◌↔◌, Some, IsTrue, if◌then◌else◌};
+ghost use Rattle.std.specs.Prelude.{◌≡◌, ◌*◌, ◌↔◌, Some, IsTrue, if◌then◌else◌};
 ghost use Rattle.giputils_stat.specs.Tally.{no_outcomes, tries, CanTry, CanTryBoth, with_success, with_failure, with_outcomes};
 ghost use Rattle.giputils_stat.specs.Texts.{success_rate_text};
 
@@ -101,6 +101,21 @@ impl SuccessRate {
     }
 }
 
+impl SuccessRate {
+    // How many of a hundred succeeded, to two decimals.
+    fn rate(&self) -> Ratio
+        ensures successes { result.numerator ≡ 100 * self.now.successes }
+        ensures tries { result.denominator ≡ tries self.now }
+        ensures places { result.places ≡ 2 }
+    {
+        Ratio {
+            numerator: 100 * self.successes as u128,
+            denominator: self.count() as u64,
+            places: 2,
+        }
+    }
+}
+
 /// Nothing was tried.
 impl Default for SuccessRate {
     ghost is_default = { λ r. r ≡ no_outcomes };
@@ -152,11 +167,7 @@ impl Debug for SuccessRate {
             successes,
             failures,
         } = *self;
-        let rate = Ratio {
-            numerator: 100 * successes as u128,
-            denominator: (successes + failures) as u64,
-            places: 2,
-        };
+        let rate = self.rate();
         write!(
             f,
             "success: {successes}, fail: {failures}, success rate: {rate}%"

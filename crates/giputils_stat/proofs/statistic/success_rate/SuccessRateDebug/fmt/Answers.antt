@@ -1,4 +1,3 @@
-use Rattle.std.specs.Prelude.{◌+◌, ◌*◌}
 use Rattle.std.specs.Fmt.{decimal as digits_of}
 use Rattle.giputils_stat.specs.Decimals.{ratio}
 use Rattle.giputils_stat.proofs.Texts.{success_rate_pieces}
@@ -6,7 +5,8 @@ use Rattle.giputils_stat.proofs.statistic.success_rate.SuccessRateDebug.fmt.Goal
 
 pub returns : goal.returns
 returns g c =
-    let s = c.self.inside.successes in
-    let f = c.self.inside.failures in
-    let text = success_rate_pieces (digits_of s) (digits_of f) (ratio (100 * s) (s + f) 2) in
-    record { writes = rw (← c.self.view_is) (rw text at c.write.ensures.writes) }
+    let o = c.self.inside in
+    let r = c.rate-rate.result in
+    let text = success_rate_pieces (digits_of o.successes) (digits_of o.failures) (ratio r.numerator r.denominator r.places) in
+    let rate = c.rate-rate.ensures in
+    record { writes = rw (← c.self.view_is) (rw (text, rate.successes, rate.tries, rate.places, ← c.self.view_is) at c.write.ensures.writes) }
