@@ -1,8 +1,9 @@
-// The examples of the README.
+// The examples of the README, and of what else is named here.
 
 use crate::OptionU8;
 use crate::allocator::Gallocator;
 use crate::bitvec::BitVec;
+use crate::decimal::{Decimal, rounded};
 use crate::grc::Grc;
 use crate::gvec::Gvec;
 use crate::hash::GHashMap;
@@ -120,4 +121,16 @@ fn an_interval_logger(rt: HostRuntime) {
     assert!(rt; logger.log(&sink, Duration::from_secs(10), Level::Info, &"at work"));
     assert!(rt; !logger.log(&sink, Duration::from_secs(19), Level::Info, &"at work"));
     assert_eq!(rt; sink.into_lines().len(), 1);
+}
+
+#[test]
+fn a_decimal(rt: HostRuntime) -> Result<(), Fail> {
+    let third = Decimal {
+        numerator: 1,
+        denominator: 3,
+        places: 2,
+    };
+    assert_eq!(rt; format!(in rt.alloc(); "{third}")?.as_str(), "0.33");
+    assert_eq!(rt; rounded(5, 2), 2);
+    Ok(())
 }

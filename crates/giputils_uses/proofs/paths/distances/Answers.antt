@@ -67,14 +67,14 @@ loop-from-preserved g c =
     let was : c.index.result.now ≡ slice_index far e.0 =
     c.index.ensures ∙ ap (λ v. get_or far v c.index.result.now) c.from-in-loop-from.ensures ∙ get_or_default far e.0 c.index.result.now 0 begins
     in
-    let by_edge : through ≡ min (slice_index far e.0 + e.2) 4294967295 = c.saturating_add-through.ensures ∙ ap (λ d. min (d + e.2) 4294967295) was in
+    let by_edge : through ≡ min (slice_index far e.0 + e.2) 4294967295 = omega (arith, c.saturating_add-through.ensures, was) in
     elim c.if-from-node.branch [
       | then-from-node+then-through-index+in_ok-push-2 w ↦
           let there : w.index-then-from-node.result.now ≡ slice_index far e.1 =
           w.index-then-from-node.ensures ∙ ap (λ v. get_or far v w.index-then-from-node.result.now) w.from-then-from-node.ensures
           ∙ get_or_default far e.1 w.index-then-from-node.result.now 0 ends
           in
-          let nearer : through < slice_index far e.1 = rw (sym there) w.if-through-index.true in
+          let nearer : through < slice_index far e.1 = omega (arith, there, w.if-through-index.true) in
           let moved = w.update.new.self in
           let clauses = w.in_ok-push-2.ensures in
           let alike : HoldAlike (λ k. k) w.push-then-through-index.new.self (e.1 ∷ waiting) =
