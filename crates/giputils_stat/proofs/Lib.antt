@@ -2,4 +2,5 @@ pub mod Rounding
 pub mod Digits
 pub mod Decimals
 mod Texts
+mod Windows
 mod Examples

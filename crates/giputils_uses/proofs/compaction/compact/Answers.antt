@@ -18,14 +18,14 @@ loop-old-preserved g c =
           let new = w.in-Some.new.now in
           rw w.left-is (record {
             renamed = w.push_reserved.ensures.items ∙ ap (λ is. is ++ new ∷ []) c.loop-old.invariant.renamed
-                ∙ sym (filter_map-more (index_map slots) watched i 0 (Some new) c.loop-old-test.true (w.in-Some.ensures ∙ indexed));
+                ∙ sym (filter_map-more (index_map slots) watched i 0 (Some new) c.loop-old-test.true (w.in-Some.ensures.value ∙ indexed));
             few = omega (arith, w.push_reserved.ensures.len, c.loop-old.invariant.few);
             room = omega (arith, w.push_reserved.ensures.capacity, c.loop-old.invariant.room);
           })
       | in_default w ↦
           rw w.left-is (record {
             renamed = c.loop-old.invariant.renamed ∙ sym (append-nil _)
-                ∙ sym (filter_map-more (index_map slots) watched i 0 None c.loop-old-test.true (w.in_default.ensures ∙ indexed));
+                ∙ sym (filter_map-more (index_map slots) watched i 0 None c.loop-old-test.true (w.in_default.ensures.value ∙ indexed));
             few = omega (arith, c.loop-old.invariant.few);
             room = c.loop-old.invariant.room;
           })
