@@ -5,8 +5,8 @@ use Rattle.std.proofs.Common.{arith, inl}
 use Rattle.std.proofs.lemmas.Bool.Decides.{nat_tests}
 use Rattle.giputils_base.specs.Others.{option_of}
 use Rattle.giputils_base.specs.Gvec.{swap_remove, FilledTo, IsPlace}
-use Rattle.giputils_base.specs.Hash.{get, last_value, contains, HasUniqueKeys, IsMapOf, IsSetOf}
-use Rattle.giputils_base.specs.Allocator.{value_at, mark_at, mark, write, survivors, unmarked_slots, new_index, index_map, IsIndexMap, Renumbers}
+use Rattle.giputils_base.specs.Hash.{get, last_value, contains, PutsValue, TakesKey, PutsMember, TakesMember, HasUniqueKeys, IsMapOf, IsSetOf}
+use Rattle.giputils_base.specs.Allocator.{value_at, mark_at, live_at, live_count, mark, write, survivors, unmarked_slots, new_index, index_map, table_at, IsIndexMap, IsIndexTable, Renumbers}
 use Rattle.giputils_base.specs.AllocatorRun.{Answers}
 use Rattle.giputils_base.proofs.Renumbering.{Renumbers-index_map}
 use Rattle.giputils_base.specs.declared.allocator.run.GallocCall.{GallocCall}
@@ -73,6 +73,21 @@ of_two_equal_items_one_stands : IsSetOf nat_eq (3 ∷ 3 ∷ []) (3 ∷ [])
 unfolding IsDistinct
 of_two_equal_items_one_stands = (λ k. grind (arith, nat_tests), (tt, tt))
 
+an_item_is_put_into_a_set : PutsMember nat_eq 3 (4 ∷ []) (4 ∷ 3 ∷ [])
+an_item_is_put_into_a_set q = grind (arith, nat_tests)
+
+the_others_stay_members : PutsMember nat_eq 3 (4 ∷ []) (3 ∷ []) → ⊥
+the_others_stay_members puts = let lost = puts 4 in cc
+
+an_item_is_taken_out_of_a_set : TakesMember nat_eq 3 (4 ∷ 3 ∷ []) (4 ∷ [])
+an_item_is_taken_out_of_a_set q = grind (arith, nat_tests)
+
+a_value_is_put_at_a_key : PutsValue {V = ℕ} nat_eq 1 7 ((1, 5) ∷ (2, 6) ∷ []) ((1, 7) ∷ (2, 6) ∷ [])
+a_value_is_put_at_a_key q = grind (arith, nat_tests)
+
+a_key_is_taken_out : TakesKey {V = ℕ} nat_eq 1 ((1, 5) ∷ (2, 6) ∷ []) ((2, 6) ∷ [])
+a_key_is_taken_out q = grind (arith, nat_tests)
+
 -- an allocator of three values, with the middle one marked
 
 slots : List (ℕ × Bool)
@@ -92,6 +107,16 @@ a_marked_value_is_read = refl
 
 a_mark_is_read : mark_at {T = ℕ} ((10, false) ∷ (20, true) ∷ []) 1 ≡ Some true
 a_mark_is_read = refl
+
+a_live_value_is_read : live_at {T = ℕ} ((10, false) ∷ (20, true) ∷ []) 0 ≡ Some 10
+a_live_value_is_read = refl
+
+a_marked_one_is_not : live_at {T = ℕ} ((10, false) ∷ (20, true) ∷ []) 1 ≡ None
+a_marked_one_is_not = refl
+
+two_are_live : live_count slots ≡ 2
+unfolding slots
+two_are_live = refl
 
 two_survive : survivors slots ≡ 10 ∷ 30 ∷ []
 unfolding slots
@@ -128,6 +153,21 @@ it_is_the_index_map = (two_entries, ((refl, tt), (tt, tt)))
 the_empty_map_is_not : IsIndexMap slots [] → ⊥
 unfolding slots
 the_empty_map_is_not is_map = let first = is_map.0 0 in cc
+
+three_entries : (i : ℕ) → table_at (Some 0 ∷ None ∷ Some 1 ∷ []) i ≡ index_map slots i
+unfolding slots
+three_entries zero = refl
+three_entries (suc zero) = refl
+three_entries (suc (suc zero)) = refl
+three_entries (suc (suc (suc i))) = refl
+
+it_is_the_index_table : IsIndexTable slots (Some 0 ∷ None ∷ Some 1 ∷ [])
+unfolding slots
+it_is_the_index_table = (three_entries, refl)
+
+a_shorter_table_is_not : IsIndexTable slots (Some 0 ∷ []) → ⊥
+unfolding slots
+a_shorter_table_is_not is_table = let last = is_table.0 2 in cc
 
 it_renumbers_the_slots : Renumbers slots ((10, false) ∷ (30, false) ∷ []) (index_map slots)
 unfolding slots

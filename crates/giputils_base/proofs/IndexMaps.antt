@@ -1,9 +1,9 @@
 -- A map of indexes that a loop has made as far as a place.
-use Rattle.std.specs.Prelude.{◌≡◌, ℕ, ◌+◌, ◌≤◌, Bool, true, false, cond, List, length, Option, None, if◌then◌else◌, nat_eq, nat_lt}
+use Rattle.std.specs.Prelude.{◌≡◌, ℕ, zero, suc, ◌+◌, ◌≤◌, Bool, true, false, cond, List, [], ◌∷◌, ◌++◌, length, refl, Option, None, if◌then◌else◌, nat_eq, nat_lt}
 use Rattle.std.proofs.Common.{arith, sym, ap, ◌∙◌, inl, inr}
 use Rattle.std.proofs.lemmas.Bool.{cases_lt, lt-ltb, le-ltb}
 use Rattle.std.proofs.lemmas.Bool.Decides.{nat_tests}
-use Rattle.giputils_base.specs.Allocator.{index_map}
+use Rattle.giputils_base.specs.Allocator.{index_map, table_at}
 use Rattle.giputils_base.proofs.Renumbering.{index_map-past}
 
 -- what the map m has of the places below n
@@ -31,6 +31,17 @@ up_to-skip m f i before none q =
         | inr less ↦ let same : i ≡ q = omega arith in rw (le-ltb q i more, lt-ltb q (i + 1) (omega arith)) (sym none ∙ ap m same)
       ]
     ]
+
+-- a table with one more entry
+pub table_at-push : (table : List (Option ℕ)) (i : ℕ) (entry : Option ℕ) (q : ℕ) → length table ≡ i
+    → table_at (table ++ entry ∷ []) q ≡ cond (nat_eq i q) entry (table_at table q)
+table_at-push table i entry q len = rw (← len) (at table q)
+  where
+    at : (es : List (Option ℕ)) (k : ℕ) → table_at (es ++ entry ∷ []) k ≡ cond (nat_eq (length es) k) entry (table_at es k)
+    at [] zero = refl
+    at [] (suc k) = let other : nat_eq 0 (suc k) ≡ false = grind (arith, nat_tests) in rw other refl
+    at (e ∷ es) zero = let other : nat_eq (suc (length es)) 0 ≡ false = grind (arith, nat_tests) in rw other refl
+    at (e ∷ es) (suc k) = let same : nat_eq (suc (length es)) (suc k) ≡ nat_eq (length es) k = grind (arith, nat_tests) in at es k ∙ ap (λ b. cond b entry (table_at es k)) (sym same)
 
 -- up to the end, it is the whole map
 pub up_to-all : {T : Type 0} (slots : List (T × Bool)) (n i : ℕ) → length slots ≤ n → up_to (index_map slots) n i ≡ index_map slots i

@@ -1,6 +1,7 @@
 mod Examples
 mod IndexMaps
 mod LastValues
+mod Renaming
 pub mod Runs
 pub mod Renumbering
 pub mod Slots

@@ -1,11 +1,12 @@
 -- The new indexes that a collection gives.
-use Rattle.std.specs.Prelude.{◌≡◌, ◌↔◌, ℕ, zero, suc, ◌+◌, ◌<◌, ◌≤◌, Bool, true, false, not, List, [], ◌∷◌, length, map, filter, take, slice_index_or, Option, Some, None, IsSome, is_some, option_and_then, if◌then◌else◌, refl}
+use Rattle.std.specs.Prelude.{◌≡◌, ◌↔◌, ℕ, zero, suc, ◌+◌, ◌<◌, ◌≤◌, Bool, true, false, not, List, [], ◌∷◌, length, map, filter, take, slice_index_or, Option, Some, None, IsSome, is_some, option_and_then, if◌then◌else◌, nat_eq, refl}
 use Rattle.std.proofs.Common.{arith, ap, sym, ◌∙◌, cond}
 use Rattle.std.specs.List.{filter_map, cons_option}
 use Rattle.std.proofs.lemmas.List.{length-map, length-take}
 use Rattle.std.proofs.lemmas.List.Filters.{length-filter_both, length-filter_more}
 use Rattle.std.proofs.lemmas.Option.{slice_get_past}
-use Rattle.giputils_base.specs.Allocator.{is_unmarked, value_at, mark_at, survivors, unmarked_slots, new_index, index_map, Renumbers}
+use Rattle.giputils_base.specs.Hash.{get}
+use Rattle.giputils_base.specs.Allocator.{is_unmarked, value_at, mark_at, survivors, unmarked_slots, new_index, index_map, table_at, IsIndexMap, IsIndexTable, Renumbers}
 
 module _ {T : Type 0} where
   -- an unmarked slot has a new index
@@ -130,6 +131,25 @@ module _ {T : Type 0} where
         rw from.1 (value_at-new_index slots i from.0);
     not_marked = λ m below. mark_at-unmarked_slots (survivors slots) m below;
   }
+
+module _ {T : Type 0} where
+  -- a collection renumbers by its map, and by its table
+  pub renumbered_by_map : (old new : List (T × Bool)) (indexes : List (ℕ × ℕ)) → IsIndexMap old indexes
+      → new ≡ unmarked_slots (survivors old) → Renumbers old new (get nat_eq indexes)
+  renumbered_by_map old new indexes is_map left =
+      let same : get nat_eq indexes ≡ index_map old = λ i q. is_map.0 q i in
+      rw (left, same) (Renumbers-index_map old)
+
+  pub renumbered_by_table : (old new : List (T × Bool)) (table : List (Option ℕ)) → IsIndexTable old table
+      → new ≡ unmarked_slots (survivors old) → Renumbers old new (table_at table)
+  renumbered_by_table old new table is_table left =
+      let same : table_at table ≡ index_map old = λ i q. is_table.0 q i in
+      rw (left, same) (Renumbers-index_map old)
+
+  -- the two say the same
+  pub get-table_at : (old : List (T × Bool)) (indexes : List (ℕ × ℕ)) (table : List (Option ℕ)) → IsIndexMap old indexes
+      → IsIndexTable old table → (i : ℕ) → get nat_eq indexes i ≡ table_at table i
+  get-table_at old indexes table is_map is_table i = is_map.0 i ∙ sym (is_table.0 i)
 
 module _ {X : Type 0} (index : ℕ → Option ℕ) (old new : ℕ → X) (same : (i m : ℕ) → index i ≡ Some m → new m ≡ old i) where
   renamed_first : (i : ℕ) (ms is : List ℕ) → map new ms ≡ map old is → (o : Option ℕ) → index i ≡ o → map new (cons_option o ms) ≡ map old (cond (is_some o) (i ∷ is) is)

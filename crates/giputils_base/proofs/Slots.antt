@@ -1,10 +1,10 @@
 -- What marks and writes leave of the slots of an allocator, and which values survive.
-use Rattle.std.specs.Prelude.{◌≡◌, ◌≢◌, ℕ, zero, suc, ◌<◌, Bool, true, false, List, [], ◌∷◌, ◌++◌, length, filter, slice_get, slice_set, Option, Some, None, option_map, refl}
+use Rattle.std.specs.Prelude.{◌≡◌, ◌≢◌, ℕ, zero, suc, ◌+◌, ◌<◌, ◌≤◌, Bool, true, false, List, [], ◌∷◌, ◌++◌, length, filter, slice_get, slice_set, Option, Some, None, option_map, refl}
 use Rattle.std.specs.Option.{option_map_or}
-use Rattle.std.proofs.Common.{arith, ap, ◌∙◌, inl, inr}
+use Rattle.std.proofs.Common.{arith, ap, ◌∙◌, sym, inl, inr, cond}
 use Rattle.std.proofs.Math.ListN.{length-set}
 use Rattle.std.proofs.lemmas.Bool.{cases_eq}
-use Rattle.giputils_base.specs.Allocator.{is_unmarked, value_at, mark_at, mark, write, survivors, unmarked_slots}
+use Rattle.giputils_base.specs.Allocator.{is_unmarked, value_at, mark_at, live_count, mark, write, survivors, unmarked_slots}
 
 module _ {X : Type 0} where
   -- below the length there is an item
@@ -18,6 +18,11 @@ module _ {X : Type 0} where
   slice_get-set [] i x = refl
   slice_get-set (y ∷ ys) zero x = refl
   slice_get-set (y ∷ ys) (suc i) x = slice_get-set ys i x
+
+  set_same : (xs : List X) (i : ℕ) (x : X) → slice_get xs i ≡ Some x → slice_set xs i x ≡ xs
+  set_same [] i x at = refl
+  set_same (y ∷ ys) zero x at = cc
+  set_same (y ∷ ys) (suc i) x at = ap (λ zs. y ∷ zs) (set_same ys i x at)
 
   slice_get-set_other : (xs : List X) (i k : ℕ) (x : X) → k ≢ i → slice_get (slice_set xs i x) k ≡ slice_get xs k
   slice_get-set_other [] i k x other = refl
@@ -57,6 +62,15 @@ module _ {X : Type 0} (change : X → X) where
       at (Some x) = ap (λ y. Some y) (same x)
 
 module _ {T : Type 0} where
+  -- a slot whose mark is known
+  slot_there : (slots : List (T × Bool)) (i : ℕ) (b : Bool) → mark_at slots i ≡ Some b → (v : T) × (slice_get slots i ≡ Some (v, b))
+  slot_there [] i b at = cc
+  slot_there ((v, true) ∷ slots) zero true at = (v, refl)
+  slot_there ((v, false) ∷ slots) zero false at = (v, refl)
+  slot_there ((v, true) ∷ slots) zero false at = cc
+  slot_there ((v, false) ∷ slots) zero true at = cc
+  slot_there (s ∷ slots) (suc i) b at = slot_there slots i b at
+
   -- a mark leaves as many slots, and every value; the slot is marked, and the others keep their marks
 
   pub length-mark : (slots : List (T × Bool)) (i : ℕ) → length (mark slots i) ≡ length slots
@@ -88,6 +102,49 @@ module _ {T : Type 0} where
 
   pub value_at-write_other : (slots : List (T × Bool)) (i k : ℕ) (v : T) → k ≢ i → value_at (write slots i v) k ≡ value_at slots k
   value_at-write_other slots i k v other = ap (option_map (λ slot. slot.0)) (slice_get-with_changed_other (λ slot. (v, slot.1)) slots i k (slice_get slots i) other)
+
+  -- a marked slot that is marked again stays as it is
+  pub mark-marked : (slots : List (T × Bool)) (i : ℕ) → mark_at slots i ≡ Some true → mark slots i ≡ slots
+  mark-marked slots i at = let (v, there) = slot_there slots i true at in rw there (set_same slots i (v, true) there)
+
+  -- the number of unmarked slots, where slot i gets another value and another mark
+  pub live_count-set : (slots : List (T × Bool)) (i : ℕ) (old new : T × Bool) → slice_get slots i ≡ Some old
+      → live_count (slice_set slots i new) + cond old.1 0 1 ≡ live_count slots + cond new.1 0 1
+  live_count-set [] i old new at = cc
+  live_count-set ((v, true) ∷ slots) zero (u, true) (w, true) at = refl
+  live_count-set ((v, true) ∷ slots) zero (u, true) (w, false) at = omega arith
+  live_count-set ((v, false) ∷ slots) zero (u, false) (w, true) at = omega arith
+  live_count-set ((v, false) ∷ slots) zero (u, false) (w, false) at = refl
+  live_count-set ((v, true) ∷ slots) zero (u, false) new at = let marks : Some true ≡ Some false = ap (option_map (λ slot. slot.1)) at in cc
+  live_count-set ((v, false) ∷ slots) zero (u, true) new at = let marks : Some false ≡ Some true = ap (option_map (λ slot. slot.1)) at in cc
+  live_count-set ((v, true) ∷ slots) (suc i) old new at = live_count-set slots i old new at
+  live_count-set ((v, false) ∷ slots) (suc i) old new at = let rest = live_count-set slots i old new at in omega arith
+
+  -- a mark takes one from the number, and a write takes none
+  pub live_count-mark : (slots : List (T × Bool)) (i : ℕ) → mark_at slots i ≡ Some false → live_count (mark slots i) + 1 ≡ live_count slots
+  live_count-mark slots i at =
+      let (v, there) = slot_there slots i false at in
+      let set = live_count-set slots i (v, false) (v, true) there in
+      rw there (omega arith)
+
+  pub live_count-write : (slots : List (T × Bool)) (i : ℕ) (v : T) → live_count (write slots i v) ≡ live_count slots
+  live_count-write slots i v = at (slice_get slots i) refl
+    where
+      at : (o : Option (T × Bool)) → slice_get slots i ≡ o → live_count (option_map_or (λ slot. slice_set slots i (v, slot.1)) o slots) ≡ live_count slots
+      at None e = refl
+      at (Some slot) e = let set = live_count-set slots i slot (v, slot.1) e in omega arith
+
+  -- an unmarked slot more
+  pub live_count-push : (slots : List (T × Bool)) (v : T) → live_count (slots ++ (v, false) ∷ []) ≡ live_count slots + 1
+  live_count-push [] v = refl
+  live_count-push ((w, true) ∷ slots) v = live_count-push slots v
+  live_count-push ((w, false) ∷ slots) v = let rest = live_count-push slots v in omega arith
+
+  -- there are no more unmarked slots than slots
+  pub live_count-le : (slots : List (T × Bool)) → live_count slots ≤ length slots
+  live_count-le [] = omega arith
+  live_count-le ((v, true) ∷ slots) = let rest = live_count-le slots in omega arith
+  live_count-le ((v, false) ∷ slots) = let rest = live_count-le slots in omega arith
 
   -- of unmarked slots all values survive
   pub survivors-unmarked_slots : (values : List T) → survivors (unmarked_slots values) ≡ values

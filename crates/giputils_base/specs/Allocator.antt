@@ -3,6 +3,10 @@ use Rattle.std.specs.Prelude.{◌≡◌, ◌↔◌, ℕ, ◌<◌, Bool, true, fa
 use Rattle.std.specs.Option.{option_map_or}
 use Rattle.giputils_base.specs.Hash.{get, HasUniqueKeys}
 
+-- what a table has at the index i, and nothing past its end
+abbrev pub table_at : List (Option ℕ) → ℕ → Option ℕ
+table_at table i = option_and_then (λ entry. entry) (slice_get table i)
+
 module _ {T : Type 0} where
   -- the slot is not marked
   abbrev pub is_unmarked : T × Bool → Bool
@@ -32,6 +36,10 @@ module _ {T : Type 0} where
   abbrev pub survivors : List (T × Bool) → List T
   survivors slots = map (λ slot. slot.0) (filter is_unmarked slots)
 
+  -- how many slots are unmarked
+  abbrev pub live_count : List (T × Bool) → ℕ
+  live_count slots = length (survivors slots)
+
   -- the slots of these values, each unmarked
   abbrev pub unmarked_slots : List T → List (T × Bool)
   unmarked_slots values = map (λ v. (v, false)) values
@@ -48,6 +56,10 @@ module _ {T : Type 0} where
   -- the map has the unmarked places as its keys, each with its new index
   abbrev pub IsIndexMap : List (T × Bool) → List (ℕ × ℕ) → Type 0
   IsIndexMap slots indexes = ((i : ℕ) → get nat_eq indexes i ≡ index_map slots i) × HasUniqueKeys nat_eq indexes
+
+  -- the table has the new index of each place, where it has one
+  abbrev pub IsIndexTable : List (T × Bool) → List (Option ℕ) → Type 0
+  IsIndexTable slots table = ((i : ℕ) → table_at table i ≡ index_map slots i) × (length table ≡ length slots)
 
   -- what a collection does to the slots `old`: they become `new`, and index i becomes `index i`, if it has a new one
   pub record Renumbers (old new : List (T × Bool)) (index : ℕ → Option ℕ) : Type 0 where

@@ -3,14 +3,16 @@ ghost use Rattle.std.specs.Prelude.{◌≡◌, ◌≢◌, ◌↔◌, ℕ, ◌<�
 ghost use Rattle.std.specs.Option.{option_copied};
 ghost use Rattle.std.specs.Borrow.{Lends, sem};
 ghost use Rattle.giputils_base.specs.Hash.{get};
-ghost use Rattle.giputils_base.specs.Allocator.{value_at, mark_at, live_at, mark, survivors, unmarked_slots, IsIndexMap, Renumbers};
+ghost use Rattle.giputils_base.specs.Allocator.{value_at, mark_at, live_at, live_count, mark, write, survivors, unmarked_slots, table_at, IsIndexMap, IsIndexTable, Renumbers};
 
+mod renaming;
 mod run;
 #[cfg(test)]
 mod tests;
 
 use crate::gvec::Gvec;
 use crate::hash::GHashMap;
+pub use renaming::rename;
 pub use run::{GallocCall, GallocReply, galloc_run};
 use std::alloc::{AllocError, Allocator, Global};
 use std::marker::Model;
@@ -94,14 +96,19 @@ impl<T> DerefMut for GallocElem<T> {
 #[derive_where(Debug; T)]
 pub struct Gallocator<T, A: Allocator = Global> {
     slots: Gvec<GallocElem<T>, A>,
+    // How many slots are unmarked.
+    live: usize,
 }
 
 impl<T, A: Allocator> Model for Gallocator<T, A> {
-    ghost use Rattle.std.specs.Prelude.{Bool, List};
+    ghost use Rattle.std.specs.Prelude.{◌≡◌, Bool, List};
+    ghost use Rattle.giputils_base.specs.Allocator.{live_count};
 
     ghost Value = { List (T × Bool) };
 
     ghost view = { λ g. g.slots };
+
+    ghost invariant = { λ g. g.live ≡ live_count g.slots };
 }
 
 impl<T, A: Allocator> Gallocator<T, A> {
@@ -112,6 +119,7 @@ impl<T, A: Allocator> Gallocator<T, A> {
     {
         Gallocator {
             slots: Gvec::new(alloc),
+            live: 0,
         }
     }
 
@@ -121,6 +129,14 @@ impl<T, A: Allocator> Gallocator<T, A> {
         ensures { result ≡ length self.now }
     {
         self.slots.len()
+    }
+
+    /// The number of slots that are not marked as removed. It is kept, and not counted anew.
+    #[inline]
+    pub fn live_len(&self) -> usize
+        ensures { result ≡ live_count self.now }
+    {
+        self.live
     }
 
     /// Whether there is no slot, marked ones counted.
@@ -145,6 +161,7 @@ impl<T, A: Allocator> Gallocator<T, A> {
         self.slots
             .push(GallocElem::new(value))
             .map_err(|refused| refused.value.take())?;
+        self.live += 1;
         Ok(index)
     }
 
@@ -160,8 +177,25 @@ impl<T, A: Allocator> Gallocator<T, A> {
         ensures other_marks { (k : ℕ) → k ≢ index → mark_at self.new k ≡ mark_at self.old k }
         ensures values { (k : ℕ) → value_at self.new k ≡ value_at self.old k }
     {
+        if self.is_removed(index) {
+            return;
+        }
+        self.live -= 1;
         let slot = &mut self.slots[index];
         slot.removed = true;
+    }
+
+    /// Marks slot `index` as removed, and takes its value out, in whose place it leaves `rest`.
+    #[inline]
+    pub fn take_out(&mut self, index: usize, rest: T) -> T
+        requires { index < length self.old }
+        ensures value { value_at self.old index ≡ Some result }
+        ensures slots { self.new ≡ mark (write self.old index rest) index }
+        ensures len { length self.new ≡ length self.old }
+    {
+        let value = std::mem::replace(&mut self[index], rest);
+        self.dealloc(index);
+        value
     }
 
     /// Whether slot `index` is marked as removed.
@@ -189,6 +223,7 @@ impl<T, A: Allocator> Gallocator<T, A> {
     ///
     /// # Errors
     /// `AllocError` where memory for the map is refused. Nothing changes then.
+    #[tactic(auto, using(crate::proofs::Renumbering::renumbered_by_map))]
     pub fn gc(&mut self) -> Result<GHashMap<usize, usize, A>, AllocError>
     where
         T: Drop,
@@ -203,6 +238,26 @@ impl<T, A: Allocator> Gallocator<T, A> {
         Ok(indexes)
     }
 
+    /// Collects as [`Gallocator::gc`] does, and answers a table in place of the map: at each old index its new one,
+    /// where it has one. It asks for memory once.
+    ///
+    /// # Errors
+    /// `AllocError` where memory for the table is refused. Nothing changes then.
+    #[tactic(auto, using(crate::proofs::Renumbering::renumbered_by_table))]
+    pub fn gc_table(&mut self) -> Result<Vec<Option<usize>, A>, AllocError>
+    where
+        T: Drop,
+        A: Copy,
+        ensures ok { OnOk result (self.new ≡ unmarked_slots (survivors self.old)) }
+        ensures table { IfOk result (λ table. IsIndexTable self.old table.items) }
+        ensures renumbers { IfOk result (λ table. Renumbers self.old self.new (table_at table.items)) }
+        ensures err { OnErr result (self.new ≡ self.old) }
+    {
+        let table = self.index_table()?;
+        self.close_gaps();
+        Ok(table)
+    }
+
     // Drops the marked values. The others keep their order.
     fn close_gaps(&mut self)
     where
@@ -210,6 +265,25 @@ impl<T, A: Allocator> Gallocator<T, A> {
         ensures { self.new ≡ unmarked_slots (survivors self.old) }
     {
         self.slots.retain(|slot| !slot.is_removed());
+    }
+
+    // The new index of each slot, where it has one.
+    fn index_table(&self) -> Result<Vec<Option<usize>, A>, AllocError>
+    where
+        A: Copy,
+        ensures { IfOk result (λ table. IsIndexTable self.now table.items) }
+    {
+        let mut table = Vec::with_capacity(*self.slots.allocator(), self.len())?;
+        let mut next = 0usize;
+        for slot in self.slots.iter() {
+            if slot.is_removed() {
+                table.push_reserved(None);
+            } else {
+                table.push_reserved(Some(next));
+                next += 1;
+            }
+        }
+        Ok(table)
     }
 
     // The new index of each unmarked slot. The map has room for half of the slots, and grows where more are unmarked.

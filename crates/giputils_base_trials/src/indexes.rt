@@ -28,6 +28,13 @@ fn are_collected(memory: &Refusing) -> bool {
     slots.gc().is_ok()
 }
 
+fn are_tabled(memory: &Refusing) -> bool {
+    let Ok(mut slots) = three_slots(memory) else {
+        return false;
+    };
+    slots.gc_table().is_ok()
+}
+
 fn are_allocated(memory: &Refusing) -> bool {
     three_slots(memory).is_ok()
 }
@@ -68,8 +75,8 @@ fn moved<A: Allocator>(reply: &GallocReply<u32, A>, old: usize) -> Option<usize>
     }
 }
 
-// A run with one refused call was not served. One with more of them passes for served, which the driver tells of: a call
-// that was not refused memory may not be answered so.
+// A run with one refused call was not served. One with more of them passes for served, which the driver tells of: a
+// call that was not refused memory may not be answered so.
 fn is_run(memory: &Refusing) -> bool {
     match galloc_run(memory, &CALLS) {
         Ok((_, replies)) => refused_calls(replies.as_slice()) != 1,
@@ -150,6 +157,7 @@ fn each_request_of_an_allocator_is_refused_in_turn(rt: HostRuntime) {
     let outcomes = [
         ("alloc", refuse_each(alloc, are_allocated), 1),
         ("gc", refuse_each(alloc, are_collected), 2),
+        ("gc_table", refuse_each(alloc, are_tabled), 2),
         ("galloc_run", refuse_each(alloc, is_run), 4),
     ];
     for (call, outcome, least) in outcomes {
@@ -232,6 +240,16 @@ fn a_refused_collection_can_be_made_again(rt: HostRuntime) -> Result<(), Fail> {
         indexes.get(&2).copied(),
     );
     assert_eq!(rt; moved, (2, Some(0), Some(1)));
+    Ok(())
+}
+
+#[test]
+fn a_table_is_asked_for_once(rt: HostRuntime) -> Result<(), Fail> {
+    let memory = Refusing::none(rt.alloc());
+    let mut slots = three_slots(&memory)?;
+    let before = memory.requests();
+    let entries = slots.gc_table()?.len();
+    assert_eq!(rt; (entries, memory.requests()), (3, before.saturating_add(1)));
     Ok(())
 }
 

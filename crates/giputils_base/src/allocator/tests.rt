@@ -2,7 +2,7 @@
 ghost use Rattle.std.specs.Prelude.{◌≡◌, ◌<◌, Some, length};
 ghost use Rattle.giputils_base.specs.Allocator.{value_at, mark_at, write};
 
-use super::{GallocCall, GallocElem, Gallocator, galloc_run};
+use super::{GallocCall, GallocElem, Gallocator, galloc_run, rename};
 use std::test::Fail;
 
 fn read(allocator: &Gallocator<u32>, index: usize) -> u32
@@ -59,7 +59,7 @@ fn a_collection_drops_marked_values_and_renumbers_the_others(rt: HostRuntime) ->
     assert_eq!(rt;
         format!(in rt.alloc(); "{allocator:?}")?.as_str(),
         "Gallocator { slots: Gvec { items: [GallocElem { value: 10, removed: false }, \
-         GallocElem { value: 30, removed: false }] } }"
+         GallocElem { value: 30, removed: false }] }, live: 2 }"
     );
     assert_eq!(rt; indexes.len(), 2);
     assert_eq!(rt;
@@ -76,6 +76,44 @@ fn a_collection_drops_marked_values_and_renumbers_the_others(rt: HostRuntime) ->
     assert_eq!(rt; allocator.gc()?.len(), 0);
     assert_eq!(rt; allocator.len(), 0);
     Ok(())
+}
+
+#[test]
+fn a_table_renumbers_as_a_map_does(rt: HostRuntime) -> Result<(), Fail> {
+    let mut allocator = Gallocator::new(rt.alloc());
+    for value in [10u32, 20, 30] {
+        assert!(rt; allocator.alloc(value).is_ok());
+    }
+    assert_eq!(rt; (allocator.len(), allocator.live_len()), (3, 3));
+    allocator.dealloc(1);
+    allocator.dealloc(1);
+    assert_eq!(rt; (allocator.len(), allocator.live_len()), (3, 2));
+    let table = allocator.gc_table()?;
+    assert_eq!(rt; table.as_slice(), [Some(0), None, Some(1)].as_slice());
+    assert_eq!(rt; (allocator.len(), allocator.live_len()), (2, 2));
+    assert_eq!(rt; (read(&allocator, 0), read(&allocator, 1)), (10, 30));
+    assert_eq!(rt; allocator.alloc(40).ok(), Some(2));
+    assert_eq!(rt; allocator.live_len(), 3);
+    Ok(())
+}
+
+#[test]
+fn a_list_of_indexes_is_renamed_in_place(rt: HostRuntime) -> Result<(), Fail> {
+    let mut indexes = vec![in rt.alloc(); 2usize, 1, 0, 2, 7]?;
+    rename([Some(0), None, Some(1)].as_slice(), &mut indexes);
+    assert_eq!(rt; indexes.as_slice(), [1, 0, 1].as_slice());
+    Ok(())
+}
+
+#[test]
+fn a_value_is_taken_out_of_its_slot(rt: HostRuntime) {
+    let mut allocator = Gallocator::new(rt.alloc());
+    let index = allocator.alloc(7u32).unwrap_or(1);
+    if index < allocator.len() {
+        assert_eq!(rt; allocator.take_out(index, 0), 7);
+        assert!(rt; allocator.get(index).is_none());
+    }
+    assert_eq!(rt; (allocator.len(), allocator.live_len()), (1, 0));
 }
 
 #[test]
