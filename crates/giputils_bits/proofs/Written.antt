@@ -1,12 +1,13 @@
 -- Words written in place: a word of the list put anew, and the same word everywhere.
-use Rattle.std.proofs.Common.{◌≡◌, ℕ, ◌+◌, ◌-◌, ◌*◌, ◌/◌, ◌%◌, ◌^◌, ◌<◌, ◌≤◌, min, Bool, false, ◌&&◌, List, [], ◌∷◌, ◌++◌, length, get_or, set, take, drop, refl, sym, ap, ◌∙◌, arith, inl, inr}
-use Rattle.std.specs.Prelude.{bit_and}
-use Rattle.std.proofs.Math.Bool.{and-true, and-false}
+use Rattle.std.proofs.Common.{◌≡◌, ℕ, ◌+◌, ◌-◌, ◌*◌, ◌/◌, ◌%◌, ◌^◌, ◌<◌, ◌≤◌, min, Bool, false, ◌&&◌, ◌||◌, List, replicate, [], ◌∷◌, ◌++◌, length, get_or, set, take, drop, refl, sym, ap, ◌∙◌, arith, inl, inr}
+use Rattle.std.specs.Prelude.{bit_and, bit_or, ◌⊎◌}
+use Rattle.std.proofs.Math.Bool.{and-true, and-false, or-false, or_self}
+use Rattle.std.proofs.Math.Seq.{take-append-add}
 use Rattle.std.proofs.lemmas.Bool.{cases_eq, cases_lt}
-use Rattle.std.proofs.lemmas.List.{take_all, take_more, length-set, length-take, length-drop, length-append, get_or-take, get_or-drop, get_or-set_same, get_or-set_other, get_or_append_left, get_or-append_right}
-use Rattle.giputils_bits.specs.Bits.{has_digit, digits_of, with_word}
+use Rattle.std.proofs.lemmas.List.{length-replicate, get_or-replicate, take-replicate, take_all, take_more, length-set, length-take, length-drop, length-append, get_or-take, get_or-drop, get_or-set_same, get_or-set_other, get_or_append_left, get_or-append_right}
+use Rattle.giputils_bits.specs.Bits.{has_digit, value_of, digits_of, with_word}
 use Rattle.giputils_bits.specs.Places.{place, bits_of, IsPacked}
-use Rattle.giputils_bits.proofs.Digits.{has_digit-ones, has_digit-ones_above, length-digits_of, get_or-digits_of, has_digit-and}
+use Rattle.giputils_bits.proofs.Digits.{has_digit-or, has_digit-shl_low, has_digit-shl_high, has_digit-value_of, has_digit-ones, has_digit-ones_above, length-digits_of, get_or-digits_of, has_digit-and}
 use Rattle.giputils_bits.proofs.Places.{place_is, place-past, length-bits_of, get_or-bits_of, bits_of_is}
 
 -- the digits of a word that a list of n places has room for from place 64 * k on
@@ -107,3 +108,100 @@ pub last_taken : (bs : List Bool) → 0 < length bs → bs ≡ take (length bs -
 last_taken bs some =
     let all : length bs - 1 + 1 ≡ length bs = omega arith in
     sym (take_all (length bs) bs (omega arith)) ∙ ap (λ n. take n bs) (sym all) ∙ take_more bs (length bs - 1) false (omega arith)
+
+-- ---- a value appended
+module _ (n count : ℕ) (ws : List ℕ) (val : Bool) (room : n < 64 * count) (long : length ws ≤ count) (p : IsPacked n ws) where
+  -- a word of that value
+  abbrev pub full_word : ℕ
+  full_word = value_of (replicate 64 val)
+
+  -- the words, with words of the value behind them
+  abbrev pub lengthened : List ℕ
+  lengthened = ws ++ replicate (count - length ws) full_word
+
+  -- and the value in the last of the old words too
+  abbrev pub filled_up : List ℕ
+  filled_up = set lengthened (n / 64) (bit_or (get_or lengthened (n / 64) 0) (full_word * 2 ^ (n % 64) % 2 ^ 64))
+
+  count-lengthened : length lengthened ≡ count
+  count-lengthened = omega (arith, length-append ws (replicate (count - length ws) full_word), length-replicate (count - length ws) full_word)
+
+  has_digit-full : (i : ℕ) → i < 64 → has_digit full_word i ≡ val
+  has_digit-full i below = has_digit-value_of (replicate 64 val) i ∙ get_or-replicate 64 i val false below
+
+  place-lengthened_old : (i : ℕ) → i / 64 < length ws → place lengthened i ≡ place ws i
+  place-lengthened_old i l = rw (place_is lengthened i, place_is ws i, get_or_append_left ws (replicate (count - length ws) full_word) 0 (i / 64) l) refl
+
+  place-lengthened_new : (i : ℕ) → length ws ≤ i / 64 → i / 64 < count → place lengthened i ≡ val
+  place-lengthened_new i past within =
+      place_is lengthened i
+      ∙ ap (λ w. has_digit w (i % 64)) (get_or-append_right ws (replicate (count - length ws) full_word) (length ws) (i / 64) 0 refl past ∙ get_or-replicate (count - length ws) (i / 64 - length ws) full_word 0 (omega arith))
+      ∙ has_digit-full (i % 64) (omega arith)
+
+  place-filled_at : (i : ℕ) → i / 64 ≡ n / 64 → place filled_up i ≡ (place lengthened i || has_digit (full_word * 2 ^ (n % 64) % 2 ^ 64) (i % 64))
+  place-filled_at i e =
+      place_is filled_up i
+      ∙ ap (λ k. has_digit (get_or filled_up k 0) (i % 64)) e
+      ∙ ap (λ w. has_digit w (i % 64)) (get_or-set_same lengthened (n / 64) _ 0 (omega (arith, count-lengthened)))
+      ∙ has_digit-or _ _ (i % 64)
+      ∙ ap (λ b. b || has_digit (full_word * 2 ^ (n % 64) % 2 ^ 64) (i % 64)) (sym (place_is lengthened i ∙ ap (λ k. has_digit (get_or lengthened k 0) (i % 64)) e))
+
+  place-filled_other : (i : ℕ) → (i / 64 ≡ n / 64 → ⊥) → place filled_up i ≡ place lengthened i
+  place-filled_other i m = place_is filled_up i ∙ ap (λ w. has_digit w (i % 64)) (get_or-set_other lengthened (n / 64) (i / 64) _ 0 m) ∙ sym (place_is lengthened i)
+
+  place-filled_low : (i : ℕ) → i < n → place filled_up i ≡ place ws i
+  place-filled_low i l = elim (cases_eq (i / 64) (n / 64)) [
+    | inl e ↦ place-filled_at i e ∙ ap (λ b. place lengthened i || b) (has_digit-shl_low full_word (n % 64) (i % 64) (omega arith) (omega arith)) ∙ or-false _ ∙ place-lengthened_old i (omega (arith, p.count))
+    | inr m ↦ place-filled_other i m ∙ place-lengthened_old i (omega (arith, p.count))
+  ]
+
+  either_way : (b : Bool) → (b ≡ false) ⊎ (b ≡ val) → (b || val) ≡ val
+  either_way b (inl e) = ap (λ x. x || val) e
+  either_way b (inr e) = ap (λ x. x || val) e ∙ or_self val
+
+  place-filled_high : (i : ℕ) → n ≤ i → i < 64 * count → place filled_up i ≡ val
+  place-filled_high i past within = elim (cases_eq (i / 64) (n / 64)) [
+    | inl e ↦
+        let old : (place lengthened i ≡ false) ⊎ (place lengthened i ≡ val) = elim (cases_lt (i / 64) (length ws)) [
+          | inl l ↦ inl (place-lengthened_old i l ∙ p.padding i past)
+          | inr l ↦ inr (place-lengthened_new i l (omega arith))
+        ] in
+        place-filled_at i e
+        ∙ ap (λ b. place lengthened i || b) (has_digit-shl_high full_word (n % 64) (i % 64) (omega arith) (omega arith) ∙ has_digit-full (i % 64 - n % 64) (omega arith))
+        ∙ either_way (place lengthened i) old
+    | inr m ↦ place-filled_other i m ∙ place-lengthened_new i (omega (arith, p.count)) (omega arith)
+  ]
+
+  count-filled : length filled_up ≡ count
+  count-filled = length-set lengthened (n / 64) _ ∙ count-lengthened
+
+  bits_of-filled : bits_of (64 * count) filled_up ≡ bits_of n ws ++ replicate (64 * count - n) val
+  bits_of-filled =
+      bits_of_is (64 * count) filled_up (bits_of n ws ++ replicate (64 * count - n) val)
+      (omega (arith, length-append (bits_of n ws) (replicate (64 * count - n) val), length-bits_of n ws, length-replicate (64 * count - n) val))
+      (λ i below. elim (cases_lt i n) [
+        | inl l ↦ place-filled_low i l ∙ sym (get_or_append_left (bits_of n ws) (replicate (64 * count - n) val) false i (omega (arith, length-bits_of n ws)) ∙ get_or-bits_of n ws i false l)
+        | inr l ↦ place-filled_high i l below ∙ sym (get_or-append_right (bits_of n ws) (replicate (64 * count - n) val) n i false (length-bits_of n ws) l ∙ get_or-replicate (64 * count - n) (i - n) val false (omega arith))
+      ])
+
+  IsPacked-filled : IsPacked (64 * count) filled_up
+  IsPacked-filled = record { count = omega (arith, count-filled); padding = λ i past. place-past filled_up i (omega (arith, count-filled)) }
+
+  module _ (m : ℕ) (last : (m - 1) / 64 + 1 ≡ count) (longer : n < m) where
+    -- what is past the new length taken away
+    abbrev pub grown_to : List ℕ
+    grown_to = set filled_up ((m - 1) / 64) (bit_and (get_or filled_up ((m - 1) / 64) 0) (2 ^ (m - 64 * ((m - 1) / 64)) - 1))
+
+    as_shortened : take ((m - 1) / 64 + 1) filled_up ≡ filled_up
+    as_shortened = take_all ((m - 1) / 64 + 1) filled_up (omega (arith, count-filled, last))
+
+    pub IsPacked-grown : IsPacked m grown_to
+    IsPacked-grown = rw as_shortened at (IsPacked-shortened (64 * count) m filled_up (omega arith) (omega (arith, last)) IsPacked-filled)
+
+    pub bits_of-grown : bits_of m grown_to ≡ bits_of n ws ++ replicate (m - n) val
+    bits_of-grown =
+        (rw as_shortened at (bits_of-shortened (64 * count) m filled_up (omega arith) (omega (arith, last)) IsPacked-filled))
+        ∙ ap (take m) bits_of-filled
+        ∙ ap (λ k. take k (bits_of n ws ++ replicate (64 * count - n) val)) (let e : m ≡ length (bits_of n ws) + (m - n) = omega (arith, length-bits_of n ws) in e)
+        ∙ take-append-add (bits_of n ws) (replicate (64 * count - n) val) (m - n)
+        ∙ ap (λ bs. bits_of n ws ++ bs) (take-replicate (m - n) (64 * count - n) val (omega (arith, last)))

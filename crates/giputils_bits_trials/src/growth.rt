@@ -52,6 +52,14 @@ fn is_negated(memory: &Refusing) -> bool {
     bits.not().is_ok()
 }
 
+// A vector of one bit is made longer.
+fn is_resized(memory: &Refusing) -> bool {
+    let mut bits = BitVec::new(memory);
+    bits.resize(64, true).is_ok()
+        && bits.resize(1000, false).is_ok()
+        && bits.resize(65, true).is_ok()
+}
+
 // A vector of one full word is extended by a bit.
 fn is_extended(memory: &Refusing) -> bool {
     let mut bits = BitVec::new(memory);
@@ -83,6 +91,7 @@ fn each_request_of_a_bit_vector_is_refused_in_turn(rt: HostRuntime) {
         ("from", refuse_each(alloc, is_collected), 1),
         ("clone", refuse_each(alloc, is_cloned), 2),
         ("not", refuse_each(alloc, is_negated), 2),
+        ("resize", refuse_each(alloc, is_resized), 1),
         ("extend", refuse_each(alloc, is_extended), 1),
         ("push", refuse_each(alloc, is_bit_pushed), 1),
         ("push_word", refuse_each(alloc, is_word_pushed), 1),

@@ -23,7 +23,11 @@ fn words_without_a_true_place_are_stepped_over(rt: HostRuntime) -> Result<(), Fa
     bits.set(64, true);
     bits.set(199, true);
     assert_eq!(rt;
-        (bits.first_one(), bits.next_one(65), bits.next_one(usize::MAX)),
+        (
+            bits.first_one(),
+            bits.next_one(65),
+            bits.next_one(usize::MAX)
+        ),
         (Some(64), Some(199), None)
     );
     assert!(rt; bits.iter_ones().eq([64, 199]));
@@ -49,11 +53,17 @@ fn five_places(alloc: Global) -> Result<(BitVec, BitVec), BitVecError> {
 fn one_set_is_within_another(rt: HostRuntime) -> Result<(), Fail> {
     let (mut bits, mask) = five_places(rt.alloc())?;
     assert_eq!(rt; bits.len(), mask.len());
-    assert_eq!(rt; (bits.is_subset(&mask), bits.is_disjoint(&mask)), (false, false));
+    assert_eq!(rt;
+        (bits.is_subset(&mask), bits.is_disjoint(&mask)),
+        (false, false)
+    );
     bits.difference_with(&mask);
     assert_eq!(rt; bits.to_usize(), 0b01000);
     assert_eq!(rt; bits.len(), mask.len());
-    assert_eq!(rt; (bits.is_subset(&mask), bits.is_disjoint(&mask)), (false, true));
+    assert_eq!(rt;
+        (bits.is_subset(&mask), bits.is_disjoint(&mask)),
+        (false, true)
+    );
     Ok(())
 }
 
@@ -86,5 +96,17 @@ fn the_last_bits_are_taken_away(rt: HostRuntime) -> Result<(), Fail> {
     assert_eq!(rt; bits.words(), [u64::MAX, 0].as_slice());
     bits.truncate(0);
     assert_eq!(rt; bits.pop(), None);
+    Ok(())
+}
+
+#[test]
+fn a_vector_is_made_longer_and_shorter(rt: HostRuntime) -> Result<(), Fail> {
+    let mut bits = BitVec::from(rt.alloc(), [true, false])?;
+    bits.resize(66, true)?;
+    assert_eq!(rt; bits.words(), [u64::MAX - 2, 3].as_slice());
+    bits.resize(130, false)?;
+    assert_eq!(rt; bits.words(), [u64::MAX - 2, 3, 0].as_slice());
+    bits.resize(3, true)?;
+    assert_eq!(rt; bits.words(), [5].as_slice());
     Ok(())
 }

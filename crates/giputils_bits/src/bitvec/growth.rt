@@ -1,5 +1,5 @@
 //! How a bit vector grows and is emptied. What refuses stands before what writes.
-ghost use Rattle.std.specs.Prelude.{◌≡◌, ◌+◌, ◌*◌, ◌/◌, ◌%◌, ◌<◌, ◌≤◌, ◌↔◌, [], ◌∷◌, ◌++◌, length, take, IfOk, IfErr, OnErr, OnOk, IsOk, MatchOption};
+ghost use Rattle.std.specs.Prelude.{◌≡◌, ◌+◌, ◌-◌, ◌*◌, ◌/◌, ◌%◌, ◌<◌, ◌≤◌, ◌↔◌, [], ◌∷◌, ◌++◌, length, replicate, take, IfOk, IfErr, OnErr, OnOk, IsOk, MatchOption};
 ghost use Rattle.std.specs.Iterator.{ExtendsWithItems};
 ghost use Rattle.giputils_bits.specs.Bits.{digits_of};
 ghost use Rattle.giputils_bits.specs.Error.{IsMemory};
@@ -9,7 +9,7 @@ ghost use Rattle.giputils_bits.specs.Places.{bits_of, IsPacked, HasRoom, Appends
 use super::BitVec;
 use super::error::BitVecError;
 use super::storage::Storage;
-use super::words::{low_mask, with_bit};
+use super::words::{filled_word, low_mask, with_bit};
 use std::alloc::{AllocError, Allocator};
 
 impl<A: Allocator> BitVec<A> {
@@ -38,6 +38,33 @@ impl<A: Allocator> BitVec<A> {
         let word = self.words.as_slice()[last] & low_mask(len - BitVec::WORD_SIZE * last);
         self.words.put(last, word);
         self.len = len;
+    }
+
+    /// Leaves the first `len` bits, or appends `val` until there are `len`.
+    ///
+    /// # Errors
+    /// `Memory` where the vector grows above 64 bits and the one request for memory is refused. Nothing changes then.
+    pub fn resize(&mut self, len: usize, val: bool) -> Result<(), BitVecError>
+        ensures ok { OnOk result (self.new ≡ take len self.old ++ replicate (len - length self.old) val) }
+        ensures inline { len ≤ 64 → IsOk result }
+        ensures shorter { len ≤ length self.old → IsOk result }
+        ensures err { OnErr result (self.new ≡ self.old) }
+        ensures memory { IfErr result IsMemory }
+    {
+        if len <= self.len {
+            self.truncate(len);
+            return Ok(());
+        }
+        let last = (len - 1) / BitVec::WORD_SIZE;
+        let word = filled_word(val, BitVec::WORD_SIZE);
+        self.words.resize(last + 1, word)?;
+        let k = self.len / BitVec::WORD_SIZE;
+        let joined = self.words.as_slice()[k] | word << (self.len % BitVec::WORD_SIZE);
+        self.words.put(k, joined);
+        let end = self.words.as_slice()[last] & low_mask(len - BitVec::WORD_SIZE * last);
+        self.words.put(last, end);
+        self.len = len;
+        Ok(())
     }
 
     /// Takes the last bit away, if there is one, and answers it. Memory is kept for the next growth.

@@ -1,5 +1,5 @@
 //! The words of a bit vector: one in the value itself, or several in a `Gvec`.
-ghost use Rattle.std.specs.Prelude.{◌≡◌, ◌<◌, [], ◌∷◌, ◌++◌, length, replicate, slice_index, slice_set, take, OnErr, OnOk, IfOk, IsOk};
+ghost use Rattle.std.specs.Prelude.{◌≡◌, ◌-◌, ◌<◌, ◌≤◌, [], ◌∷◌, ◌++◌, length, replicate, slice_index, slice_set, take, OnErr, OnOk, IfOk, IsOk};
 ghost use Rattle.std.specs.Int.{bit_not, w64};
 ghost use Rattle.giputils_bits.specs.Places.{Rewrites};
 
@@ -155,6 +155,26 @@ impl<A: Allocator> Storage<A> {
         } else {
             negate_words(heap);
         }
+    }
+
+    // Appends a word until there are `count`, by one request at most, and by none for a single word.
+    pub(crate) fn resize(&mut self, count: usize, word: u64) -> Result<(), AllocError>
+        requires { length self.old ≤ count }
+        ensures ok { OnOk result (self.new ≡ self.old ++ replicate (count - length self.old) word) }
+        ensures inline { count ≡ 1 → IsOk result }
+        ensures err { OnErr result (self.new ≡ self.old) }
+    {
+        let inline = self.inline;
+        let heap: &mut Vec<u64, A> = &mut self.heap;
+        if heap.is_empty() {
+            if count > 1 {
+                heap.resize(count, word)?;
+                heap[0] = inline;
+            }
+        } else {
+            heap.resize(count, word)?;
+        }
+        Ok(())
     }
 
     // Leaves the first `count` words. The memory is kept for the next growth.
