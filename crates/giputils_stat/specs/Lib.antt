@@ -3,3 +3,4 @@ pub mod Decimals
 pub mod Tally
 pub mod Texts
 pub mod Due
+pub use Rattle.circular_buffer.specs.Buffer

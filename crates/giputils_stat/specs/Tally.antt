@@ -1,5 +1,6 @@
 -- Sums with the number of their terms, and numbers of successes and failures.
-use Rattle.std.specs.Prelude.{ℕ, ◌+◌, ◌-◌, ◌^◌, ◌<◌, ◌≤◌}
+use Rattle.std.specs.Prelude.{ℕ, ◌+◌, ◌-◌, ◌^◌, ◌<◌, ◌≤◌, List, length, sum, IsTrue, nat_le}
+use Rattle.std.specs.List.{list_all}
 use Rattle.std.specs.Duration.{FitsDuration}
 
 -- `usize::MAX`
@@ -19,6 +20,10 @@ no_terms = record { sum = 0; count = 0 }
 abbrev pub with_term : Tally → ℕ → Tally
 with_term t n = record { sum = t.sum + n; count = t.count + 1 }
 
+-- the terms of a list
+abbrev pub tally_of : List ℕ → Tally
+tally_of ns = record { sum = sum ns; count = length ns }
+
 -- the terms of both
 abbrev pub with_terms : Tally → Tally → Tally
 with_terms s t = record { sum = s.sum + t.sum; count = s.count + t.count }
@@ -30,6 +35,10 @@ CanCount t = t.count < usize_max
 -- the terms of both can be counted
 abbrev pub CanCountBoth : Tally → Tally → Type 0
 CanCountBoth s t = s.count + t.count ≤ usize_max
+
+-- each is a `usize`
+abbrev pub AreNumbers : List ℕ → Type 0
+AreNumbers ns = IsTrue (list_all (λ n. nat_le n usize_max) ns)
 
 -- a term of so many nanoseconds can be counted, and the sum stays a `Duration`
 abbrev pub CanAddNanos : Tally → ℕ → Type 0

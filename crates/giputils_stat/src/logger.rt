@@ -20,9 +20,9 @@ pub struct IntervalLogger {
 
 impl Model for IntervalLogger {
     ghost use Rattle.std.specs.Duration.{as_nanos};
-    ghost use Rattle.giputils_stat.specs.Due.{Timer};
+    ghost use Rattle.giputils_stat.specs.Due.{Schedule};
 
-    ghost Value = { Timer };
+    ghost Value = { Schedule };
 
     ghost view = { λ l. record { last = as_nanos l.last; interval = as_nanos l.interval } };
 }

@@ -3,6 +3,7 @@ mod average;
 mod average_duration;
 mod counted_duration;
 mod duration_sum;
+mod moving_average;
 mod running_time;
 mod success_rate;
 
@@ -10,5 +11,6 @@ pub use crate::decimal::Seconds;
 pub use average::Average;
 pub use average_duration::AverageDuration;
 pub use counted_duration::CountedDuration;
+pub use moving_average::MovingAverage;
 pub use running_time::RunningTime;
 pub use success_rate::SuccessRate;

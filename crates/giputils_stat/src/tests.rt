@@ -1,6 +1,8 @@
 use crate::decimal::Decimal;
 use crate::logger::IntervalLogger;
-use crate::statistic::{Average, AverageDuration, CountedDuration, RunningTime, SuccessRate};
+use crate::statistic::{
+    Average, AverageDuration, CountedDuration, MovingAverage, RunningTime, SuccessRate,
+};
 use log::sink::Memory;
 use log::{Level, Log, Logged};
 use std::fmt::{Debug, Display};
@@ -83,6 +85,33 @@ fn sums_and_means_are_told(rt: HostRuntime) -> Result<(), Fail> {
     let rate = rate_of(&rt, 2, 1);
     assert_eq!(rt; (rate.successes(), rate.failures()), (2, 1));
     displays(&rt, &Decimal::percent(2, 3, 3), "66.667")
+}
+
+#[test]
+fn a_moving_average_is_of_the_last_numbers(rt: HostRuntime) -> Result<(), Fail> {
+    let mut average = MovingAverage::with_room(rt.alloc(), 3)?;
+    let cases = [
+        (1, "1.000000"),
+        (2, "1.500000"),
+        (3, "2.000000"),
+        (usize::MAX, "6148914691236517206.666667"),
+        (0, "6148914691236517206.000000"),
+        (0, "6148914691236517205.000000"),
+        (0, "0.000000"),
+    ];
+    debugs(&rt, &average, "NaN")?;
+    for (number, text) in cases {
+        average.push(number);
+        debugs(&rt, &average, text)?;
+    }
+    assert!(rt; average.is_full());
+    assert_eq!(rt; average.average().count(), 3);
+    average.clear();
+    debugs(&rt, &average, "NaN")?;
+
+    let mut no_room = MovingAverage::with_room(rt.alloc(), 0)?;
+    no_room.push(7);
+    debugs(&rt, &no_room, "NaN")
 }
 
 #[test]

@@ -1,6 +1,6 @@
 //! The average of whole numbers.
-ghost use Rattle.std.specs.Prelude.{◌≡◌, ◌↔◌, ◌<◌, ◌≤◌, Some, IsTrue, IsNone, IfSome};
-ghost use Rattle.giputils_stat.specs.Tally.{no_terms, with_term, with_terms, CanCount, CanCountBoth};
+ghost use Rattle.std.specs.Prelude.{◌≡◌, ◌↔◌, ◌*◌, ◌<◌, ◌≤◌, Some, IsTrue, IsNone, IfSome};
+ghost use Rattle.giputils_stat.specs.Tally.{no_terms, with_term, with_terms, usize_max, CanCount, CanCountBoth};
 ghost use Rattle.giputils_stat.specs.Texts.{average_text};
 
 use crate::decimal::{Decimal, Ratio};
@@ -29,6 +29,15 @@ impl Model for Average {
 }
 
 impl Average {
+    // The average of so many numbers of this sum.
+    #[inline]
+    pub(crate) fn of_sum(sum: u128, count: usize) -> Self
+        requires { sum ≤ count * usize_max }
+        ensures { result ≡ record { sum = sum; count = count } }
+    {
+        Average { sum, count }
+    }
+
     /// The sum of the numbers.
     #[inline]
     pub fn sum(&self) -> u128
