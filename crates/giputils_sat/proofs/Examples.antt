@@ -1,0 +1,103 @@
+-- Worked examples of the definitions: accepted and refused ones.
+use Rattle.std.proofs.Common.{◌≡◌, ℕ, eqb, Bool, true, false, ◌||◌, List, [], ◌∷◌, Some, None, refl, arith, ap, suc, zero}
+use Rattle.giputils_sat.specs.Literals.{Lit, code, decoded}
+use Rattle.std.proofs.lemmas.Bool.{false≢true, true≢false}
+use Rattle.giputils_sat.specs.Formulas.{Clause, Formula, Assignment, is_true, satisfies_clause, satisfies, IsSatisfiable, Implies}
+use Rattle.giputils_sat.specs.Marked.{is_marked}
+use Rattle.giputils_sat.specs.Values.{value_of, assignment_of, assignment_in, unset}
+use Rattle.giputils_sat.specs.Stores.{clauses_of, given_among}
+
+abbrev yes : ℕ → Lit
+yes v = record { variable = v; positive = true }
+
+abbrev not_ : ℕ → Lit
+not_ v = record { variable = v; positive = false }
+
+-- x0 or x1; not x0 or x1
+abbrev two : Formula
+two = (yes 0 ∷ yes 1 ∷ []) ∷ (not_ 0 ∷ yes 1 ∷ []) ∷ []
+
+-- x1 alone is true
+abbrev second : Assignment
+second v = eqb v 1
+
+second_satisfies : satisfies second two ≡ true
+second_satisfies = refl
+
+-- all are false
+none_does_not : satisfies (λ v. false) two ≡ false
+none_does_not = refl
+
+two_is_satisfiable : IsSatisfiable two
+two_is_satisfiable = (second, refl)
+
+-- the empty clause is satisfied by nothing, and the empty formula by everything
+empty_clause : (a : Assignment) → satisfies_clause a [] ≡ false
+empty_clause a = refl
+
+empty_formula : (a : Assignment) → satisfies a [] ≡ true
+empty_formula a = refl
+
+contradiction_is_not : IsSatisfiable ((yes 0 ∷ []) ∷ (not_ 0 ∷ []) ∷ []) → ⊥
+contradiction_is_not (a, sat) = by_value (a 0) sat
+  where
+    by_value : (b : Bool) → satisfies (λ v. b) ((yes 0 ∷ []) ∷ (not_ 0 ∷ []) ∷ []) ≡ true → ⊥
+    by_value true e = false≢true e
+    by_value false e = false≢true e
+
+-- x1 follows, and x0 does not
+second_follows : Implies two (yes 1 ∷ [])
+second_follows = record { follows = λ a all. by_values (a 0) (a 1) all }
+  where
+    by_values : (b c : Bool) → satisfies (λ v. elim v [ zero ↦ b | suc n ↦ c ]) two ≡ true → satisfies_clause (λ v. c) (yes 1 ∷ []) ≡ true
+    by_values b true e = refl
+    by_values true false e = e
+    by_values false false e = e
+
+first_does_not : Implies two (yes 0 ∷ []) → ⊥
+first_does_not implied = false≢true (implied.follows second refl)
+
+marks : is_marked (false ∷ true ∷ []) (yes 0) ≡ true
+marks = refl
+
+unknown_value : value_of (Some true ∷ None ∷ []) (not_ 1) ≡ None
+unknown_value = refl
+
+false_value : value_of (Some true ∷ None ∷ []) (not_ 0) ≡ Some false
+false_value = refl
+
+one_unset : unset (Some true ∷ None ∷ []) ≡ 1
+one_unset = refl
+
+spans : clauses_of (yes 0 ∷ yes 1 ∷ not_ 0 ∷ []) (record { start = 0; end = 2 } ∷ record { start = 2; end = 3 } ∷ []) ≡ (yes 0 ∷ yes 1 ∷ []) ∷ (not_ 0 ∷ []) ∷ []
+spans = refl
+
+-- a literal and its number, both ways
+codes : code (not_ 3) ≡ 6
+codes = refl
+
+codes_back : decoded 7 ≡ yes 3
+codes_back = refl
+
+-- a literal and its negation: every assignment satisfies the clause
+tautology_holds : (a : Assignment) → satisfies_clause a (yes 0 ∷ not_ 0 ∷ []) ≡ true
+tautology_holds a = by_value (a 0)
+  where
+    by_value : (b : Bool) → satisfies_clause (λ v. b) (yes 0 ∷ not_ 0 ∷ []) ≡ true
+    by_value true = refl
+    by_value false = refl
+
+-- a literal twice is as the literal once
+literal_twice : satisfies_clause second (yes 1 ∷ yes 1 ∷ []) ≡ true
+literal_twice = refl
+
+literal_twice_refused : satisfies_clause second (yes 0 ∷ yes 0 ∷ []) ≡ false
+literal_twice_refused = refl
+
+-- a variable that no clause has may have either value
+other_variable : satisfies (λ v. eqb v 1 || eqb v 9) two ≡ true
+other_variable = refl
+
+-- of three clauses the second was learned
+given_ones : given_among (true ∷ false ∷ true ∷ []) ((yes 0 ∷ []) ∷ (yes 1 ∷ []) ∷ [] ∷ []) ≡ (yes 0 ∷ []) ∷ [] ∷ []
+given_ones = refl

@@ -1,0 +1,13 @@
+-- When an answer is right.
+use Rattle.std.specs.Prelude.{ℕ, IsTrue}
+use Rattle.giputils_sat.specs.declared.solver.Answer.{Answer}
+use Rattle.giputils_sat.specs.declared.solver.Answer.TheVariants.{Sat, Unsat, Unknown}
+use Rattle.giputils_sat.specs.Formulas.{satisfies, IsSatisfiable}
+use Rattle.giputils_sat.specs.Stores.{Known, HasMore}
+use Rattle.giputils_sat.specs.Values.{assignment_in}
+
+-- a model satisfies the formula; where there is said to be none there is none; where it is open so many clauses were learned
+abbrev pub IsRight : {A : Type 0} → Known → Known → ℕ → Answer A → Type 0
+IsRight old new limit (Sat model) = IsTrue (satisfies (assignment_in model.items) old.formula)
+IsRight old new limit Unsat = ¬ (IsSatisfiable old.formula)
+IsRight old new limit Unknown = HasMore limit old new

@@ -1,0 +1,10 @@
+pub mod Literals
+pub mod Coding
+pub mod Formulas
+pub mod Stores
+pub mod Marked
+pub mod Values
+pub mod Choices
+pub mod Answers
+pub mod Trails
+pub mod Trailed

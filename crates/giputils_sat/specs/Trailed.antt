@@ -1,0 +1,41 @@
+-- The trail of a search, as its own calls state it.
+use Rattle.std.specs.Prelude.{◌≡◌, ℕ, ◌+◌, ◌++◌, ◌∷◌, [], Bool, List, length, slice_get, Option, Some, IfSome, IfNone}
+use Rattle.giputils_sat.specs.declared.trail.Step.{Step}
+use Rattle.giputils_sat.specs.declared.trail.Trail.{Trail}
+use Rattle.giputils_sat.specs.Formulas.{Clause, Formula}
+use Rattle.giputils_sat.specs.Trails.{IsTrail, IsConflict, AreUndone}
+use Rattle.giputils_sat.specs.Values.{unset, IsModelOf}
+
+-- the trail's literals stand by these clauses
+abbrev pub StandsBy : {A : Type 0} → List Clause → Trail A → Type 0
+StandsBy clauses t = IsTrail clauses t.values.items t.steps.items t.starts.items
+
+-- the clause at a place has false literals alone
+abbrev pub IsConflictOf : {A : Type 0} → List Clause → Trail A → ℕ → Type 0
+IsConflictOf clauses t place = IsConflict clauses t.values.items place
+
+-- where a place is found, the clause there has false literals alone
+abbrev pub MeetsConflict : {A : Type 0} → List Clause → Trail A → Option ℕ → Type 0
+MeetsConflict clauses t found = IfSome found (IsConflict clauses t.values.items)
+
+-- where no place is found, the values satisfy the formula
+abbrev pub SatisfiesUnless : {A : Type 0} → Formula → Trail A → Option ℕ → Type 0
+SatisfiesUnless formula t found = IfNone found (IsModelOf formula t.values.items)
+
+-- whatever clauses the old trail stood by, the new one stands by them
+abbrev pub StandsOn : {A : Type 0} → Trail A → Trail A → Type 0
+StandsOn old new = (clauses : List Clause) → StandsBy clauses old → StandsBy clauses new
+
+-- how many variables have no value or stand in the trail
+abbrev pub total : {A : Type 0} → Trail A → ℕ
+total t = unset t.values.items + length t.steps.items
+
+-- where each level begins, with one that begins now
+abbrev pub starts_after : {A : Type 0} → Trail A → List ℕ
+starts_after t = t.starts.items ++ length t.steps.items ∷ []
+
+-- before any decision: where all that was marked is undone before a place's end, what is marked now is before the place
+abbrev pub UndoesAtRoot : {A : Type 0} → List Clause → Trail A → Step → List Bool → List Bool → Type 0
+UndoesAtRoot clauses t step old new =
+    (place : ℕ) → t.starts.items ≡ [] → StandsBy clauses t → slice_get t.steps.items place ≡ Some step
+        → AreUndone t.steps.items old (place + 1) → AreUndone t.steps.items new place

@@ -1,0 +1,45 @@
+-- The true literals in order, each with the clause that made it true, where it was not decided.
+use Rattle.std.specs.Prelude.{◌≡◌, [], ◌∷◌, ◌++◌, ◌≢◌, ℕ, ◌<◌, ◌≤◌, Bool, true, false, List, length, slice_get, slice_index_or, Option, Some, None}
+use Rattle.giputils_sat.specs.Literals.{Lit, negated}
+use Rattle.giputils_sat.specs.declared.trail.Step.{Step}
+use Rattle.giputils_sat.specs.Formulas.{Clause, Has}
+use Rattle.giputils_sat.specs.Marked.{is_marked}
+use Rattle.giputils_sat.specs.Values.{value_of}
+
+-- the literal stands before place i
+abbrev pub Stands : List Step → Lit → ℕ → Type 0
+Stands steps l i = (j : ℕ) × (s : Step) × (j < i) × (slice_get steps j ≡ Some s) × (s.literal ≡ l)
+
+-- the clause's other literals are false by what stands before place i
+abbrev pub HasReason : List Clause → List Step → ℕ → Lit → ℕ → Type 0
+HasReason clauses steps i l r =
+    (c : Clause) × (slice_get clauses r ≡ Some c)
+        × ((m : Lit) → Has c m → m ≢ l → Stands steps (negated m) i)
+
+-- what has a value stands in the trail; each reason is one; before the first decision each literal has a reason
+pub record IsTrail (clauses : List Clause) (values : List (Option Bool)) (steps : List Step) (starts : List ℕ) : Type 0 where
+  pub stand : (l : Lit) → value_of values l ≡ Some true → Stands steps l (length steps)
+  pub reasons : (k : ℕ) (s : Step) (r : ℕ) → slice_get steps k ≡ Some s → s.reason ≡ Some r → HasReason clauses steps k s.literal r
+  pub implied : (k : ℕ) (s : Step) → slice_get steps k ≡ Some s → k < slice_index_or starts 0 (length steps) → s.reason ≢ None
+  pub low : slice_index_or starts 0 0 ≤ length steps
+  pub rising : (i p : ℕ) → slice_get starts i ≡ Some p → slice_index_or starts 0 0 ≤ p
+
+-- each of the clause's literals is false
+abbrev pub AreFalse : List (Option Bool) → Clause → Type 0
+AreFalse values clause = (m : Lit) → Has clause m → value_of values m ≡ Some false
+
+-- the clause at a place has false literals alone
+abbrev pub IsConflict : List Clause → List (Option Bool) → ℕ → Type 0
+IsConflict clauses values i = (c : Clause) × (slice_get clauses i ≡ Some c) × AreFalse values c
+
+-- what has a value keeps it
+abbrev pub Extends : List (Option Bool) → List (Option Bool) → Type 0
+Extends old new = (m : Lit) (b : Bool) → value_of old m ≡ Some b → value_of new m ≡ Some b
+
+-- each marked literal is false by what stands before place i
+abbrev pub AreUndone : List Step → List Bool → ℕ → Type 0
+AreUndone steps marks i = (m : Lit) → is_marked marks m ≡ true → Stands steps (negated m) i
+
+-- one literal more is true
+abbrev pub steps_with : Lit → Option ℕ → List Step → List Step
+steps_with l reason steps = steps ++ record { literal = l; reason = reason } ∷ []

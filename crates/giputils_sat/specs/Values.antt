@@ -1,0 +1,61 @@
+-- What is known of the variables.
+use Rattle.std.specs.Prelude.{◌≡◌, ◌≢◌, ℕ, Bool, true, false, List, [], ◌∷◌, ◌+◌, Option, Some, None, option_map, unwrap_or, map, slice_get, slice_set, slice_index_or, IsTrue}
+use Rattle.giputils_sat.specs.Literals.{Lit}
+use Rattle.std.specs.Bool.{beq}
+use Rattle.giputils_sat.specs.Formulas.{Assignment, Clause, Formula, Has, satisfies, satisfies_clause}
+
+-- whether the literal is true, where its variable has a value
+abbrev pub value_of : List (Option Bool) → Lit → Option Bool
+value_of values l = option_map (λ v. beq v l.positive) (slice_index_or values l.variable None)
+
+-- a variable with no value counts as false
+abbrev pub assignment_of : List (Option Bool) → Assignment
+assignment_of values v = unwrap_or (slice_index_or values v None) false
+
+-- the assignment that a list of truth values is; false past its end
+abbrev pub assignment_in : List Bool → Assignment
+assignment_in model v = slice_index_or model v false
+
+-- how many variables have no value
+abbrev pub unset : List (Option Bool) → ℕ
+unset [] = 0
+unset (None ∷ values) = unset values + 1
+unset (Some v ∷ values) = unset values
+
+-- no literal of the clause at place i is true
+abbrev pub IsOpenAt : List Clause → List (Option Bool) → ℕ → Type 0
+IsOpenAt clauses values i =
+    (c : Clause) (m : Lit) → slice_get clauses i ≡ Some c → Has c m → value_of values m ≢ Some true
+
+-- each literal of the clause but that at one place is false
+abbrev pub AreFalseBut : ℕ → List (Option Bool) → Clause → Type 0
+AreFalseBut but values clause =
+    (i : ℕ) (m : Lit) → slice_get clause i ≡ Some m → i ≢ but → value_of values m ≡ Some false
+
+-- the values make one of the clause's literals true
+abbrev pub IsSatisfiedBy : List (Option Bool) → Clause → Type 0
+IsSatisfiedBy values clause = IsTrue (satisfies_clause (assignment_of values) clause)
+
+-- the values satisfy the formula
+abbrev pub IsModelOf : Formula → List (Option Bool) → Type 0
+IsModelOf formula values = IsTrue (satisfies (assignment_of values) formula)
+
+-- none of the clause's literals is true
+abbrev pub HasNoTrue : List (Option Bool) → Clause → Type 0
+HasNoTrue values clause = (m : Lit) → Has clause m → value_of values m ≢ Some true
+
+-- each of the clause's variables has a value
+abbrev pub AreAllSet : List (Option Bool) → Clause → Type 0
+AreAllSet values clause = (m : Lit) → Has clause m → value_of values m ≢ None
+
+-- a truth value for each variable: false for one that has none
+abbrev pub model_in : List (Option Bool) → List Bool
+model_in values = map (λ o. unwrap_or o false) values
+
+-- the literal is true
+abbrev pub values_with : Lit → List (Option Bool) → List (Option Bool)
+values_with l values = slice_set values l.variable (Some l.positive)
+
+-- the literal's variable has no value
+abbrev pub values_without : Lit → List (Option Bool) → List (Option Bool)
+values_without l values = slice_set values l.variable None

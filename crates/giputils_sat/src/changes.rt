@@ -1,0 +1,156 @@
+//! The calls of a trail: a literal more, a literal less.
+ghost use Rattle.std.specs.Prelude.{◌≡◌, ◌++◌, ◌∷◌, ◌+◌, ◌^◌, ◌<◌, ◌≤◌, [], None, length, replicate, IfOk, IfSome, OnOk};
+ghost use Rattle.giputils_sat.specs.Trailed.{StandsOn, starts_after};
+ghost use Rattle.giputils_sat.specs.Trails.{steps_with};
+ghost use Rattle.giputils_sat.specs.Values.{unset, value_of, values_with, values_without};
+
+use crate::activity::Activity;
+use crate::literal::Literal;
+use crate::trail::{Step, Trail};
+use std::alloc::{AllocError, Allocator};
+
+impl<A: Allocator + Copy> Trail<A> {
+    /// So many variables with no value.
+    pub fn new(alloc: A, count: usize) -> Result<Self, AllocError>
+        requires { count ≤ 2 ^ 31 }
+        ensures values { IfOk result (λ t. t.values.items ≡ replicate count None) }
+        ensures steps { IfOk result (λ t. t.steps.items ≡ []) }
+        ensures starts { IfOk result (λ t. t.starts.items ≡ []) }
+    {
+        let values = vec![in alloc; None; count]?;
+        let levels = vec![in alloc; 0; count]?;
+        Ok(Trail {
+            values,
+            levels,
+            steps: Vec::new(alloc),
+            phases: vec![in alloc; false; count]?,
+            starts: Vec::new(alloc),
+            head: 0,
+        })
+    }
+
+    /// Whether the literal is true, if it has a value.
+    pub fn value(&self, l: Literal) -> Option<bool>
+        ensures { result ≡ value_of self.now.values.items l }
+    {
+        match self.values.get(l.variable() as usize) {
+            Some(Some(value)) => Some(*value == l.is_positive()),
+            _ => None,
+        }
+    }
+
+    /// The number of decisions.
+    pub fn level(&self) -> usize
+        ensures { result ≡ length self.now.starts.items }
+    {
+        self.starts.len()
+    }
+
+    /// The level at which the literal's variable got its value.
+    pub fn level_of(&self, l: Literal) -> usize {
+        match self.levels.get(l.variable() as usize) {
+            Some(level) => *level,
+            None => 0,
+        }
+    }
+
+    /// Makes a literal true.
+    ///
+    /// # Errors
+    /// `AllocError` where memory is refused.
+    pub fn assign(&mut self, l: Literal, reason: Option<usize>) -> Result<(), AllocError>
+        requires within { l.variable < length self.old.values.items }
+        requires unset { value_of self.old.values.items l ≡ None }
+        ensures len { length self.new.values.items ≡ length self.old.values.items }
+        ensures values { OnOk result (self.new.values.items ≡ values_with l self.old.values.items) }
+        ensures steps { OnOk result (self.new.steps.items ≡ steps_with l reason self.old.steps.items) }
+        ensures starts { self.new.starts ≡ self.old.starts }
+        ensures unset { OnOk result (unset self.new.values.items + 1 ≡ unset self.old.values.items) }
+        ensures head { self.new.head ≡ self.old.head }
+    {
+        self.steps.push(Step { literal: l, reason })?;
+        let level = self.starts.len();
+        self.values[l.variable() as usize] = Some(l.is_positive());
+        self.levels[l.variable() as usize] = level;
+        self.phases[l.variable() as usize] = l.is_positive();
+        Ok(())
+    }
+
+    /// Makes a literal true at a new level.
+    ///
+    /// # Errors
+    /// `AllocError` where memory is refused.
+    pub fn decide(&mut self, l: Literal) -> Result<(), AllocError>
+        requires within { l.variable < length self.old.values.items }
+        requires unset { value_of self.old.values.items l ≡ None }
+        ensures len { length self.new.values.items ≡ length self.old.values.items }
+        ensures unset { OnOk result (unset self.new.values.items + 1 ≡ unset self.old.values.items) }
+        ensures values { OnOk result (self.new.values.items ≡ values_with l self.old.values.items) }
+        ensures steps { OnOk result (self.new.steps.items ≡ steps_with l None self.old.steps.items) }
+        ensures starts { OnOk result (self.new.starts.items ≡ starts_after self.old) }
+    {
+        self.starts.push(self.steps.len())?;
+        self.assign(l, None)
+    }
+
+    /// The value that a variable had last.
+    pub fn phase(&self, variable: u32) -> bool {
+        match self.phases.get(variable as usize) {
+            Some(phase) => *phase,
+            None => false,
+        }
+    }
+
+    /// The next literal to propagate.
+    pub fn next(&mut self) -> Option<Literal>
+        ensures values { self.new.values ≡ self.old.values }
+        ensures steps { self.new.steps ≡ self.old.steps }
+        ensures starts { self.new.starts ≡ self.old.starts }
+        ensures within { IfSome result (λ _. self.old.head < length self.old.steps.items) }
+        ensures head { IfSome result (λ _. self.new.head ≡ self.old.head + 1) }
+    {
+        let step = *self.steps.get(self.head)?;
+        self.head += 1;
+        Some(step.literal)
+    }
+
+    // Takes the last literal's value away.
+    fn pop(&mut self) -> Step
+        requires { 0 < length self.old.steps.items }
+        ensures len { length self.new.values.items ≡ length self.old.values.items }
+        ensures starts { self.new.starts ≡ self.old.starts }
+        ensures steps { self.old.steps.items ≡ self.new.steps.items ++ result ∷ [] }
+        ensures values { self.new.values.items ≡ values_without result.literal self.old.values.items }
+    {
+        let Some(step) = self.steps.pop() else {
+            unreachable!();
+        };
+        let variable = step.literal.variable() as usize;
+        if variable >= self.values.len() {
+            return step;
+        }
+        self.values[variable] = None;
+        step
+    }
+
+    /// Goes back to a level. What is not true any more may be decided again.
+    ///
+    /// # Errors
+    /// `AllocError` where memory is refused.
+    pub fn backtrack(&mut self, level: usize, activity: &mut Activity<A>) -> Result<(), AllocError>
+        ensures len { length self.new.values.items ≡ length self.old.values.items }
+        ensures trail { OnOk result (StandsOn self.old self.new) }
+    {
+        if level >= self.starts.len() {
+            return Ok(());
+        }
+        let start = self.starts[level];
+        self.head = self.head.min(start);
+        while self.steps.len() > start {
+            let step = self.pop();
+            activity.put_back(step.literal.variable())?;
+        }
+        self.starts.truncate(level);
+        Ok(())
+    }
+}

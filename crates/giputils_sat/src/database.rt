@@ -1,0 +1,144 @@
+//! The clauses that are known: those of a formula, and those that were learned of it.
+ghost use Rattle.std.specs.Prelude.{◌≡◌, ◌++◌, ◌∷◌, ◌^◌, ◌<◌, ◌≤◌, [], Some, length, slice_get, IsTrue, IfSome, IfNone, OnOk, OnErr};
+ghost use Rattle.std.specs.Bool.{OnFalse, OnTrue};
+ghost use Rattle.giputils_sat.specs.Formulas.{AreBelow, Implies};
+ghost use Rattle.giputils_sat.specs.Values.{HasNoTrue, IsModelOf, IsOpenAt, IsSatisfiedBy};
+
+use crate::clauses::Clauses;
+use crate::literal::Literal;
+use crate::trail::Trail;
+use std::alloc::{AllocError, Allocator, Global};
+use std::marker::Model;
+
+// The clauses of a formula, and those that were learned of it, each at the place at which it came.
+#[derive(Drop)]
+pub struct Database<A: Allocator = Global> {
+    clauses: Clauses<A>,
+    // Whether the clause at a place was given, and not learned.
+    given: Vec<bool, A>,
+    count: usize,
+}
+
+impl<A: Allocator> Model for Database<A> {
+    ghost use Rattle.giputils_sat.specs.Stores.{Known, IsKnown, given_among};
+
+    ghost Value = { Known };
+
+    ghost view = { λ d. record {
+        formula = given_among d.given.items d.clauses;
+        clauses = d.clauses;
+        count = d.count
+    } };
+
+    ghost invariant = { λ d. IsKnown d.given.items d.count d.clauses };
+}
+
+impl<A: Allocator + Copy> Database<A> {
+    // No clause.
+    pub fn new(alloc: A) -> Self
+        ensures formula { result.formula ≡ [] }
+        ensures clauses { result.clauses ≡ [] }
+    {
+        Database {
+            clauses: Clauses::new(alloc),
+            given: Vec::new(alloc),
+            count: 0,
+        }
+    }
+
+    // A number that each variable is below.
+    pub fn count(&self) -> usize
+        ensures value { result ≡ self.now.count }
+        ensures small { result ≤ 2 ^ 31 }
+    {
+        self.count
+    }
+
+    // How many clauses there are.
+    pub fn len(&self) -> usize
+        ensures { result ≡ length self.now.clauses }
+    {
+        self.clauses.len()
+    }
+
+    // The clause at a place.
+    pub fn clause(&self, place: usize) -> &[Literal]
+        requires { place < length self.now.clauses }
+        ensures at { slice_get self.now.clauses place ≡ Some result.now }
+        ensures implied { Implies self.now.formula result.now }
+        ensures below { AreBelow self.now.count result.now }
+    {
+        self.clauses.clause(place)
+    }
+
+    // The place of a clause of the formula that has no true literal. None if there is none.
+    pub fn open_clause(&self, trail: &Trail<A>) -> Option<usize>
+        ensures some { IfSome result (λ i. i < length self.now.clauses) }
+        ensures none_true { IfSome result (IsOpenAt self.now.clauses trail.now.values.items) }
+        ensures none { IfNone result (IsModelOf self.now.formula trail.now.values.items) }
+    {
+        for place in 0..self.clauses.len() {
+            if is_open(trail, self.given[place], self.clauses.clause(place)) {
+                return Some(place);
+            }
+        }
+        None
+    }
+
+    // Adds a clause to the formula. Nothing changes where memory is refused.
+    pub fn give(&mut self, clause: &[Literal]) -> Result<(), AllocError>
+        ensures formula { OnOk result (self.new.formula ≡ self.old.formula ++ clause.now ∷ []) }
+        ensures clauses { OnOk result (self.new.clauses ≡ self.old.clauses ++ clause.now ∷ []) }
+        ensures err { OnErr result (self.new ≡ self.old) }
+    {
+        self.given.reserve(1)?;
+        self.clauses.push(clause)?;
+        self.given.push_reserved(true);
+        self.count = count_with(clause, self.count);
+        Ok(())
+    }
+
+    // Adds a clause that follows. Nothing changes where memory is refused.
+    pub fn learn(&mut self, clause: &[Literal]) -> Result<(), AllocError>
+        requires implied { Implies self.old.formula clause.now }
+        requires below { AreBelow self.old.count clause.now }
+        ensures formula { self.new.formula ≡ self.old.formula }
+        ensures count { self.new.count ≡ self.old.count }
+        ensures ok { OnOk result (self.new.clauses ≡ self.old.clauses ++ clause.now ∷ []) }
+        ensures err { OnErr result (self.new ≡ self.old) }
+    {
+        self.given.reserve(1)?;
+        self.clauses.push(clause)?;
+        self.given.push_reserved(false);
+        Ok(())
+    }
+}
+
+// Whether a clause is given and none of its literals is true.
+fn is_open<A: Allocator + Copy>(trail: &Trail<A>, given: bool, clause: &[Literal]) -> bool
+    ensures closed { OnFalse result (IsTrue given → IsSatisfiedBy trail.now.values.items clause.now) }
+    ensures open { OnTrue result (HasNoTrue trail.now.values.items clause.now) }
+{
+    if !given {
+        return false;
+    }
+    for l in clause {
+        if let Some(true) = trail.value(*l) {
+            return false;
+        }
+    }
+    true
+}
+
+// A number that the clause's variables are below, and at least another.
+fn count_with(clause: &[Literal], least: usize) -> usize
+    ensures least { least ≤ result }
+    ensures below { AreBelow result clause.now }
+    ensures small { least ≤ 2 ^ 31 → result ≤ 2 ^ 31 }
+{
+    let mut count = least;
+    for l in clause {
+        count = count.max(l.variable() as usize + 1);
+    }
+    count
+}

@@ -1,0 +1,29 @@
+//! The literals that are true, in the order in which they became so.
+ghost use Rattle.std.specs.Prelude.{◌≡◌, ◌^◌, ◌≤◌, length};
+
+use crate::literal::Literal;
+use std::alloc::{Allocator, Global};
+
+// A literal that became true, with the place of the clause that made it so, or None where it was decided.
+#[derive(Clone, Copy)]
+pub struct Step {
+    pub literal: Literal,
+    pub reason: Option<usize>,
+}
+
+// The true literals in order, with the values of all variables.
+#[derive(Drop)]
+pub struct Trail<A: Allocator = Global> {
+    pub values: Vec<Option<bool>, A>,
+    pub levels: Vec<usize, A>,
+    pub steps: Vec<Step, A>,
+    // The value that each variable had last.
+    pub phases: Vec<bool, A>,
+    // Where each level but the first begins.
+    pub starts: Vec<usize, A>,
+    // The literals before this place have been propagated.
+    pub head: usize,
+    ghost same_len: { length levels.items ≡ length values.items },
+    ghost small: { length values.items ≤ 2 ^ 31 },
+    ghost as_many: { length phases.items ≡ length values.items },
+}
