@@ -9,7 +9,8 @@ module _ {T C : Type 0} (at_least : C → T → T → Bool) where
   -- keys are in order under the comparer that was last lent, which is lawful on them, or under all where none was
   abbrev pub IsInOrderByLast : Option C → List T → Type 0
   IsInOrderByLast last keys =
-      MatchOption last ((R : T → T → Bool) → IsInOrder R keys) (λ c. IsInOrder (at_least c) keys × IsLawful (at_least c) keys)
+      MatchOption last ((R : T → T → Bool) → IsInOrder R keys)
+      (λ c. IsInOrder (at_least c) keys × IsLawful (at_least c) keys)
 
 module _ {T C : Type 0} (number : T → ℕ) (at_least : C → T → T → Bool) where
   -- while the comparisons stay steady, the keys are in order by the last of them

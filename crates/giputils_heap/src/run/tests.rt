@@ -57,8 +57,8 @@ fn a_run_skips_what_is_no_key(rt: HostRuntime) -> Result<(), Fail> {
     Ok(())
 }
 
-// The replies of a run that pushes keys 0 to 2 of ranks 5, 3, 4, makes this call under other ranks and pops all; and how
-// often the call asked.
+// The replies of a run that pushes keys 0 to 2 of ranks 5, 3, 4, makes this call under other ranks and pops all; and
+// how often the call asked.
 fn repaired(
     alloc: Global,
     call: HeapCall<u8>,
