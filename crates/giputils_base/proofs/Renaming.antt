@@ -1,6 +1,6 @@
 -- Lists of indexes that are renamed in place.
-use Rattle.std.specs.Prelude.{◌≡◌, ℕ, ◌+◌, ◌<◌, ◌≤◌, List, [], ◌∷◌, ◌++◌, length, take, drop, slice_index_or, slice_set, Option, Some, None}
-use Rattle.std.specs.List.{filter_map, cons_option}
+use Rattle.std.specs.Prelude.{◌≡◌, ℕ, ◌+◌, ◌<◌, List, [], ◌∷◌, ◌++◌, length, take, drop, slice_index_or, slice_set, Option, Some, None}
+use Rattle.std.specs.List.{filter_map}
 use Rattle.std.proofs.Common.{arith, ap, sym, ◌∙◌, refl, append-nil}
 use Rattle.std.proofs.lemmas.List.{take_more, take_more_set, get_or-drop}
 use Rattle.std.proofs.lemmas.List.Elements.{filter_map-append}

@@ -1,7 +1,7 @@
 -- What marks and writes leave of the slots of an allocator, and which values survive.
 use Rattle.std.specs.Prelude.{◌≡◌, ◌≢◌, ℕ, zero, suc, ◌+◌, ◌<◌, ◌≤◌, Bool, true, false, List, [], ◌∷◌, ◌++◌, length, filter, slice_get, slice_set, Option, Some, None, option_map, refl}
 use Rattle.std.specs.Option.{option_map_or}
-use Rattle.std.proofs.Common.{arith, ap, ◌∙◌, sym, inl, inr, cond}
+use Rattle.std.proofs.Common.{arith, ap, ◌∙◌, inl, inr, cond}
 use Rattle.std.proofs.Math.ListN.{length-set}
 use Rattle.std.proofs.lemmas.Bool.{cases_eq}
 use Rattle.giputils_base.specs.Allocator.{is_unmarked, value_at, mark_at, live_count, mark, write, survivors, unmarked_slots}

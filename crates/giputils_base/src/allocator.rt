@@ -238,8 +238,8 @@ impl<T, A: Allocator> Gallocator<T, A> {
         Ok(indexes)
     }
 
-    /// Collects as [`Gallocator::gc`] does, and answers a table in place of the map: at each old index its new one, where
-    /// it has one. It asks for memory once.
+    /// Collects as [`Gallocator::gc`] does, and answers a table in place of the map: at each old index its new one,
+    /// where it has one. It asks for memory once.
     ///
     /// # Errors
     /// `AllocError` where memory for the table is refused. Nothing changes then.

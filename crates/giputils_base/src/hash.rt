@@ -219,9 +219,9 @@ impl<K: Eq + Hash, V, A: Allocator> GHashMap<K, V, A> {
     where
         K: Drop,
         A: Clone,
-        ensures replaced { IfOk result (λ replaced. replaced ≡ get K.eq self.old key) }
+        ensures old { IfOk result (λ old. old ≡ get K.eq self.old key) }
         ensures values { OnOk result (PutsValue K.eq key value self.old self.new) }
-        ensures len { IfOk result (λ replaced. length self.new ≡ length self.old + (if is_some replaced then 0 else 1)) }
+        ensures len { IfOk result (λ old. length self.new ≡ length self.old + (if is_some old then 0 else 1)) }
         ensures unique { HasUniqueKeys K.eq self.new }
         ensures value_returned { IfErr result (λ failed. failed.value ≡ (key, value)) }
         ensures err { OnErr result (self.new ≡ self.old) }

@@ -75,8 +75,8 @@ fn moved<A: Allocator>(reply: &GallocReply<u32, A>, old: usize) -> Option<usize>
     }
 }
 
-// A run with one refused call was not served. One with more of them passes for served, which the driver tells of: a call
-// that was not refused memory may not be answered so.
+// A run with one refused call was not served. One with more of them passes for served, which the driver tells of: a
+// call that was not refused memory may not be answered so.
 fn is_run(memory: &Refusing) -> bool {
     match galloc_run(memory, &CALLS) {
         Ok((_, replies)) => refused_calls(replies.as_slice()) != 1,

@@ -1,5 +1,5 @@
 -- A new index is put behind the others; an index that has none is passed over.
-use Rattle.std.proofs.Common.{arith, ap, sym, ◌∙◌, ◌≡◌, ◌<◌, ◌+◌, length, Some, None}
+use Rattle.std.proofs.Common.{arith, ap, sym, ◌∙◌, ◌≡◌, ◌<◌, ◌+◌, length}
 use Rattle.std.specs.Prelude.{slice_index_or}
 use Rattle.std.proofs.lemmas.Grind.{common_steps, drop_more_same}
 use Rattle.std.proofs.lemmas.List.{drop-set-lt}
