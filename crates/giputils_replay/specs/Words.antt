@@ -19,6 +19,6 @@ number words i = digits_value 10 (without_leading_plus (word words i))
 abbrev pub IsNumber : ℕ → Words → ℕ → Type 0
 IsNumber bits words i = IsNumeral 10 (without_leading_plus (word words i)) × (number words i < 2 ^ bits)
 
--- the words are this name and so many more
-abbrev pub HasForm : Words → List ℕ → ℕ → Type 0
-HasForm words name more = (length words ≡ more + 1) × (word words 0 ≡ name)
+-- the words are a call of this name with so many arguments
+abbrev pub IsCall : Words → List ℕ → ℕ → Type 0
+IsCall words name count = (length words ≡ count + 1) × (word words 0 ≡ name)

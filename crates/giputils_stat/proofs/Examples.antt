@@ -1,8 +1,9 @@
 -- The definitions, computed on worked examples.
-use Rattle.std.specs.Prelude.{◌≡◌, ◌*◌, ◌^◌, ◌-◌, true, false, refl, codes}
+use Rattle.std.specs.Prelude.{◌≡◌, ℕ, ◌*◌, ◌^◌, ◌-◌, true, false, [], ◌∷◌, refl, codes}
 use Rattle.std.specs.Fmt.{digits}
+use Rattle.circular_buffer.specs.Buffer.{keep_last}
 use Rattle.giputils_stat.specs.Decimals.{is_nearest, rounded, decimal, ratio, seconds}
-use Rattle.giputils_stat.specs.Tally.{no_terms, with_term, with_terms, no_outcomes, with_success, with_failure, with_outcomes, tries}
+use Rattle.giputils_stat.specs.Tally.{no_terms, with_term, with_terms, tally_of, no_outcomes, with_success, with_failure, with_outcomes, tries}
 use Rattle.giputils_stat.specs.Texts.{average_text, average_duration_text, counted_duration_text, success_rate_text}
 use Rattle.giputils_stat.specs.Due.{is_due}
 
@@ -103,6 +104,14 @@ nothing_tried = refl
 
 every_try_counts : tries (with_outcomes (with_success no_outcomes) (with_failure (with_failure no_outcomes))) ≡ 3
 every_try_counts = refl
+
+-- the last numbers
+
+the_first_of_four_goes : keep_last {X = ℕ} 3 (1 ∷ 2 ∷ 3 ∷ 4 ∷ []) ≡ 2 ∷ 3 ∷ 4 ∷ []
+the_first_of_four_goes = refl
+
+the_tally_of_a_list_is_that_of_its_terms : tally_of (1 ∷ 1 ∷ 0 ∷ []) ≡ with_term (with_term (with_term no_terms 1) 1) 0
+the_tally_of_a_list_is_that_of_its_terms = refl
 
 -- when a message is due
 

@@ -1,6 +1,6 @@
 pub mod Rounding
 pub mod Digits
-pub mod Decimals
+mod Decimals
 mod Texts
-mod Windows
+mod Sums
 mod Examples

@@ -1,5 +1,5 @@
 use Rattle.std.proofs.Common.{arith}
-use Rattle.giputils_stat.proofs.Windows.{sum-le}
+use Rattle.giputils_stat.proofs.Sums.{sum-le}
 use Rattle.giputils_stat.proofs.statistic.moving_average.MovingAverage.average.Goals as goal
 
 pub of_sum-requires : goal.of_sum-requires

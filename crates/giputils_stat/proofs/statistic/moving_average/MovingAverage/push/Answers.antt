@@ -1,5 +1,5 @@
 use Rattle.std.proofs.Common.{arith}
-use Rattle.giputils_stat.proofs.Windows.{sum-fits}
+use Rattle.giputils_stat.proofs.Sums.{sum-fits}
 use Rattle.giputils_stat.proofs.statistic.moving_average.MovingAverage.push.Goals as goal
 
 pub overflow_add-self : goal.overflow_add-self
