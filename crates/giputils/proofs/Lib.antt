@@ -21,6 +21,5 @@ pub use Rattle.giputils_heap.proofs.Pushes
 pub use Rattle.giputils_heap.proofs.Ranks
 pub use Rattle.giputils_heap.proofs.Relations
 pub use Rattle.giputils_heap.proofs.Steady
-pub use Rattle.giputils_stat.proofs.Decimals
 pub use Rattle.giputils_stat.proofs.Digits as DecimalDigits
 pub use Rattle.giputils_stat.proofs.Rounding
