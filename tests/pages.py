@@ -273,9 +273,15 @@ def readme(page):
     return complaints
 
 
+def handed_on():
+    """The files of the kit's specs/ that the gathered libraries hand on."""
+    lists = [(CRATES / crate / "specs/Lib.antt").read_text(encoding="utf-8") for crate in GATHERED]
+    return set(re.findall(r"^pub use Rattle\.([\w.]+)", "\n".join(lists), re.MULTILINE))
+
+
 def words_of_contracts():
     """The words of specs/ that public contracts use, each with the file of specs/ that it comes from."""
-    imports = re.compile(r"ghost use Rattle\.(gip\w*\.specs\.(?!contracts|declared)[\w.]+)\.\{([^}]*)\}")
+    imports = re.compile(r"ghost use Rattle\.(\w+\.specs\.(?!contracts|declared)[\w.]+)\.\{([^}]*)\}")
     found = {}
     for folder in sorted(path.parent for path in CRATES.glob("*/CALLING.md")):
         crate = Crate(folder)
@@ -284,7 +290,8 @@ def words_of_contracts():
             names = [(name, file) for file, group in imports.findall(text) for name in re.split(r",\s*", group.strip())]
             used = {name: file for name, file in names if re.search(rf"\b{re.escape(name)}\b", lines)}
             found |= used if path.stem != "tests" else {}
-    return found
+    kits = handed_on()
+    return {name: file for name, file in found.items() if file.startswith("gip") or file in kits}
 
 
 def not_gathered(files):
@@ -295,7 +302,9 @@ def not_gathered(files):
         wanted |= {f"{crate}.proofs.{name}" for name in re.findall(r"^pub mod (\w+)", lemmas_of, re.MULTILINE)}
     lists = "".join((CRATES / f"giputils/{part}/Lib.antt").read_text(encoding="utf-8") for part in ("specs", "proofs"))
     handed_out = set(re.findall(r"^pub use Rattle\.([\w.]+)", lists, re.MULTILINE))
-    return [f"giputils does not hand out {file}" for file in sorted(wanted - handed_out)]
+    last = {file.split(".")[-1] for file in handed_out}
+    lost = sorted(wanted - handed_out) + sorted(file for file in handed_on() if file.split(".")[-1] not in last)
+    return [f"giputils does not hand out {file}" for file in lost]
 
 
 def definitions(page):
@@ -304,11 +313,12 @@ def definitions(page):
     files = sorted(CRATES.glob("*/specs/**/*.antt"))
     known = {path.stem for path in files} | {path.name for path in CRATES.iterdir()}
     known |= {f"{path.parent.name}/{path.stem}" for path in files}
+    words = words_of_contracts()
+    known |= {*words, *(part for file in handed_on() for part in file.split("."))}
     known |= {name for path in files for name in DEFINED.findall(path.read_text(encoding="utf-8"))}
     heads = re.findall(r"^- (.*?)(?:: |$)", re.sub(r"\n  +", " ", text), re.MULTILINE)
     names = [name for head in heads for name in re.findall(r"`([^`]+)`", head)]
     complaints = [f"no specs/ has {name}" for name in names if name not in known]
-    words = words_of_contracts()
     complaints += [f"{name} of {file} is not listed" for name, file in words.items() if name not in names]
     return sound(text) + complaints + not_gathered(set(words.values()))
 
