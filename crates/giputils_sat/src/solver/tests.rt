@@ -85,6 +85,20 @@ fn small_formulas(rt: HostRuntime) -> Result<(), Fail> {
     Ok(())
 }
 
+#[test]
+fn clauses_added_after_an_answer(rt: HostRuntime) -> Result<(), Fail> {
+    let alloc = rt.alloc();
+    let mut solver = Solver::new(alloc);
+    add_all(&mut solver, &[1, 2, 0, -1, 2, 0])?;
+    assert_eq!(rt; label(&mut solver, 100)?, "sat");
+    add_all(&mut solver, &[1, -2, 0])?;
+    assert_eq!(rt; label(&mut solver, 100)?, "sat");
+    add_all(&mut solver, &[-1, -2, 0])?;
+    assert_eq!(rt; label(&mut solver, 0)?, "unknown");
+    assert_eq!(rt; label(&mut solver, 100)?, "unsat");
+    Ok(())
+}
+
 // Pigeon i sits in hole j.
 fn sits(holes: u8, i: u8, j: u8, positive: bool) -> Literal {
     Literal::new(u32::from(i) * u32::from(holes) + u32::from(j), positive)
