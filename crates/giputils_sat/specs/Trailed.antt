@@ -38,4 +38,4 @@ starts_after t = t.starts.items ++ length t.steps.items ∷ []
 abbrev pub UndoesAtRoot : {A : Type 0} → List Clause → Trail A → Step → List Bool → List Bool → Type 0
 UndoesAtRoot clauses t step old new =
     (place : ℕ) → t.starts.items ≡ [] → StandsBy clauses t → slice_get t.steps.items place ≡ Some step
-        → AreUndone t.steps.items old (place + 1) → AreUndone t.steps.items new place
+    → AreUndone t.steps.items old (place + 1) → AreUndone t.steps.items new place

@@ -14,7 +14,7 @@ Stands steps l i = (j : ℕ) × (s : Step) × (j < i) × (slice_get steps j ≡ 
 abbrev pub HasReason : List Clause → List Step → ℕ → Lit → ℕ → Type 0
 HasReason clauses steps i l r =
     (c : Clause) × (slice_get clauses r ≡ Some c)
-        × ((m : Lit) → Has c m → m ≢ l → Stands steps (negated m) i)
+    × ((m : Lit) → Has c m → m ≢ l → Stands steps (negated m) i)
 
 -- what has a value stands in the trail; each reason is one; before the first decision each literal has a reason
 pub record IsTrail (clauses : List Clause) (values : List (Option Bool)) (steps : List Step) (starts : List ℕ) : Type 0 where

@@ -25,9 +25,9 @@ impl<A: Allocator> Model for Database<A> {
     ghost Value = { Known };
 
     ghost view = { λ d. record {
-        formula = given_among d.given.items d.clauses;
-        clauses = d.clauses;
-        count = d.count
+      formula = given_among d.given.items d.clauses;
+      clauses = d.clauses;
+      count = d.count;
     } };
 
     ghost invariant = { λ d. IsKnown d.given.items d.count d.clauses };

@@ -6,6 +6,9 @@ ghost use Rattle.giputils_sat.specs.Stores.{KeepsKnown};
 ghost use Rattle.giputils_sat.specs.Trailed.{StandsBy, StandsOn};
 ghost use Rattle.giputils_sat.specs.Values.{model_in};
 
+#[cfg(test)]
+mod tests;
+
 use crate::activity::Activity;
 use crate::database::Database;
 use crate::learn::{attach, follow, learn};

@@ -7,4 +7,4 @@ use Rattle.giputils_sat.proofs.database.Database.open_clause.Given as goal
 abbrev pub invariant-loop-place : goal.invariant-loop-place
 invariant-loop-place g l =
     (k : ℕ) (c : Clause) → k < l.place → slice_get l.self-inside.given.items k ≡ Some true → slice_get l.self-inside.clauses k ≡ Some c
-        → IsSatisfiedBy l.trail.values.items c
+    → IsSatisfiedBy l.trail.values.items c
