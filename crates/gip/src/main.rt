@@ -1,5 +1,5 @@
-//! `gip` reads a script from standard input and writes its replies to standard output. `gip bits` reads vectors of bits,
-//! and writes the texts and the length of each.
+//! `gip` reads a script from standard input and writes its replies to standard output. `gip bits` reads vectors of
+//! bits, and writes the texts and the length of each.
 #![tactic(auto)]
 
 use gip_lines::watched::Watched;

@@ -220,7 +220,9 @@ module _ (n : ℕ) (ws : List ℕ) (start : ℕ) (inside : start < n) (p : IsPac
   past-same j l = get_or-left (start / 64) (word_past ws start) ws within_words j ∙ elim (cases_eq (j / 64) (start / 64)) [
     | inl e ↦ place-at (start / 64) (word_past ws start) ws j e
         ∙ has_digit-and _ _ (j % 64)
-        ∙ ap (λ b. has_digit (get_or ws (start / 64) 0) (j % 64) && b) (has_digit-shl_high (2 ^ 64 - 1) (start % 64) (j % 64) (omega arith) (omega arith) ∙ has_digit-ones 64 (j % 64 - start % 64) (omega arith))
+        ∙ ap (λ b. has_digit (get_or ws (start / 64) 0) (j % 64) && b)
+            (has_digit-shl_high (2 ^ 64 - 1) (start % 64) (j % 64) (omega arith) (omega arith)
+            ∙ has_digit-ones 64 (j % 64 - start % 64) (omega arith))
         ∙ and-true _ ∙ ap (λ k. has_digit (get_or ws k 0) (j % 64)) (sym e) ∙ sym (place_is ws j)
     | inr m ↦ place-after (start / 64) (word_past ws start) ws j (omega arith)
   ] ∙ sym (get_or-bits_of_all n ws p.padding j)

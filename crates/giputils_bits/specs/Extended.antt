@@ -17,9 +17,11 @@ module _ {U T : Type 0} (becomes : U → T → Type 0) where
 
   -- the bits are all items of what `iter` became
   abbrev pub CollectsItems : (T → Option Bool → T → Type 0) → U → List Bool → Type 0
-  CollectsItems steps iter bits = (it : T) × (items : List Bool) × becomes iter it × Drains steps it items × (bits ≡ items)
+  CollectsItems steps iter bits =
+      (it : T) × (items : List Bool) × becomes iter it × Drains steps it items × (bits ≡ items)
 
-  -- items xs of what `iter` became follow the old bits; the item after them, which was refused, was taken and is not kept
+  -- items xs of what `iter` became follow the old bits; the item after them, which was refused, was taken and is not
+  -- kept
   abbrev pub StopsBefore : (T → Option Bool → T → Type 0) → U → List Bool → List Bool → Type 0
   StopsBefore steps iter old new =
       (it : T) × (xs : List Bool) × (refused : Bool) × (left : T)

@@ -25,7 +25,8 @@ last_word bs = word_of bs (word_count (length bs) - 1)
 -- how many digits stand after `0x`: one where no place is true; else 16 for each word but the last, and for the last
 -- one as many as its number has without leading zeros
 abbrev pub hex_count : List Bool → ℕ
-hex_count bs = if value_of bs == 0 then 1 else 16 * (word_count (length bs) - 1) + length (digits 16 false (last_word bs))
+hex_count bs =
+    if value_of bs == 0 then 1 else 16 * (word_count (length bs) - 1) + length (digits 16 false (last_word bs))
 
 -- `0x` and digits whose value in base 16 is that of the list, with capital letters or small ones; `[]` where there is
 -- no place

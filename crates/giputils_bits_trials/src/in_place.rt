@@ -39,7 +39,8 @@ fn up_to_64_bits_are_pushed_without_memory(rt: HostRuntime) -> Result<(), Fail> 
     Ok(())
 }
 
-// Makes a vector of `len` times true, and then each call on it that takes no memory. Tells whether the answers were right.
+// Makes a vector of `len` times true, and then each call on it that takes no memory. Tells whether the answers were
+// right.
 fn is_used(memory: &Refusing, len: usize) -> bool {
     let Ok(mut bits) = BitVec::from_elem(memory, len, true) else {
         return false;

@@ -32,7 +32,8 @@ fn each_request_of_a_run_is_refused_in_turn(rt: HostRuntime) {
     assert!(rt; outcome.is_ok_and(|requests| requests >= 3), "{outcome:?}");
 }
 
-// Runs three calls, the second of which asks for memory. Tells whether that one alone was refused, and the others were made.
+// Runs three calls, the second of which asks for memory. Tells whether that one alone was refused, and the others were
+// made.
 fn goes_on(memory: &Refusing) -> bool {
     let items = [true, true, true];
     let calls: [BitCall; 3] = [

@@ -137,7 +137,8 @@ impl<A: Allocator> BitVec<A> {
         requires { CanDrain U.into_iter_gives U.IntoIter.can_next U.IntoIter.remaining iter }
         ensures ran { ExtendsWithItems U.into_iter_gives U.IntoIter.next_gives Extends iter self.old self.new result }
         ensures err { OnErr result (StopsBefore U.into_iter_gives U.IntoIter.next_gives iter self.old self.new) }
-        ensures inline { ItemsFit U.into_iter_gives U.IntoIter.remaining iter (λ n. length self.old + n ≤ 64) → IsOk result }
+        ensures inline { ItemsFit U.into_iter_gives U.IntoIter.remaining iter (λ n. length self.old + n ≤ 64)
+            → IsOk result }
         ensures memory { result ≡ Err BitVecError.Memory → (0 < length self.new) × (length self.new % 64 ≡ 0) }
         ensures too_long { result ≡ Err BitVecError.TooLong → length self.new ≡ usize.MAX }
         ensures short { ItemsFit U.into_iter_gives U.IntoIter.remaining iter (λ n. length self.old + n ≤ usize.MAX)
@@ -151,13 +152,14 @@ impl<A: Allocator> BitVec<A> {
     /// The items of an iterator that ends, in order.
     ///
     /// # Errors
-    /// As those of [`BitVec::extend`] on the empty vector: `Memory` alone, unless the iterator has no end below
-    /// `usize::MAX` items.
+    /// As those of [`BitVec::extend`] on the empty vector: `Memory` alone where the iterator's bound on its items is at
+    /// most `usize::MAX`.
     pub fn from<U: IntoIterator<Item = bool>>(alloc: A, iter: U) -> Result<Self, BitVecError>
         requires { CanDrain U.into_iter_gives U.IntoIter.can_next U.IntoIter.remaining iter }
         ensures ran { IfOk result (λ bits. CollectsItems U.into_iter_gives U.IntoIter.next_gives iter bits) }
         ensures inline { ItemsFit U.into_iter_gives U.IntoIter.remaining iter (λ n. n ≤ 64) → IsOk result }
-        ensures short { ItemsFit U.into_iter_gives U.IntoIter.remaining iter (λ n. n ≤ usize.MAX) → IfErr result IsMemory }
+        ensures short { ItemsFit U.into_iter_gives U.IntoIter.remaining iter (λ n. n ≤ usize.MAX)
+            → IfErr result IsMemory }
     {
         let mut bits = Self::new(alloc);
         bits.extend(iter)?;
@@ -222,7 +224,8 @@ fn append_items<A: Allocator, U: IntoIterator<Item = bool>>(
     ensures inline { ItemsFit U.into_iter_gives U.IntoIter.remaining iter (λ n. len + n ≤ 64) → IsOk result.1 }
     ensures memory { result.1 ≡ Err BitVecError.Memory → (0 < result.0) × (result.0 % 64 ≡ 0) }
     ensures too_long { result.1 ≡ Err BitVecError.TooLong → result.0 ≡ usize.MAX }
-    ensures short { ItemsFit U.into_iter_gives U.IntoIter.remaining iter (λ n. len + n ≤ usize.MAX) → IfErr result.1 IsMemory }
+    ensures short { ItemsFit U.into_iter_gives U.IntoIter.remaining iter (λ n. len + n ≤ usize.MAX)
+        → IfErr result.1 IsMemory }
 {
     let mut end = len;
     let mut last = words.len() - 1;

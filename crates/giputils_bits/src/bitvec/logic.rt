@@ -26,7 +26,8 @@ impl<A: Allocator> BitVec<A> {
         Ok(bits)
     }
 
-    /// Makes each place false that is true in `other`, a vector of the same length ([`BitVec::len`]). It takes no memory.
+    /// Makes each place false that is true in `other`, a vector of the same length ([`BitVec::len`]). It takes no
+    /// memory.
     pub fn difference_with<B: Allocator>(&mut self, other: &BitVec<B>)
         requires { length self.old ≡ length other.now }
         ensures { self.new ≡ and_of self.old (not_of other.now) }

@@ -103,7 +103,8 @@ impl<A: Allocator> BitVec<A> {
         all_equal(self.words(), 0)
     }
 
-    /// Whether each bit is false, of a vector that is not empty ([`BitVec::is_empty`]). [`BitVec::none`] asks for no bit.
+    /// Whether each bit is false, of a vector that is not empty ([`BitVec::is_empty`]). [`BitVec::none`] asks for no
+    /// bit.
     #[inline]
     pub fn is_zero(&self) -> bool
         requires { 0 < length self.now }
