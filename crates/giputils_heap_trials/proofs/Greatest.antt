@@ -1,6 +1,6 @@
 -- Tests that no key passes.
-use Rattle.std.proofs.Common.{◌≡◌, ℕ, zero, suc, ◌<◌, Bool, true, false, List, [], ◌∷◌, length, get_or, refl, ap, ◌∙◌, ⊎_elim, arith, eqb-true, eq-eqb}
-use Rattle.std.proofs.lemmas.Bool.{or_cases, or_left, or_right}
+use Rattle.std.proofs.Common.{◌≡◌, ℕ, suc, ◌<◌, Bool, true, false, List, [], ◌∷◌, length, get_or, ap, ◌∙◌, ⊎_elim, arith, eqb-true}
+use Rattle.std.proofs.lemmas.Bool.{or_cases}
 use Rattle.giputils_heap.specs.Keys.{same_key, is_held}
 
 module _ {T : Type 0} (number : T → ℕ) where

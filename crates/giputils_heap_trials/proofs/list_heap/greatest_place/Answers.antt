@@ -1,6 +1,6 @@
 -- A key that passes is held; where none passes, none is greatest.
-use Rattle.std.proofs.Common.{◌≡◌, ◌<◌, Bool, true, false, length, get_or, sym, ◌∙◌, arith}
-use Rattle.std.proofs.lemmas.Bool.{and_parts, and_from, false≢true}
+use Rattle.std.proofs.Common.{sym, ◌∙◌, arith}
+use Rattle.std.proofs.lemmas.Bool.{and_parts, false≢true}
 use Rattle.std.specs.List.{list_all}
 use Rattle.giputils_heap.specs.Keys.{is_held}
 use Rattle.giputils_heap_trials.proofs.Greatest.{fails_at_held}

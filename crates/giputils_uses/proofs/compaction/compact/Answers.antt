@@ -1,5 +1,5 @@
 -- An index that has a new one joins the list by it; each other is passed over.
-use Rattle.std.proofs.Common.{◌≡◌, ◌++◌, [], ◌∷◌, get_or, Some, None, arith, sym, ap, ◌∙◌, append-nil}
+use Rattle.std.proofs.Common.{◌++◌, [], ◌∷◌, get_or, Some, None, arith, sym, ap, ◌∙◌, append-nil}
 use Rattle.std.proofs.lemmas.List.{take_all}
 use Rattle.giputils.specs.Allocator.{index_map, value_at}
 use Rattle.giputils.proofs.Renumbering.{map-renamed}
