@@ -9,6 +9,8 @@ A page for callers, crates/NAME/CALLING.md, quotes the sources between a line `<
     <!-- quote file giputils_uses/src/drain.rt -->   a file below crates/, but for its tests' declaration
     <!-- quote file giputils_uses/src/activity.rt: bump pick -->
                                                     the same, with these methods alone in its impls
+    <!-- quote functions giputils_sat/src/solver/tests.rt: pigeons -->
+                                                    these functions of a file alone
     <!-- quote contracts -->                         the public contracts of the crate
     <!-- quote contracts: push HeapStep::new Gvec::Index<u32> -->
                                                     those of these functions, traits, and impls of traits alone
@@ -42,6 +44,7 @@ MEMBER = re.compile(r"^    ghost (?!use\b)\w+ ?[=:].*?;$", re.DOTALL | re.MULTIL
 OWN = re.compile(r"^(pub )?(?:pub\(\w+\) )?(?:const )?(?:fn|struct|enum|trait|type) (\w+)", re.MULTILINE)
 USE = re.compile(r"^ *pub use ((?:\w+::)*)(\w+|\*|\{[^}]*\});", re.MULTILINE)
 METHOD = re.compile(r"(?:^    (?://|#)[^\n]*\n)*^    (?:pub )?fn (\w+).*?^    \}\n\n?", re.DOTALL | re.MULTILINE)
+FREE = re.compile(r"(?:^(?://|#)[^\n]*\n)*^(?:pub )?fn (\w+).*?^\}$", re.DOTALL | re.MULTILINE)
 DEFINED = re.compile(r"^ *(?:\w+ +)*([^\s:(){}]+)(?=[ :({])", re.MULTILINE)
 LEMMA = re.compile(r"^( *)(pub )?(?:unfoldable )?([^\s:(){}]+) :(?= |$)(.*(?:\n(?:\1 +.*)?)*)", re.MULTILINE)
 
@@ -156,6 +159,13 @@ def with_methods(text, chosen):
     return re.sub(r"\n\n(?=\})", "\n", re.sub(r"(?<=\{\n)\n", "", text))
 
 
+def functions_of(text, chosen):
+    """These functions of a text, and those that it has not."""
+    found = {match[1]: match[0].split("\n") for match in FREE.finditer(text)}
+    lines = sum(([*found[name], ""] for name in chosen if name in found), [])
+    return lines[:-1], [name for name in chosen if name not in found]
+
+
 def laid_out(statement):
     """A statement in lines of the width, broken behind arrows that stand in no brackets."""
     lines, parts, depth = [], [""], 0
@@ -191,12 +201,16 @@ def quote(page, what, complaints):
     """The lines that a quote on the page should have."""
     kind, _, names = what.partition(":")
     chosen = names.split()
-    if kind.startswith("file "):
-        file = CRATES / kind.removeprefix("file ")
+    if kind.startswith(("file ", "functions ")):
+        file = CRATES / kind.partition(" ")[2]
         if not file.is_file():
             complaints.append(f"there is no {kind}")
             return []
         text = file.read_text(encoding="utf-8").replace("#[cfg(test)]\nmod tests;\n\n", "")
+        if kind.startswith("functions "):
+            lines, lost = functions_of(text, chosen)
+            complaints += [f"{file.name} has no function {name}" for name in lost]
+            return ["```rust", *lines, "```"]
         return ["```rust", *(with_methods(text, chosen) if chosen else text).rstrip().split("\n"), "```"]
     if kind.startswith("lemmas "):
         file = page.parent / "proofs" / f"{kind.removeprefix('lemmas ')}.antt"
