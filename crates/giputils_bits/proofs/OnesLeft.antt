@@ -119,14 +119,6 @@ skip-word k ws j = elim (cases_lt j (k + 1)) [
   ]
 ]
 
--- a word without a one is stepped over
-pub words_from-skip : (k : ℕ) (ws : List ℕ) → k + 1 < length ws → words_from k 0 ws ≡ words_from (k + 1) (get_or ws (k + 1) 0) ws
-words_from-skip k ws more =
-    same_lists _ _ (length-words_from k 0 ws (omega arith) ∙ sym (length-words_from (k + 1) (get_or ws (k + 1) 0) ws more)) (λ j d within.
-    get_or_default _ j d 0 within
-    ∙ skip-word k ws j
-    ∙ get_or_default _ j 0 d (omega (arith, length-words_from k 0 ws (omega arith), length-words_from (k + 1) (get_or ws (k + 1) 0) ws more)))
-
 -- a place taken away
 SetsPlace-words_from : (k w v t : ℕ) (ws : List ℕ) → k < length ws → t < 64 → SetsDigit w v t false → SetsPlace (words_from k w ws) (words_from k v ws) (64 * k + t) false
 SetsPlace-words_from k w v t ws within small s =
@@ -221,8 +213,8 @@ module _ (n : ℕ) (ws : List ℕ) (start : ℕ) (inside : start < n) (p : IsPac
     | inl e ↦ place-at (start / 64) (word_past ws start) ws j e
         ∙ has_digit-and _ _ (j % 64)
         ∙ ap (λ b. has_digit (get_or ws (start / 64) 0) (j % 64) && b)
-            (has_digit-shl_high (2 ^ 64 - 1) (start % 64) (j % 64) (omega arith) (omega arith)
-            ∙ has_digit-ones 64 (j % 64 - start % 64) (omega arith))
+        (has_digit-shl_high (2 ^ 64 - 1) (start % 64) (j % 64) (omega arith) (omega arith)
+        ∙ has_digit-ones 64 (j % 64 - start % 64) (omega arith))
         ∙ and-true _ ∙ ap (λ k. has_digit (get_or ws k 0) (j % 64)) (sym e) ∙ sym (place_is ws j)
     | inr m ↦ place-after (start / 64) (word_past ws start) ws j (omega arith)
   ] ∙ sym (get_or-bits_of_all n ws p.padding j)
