@@ -1,11 +1,11 @@
 -- An iterator over the true places: what it has left, as the words from the one in hand on.
-use Rattle.std.proofs.Common.{◌≡◌, ◌≢◌, ℕ, zero, suc, ◌+◌, ◌-◌, ◌*◌, ◌/◌, ◌%◌, ◌^◌, ◌<◌, ◌≤◌, Bool, true, false, ◌&&◌, List, [], ◌∷◌, ◌++◌, length, get_or, set, take, drop, replicate, refl, sym, ap, ◌∙◌, arith, inl, inr, eqb, w64}
+use Rattle.std.proofs.Common.{◌≡◌, ◌≢◌, ℕ, zero, suc, ◌+◌, ◌-◌, ◌*◌, ◌/◌, ◌%◌, ◌^◌, ◌<◌, ◌≤◌, Bool, true, false, ◌&&◌, List, [], ◌∷◌, ◌++◌, length, get_or, set, drop, replicate, refl, sym, ap, ◌∙◌, arith, inl, inr, eqb, w64}
 use Rattle.std.specs.Prelude.{bit_and, IfSome, IfNone, MatchOption, Option, Some, None}
 use Rattle.std.specs.Int.{trailing_zeros}
 use Rattle.std.proofs.lemmas.Nat.Bits.{bit_at-trailing_zeros}
 use Rattle.std.proofs.Math.Bool.{and-true, and-false}
 use Rattle.std.proofs.lemmas.Bool.{cases_eq, cases_lt, false≢true}
-use Rattle.std.proofs.lemmas.List.{same_lists, length-append, length-replicate, length-drop, get_or-replicate, get_or_append_left, get_or-append_right, get_or-drop, get_or_default, get_or_past}
+use Rattle.std.proofs.lemmas.List.{length-append, length-replicate, length-drop, get_or-replicate, get_or_append_left, get_or-append_right, get_or-drop}
 use Rattle.giputils_bits.specs.Bits.{has_digit}
 use Rattle.giputils_bits.specs.Ones.{true_places, HasNoneFrom, IsNextOne}
 use Rattle.giputils_bits.specs.Places.{place, bits_of, IsPacked, SetsDigit, words_from}

@@ -1,7 +1,5 @@
-use Rattle.std.proofs.Common.{◌≡◌, ◌+◌, ◌*◌, ◌<◌, ◌^◌, ◌∙◌, ℕ, true, false, [], w64, length, sym, ap, arith}
-use Rattle.std.specs.Int.{bit_at, trailing_zeros}
-use Rattle.std.proofs.lemmas.Nat.Bits.{bit_at-trailing_zeros}
-use Rattle.giputils_bits.specs.Bits.{has_digit}
+use Rattle.std.proofs.Common.{◌∙◌, w64, length, sym, ap, arith}
+use Rattle.std.specs.Int.{trailing_zeros}
 use Rattle.giputils_bits.proofs.OnesLeft.{left-next, left-none, lowest_one}
 use Rattle.giputils_bits.proofs.bitvec.ones.OnesIterator.next.Goals as goal
 
