@@ -24,6 +24,7 @@ pub use Rattle.giputils_heap.specs.Keys
 pub use Rattle.giputils_heap.specs.Laws
 pub use Rattle.giputils_heap.specs.Record
 pub use Rattle.giputils_heap.specs.Relations
+pub use Rattle.giputils_stat.specs.Buffer
 pub use Rattle.giputils_stat.specs.Decimals
 pub use Rattle.giputils_stat.specs.Due
 pub use Rattle.giputils_stat.specs.Tally

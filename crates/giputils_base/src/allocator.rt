@@ -166,6 +166,8 @@ impl<T, A: Allocator> Gallocator<T, A> {
     }
 
     /// Marks slot `index` as removed. A marked one stays marked, and its value can still be read.
+    ///
+    /// The index must be below the length ([`Gallocator::len`]).
     #[inline]
     pub fn dealloc(&mut self, index: usize)
         requires { index < length self.old }
@@ -186,6 +188,8 @@ impl<T, A: Allocator> Gallocator<T, A> {
     }
 
     /// Marks slot `index` as removed, and takes its value out, in whose place it leaves `rest`.
+    ///
+    /// The index must be below the length ([`Gallocator::len`]).
     #[inline]
     pub fn take_out(&mut self, index: usize, rest: T) -> T
         requires { index < length self.old }
@@ -199,6 +203,8 @@ impl<T, A: Allocator> Gallocator<T, A> {
     }
 
     /// Whether slot `index` is marked as removed.
+    ///
+    /// The index must be below the length ([`Gallocator::len`]).
     #[inline]
     pub fn is_removed(&self, index: usize) -> bool
         requires { index < length self.now }

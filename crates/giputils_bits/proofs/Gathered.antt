@@ -1,6 +1,6 @@
 -- Bits that are gathered in a word, which is the last of the words once it is written.
 use Rattle.std.proofs.Common.{◌≡◌, ℕ, zero, suc, ◌+◌, ◌/◌, ◌%◌, ◌<◌, ◌≤◌, Bool, List, [], ◌∷◌, ◌++◌, length, get_or, set, refl, ap, arith}
-use Rattle.std.proofs.lemmas.List.{length-set, length_push, get_or-set_same, get_or_push, set-get_or}
+use Rattle.std.proofs.lemmas.List.{length-set, length_push, get_or-set_same, get_or_push}
 use Rattle.giputils_bits.specs.Places.{bits_of, IsPacked, SetsDigit, HasRoom}
 use Rattle.giputils_bits.proofs.Places.{SetsPlace, SetsPlace-set, HasRoom-push, IsPacked-more, bits_of-more}
 

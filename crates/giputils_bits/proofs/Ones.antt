@@ -1,7 +1,6 @@
 -- The true places of a list, and how many they are.
 use Rattle.std.proofs.Common.{◌≡◌, ◌≢◌, ℕ, zero, suc, ◌+◌, ◌*◌, ◌<◌, ◌≤◌, Bool, true, false, not, List, [], ◌∷◌, length, get_or, take, drop, replicate, map, refl, sym, ap, ◌∙◌, arith}
 use Rattle.std.specs.Prelude.{count_ones}
-use Rattle.std.specs.List.{count_by}
 use Rattle.std.proofs.Math.Seq.{take-add}
 use Rattle.std.proofs.lemmas.Bool.{false≢true}
 use Rattle.std.proofs.lemmas.List.{get_or-replicate, length-take, take_all}

@@ -1,11 +1,11 @@
 -- An iterator over the true places: what it has left, as the words from the one in hand on.
-use Rattle.std.proofs.Common.{◌≡◌, ◌≢◌, ℕ, zero, suc, ◌+◌, ◌-◌, ◌*◌, ◌/◌, ◌%◌, ◌^◌, ◌<◌, ◌≤◌, Bool, true, false, ◌&&◌, List, [], ◌∷◌, ◌++◌, length, get_or, set, take, drop, replicate, refl, sym, ap, ◌∙◌, arith, inl, inr, eqb, w64}
+use Rattle.std.proofs.Common.{◌≡◌, ◌≢◌, ℕ, zero, suc, ◌+◌, ◌-◌, ◌*◌, ◌/◌, ◌%◌, ◌^◌, ◌<◌, ◌≤◌, Bool, true, false, ◌&&◌, List, [], ◌∷◌, ◌++◌, length, get_or, set, drop, replicate, refl, sym, ap, ◌∙◌, arith, inl, inr, eqb, w64}
 use Rattle.std.specs.Prelude.{bit_and, IfSome, IfNone, MatchOption, Option, Some, None}
 use Rattle.std.specs.Int.{trailing_zeros}
 use Rattle.std.proofs.lemmas.Nat.Bits.{bit_at-trailing_zeros}
 use Rattle.std.proofs.Math.Bool.{and-true, and-false}
 use Rattle.std.proofs.lemmas.Bool.{cases_eq, cases_lt, false≢true}
-use Rattle.std.proofs.lemmas.List.{same_lists, length-append, length-replicate, length-drop, get_or-replicate, get_or_append_left, get_or-append_right, get_or-drop, get_or_default, get_or_past}
+use Rattle.std.proofs.lemmas.List.{length-append, length-replicate, length-drop, get_or-replicate, get_or_append_left, get_or-append_right, get_or-drop}
 use Rattle.giputils_bits.specs.Bits.{has_digit}
 use Rattle.giputils_bits.specs.Ones.{true_places, HasNoneFrom, IsNextOne}
 use Rattle.giputils_bits.specs.Places.{place, bits_of, IsPacked, SetsDigit, words_from}
@@ -119,14 +119,6 @@ skip-word k ws j = elim (cases_lt j (k + 1)) [
   ]
 ]
 
--- a word without a one is stepped over
-pub words_from-skip : (k : ℕ) (ws : List ℕ) → k + 1 < length ws → words_from k 0 ws ≡ words_from (k + 1) (get_or ws (k + 1) 0) ws
-words_from-skip k ws more =
-    same_lists _ _ (length-words_from k 0 ws (omega arith) ∙ sym (length-words_from (k + 1) (get_or ws (k + 1) 0) ws more)) (λ j d within.
-    get_or_default _ j d 0 within
-    ∙ skip-word k ws j
-    ∙ get_or_default _ j 0 d (omega (arith, length-words_from k 0 ws (omega arith), length-words_from (k + 1) (get_or ws (k + 1) 0) ws more)))
-
 -- a place taken away
 SetsPlace-words_from : (k w v t : ℕ) (ws : List ℕ) → k < length ws → t < 64 → SetsDigit w v t false → SetsPlace (words_from k w ws) (words_from k v ws) (64 * k + t) false
 SetsPlace-words_from k w v t ws within small s =
@@ -221,8 +213,8 @@ module _ (n : ℕ) (ws : List ℕ) (start : ℕ) (inside : start < n) (p : IsPac
     | inl e ↦ place-at (start / 64) (word_past ws start) ws j e
         ∙ has_digit-and _ _ (j % 64)
         ∙ ap (λ b. has_digit (get_or ws (start / 64) 0) (j % 64) && b)
-            (has_digit-shl_high (2 ^ 64 - 1) (start % 64) (j % 64) (omega arith) (omega arith)
-            ∙ has_digit-ones 64 (j % 64 - start % 64) (omega arith))
+        (has_digit-shl_high (2 ^ 64 - 1) (start % 64) (j % 64) (omega arith) (omega arith)
+        ∙ has_digit-ones 64 (j % 64 - start % 64) (omega arith))
         ∙ and-true _ ∙ ap (λ k. has_digit (get_or ws k 0) (j % 64)) (sym e) ∙ sym (place_is ws j)
     | inr m ↦ place-after (start / 64) (word_past ws start) ws j (omega arith)
   ] ∙ sym (get_or-bits_of_all n ws p.padding j)

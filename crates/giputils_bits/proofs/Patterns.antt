@@ -1,12 +1,11 @@
 -- The words of lists of one value, and of the digits of a number.
-use Rattle.std.proofs.Common.{◌≡◌, ℕ, zero, suc, ◌+◌, ◌-◌, ◌*◌, ◌/◌, ◌%◌, ◌^◌, ◌<◌, ◌≤◌, Bool, true, false, List, [], ◌∷◌, length, get_or, take, drop, set, replicate, sym, ap, ◌∙◌, arith, inl, inr, refl}
+use Rattle.std.proofs.Common.{◌≡◌, ℕ, zero, suc, ◌+◌, ◌-◌, ◌*◌, ◌/◌, ◌^◌, ◌<◌, ◌≤◌, Bool, true, false, List, [], ◌∷◌, length, get_or, take, drop, set, replicate, sym, ap, ◌∙◌, arith, inl, inr, refl}
 use Rattle.std.proofs.Math.Nat.{pow-suc}
 use Rattle.std.proofs.Math.Pow.{pow_mono}
 use Rattle.std.proofs.lemmas.List.{length-set, length-replicate, get_or-replicate, get_or-set_same, get_or-set_other, get_or_past, take-replicate, drop-replicate, take_all, length-take, length-drop, get_or-take, get_or-drop}
-use Rattle.std.proofs.lemmas.Nat.{pow_pos, and_mask}
+use Rattle.std.proofs.lemmas.Nat.{pow_pos}
 use Rattle.std.proofs.lemmas.Bool.{cases_eq, cases_lt}
 use Rattle.giputils_bits.specs.Bits.{digits_of, value_of, word_of, words_of, one_of}
-use Rattle.std.specs.Prelude.{bit_and}
 use Rattle.giputils_bits.proofs.Digits.{has_digit-zero, has_digit-above, length-digits_of, get_or-digits_of, digits_of-one}
 use Rattle.giputils_bits.proofs.Words.{length-words_of, words_of_is, word_of_is, same_by_words, get_or-words_of_same}
 

@@ -1,10 +1,10 @@
 -- Words that are rewritten one by one, and the lists that they keep then.
-use Rattle.std.proofs.Common.{◌≡◌, ℕ, zero, suc, ◌+◌, ◌-◌, ◌*◌, ◌/◌, ◌%◌, ◌≢◌, ◌^◌, ◌<◌, min, Bool, true, false, ◌&&◌, not, eqb, List, length, replicate, ◌↔◌, ◌≤◌, get_or, set, refl, sym, ap, ◌∙◌, arith, inl, inr, w64}
+use Rattle.std.proofs.Common.{◌≡◌, ℕ, ◌+◌, ◌-◌, ◌*◌, ◌/◌, ◌%◌, ◌≢◌, ◌^◌, ◌<◌, Bool, true, false, ◌&&◌, not, List, length, replicate, ◌↔◌, get_or, set, refl, sym, ap, ◌∙◌, arith, inl, inr, w64}
 use Rattle.std.specs.Prelude.{bit_and, bit_xor}
-use Rattle.std.specs.Int.{bit_at, bit_not}
+use Rattle.std.specs.Int.{bit_not}
 use Rattle.std.proofs.Math.Bool.{and-true, and-false}
-use Rattle.std.proofs.lemmas.List.{same_lists, get_or_default, length-set, length-replicate, get_or-replicate, get_or-set_same, get_or-set_other, get_or_past}
-use Rattle.std.proofs.lemmas.Nat.Bits.{same_from_bits, bit_at-lt, bit_at_and, bit_at_xor, bit_at_not}
+use Rattle.std.proofs.lemmas.List.{same_lists, get_or_default, length-set, length-replicate, get_or-replicate, get_or-set_same, get_or-set_other}
+use Rattle.std.proofs.lemmas.Nat.Bits.{same_from_bits, bit_at-lt}
 use Rattle.std.proofs.lemmas.Bool.{cases_eq, cases_lt}
 use Rattle.giputils_bits.specs.Bits.{has_digit}
 use Rattle.giputils_bits.specs.Logic.{zip_with, xor, not_of}

@@ -1,5 +1,5 @@
 -- Words that are compared many at once: the differences of all of them are gathered in one number.
-use Rattle.std.proofs.Common.{◌≡◌, ℕ, ◌+◌, ◌%◌, ◌<◌, nat_eq, IsTrue, List, ◌++◌, length, get_or, take, drop, ◌↔◌, refl, sym, ap, ◌∙◌, arith, inl, inr}
+use Rattle.std.proofs.Common.{◌≡◌, ℕ, ◌+◌, ◌%◌, ◌<◌, nat_eq, IsTrue, List, ◌++◌, length, get_or, take, drop, ◌↔◌, sym, ap, ◌∙◌, arith, inl, inr}
 use Rattle.std.specs.Prelude.{bit_or, bit_xor}
 use Rattle.std.specs.Int.{bit_at}
 use Rattle.std.specs.Int.Bits.{or_zero_l, xor_self}

@@ -1,8 +1,8 @@
 -- Texts written one after another, whatever options the formatter has.
-use Rattle.std.proofs.Common.{◌≡◌, ℕ, Result, List, [], ◌∷◌, ◌++◌, refl, sym, subst, ◌∙◌}
+use Rattle.std.proofs.Common.{◌≡◌, ℕ, Result, List, [], ◌∷◌, ◌++◌, sym, subst, ◌∙◌}
 use Rattle.std.specs.declared.fmt.Formatter.{Formatter}
 use Rattle.std.specs.declared.fmt.Error.{Error}
-use Rattle.std.specs.Fmt.{IsDefaultSpec, IsFlush, HasWrittenStyled, WritesOnOk, WritesStyledOnOk}
+use Rattle.std.specs.Fmt.{IsDefaultSpec, HasWrittenStyled, WritesOnOk, WritesStyledOnOk}
 use Rattle.std.specs.List.{FoldsTo}
 use Rattle.std.proofs.lemmas.List.Folds.{concat-append}
 

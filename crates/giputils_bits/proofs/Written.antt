@@ -47,12 +47,21 @@ module _ (n : ℕ) (ws : List ℕ) (k word : ℕ) (within : k < length ws) where
       let bs : List Bool = bits_of n ws in
       let front : length (take (64 * k) bs) ≡ 64 * k = omega (arith, length-take (64 * k) bs, length-bits_of n ws) in
       let all : length (take (64 * k) bs ++ (digits_of 64 word ++ drop (64 * k + 64) bs)) ≡ 64 * k + (64 + (n - (64 * k + 64))) =
-      omega (arith, length-append (take (64 * k) bs) (digits_of 64 word ++ drop (64 * k + 64) bs),
-          length-append (digits_of 64 word) (drop (64 * k + 64) bs), front, length-digits_of 64 word,
-          length-drop (64 * k + 64) bs, length-bits_of n ws) in
-      bits_of_is n written (with_word k word bs) (omega (arith,
-          length-take (length bs) (take (64 * k) bs ++ (digits_of 64 word ++ drop (64 * k + 64) bs)),
-          length-bits_of n ws, all)) (λ i below.
+      omega (
+        arith,
+        length-append (take (64 * k) bs) (digits_of 64 word ++ drop (64 * k + 64) bs),
+        length-append (digits_of 64 word) (drop (64 * k + 64) bs),
+        front,
+        length-digits_of 64 word,
+        length-drop (64 * k + 64) bs,
+        length-bits_of n ws,
+      ) in
+      bits_of_is n written (with_word k word bs) (omega (
+        arith,
+        length-take (length bs) (take (64 * k) bs ++ (digits_of 64 word ++ drop (64 * k + 64) bs)),
+        length-bits_of n ws,
+        all,
+      )) (λ i below.
       elim (cases_eq (i / 64) k) [
         | inl e ↦
             place-written i e ∙ has_digit-cut n k word (i % 64) (omega arith) (omega arith)
@@ -83,27 +92,37 @@ module _ (n m : ℕ) (ws : List ℕ) (some : 0 < m) (shorter : m ≤ n) (p : IsP
 
   place-shortened_last : (i : ℕ) → i / 64 ≡ (m - 1) / 64 → place shortened i ≡ (place ws i && has_digit (2 ^ (m - 64 * ((m - 1) / 64)) - 1) (i % 64))
   place-shortened_last i e =
-      rw (place_is shortened i, place_is ws i, e,
-          get_or-set_same (take ((m - 1) / 64 + 1) ws) ((m - 1) / 64) _ 0 (omega (arith, count_shortened)),
-          get_or-take ((m - 1) / 64 + 1) ws ((m - 1) / 64) 0 (omega arith))
+      rw (
+        place_is shortened i,
+        place_is ws i,
+        e,
+        get_or-set_same (take ((m - 1) / 64 + 1) ws) ((m - 1) / 64) _ 0 (omega (arith, count_shortened)),
+        get_or-take ((m - 1) / 64 + 1) ws ((m - 1) / 64) 0 (omega arith),
+      )
       (has_digit-and _ _ (i % 64))
 
   place-shortened : (i : ℕ) → i / 64 < (m - 1) / 64 → place shortened i ≡ place ws i
   place-shortened i l =
-      rw (place_is shortened i, place_is ws i,
-          get_or-set_other (take ((m - 1) / 64 + 1) ws) ((m - 1) / 64) (i / 64)
-          (bit_and (get_or (take ((m - 1) / 64 + 1) ws) ((m - 1) / 64) 0) (2 ^ (m - 64 * ((m - 1) / 64)) - 1)) 0
-          (λ e. omega arith), get_or-take ((m - 1) / 64 + 1) ws (i / 64) 0 (omega arith)) refl
+      rw (
+        place_is shortened i,
+        place_is ws i,
+        get_or-set_other (take ((m - 1) / 64 + 1) ws) ((m - 1) / 64) (i / 64)
+            (bit_and (get_or (take ((m - 1) / 64 + 1) ws) ((m - 1) / 64) 0) (2 ^ (m - 64 * ((m - 1) / 64)) - 1)) 0
+            (λ e. omega arith),
+        get_or-take ((m - 1) / 64 + 1) ws (i / 64) 0 (omega arith),
+      ) refl
 
   pub IsPacked-shortened : IsPacked m shortened
   IsPacked-shortened = record {
     count = length-set (take ((m - 1) / 64 + 1) ws) ((m - 1) / 64) _ ∙ omega (arith, count_shortened);
     padding = λ i past. elim (cases_eq (i / 64) ((m - 1) / 64)) [
       | inl e ↦ place-shortened_last i e ∙ ap (λ b. place ws i && b) (has_digit-ones_above (m - 64 * ((m - 1) / 64)) (i % 64) (omega arith)) ∙ and-false _
-      | inr o ↦ place-past shortened i (omega (arith,
-          length-set (take ((m - 1) / 64 + 1) ws) ((m - 1) / 64)
-          (bit_and (get_or (take ((m - 1) / 64 + 1) ws) ((m - 1) / 64) 0) (2 ^ (m - 64 * ((m - 1) / 64)) - 1)),
-          count_shortened))
+      | inr o ↦ place-past shortened i (omega (
+        arith,
+        length-set (take ((m - 1) / 64 + 1) ws) ((m - 1) / 64)
+            (bit_and (get_or (take ((m - 1) / 64 + 1) ws) ((m - 1) / 64) 0) (2 ^ (m - 64 * ((m - 1) / 64)) - 1)),
+        count_shortened,
+      ))
     ];
   }
 
@@ -148,8 +167,8 @@ module _ (n count : ℕ) (ws : List ℕ) (val : Bool) (room : n < 64 * count) (l
   place-lengthened_new i past within =
       place_is lengthened i
       ∙ ap (λ w. has_digit w (i % 64)) (get_or-append_right ws (replicate (count - length ws) full_word) (length ws)
-          (i / 64) 0 refl past ∙ get_or-replicate (count - length ws) (i / 64 - length ws) full_word 0
-          (omega arith))
+      (i / 64) 0 refl past ∙ get_or-replicate (count - length ws) (i / 64 - length ws) full_word 0
+      (omega arith))
       ∙ has_digit-full (i % 64) (omega arith)
 
   place-filled_at : (i : ℕ) → i / 64 ≡ n / 64 → place filled_up i ≡ (place lengthened i || has_digit (full_word * 2 ^ (n % 64) % 2 ^ 64) (i % 64))

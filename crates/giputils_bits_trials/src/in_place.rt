@@ -112,7 +112,7 @@ fn a_cleared_vector_keeps_its_memory(rt: HostRuntime) -> Result<(), Fail> {
     Ok(())
 }
 
-// The joins by value, the texts and the only bit. Tells whether the answers were right.
+// A join by value, whose right side is false everywhere. Tells whether the answer was right.
 fn is_joined_by_value(memory: &Refusing, len: usize) -> bool {
     let (Ok(and), Ok(other)) = (
         BitVec::from_elem(memory, len, true),

@@ -1,6 +1,7 @@
 //! Bit vectors as sets of small numbers.
 
 use giputils_bits::bitvec::{BitVec, BitVecError};
+use giputils_refusing::Refusing;
 use std::alloc::Global;
 use std::test::Fail;
 
@@ -69,7 +70,8 @@ fn one_set_is_within_another(rt: HostRuntime) -> Result<(), Fail> {
 
 #[test]
 fn a_vector_is_written_in_place(rt: HostRuntime) -> Result<(), Fail> {
-    let mut bits = BitVec::zero(rt.alloc(), 66)?;
+    let memory = Refusing::none(rt.alloc());
+    let mut bits = BitVec::zero(&memory, 66)?;
     bits.flip(65);
     assert!(rt; !bits.put(0, true));
     assert_eq!(rt; bits.words(), [1, 2].as_slice());
@@ -83,12 +85,14 @@ fn a_vector_is_written_in_place(rt: HostRuntime) -> Result<(), Fail> {
     assert_eq!(rt; bits.len(), zeros.len());
     bits.copy_from(&zeros);
     assert!(rt; bits.none());
+    assert_eq!(rt; memory.requests(), 1);
     Ok(())
 }
 
 #[test]
 fn the_last_bits_are_taken_away(rt: HostRuntime) -> Result<(), Fail> {
-    let mut bits = BitVec::ones(rt.alloc(), 130)?;
+    let memory = Refusing::none(rt.alloc());
+    let mut bits = BitVec::ones(&memory, 130)?;
     bits.truncate(65);
     assert_eq!(rt; bits.words(), [u64::MAX, 1].as_slice());
     assert_eq!(rt; (bits.pop(), bits.len()), (Some(true), 64));
@@ -96,6 +100,7 @@ fn the_last_bits_are_taken_away(rt: HostRuntime) -> Result<(), Fail> {
     assert_eq!(rt; bits.words(), [u64::MAX, 0].as_slice());
     bits.truncate(0);
     assert_eq!(rt; bits.pop(), None);
+    assert_eq!(rt; memory.requests(), 1);
     Ok(())
 }
 

@@ -17,6 +17,7 @@ use Rattle.giputils.specs.Relations.{is_lawful}
 use Rattle.giputils.specs.Text.{binary_text}
 pub use Rattle.giputils.specs.AllocatorRun.{slots_after}
 pub use Rattle.giputils.specs.BitRun.{bits_after}
+pub use Rattle.giputils.specs.Buffer.{buffer, keep_last}
 pub use Rattle.giputils.specs.Counted.{Counted}
 pub use Rattle.giputils.specs.Due.{is_due}
 pub use Rattle.giputils.specs.Error.{IsMemory}

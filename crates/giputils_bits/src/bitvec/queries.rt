@@ -103,8 +103,8 @@ impl<A: Allocator> BitVec<A> {
         all_equal(self.words(), 0)
     }
 
-    /// Whether each bit is false, of a vector that is not empty ([`BitVec::is_empty`]). [`BitVec::none`] asks for no
-    /// bit.
+    /// Whether each bit is false, of a vector that is not empty ([`BitVec::is_empty`]). [`BitVec::none`] takes the
+    /// empty vector too.
     #[inline]
     pub fn is_zero(&self) -> bool
         requires { 0 < length self.now }
@@ -122,7 +122,8 @@ impl<A: Allocator> BitVec<A> {
         words[0] == 1 && all_equal(&words[1..], 0)
     }
 
-    /// Whether each bit is true, of a vector that is not empty ([`BitVec::is_empty`]). [`BitVec::all`] asks for no bit.
+    /// Whether each bit is true, of a vector that is not empty ([`BitVec::is_empty`]). [`BitVec::all`] takes the empty
+    /// vector too.
     #[inline]
     pub fn is_ones(&self) -> bool
         requires { 0 < length self.now }

@@ -10,10 +10,10 @@ join-requires g c = rw c.as_slice.ensures (same_count _ _ _ _ _ _ c.self.view_is
 pub invariant_of-self : goal.invariant_of-self
 invariant_of-self g c =
     (joined without_digits (λ x y. x && not y) has_digit-without refl _ _ _ _ _ _ _ c.self.view_is c.other.view_is
-        c.self.invariant c.other.invariant c.requires (rw c.as_slice.ensures at c.join.ensures)).0
+    c.self.invariant c.other.invariant c.requires (rw c.as_slice.ensures at c.join.ensures)).0
 
 pub returns : goal.returns
 returns g c =
     (joined without_digits (λ x y. x && not y) has_digit-without refl _ _ _ _ _ _ _ c.self.view_is c.other.view_is
-        c.self.invariant c.other.invariant c.requires (rw c.as_slice.ensures at c.join.ensures)).1
+    c.self.invariant c.other.invariant c.requires (rw c.as_slice.ensures at c.join.ensures)).1
     ∙ zip_with-not c.args.self.now c.args.other.now

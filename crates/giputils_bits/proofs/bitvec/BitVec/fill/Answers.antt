@@ -1,4 +1,4 @@
-use Rattle.std.proofs.Common.{◌≡◌, ◌+◌, ◌-◌, ◌/◌, ◌<◌, ◌∙◌, length, replicate, refl, sym, ap, arith}
+use Rattle.std.proofs.Common.{◌≡◌, ◌+◌, ◌-◌, ◌/◌, ◌∙◌, length, replicate, refl, sym, ap, arith}
 use Rattle.std.proofs.lemmas.List.{length-replicate}
 use Rattle.giputils_bits.specs.Bits.{words_of}
 use Rattle.giputils_bits.proofs.Places.{kept-length}

@@ -14,6 +14,6 @@ returns g c =
     let others_fit : (k : ℕ) → get_or c.as_slice-others.result.now k 0 < 2 ^ 64 = λ k. search rules in
     let made = rw (c.as_slice-words.ensures, c.as_slice-others.ensures) at c.makes_zeros.ensures in
     let none = joins_to_none bit_and ◌&&◌ has_digit-and refl _ _ _ _ _ _ c.self.view_is c.other.view_is
-        c.self.invariant c.other.invariant c.requires (rw c.as_slice-words.ensures at fits)
-        (rw c.as_slice-others.ensures at others_fit) in
+    c.self.invariant c.other.invariant c.requires (rw c.as_slice-words.ensures at fits)
+    (rw c.as_slice-others.ensures at others_fit) in
     (λ zeros. none.0 (made.0 zeros), λ e. made.1 (none.1 e))

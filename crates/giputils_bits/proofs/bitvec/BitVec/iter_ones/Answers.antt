@@ -6,9 +6,17 @@ use Rattle.giputils_bits.proofs.OnesLeft.{left-all}
 use Rattle.giputils_bits.proofs.bitvec.BitVec.iter_ones.Goals as goal
 
 pub invariant_of-result : goal.invariant_of-result
-invariant_of-result g c = let long = ap length c.as_slice-words.ensures in
-    (omega (arith, long, c.self.invariant.count), omega (arith, long, c.self.invariant.count, c.len.ensures,
-    c.len.type_inv, kept-length _ _ _ c.self.view_is))
+invariant_of-result g c = let long = ap length c.as_slice-words.ensures in (
+  omega (arith, long, c.self.invariant.count),
+  omega (
+    arith,
+    long,
+    c.self.invariant.count,
+    c.len.ensures,
+    c.len.type_inv,
+    kept-length _ _ _ c.self.view_is,
+  ),
+)
 
 pub returns-clause-places : goal.returns-clause-places
 returns-clause-places g c =

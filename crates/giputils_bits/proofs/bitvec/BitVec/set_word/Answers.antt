@@ -1,4 +1,4 @@
-use Rattle.std.proofs.Common.{◌≡◌, ◌*◌, ◌<◌, ◌∙◌, length, ap, arith}
+use Rattle.std.proofs.Common.{◌*◌, ◌<◌, ◌∙◌, length, ap, arith}
 use Rattle.giputils_bits.specs.Bits.{with_word}
 use Rattle.giputils_bits.proofs.Places.{kept-length}
 use Rattle.giputils_bits.proofs.Written.{IsPacked-written, bits_of-written}

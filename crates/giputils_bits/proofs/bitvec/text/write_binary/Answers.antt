@@ -12,8 +12,12 @@ bounds-words-last g c = rw c.words-words.ensures.words (omega (arith, c.len-len.
 pub slice_bounds-write_words-end : goal.slice_bounds-write_words-end
 slice_bounds-write_words-end g c =
     let within : (c.len-len.result - 1) / 64 < length c.words-words.result.now =
-        rw c.words-words.ensures.words (omega (arith, c.len-len.ensures, c.if-len-eq0.false,
-        length-words_of c.args.bits.now)) in
+    rw c.words-words.ensures.words (omega (
+      arith,
+      c.len-len.ensures,
+      c.if-len-eq0.false,
+      length-words_of c.args.bits.now,
+    )) in
     sym (length-take-le ((c.len-len.result - 1) / 64) c.words-words.result.now (omega arith))
 
 pub returns-clause-styled : goal.returns-clause-styled
@@ -25,9 +29,15 @@ returns-clause-styled g c = λ flush ok.
     let fits : (k : ℕ) → get_or c.words-words.result.now k 0 < 2 ^ 64 = λ k. search rules in
     let first = c.in_ok-write_str.ensures.styled flush refl in
     styled_more g.W.Write.write_str_gives _ _ _ _ _ _ first (c.write_words.ensures first.flush ok)
-    (rw (c.spell.ensures, c.words-words.ensures.words, c.len-len.ensures,
-        get_or-words_of bits last (omega (arith,
-        count))) (sym (binary_text_is bits last count (rw c.words-words.ensures.words at fits))))
+    (rw (
+      c.spell.ensures,
+      c.words-words.ensures.words,
+      c.len-len.ensures,
+      get_or-words_of bits last (omega (
+        arith,
+        count,
+      )),
+    ) (sym (binary_text_is bits last count (rw c.words-words.ensures.words at fits))))
 
 pub returns-clause-writes : goal.returns-clause-writes
 returns-clause-writes g c = plain_too g.W.Write.write_str_gives _ _ _ _ (returns-clause-styled g c)

@@ -26,8 +26,12 @@ bounds-words-last-2 g c = rw c.words-words.ensures.words (omega (arith, c.len-le
 pub slice_bounds-write_words-end : goal.slice_bounds-write_words-end
 slice_bounds-write_words-end g c =
     let within : (c.len-len.result - 1) / 64 < length c.words-words.result.now =
-        rw c.words-words.ensures.words (omega (arith, c.len-len.ensures, c.if-len-eq0.false,
-        length-words_of c.args.bits.now)) in
+    rw c.words-words.ensures.words (omega (
+      arith,
+      c.len-len.ensures,
+      c.if-len-eq0.false,
+      length-words_of c.args.bits.now,
+    )) in
     sym (length-take-le ((c.len-len.result - 1) / 64) c.words-words.result.now (omega arith))
 
 pub returns-clause-styled : goal.returns-clause-styled

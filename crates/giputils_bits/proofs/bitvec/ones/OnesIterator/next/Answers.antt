@@ -1,7 +1,5 @@
-use Rattle.std.proofs.Common.{◌≡◌, ◌+◌, ◌*◌, ◌<◌, ◌^◌, ◌∙◌, ℕ, true, false, [], w64, length, sym, ap, arith}
-use Rattle.std.specs.Int.{bit_at, trailing_zeros}
-use Rattle.std.proofs.lemmas.Nat.Bits.{bit_at-trailing_zeros}
-use Rattle.giputils_bits.specs.Bits.{has_digit}
+use Rattle.std.proofs.Common.{◌∙◌, w64, length, sym, ap, arith}
+use Rattle.std.specs.Int.{trailing_zeros}
 use Rattle.giputils_bits.proofs.OnesLeft.{left-next, left-none, lowest_one}
 use Rattle.giputils_bits.proofs.bitvec.ones.OnesIterator.next.Goals as goal
 
@@ -21,8 +19,8 @@ returns-clause-steps c =
     let lowest = lowest_one c.loop-word.word c.loop-word-test.false c.loop-word.invariant.fits in
     sym c.loop-word.invariant.left
     ∙ left-next c.loop-word.k c.loop-word.word c.self.inside.words.now c.loop-word.invariant.within
-        (trailing_zeros w64 c.loop-word.word) c.with_bit-self-inside.result lowest.0 lowest.1 lowest.2
-        c.with_bit-self-inside.ensures
+    (trailing_zeros w64 c.loop-word.word) c.with_bit-self-inside.result lowest.0 lowest.1 lowest.2
+    c.with_bit-self-inside.ensures
 
 pub returns-clause-goes : goal.returns-clause-goes
 returns-clause-goes c = record { on = λ finite. (tt, finite, omega (arith, ap length (returns-clause-steps c))); keeps = tt; rests = λ finite. tt }
