@@ -1,8 +1,9 @@
 //! What callers learn through the clauses, and the calls once each.
-ghost use Rattle.std.specs.Prelude.{◌≡◌, ◌<◌, Some, length};
-ghost use Rattle.giputils_base.specs.Allocator.{value_at, mark_at, write};
+ghost use Rattle.std.specs.Prelude.{◌≡◌, ◌<◌, [], ◌∷◌, ◌++◌, false, Some, length, IfOk, map};
+ghost use Rattle.giputils_base.specs.Allocator.{value_at, mark_at, write, live_slots};
 
 use super::{GallocCall, GallocElem, Gallocator, galloc_run, rename};
+use std::alloc::{AllocError, Global};
 use std::test::Fail;
 
 fn read(allocator: &Gallocator<u32>, index: usize) -> u32
@@ -103,6 +104,41 @@ fn a_list_of_indexes_is_renamed_in_place(rt: HostRuntime) -> Result<(), Fail> {
     rename([Some(0), None, Some(1)].as_slice(), &mut indexes);
     assert_eq!(rt; indexes.as_slice(), [1, 0, 1].as_slice());
     Ok(())
+}
+
+fn live_values(allocator: &Gallocator<u32>, alloc: Global) -> Result<Vec<(usize, u32)>, AllocError>
+    ensures { IfOk result (λ items. items.items ≡ live_slots 0 allocator.now) }
+{
+    allocator
+        .iter()
+        .map(|(index, value)| (index, *value))
+        .collect(alloc)
+}
+
+#[test]
+fn a_walk_gives_each_live_value_with_its_index(rt: HostRuntime) -> Result<(), Fail> {
+    let mut allocator = both_put(Gallocator::new(rt.alloc()), 10, 20)?;
+    allocator = both_put(allocator, 30, 40)?;
+    if allocator.len() == 4 {
+        allocator.dealloc(1);
+    }
+    let items = live_values(&allocator, rt.alloc())?;
+    assert_eq!(rt; items.as_slice(), [(0, 10), (2, 30), (3, 40)].as_slice());
+    Ok(())
+}
+
+fn both_put(
+    allocator: Gallocator<u32>,
+    first: u32,
+    second: u32,
+) -> Result<Gallocator<u32>, AllocError>
+    ensures { IfOk result (λ g. g ≡ (allocator ++ (first, false) ∷ []) ++ (second, false) ∷ []) }
+{
+    let mut room = allocator.into_reserved();
+    room.reserve(2)?;
+    room.alloc_reserved(first);
+    room.alloc_reserved(second);
+    Ok(room.finish())
 }
 
 #[test]
