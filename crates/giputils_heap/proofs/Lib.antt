@@ -14,6 +14,7 @@ pub mod Repairs
 pub mod Steady
 mod AtPlaces
 mod BoolsAndLists
+mod Entries
 mod Examples
 mod InOrder
 mod Places

@@ -1,5 +1,7 @@
 -- What the contracts of the heap speak of. Table, Tree and Stands are the heap's own.
+pub mod Bounded
 pub mod Bounds
+pub mod Calls
 pub mod Comparers
 pub mod Counted
 pub mod InOrder
