@@ -1,6 +1,6 @@
 -- What a refused request becomes.
 use Rattle.std.proofs.Common.{◌≡◌, Result, Ok, Err, ap, sym, ◌∙◌}
-use Rattle.std.specs.Prelude.{IsErr, IsErrAnd, OnOk, is_err, false}
+use Rattle.std.specs.Prelude.{IsErr, IsErrAnd, OnErr, OnOk, is_err, false}
 use Rattle.giputils_bits.specs.declared.bitvec.error.BitVecError.{BitVecError}
 use Rattle.giputils_bits.specs.declared.bitvec.error.BitVecError.TheVariants.{TooLong, Memory}
 
@@ -21,3 +21,8 @@ error_from (Err e) given h = ap (λ error. Err error) h.1
 -- want of memory is not a length
 pub not_too_long : {X : Type 0} → (r : Result X BitVecError) → r ≡ Err Memory → r ≡ Err TooLong → ⊥
 not_too_long r memory too_long = let never = sym memory ∙ too_long in cc
+
+-- what holds whatever a call answered
+pub on_err : {X E : Type 0} {P : Type 0} → (r : Result X E) → P → OnErr r P
+on_err (Ok x) h = tt
+on_err (Err e) h = h

@@ -195,6 +195,7 @@ impl<A: Allocator> Storage<A> {
         requires { length self.old ≤ count }
         ensures ok { OnOk result (self.new ≡ self.old ++ replicate (count - length self.old) word) }
         ensures inline { count ≡ 1 → IsOk result }
+        ensures same { count ≡ length self.old → IsOk result }
         ensures err { OnErr result (self.new ≡ self.old) }
     {
         let inline = self.inline;
@@ -208,6 +209,18 @@ impl<A: Allocator> Storage<A> {
             heap.resize(count, word)?;
         }
         Ok(())
+    }
+
+    // Makes room for `count` words in all, by one request at most, and by none for a single word.
+    pub(crate) fn reserve(&mut self, count: usize) -> Result<(), AllocError>
+        ensures after { self.new ≡ self.old }
+        ensures inline { count ≤ 1 → IsOk result }
+    {
+        if count <= 1 {
+            return Ok(());
+        }
+        let heap: &mut Vec<u64, A> = &mut self.heap;
+        heap.reserve(count.saturating_sub(heap.len()))
     }
 
     // Leaves the first `count` words. The memory is kept for the next growth.

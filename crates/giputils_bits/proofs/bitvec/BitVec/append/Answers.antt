@@ -1,6 +1,7 @@
-use Rattle.std.proofs.Common.{◌≡◌, ◌+◌, ◌^◌, ◌++◌, ◌∙◌, length, refl, sym, ap, Err, arith, inl, inr}
+use Rattle.std.proofs.Common.{◌≡◌, ◌<◌, ◌+◌, ◌^◌, ◌++◌, ◌∙◌, length, refl, sym, ap, Err, arith, inl, inr}
 use Rattle.std.proofs.lemmas.List.{append-nil}
 use Rattle.std.proofs.lemmas.Bool.{cases_lt}
+use Rattle.giputils_bits.specs.Bits.{word_count}
 use Rattle.giputils_bits.proofs.Errors.{error_from, not_too_long}
 use Rattle.giputils_bits.proofs.Logic.{empty_is_none}
 use Rattle.giputils_bits.proofs.Overlaid.{lengthened, lengthened_by, IsPacked-overlaid, bits_of-overlaid}
@@ -36,6 +37,11 @@ pub returns-in_err-resize-clause-too_long : goal.returns-in_err-resize-clause-to
 returns-in_err-resize-clause-too_long g c =
     let refused = error_from _ _ c.from_residual.ensures ∙ ap (λ error. Err error) c.in_err-resize.ensures.memory in
     (λ e. absurd (not_too_long _ refused e), λ e. absurd (omega (arith, c.in-Some.ensures.0, kept-length _ _ _ c.self.view_is, kept-length _ _ _ c.other.view_is)))
+
+pub returns-in_err-resize-clause-memory : goal.returns-in_err-resize-clause-memory
+returns-in_err-resize-clause-memory g c = λ e.
+    let more : word_count (length c.args.self.now) < word_count c.in-Some.len = c.in_err-resize.ensures.full in
+    omega (arith, more, c.in-Some.ensures.1, kept-length _ _ _ c.self.view_is, kept-length _ _ _ c.other.view_is)
 
 pub overlay-requires : goal.overlay-requires
 overlay-requires g c =
