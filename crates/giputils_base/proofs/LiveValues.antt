@@ -1,5 +1,6 @@
 -- The values of unmarked slots: by their indexes, and in a walk over them.
-use Rattle.std.specs.Prelude.{◌≡◌, ◌≢◌, ◌↔◌, ℕ, zero, suc, ◌+◌, ◌<◌, Bool, true, false, List, [], ◌∷◌, ◌++◌, length, map, slice_get, Option, Some, None, IsSome, option_map, option_and_then, if◌then◌else◌, nat_eq, refl}
+use Rattle.std.specs.Prelude.{◌≡◌, ◌≢◌, ◌↔◌, ℕ, zero, suc, ◌+◌, ◌<◌, ◌≤◌, Bool, true, false, List, [], ◌∷◌, ◌++◌, length, map, slice_get, Option, Some, None, IsSome, option_map, option_and_then, if◌then◌else◌, nat_eq, refl}
+use Rattle.std.specs.Option.{option_map_or}
 use Rattle.std.proofs.Common.{arith, ap, sym, ◌∙◌}
 use Rattle.std.proofs.lemmas.Bool.Decides.{nat_tests}
 use Rattle.giputils_base.specs.Hash.{get}
@@ -110,6 +111,26 @@ module _ {T : Type 0} where
   map-live_slots start [] = refl
   map-live_slots start ((v, true) ∷ slots) = map-live_slots (start + 1) slots
   map-live_slots start ((v, false) ∷ slots) = ap (λ vs. v ∷ vs) (map-live_slots (start + 1) slots)
+
+  -- each index is given once, and a later one is greater
+
+  live_slots-past : (start : ℕ) (slots : List (T × Bool)) (p : ℕ) (item : ℕ × T) → slice_get (live_slots start slots) p ≡ Some item → start ≤ item.0
+  live_slots-past start [] p item at = cc
+  live_slots-past start ((v, true) ∷ slots) p item at = let later = live_slots-past (start + 1) slots p item at in omega arith
+  live_slots-past start ((v, false) ∷ slots) zero (k, w) at = let same : start ≡ k = ap (λ o. option_map_or (λ item. item.0) o 0) at in omega arith
+  live_slots-past start ((v, false) ∷ slots) (suc p) item at = let later = live_slots-past (start + 1) slots p item at in omega arith
+
+  pub live_slots-rising : (start : ℕ) (slots : List (T × Bool)) (p q : ℕ) (first second : ℕ × T)
+      → slice_get (live_slots start slots) p ≡ Some first → slice_get (live_slots start slots) q ≡ Some second → p < q → first.0 < second.0
+  live_slots-rising start [] p q first second at_p at_q less = cc
+  live_slots-rising start ((v, true) ∷ slots) p q first second at_p at_q less = live_slots-rising (start + 1) slots p q first second at_p at_q less
+  live_slots-rising start ((v, false) ∷ slots) p zero first second at_p at_q less = absurd (omega arith)
+  live_slots-rising start ((v, false) ∷ slots) zero (suc q) (k, w) second at_p at_q less =
+      let same : start ≡ k = ap (λ o. option_map_or (λ item. item.0) o 0) at_p in
+      let later = live_slots-past (start + 1) slots q second at_q in
+      omega arith
+  live_slots-rising start ((v, false) ∷ slots) (suc p) (suc q) first second at_p at_q less =
+      live_slots-rising (start + 1) slots p q first second at_p at_q (omega arith)
 
   -- a value that joins the others comes last
   pub live_slots-push : (start : ℕ) (slots : List (T × Bool)) (v : T)

@@ -58,14 +58,23 @@ fn last_two(allocator: &Gallocator<u32>) -> Option<([bool; 2], [u32; 2])> {
     Some((marks, [read(allocator, 1), allocator[2u32]]))
 }
 
+// What is answered of slots 0, 1 and 3, of which there is none.
+fn live_at(allocator: &Gallocator<u32>) -> [Option<u32>; 3] {
+    let (first, second) = (allocator.get(0).copied(), allocator.get(1).copied());
+    [first, second, allocator.get(3).copied()]
+}
+
 #[test]
 fn a_marked_value_is_still_read(rt: HostRuntime) -> Result<(), Fail> {
     let allocator = three_values(rt.alloc())?;
-    assert_eq!(rt; last_two(&allocator), Some(([true, false], [20, 30])));
-    assert_eq!(rt; (allocator.len(), allocator.live_len()), (3, 2));
+    let lengths = (allocator.len(), allocator.live_len());
     assert_eq!(rt;
-        (allocator.get(0).copied(), allocator.get(1), allocator.get(3)),
-        (Some(10), None, None)
+        (lengths, live_at(&allocator), last_two(&allocator)),
+        (
+            (3, 2),
+            [Some(10), None, None],
+            Some(([true, false], [20, 30]))
+        )
     );
     Ok(())
 }
