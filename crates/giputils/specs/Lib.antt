@@ -22,6 +22,7 @@ pub use Rattle.giputils_heap.specs.Bounds
 pub use Rattle.giputils_heap.specs.Calls
 pub use Rattle.giputils_heap.specs.Comparers
 pub use Rattle.giputils_heap.specs.Counted
+pub use Rattle.giputils_heap.specs.Falls
 pub use Rattle.giputils_heap.specs.InOrder
 pub use Rattle.giputils_heap.specs.Keys
 pub use Rattle.giputils_heap.specs.Laws

@@ -4,6 +4,7 @@ pub mod Bounds
 pub mod Calls
 pub mod Comparers
 pub mod Counted
+pub mod Falls
 pub mod InOrder
 pub mod Keys
 pub mod Laws

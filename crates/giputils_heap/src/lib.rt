@@ -14,7 +14,7 @@ mod table;
 mod tree;
 
 pub use bounded::BoundedHeap;
-pub use comparers::{ByNumber, ByRank, RankTable};
+pub use comparers::{ByNumber, ByOrd, ByRank, RankTable};
 pub use counting::Counting;
 pub use heap::{BinaryHeap, order_laws};
 pub use key::{BinaryHeapCmp, HeapKey};
