@@ -8,7 +8,8 @@ use Rattle.giputils_bits.specs.declared.bitvec.run.BitReply.TheVariants.{Done, R
 use Rattle.giputils_bits.specs.BitRun.{Answers, StopsAt, CanRefuseWord, max_len}
 use Rattle.giputils_bits.specs.Bits.{digits_of, value_of, words_of, one_of, with_word}
 use Rattle.giputils_bits.specs.Ones.{true_count, true_places, HasNoneFrom, IsNextOne, HasOne}
-use Rattle.giputils_bits.specs.Text.{binary_text, hex_text}
+use Rattle.giputils_bits.specs.Text.{binary_text, hex_text, places_written, IsNoBinaryText}
+use Rattle.giputils_bits.proofs.BinaryTexts.{no_text, no_empty_text}
 use Rattle.std.specs.Fmt.{digits}
 use Rattle.giputils_bits.specs.Logic.{and_of, or_of, xor_of, not_of, negated_if}
 
@@ -235,6 +236,9 @@ no_place_has_brackets = refl
 the_last_place_comes_first : binary_text (true ∷ false ∷ true ∷ true ∷ false ∷ []) ≡ codes "01101"
 the_last_place_comes_first = refl
 
+the_last_digit_is_the_first_place : places_written (codes "01101") ≡ true ∷ false ∷ true ∷ true ∷ false ∷ []
+the_last_digit_is_the_first_place = refl
+
 no_place_has_brackets_in_hexadecimal : hex_text false [] ≡ codes "[]"
 no_place_has_brackets_in_hexadecimal = refl
 
@@ -269,6 +273,12 @@ two_lists_of_one_text = refl
 
 the_first_place_first : binary_text (true ∷ false ∷ true ∷ true ∷ false ∷ []) ≢ codes "10110"
 the_first_place_first e = absurd (omega (arith, ap (λ t. get_or t 0 0) e))
+
+another_digit : IsNoBinaryText (codes "012")
+another_digit = no_text (codes "012") refl refl
+
+no_byte_at_all : IsNoBinaryText []
+no_byte_at_all = no_empty_text [] refl
 
 inner_words_without_zeros : hex_text false (digits_of 64 7 ++ digits_of 64 1) ≢ codes "0x17"
 unfolding digits_of digits

@@ -1,4 +1,5 @@
 mod Appended
+pub mod BinaryTexts
 mod Conjoined
 pub mod Digits
 mod Errors
