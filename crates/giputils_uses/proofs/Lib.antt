@@ -2,8 +2,8 @@ mod Actives
 mod Deadlines
 mod Examples
 mod Gathered
+mod Members
 mod Multiples
 mod Outcomes
 mod Reaching
-mod Renamed
 mod Searches
