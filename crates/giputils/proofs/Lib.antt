@@ -20,6 +20,7 @@ pub use Rattle.giputils_heap.proofs.Preorders
 pub use Rattle.giputils_heap.proofs.Pushes
 pub use Rattle.giputils_heap.proofs.Ranks
 pub use Rattle.giputils_heap.proofs.Relations
+pub use Rattle.giputils_heap.proofs.Repairs
 pub use Rattle.giputils_heap.proofs.Steady
 pub use Rattle.giputils_stat.proofs.Digits as DecimalDigits
 pub use Rattle.giputils_stat.proofs.Rounding

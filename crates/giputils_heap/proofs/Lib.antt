@@ -10,6 +10,7 @@ pub mod Preorders
 pub mod Pushes
 pub mod Ranks
 pub mod Relations
+pub mod Repairs
 pub mod Steady
 mod AtPlaces
 mod BoolsAndLists
