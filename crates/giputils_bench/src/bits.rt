@@ -87,7 +87,7 @@ pub fn logic(
     for _ in 0..JOINTS {
         a ^= &b;
         b |= &a;
-        a = a.not()?;
+        a.negate();
         b &= &a;
     }
     mix_words(&a, checksum);
@@ -119,8 +119,8 @@ pub fn bin(
     Ok(())
 }
 
-// A vector of `size` drawn bits. The last word is drawn whole.
-fn vector(alloc: Global, size: u32, rng: &mut Generator) -> Result<BitVec, BitVecError>
+/// A vector of `size` drawn bits. The last word is drawn whole.
+pub fn vector(alloc: Global, size: u32, rng: &mut Generator) -> Result<BitVec, BitVecError>
     ensures { IfOk result (λ bits. length bits ≡ size) }
 {
     let mut bits = BitVec::new(alloc);
