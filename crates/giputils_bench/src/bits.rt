@@ -119,20 +119,13 @@ pub fn bin(
     Ok(())
 }
 
-/// A vector of `size` drawn bits. The last word is drawn whole.
+/// A vector of `size` drawn bits, by words.
 pub fn vector(alloc: Global, size: u32, rng: &mut Generator) -> Result<BitVec, BitVecError>
     ensures { IfOk result (λ bits. length bits ≡ size) }
 {
-    let mut bits = BitVec::new(alloc);
-    for _ in 0..size / 64 {
-        bits.push_word(rng.draw_word())?;
-    }
-    if size % 64 > 0 {
-        let mut word = rng.draw_word();
-        for _ in 0..size % 64 {
-            bits.push(word % 2 == 1)?;
-            word >>= 1;
-        }
+    let mut bits = BitVec::zero(alloc, size as usize)?;
+    for k in 0..bits.word_len() {
+        bits.set_word(k, rng.draw_word());
     }
     Ok(bits)
 }
