@@ -1,4 +1,5 @@
 mod Appended
+mod Conjoined
 pub mod Digits
 mod Errors
 mod Examples
@@ -7,6 +8,7 @@ mod Kept
 pub mod Logic
 pub mod Ones
 mod OnesLeft
+mod Overlaid
 mod Patterns
 mod Places
 mod Rewritten

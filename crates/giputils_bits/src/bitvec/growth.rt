@@ -127,6 +127,29 @@ impl<A: Allocator> BitVec<A> {
         Ok(())
     }
 
+    /// Appends the bits of another vector.
+    ///
+    /// # Errors
+    /// `TooLong` where the length would be above `usize::MAX`; `Memory` where the vector grows above 64 bits and the one
+    /// request for memory is refused. Nothing changes then.
+    pub fn append<B: Allocator>(&mut self, other: &BitVec<B>) -> Result<(), BitVecError>
+        ensures ok { OnOk result (self.new ≡ self.old ++ other.now) }
+        ensures inline { length self.old + length other.now ≤ 64 → IsOk result }
+        ensures too_long { (result ≡ Err BitVecError.TooLong) ↔ (usize.MAX < length self.old + length other.now) }
+        ensures err { OnErr result (self.new ≡ self.old) }
+    {
+        let start = self.len;
+        let Some(len) = start.checked_add(other.len) else {
+            return Err(BitVecError::TooLong);
+        };
+        if len == start {
+            return Ok(());
+        }
+        self.resize(len, false)?;
+        self.words.overlay(start, other.words.as_slice());
+        Ok(())
+    }
+
     /// Appends the items of an iterator that ends.
     ///
     /// # Errors
