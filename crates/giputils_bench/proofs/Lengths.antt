@@ -1,10 +1,10 @@
 -- What is joined, negated or written a word at a time keeps its length.
-use Rattle.std.proofs.Common.{◌≡◌, ◌∙◌, ℕ, ◌+◌, ◌*◌, Bool, List, ◌++◌, length, take, drop, ap, sym, arith, length-append}
+use Rattle.std.proofs.Common.{◌≡◌, ◌∙◌, ℕ, ◌+◌, ◌*◌, Bool, ◌&&◌, List, ◌++◌, length, take, drop, ap, sym, arith, length-append}
 use Rattle.std.proofs.lemmas.List.{length-take, length-drop}
 use Rattle.giputils_bits.specs.Bits.{digits_of, with_word}
-use Rattle.giputils_bits.specs.Logic.{zip_with, not_of}
+use Rattle.giputils_bits.specs.Logic.{zip_with, and_of, not_of, negated_if}
 use Rattle.giputils_bits.proofs.Digits.{length-digits_of}
-use Rattle.giputils_bits.proofs.Logic.{length-zip_with, length-not_of}
+use Rattle.giputils_bits.proofs.Logic.{length-zip_with, length-not_of, length-negated_if}
 
 -- a list that is joined with another, place by place
 pub length-joined : (f : Bool → Bool → Bool) (xs ys joined : List Bool) (n : ℕ) → joined ≡ zip_with f xs ys → length xs ≡ n → length ys ≡ n → length joined ≡ n
@@ -28,3 +28,9 @@ length-with_word k word bs =
       length-take (64 * k) bs,
       length-drop (64 * k + 64) bs,
     )
+
+-- two lists that are joined by `and`, each negated where that is told
+pub length-conjoined : (not_a not_b : Bool) (xs ys conjoined : List Bool) (n : ℕ) → conjoined ≡ and_of (negated_if not_a xs) (negated_if not_b ys)
+    → length xs ≡ n → length ys ≡ n → length conjoined ≡ n
+length-conjoined not_a not_b xs ys conjoined n is first second =
+    length-joined ◌&&◌ (negated_if not_a xs) (negated_if not_b ys) conjoined n is (length-negated_if not_a xs ∙ first) (length-negated_if not_b ys ∙ second)

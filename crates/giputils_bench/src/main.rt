@@ -13,13 +13,14 @@ mod heap;
 mod sets;
 
 use anyhow::{Context, bail};
+use bits::Growth;
 use common::{Checksum, Generator};
 use heap::{Renewal, Repair};
 use std::alloc::Global;
 use std::env;
 use std::process::ExitCode;
 
-const WORKLOADS: [&str; 19] = [
+const WORKLOADS: [&str; 22] = [
     "heapsort",
     "vsids",
     "vsids_up",
@@ -39,6 +40,9 @@ const WORKLOADS: [&str; 19] = [
     "bits_ones",
     "bits_few",
     "bits_subset",
+    "bits_aig",
+    "bits_append",
+    "bits_append_by_push",
 ];
 
 fn main(rt: HostRuntime) -> anyhow::Result<ExitCode> {
@@ -103,6 +107,13 @@ fn repeat(
             "bits_ones" => sets::ones(alloc, size, &mut rng, &mut checksum)?,
             "bits_few" => sets::few(alloc, size, &mut rng, &mut checksum)?,
             "bits_subset" => sets::subset(alloc, size, &mut rng, &mut checksum)?,
+            "bits_aig" => sets::aig(alloc, size, &mut rng, &mut checksum)?,
+            "bits_append" => {
+                bits::append(alloc, size, Growth::Append, &mut rng, &mut checksum)?;
+            }
+            "bits_append_by_push" => {
+                bits::append(alloc, size, Growth::Push, &mut rng, &mut checksum)?;
+            }
             _ => return Ok(None),
         }
     }

@@ -1,10 +1,12 @@
 //! Workloads of the bit vectors as sets of numbers.
-ghost use Rattle.std.specs.Prelude.{◌≡◌, ◌<◌, ◌≤◌, ◌^◌, length};
+ghost use Rattle.std.specs.Prelude.{◌≡◌, length, IfOk};
+ghost use Rattle.giputils_bench.specs.Bits.{AreOfLength};
 
-use crate::bits::vector;
+use crate::bits::{mix_words, vector};
 use crate::common::{Checksum, Generator};
 use giputils_bits::bitvec::{BitVec, BitVecError};
 use std::alloc::Global;
+use std::mem;
 
 // How often one bit is turned and the true ones are counted.
 const COUNTS: u32 = 64;
@@ -14,6 +16,12 @@ const WALKS: u32 = 16;
 
 // How often a vector is compared with another.
 const COMPARISONS: u32 = 64;
+
+// How many vectors are the nodes of a graph.
+const NODES: usize = 64;
+
+// How often a node is made anew.
+const GATES: u32 = 1024;
 
 /// Turns a drawn bit of a drawn vector, and mixes how many are true, again and again.
 pub fn count(
@@ -82,6 +90,47 @@ pub fn subset(
         checksum.mix(4 * i as u64 + 2 * u64::from(within) + u64::from(contains));
     }
     Ok(())
+}
+
+/// Makes drawn ones of 64 drawn vectors what two others have in common, each of these negated as drawn, as the nodes of
+/// an and-inverter graph; mixes the words of all.
+pub fn aig(
+    alloc: Global,
+    size: u32,
+    rng: &mut Generator,
+    checksum: &mut Checksum,
+) -> Result<(), BitVecError> {
+    let mut nodes = nodes(alloc, size, rng)?;
+    let mut made = BitVec::zero(alloc, size as usize)?;
+    for _ in 0..GATES {
+        let (node, first, second) = (rng.below(NODES), rng.below(NODES), rng.below(NODES));
+        let signs = rng.draw();
+        if node == first || node == second {
+            continue;
+        }
+        made.assign_and(
+            &nodes[first],
+            signs & 1 != 0,
+            &nodes[second],
+            signs & 2 != 0,
+        );
+        mem::swap(&mut nodes[node], &mut made);
+    }
+    for node in &nodes {
+        mix_words(node, checksum);
+    }
+    Ok(())
+}
+
+// As many drawn vectors as there are nodes.
+fn nodes(alloc: Global, size: u32, rng: &mut Generator) -> Result<Vec<BitVec>, BitVecError>
+    ensures { IfOk result (λ nodes. AreOfLength size nodes.items × (length nodes.items ≡ 64)) }
+{
+    let mut nodes = Vec::with_capacity(alloc, NODES)?;
+    for _ in 0..NODES {
+        nodes.push_reserved(vector(alloc, size, rng)?);
+    }
+    Ok(nodes)
 }
 
 // Mixes the true places, and turns a drawn bit, again and again.
