@@ -1,8 +1,14 @@
 #!/usr/bin/env python3
-"""Makes formulas in conjunctive form by stated seeds, as DIMACS files to time solvers with.
+"""Makes formulas in conjunctive form by stated seeds: a list with minisat's answers, and files to time solvers with.
 
-    tests/formulas.py --write FOLDER              a file for each formula of FILES, by name and seed
+    tests/formulas.py --list                      puts the list `new formulas` at the end of giputils_replay's stdin and
+                                                  stdout, in the place of the one that stands there; it needs minisat
+    tests/formulas.py --write FOLDER              a DIMACS file for each formula of FILES, by name and seed
     tests/formulas.py --time FOLDER PROGRAM..     runs the programs by turns over the files of a folder
+
+A line `cnf CLAUSE..` of the list has a word for each clause, and a letter for each literal: `A` is a variable, and `a` its
+negation. A digit tells which 26 variables the letters behind it are; a clause begins with 0, as does the word of the
+clause that has no literal. minisat's models are tried here on their formulas.
 
 A PROGRAM that is named minisat gets the names of a file and of one for its answer, any other the file as its standard
 input, and answers as solvers do at competitions: a line `s SATISFIABLE` with lines `v ..`, or `s UNSATISFIABLE`. Each run
@@ -24,6 +30,8 @@ import tempfile
 from pathlib import Path
 
 SECONDS = 100
+REPLAY = Path(__file__).resolve().parent.parent / "crates" / "giputils_replay"
+HEADER = "new formulas"
 
 
 # Formulas. Each sort is made by a function of a generator of random numbers and of sizes.
@@ -104,6 +112,14 @@ def one_model(rng, variables):
         clauses += [[order[place], -a, -b], [-order[place], a, rng.choice(order)]]
     rng.shuffle(clauses)
     return clauses
+
+
+def mixed(rng, variables, count):
+    """Clauses of any few literals: a literal may stand twice, or beside its negation, and a clause may have none."""
+    return [
+        [rng.choice((1, -1)) * rng.randint(1, variables) for _ in range(rng.choice((1, 2, 2, 2, 3, 3, 3, 4, 5)))]
+        for _ in range(count)
+    ] + [[]] * (rng.random() < 0.05)
 
 
 def units(rng, variables, clash):
@@ -265,6 +281,62 @@ def write(folder):
         (folder / f"{name}.cnf").write_text(dimacs(make(random.Random(seed), *sizes)))
 
 
+# The list.
+
+
+def formulas(rng):
+    """The formulas of the list."""
+    for _ in range(160):
+        yield random_clauses(rng, min(rng.randint(20, 120) for _ in range(2)))
+    for _ in range(60):
+        variables = rng.randint(1, 12)
+        yield mixed(rng, variables, rng.randint(0, 4 * variables))
+    for _ in range(30):
+        variables = rng.randint(3, 24)
+        yield parity(rng, variables, variables - rng.randint(-1, 1))
+    for size in range(3, 18):
+        yield parity_chains(rng, size, rng.random() < 0.5)
+    for _ in range(30):
+        nodes = rng.randint(4, 30)
+        yield colouring(rng, nodes, min(nodes * 23 // 10, nodes * (nodes - 1) // 2))
+    for holes in range(7):
+        yield pigeonhole(rng, holes)
+    for _ in range(12):
+        yield one_model(rng, rng.randint(2, 60))
+    for clash in (True, False) * 6:
+        yield units(rng, rng.randint(1, 80), clash)
+    for ratio in (0.8, 0.9, 1.0, 1.1) * 3:
+        yield random_clauses(rng, rng.randint(20, 80), 2, ratio)
+
+
+def word(clause):
+    """A clause as letters."""
+    text, block = "", 0
+    for literal in clause:
+        digit, letter = divmod(abs(literal) - 1, 26)
+        text += str(digit) * (digit != block) + chr(ord("A" if literal > 0 else "a") + letter)
+        block = digit
+    return text or "0"
+
+
+def write_list():
+    """Puts the list at the end of the lists that giputils_replay runs."""
+    questions, answers = [HEADER], [HEADER]
+    with tempfile.TemporaryDirectory() as folder:
+        path = Path(folder) / "formula.cnf"
+        for clauses in formulas(random.Random(1971)):
+            path.write_text(dimacs(clauses))
+            what, _, model = answer("minisat", path)
+            if what == "none" or (what == "sat" and not satisfies(model, clauses)):
+                sys.exit(f"minisat has no answer to {clauses}")
+            questions.append(" ".join(["cnf", *map(word, clauses)]))
+            answers.append(what)
+    for name, lines in (("stdin", questions), ("stdout", answers)):
+        path = REPLAY / name
+        before = list(itertools.takewhile(lambda line: line != HEADER, path.read_text().splitlines()))
+        path.write_text("".join(f"{line}\n" for line in before + lines))
+
+
 # Timing.
 
 
@@ -342,6 +414,8 @@ def measure(folder, programs):
 
 def main():
     match sys.argv[1:]:
+        case ["--list"]:
+            write_list()
         case ["--write", folder]:
             write(Path(folder))
         case ["--time", folder, *programs] if programs:
@@ -350,4 +424,5 @@ def main():
             sys.exit(__doc__)
 
 
-main()
+if __name__ == "__main__":
+    main()

@@ -1,9 +1,9 @@
 //! Lists of calls of a bit vector.
 ghost use Rattle.std.specs.Prelude.{◌<◌, IfOk};
 
-use crate::calls::NotACall;
 use anyhow::Context;
 use giputils_bits::bitvec::BitVec;
+use giputils_calls::NotACall;
 use std::alloc::Global;
 use std::io::{self, Write};
 
@@ -11,15 +11,26 @@ use std::io::{self, Write};
 pub fn replay<W: Write>(alloc: Global, out: &mut W, lines: &[String]) -> anyhow::Result<()> {
     let mut bits = BitVec::new(alloc);
     for (i, line) in lines.iter().enumerate() {
-        let words: Vec<&str> = line.split(' ').collect(alloc)?;
-        if let Some(made) = make(alloc, &words).context(format_args!("call {}", i + 1))? {
-            bits = made;
-            writeln!(out, "ok")?;
-        } else if grow(&mut bits, &words).context(format_args!("call {}", i + 1))? {
-            writeln!(out, "ok")?;
-        } else {
-            ask(alloc, out, &mut bits, &words).context(format_args!("call {}", i + 1))?;
-        }
+        answer(alloc, out, &mut bits, line).context(format_args!("call {}", i + 1))?;
+    }
+    Ok(())
+}
+
+// Makes the call of a line, and writes its reply.
+fn answer<W: Write>(
+    alloc: Global,
+    out: &mut W,
+    bits: &mut BitVec,
+    line: &str,
+) -> anyhow::Result<()> {
+    let words: Vec<&str> = line.split(' ').collect(alloc)?;
+    if grow(bits, &words)? {
+        writeln!(out, "ok")?;
+    } else if let Some(made) = make(alloc, &words)? {
+        *bits = made;
+        writeln!(out, "ok")?;
+    } else {
+        ask(alloc, out, bits, &words)?;
     }
     Ok(())
 }
