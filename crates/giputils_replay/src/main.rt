@@ -59,13 +59,12 @@ fn main(rt: HostRuntime) -> anyhow::Result<()> {
 
 fn replay<W: Write>(alloc: Global, out: &mut W, list: &List) -> anyhow::Result<()> {
     writeln!(out, "{}", list.header)?;
-    let words: Vec<&str> = list.header.split(' ').collect(alloc)?;
-    let outcome = match *words {
-        ["new", "bits"] => bits::replay(alloc, out, &list.calls),
-        ["new", "formulas"] => formulas::replay(alloc, out, &list.calls),
-        ["new", "galloc"] => galloc::replay(alloc, out, &list.calls),
-        ["new", "heap"] => heap::replay(alloc, out, &list.calls),
-        ["new", "texts"] => texts::replay(alloc, out, &list.calls),
+    let outcome = match list.header.as_str() {
+        "new bits" => bits::replay(alloc, out, &list.calls),
+        "new formulas" => formulas::replay(alloc, out, &list.calls),
+        "new galloc" => galloc::replay(alloc, out, &list.calls),
+        "new heap" => heap::replay(alloc, out, &list.calls),
+        "new texts" => texts::replay(alloc, out, &list.calls),
         _ => bail!("line {}: no container has this name", list.first),
     };
     outcome.context(format_args!("the list at line {}", list.first))
