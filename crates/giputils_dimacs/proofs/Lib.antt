@@ -1,0 +1,6 @@
+mod Numbers
+mod Outcomes
+mod Splits
+mod Stages
+mod Streams
+mod ValueLines
