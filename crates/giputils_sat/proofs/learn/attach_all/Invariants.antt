@@ -1,6 +1,6 @@
 use Rattle.std.proofs.Common.{◌≡◌, length}
 use Rattle.giputils_sat.specs.Trails.{IsTrail}
-use Rattle.giputils_sat.proofs.solver.attach_all.Given as goal
+use Rattle.giputils_sat.proofs.learn.attach_all.Given as goal
 
 abbrev pub invariant-loop-place : goal.invariant-loop-place
 invariant-loop-place g l = record {
