@@ -39,7 +39,7 @@ fn are_tabled(memory: &Refusing) -> bool {
 
 fn is_room_made(memory: &Refusing) -> bool {
     let mut slots = Slots::new(memory);
-    slots.reserve(3).is_ok() && slots.into_reserved().reserve(4).is_ok()
+    slots.reserve(3).is_ok() && slots.into_reserved().reserve(9).is_ok()
 }
 
 fn are_allocated(memory: &Refusing) -> bool {
