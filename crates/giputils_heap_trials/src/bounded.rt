@@ -32,6 +32,14 @@ fn is_drained(memory: &Refusing) -> bool {
     heap.drain_sorted(memory, &ByNumber).is_ok() || heap.len() != 2
 }
 
+// Where memory for the keys is refused, tells so only if those of before are held still.
+fn is_built(memory: &Refusing) -> bool {
+    let Ok(mut heap) = two_keys(memory) else {
+        return false;
+    };
+    heap.build(&[9, 99, 9], &ByNumber).is_ok() || heap.len() != 2 || !heap.contains(1)
+}
+
 #[test]
 fn a_heap_asks_at_once_for_what_it_needs(rt: HostRuntime) {
     let alloc = rt.alloc();
@@ -39,6 +47,7 @@ fn a_heap_asks_at_once_for_what_it_needs(rt: HostRuntime) {
         ("with_bound", refuse_each(alloc, is_made), 2..=2),
         ("raise_bound", refuse_each(alloc, is_raised), 4..=4),
         ("drain_sorted", refuse_each(alloc, is_drained), 3..=5),
+        ("build", refuse_each(alloc, is_built), 3..=6),
     ];
     for (call, outcome, wanted) in outcomes {
         assert!(rt;
