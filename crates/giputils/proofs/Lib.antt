@@ -16,6 +16,7 @@ pub use Rattle.giputils_heap.proofs.HoldAlike
 pub use Rattle.giputils_heap.proofs.KeySets
 pub use Rattle.giputils_heap.proofs.Levels
 pub use Rattle.giputils_heap.proofs.OrderLaws
+pub use Rattle.giputils_heap.proofs.Orders
 pub use Rattle.giputils_heap.proofs.Preorders
 pub use Rattle.giputils_heap.proofs.Pushes
 pub use Rattle.giputils_heap.proofs.Ranks

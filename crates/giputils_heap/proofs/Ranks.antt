@@ -126,6 +126,19 @@ module _ {T : Type 0} (number : T → ℕ) where
         IsInOrder-changed number v (reverse_of (by_rank number ranks)) (reverse_of (by_rank number (slice_set ranks (number v) r))) old new
         (CanRepair-by_least_rank v ranks r old) (subst (λ rs. RepairsChanged number v (reverse_of (by_rank number rs)) old new old) same repairs) ordered
 
+    -- so does `push_or_update`
+    pub renewed-by_rank : RepairsChanged number v (by_rank number now) old new (v ∷ old) → IsInOrder (by_rank number ranks) old
+        → IsInOrder (by_rank number (slice_set ranks (number v) r)) new
+    renewed-by_rank repairs ordered =
+        (subst (λ rs. RepairsChanged number v (by_rank number rs) old new (v ∷ old)) same repairs) (by_rank number ranks) ordered (IsLawful-by_rank ranks old)
+        (AgreesExcept-by_rank number v ranks r old) (IsLawful-by_rank (slice_set ranks (number v) r) (v ∷ old))
+
+    pub renewed-by_least_rank : RepairsChanged number v (reverse_of (by_rank number now)) old new (v ∷ old) → IsInOrder (reverse_of (by_rank number ranks)) old
+        → IsInOrder (reverse_of (by_rank number (slice_set ranks (number v) r))) new
+    renewed-by_least_rank repairs ordered =
+        (subst (λ rs. RepairsChanged number v (reverse_of (by_rank number rs)) old new (v ∷ old)) same repairs) (reverse_of (by_rank number ranks)) ordered
+        (IsLawful-by_least_rank ranks old) (AgreesExcept-by_least_rank number v ranks r old) (IsLawful-by_least_rank (slice_set ranks (number v) r) (v ∷ old))
+
     module _ (inside : number v < length ranks) where
       -- `up` does where it rose, and the other way round where it fell
       pub risen-by_rank : rank_of ranks (number v) ≤ r → RepairsRisen number v (by_rank number now) old new → IsInOrder (by_rank number ranks) old
