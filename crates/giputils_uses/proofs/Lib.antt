@@ -7,3 +7,5 @@ mod Outcomes
 mod Picked
 mod Reaching
 mod Searches
+mod SmallSets
+mod TruePlaces

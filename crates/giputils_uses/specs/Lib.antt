@@ -8,3 +8,4 @@ pub mod Primes
 pub mod Ranked
 pub mod Reachable
 pub mod Rows
+pub mod SmallSet
