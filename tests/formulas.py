@@ -6,13 +6,13 @@
     tests/formulas.py --write FOLDER              a DIMACS file for each formula of FILES, by name and seed
     tests/formulas.py --time FOLDER PROGRAM..     runs the programs by turns over the files of a folder
 
-A line `cnf CLAUSE..` of the list has a word for each clause, and a letter for each literal: `A` is a variable, and `a` its
-negation. A digit tells which 26 variables the letters behind it are; a clause begins with 0, as does the word of the
-clause that has no literal. minisat's models are tried here on their formulas.
+A line `cnf CLAUSE..` of the list has a word for each clause, and a letter for each literal: `A` is a variable, and `a`
+its negation. A digit tells which 26 variables the letters behind it are; without one they are those of 0, and `0` is
+the clause of no literal. minisat's models are tried here on their formulas.
 
 A PROGRAM that is named minisat gets the names of a file and of one for its answer, any other the file as its standard
-input, and answers as solvers do at competitions: a line `s SATISFIABLE` with lines `v ..`, or `s UNSATISFIABLE`. Each run
-may take 100 s of processor time. The table that is printed has the sums of user times, family by family, over the
+input, and answers as solvers do at competitions: a line `s SATISFIABLE` with lines `v ..`, or `s UNSATISFIABLE`. Each
+run may take 100 s of processor time. The table that is printed has the sums of user times, family by family, over the
 formulas that all programs have answered, and how many each has left; the programs' answers are compared, and each model
 is tried on its formula.
 
@@ -243,15 +243,23 @@ def counters_differ(_rng, bits, steps):
     return circuit.clauses
 
 
-# Files to time solvers with: a family, sizes, and what makes a formula of them. The seed is the last number of the name.
+# Files to time solvers with: a name, what makes the formula, the seed (the last number of the name), and sizes.
 FILES = [
-    *[(f"random-{size}-{seed}", random_clauses, seed, (size,)) for size in (150, 175, 200, 225, 250) for seed in range(1, 7)],
+    *[
+        (f"random-{size}-{seed}", random_clauses, seed, (size,))
+        for size in (150, 175, 200, 225, 250)
+        for seed in range(1, 7)
+    ],
     *[(f"easy-20000-{seed}", random_clauses, seed, (20000, 3, 3.0)) for seed in (1, 2)],
     *[(f"pigeonhole-{holes}-0", pigeonhole, 0, (holes,)) for holes in (7, 8, 9)],
     *[(f"parity-{size}-{seed}", parity, seed, (size, size)) for size, seed in ((40, 1), (60, 2), (100, 3))],
     *[(f"chains-{size}-{seed}", parity_chains, seed, (size, False)) for size, seed in ((20, 20), (25, 25), (30, 30))],
     *[(f"chains-{size}-{seed}", parity_chains, seed, (size, True)) for size, seed in ((40, 1), (60, 1))],
-    *[(f"colouring-{size}-{seed}", colouring, seed, (size, size * 23 // 10)) for size in (200, 300, 400) for seed in (1, 2)],
+    *[
+        (f"colouring-{size}-{seed}", colouring, seed, (size, size * 23 // 10))
+        for size in (200, 300, 400)
+        for seed in (1, 2)
+    ],
     ("counter-600-1", counter, 1, (16, 600, 300)),
     ("counter-700-1", counter, 1, (12, 700, 300)),
     ("counters-200-0", counters_differ, 0, (8, 200)),
@@ -355,8 +363,9 @@ def read(path):
 
 
 def satisfies(model, clauses):
-    true = set(model)
-    return all(any(literal in true or (literal < 0 and -literal not in true) for literal in clause) for clause in clauses)
+    """Whether each clause has a true literal. A variable of which nothing is said is false."""
+    true = {literal for literal in model if literal > 0}
+    return all(any((abs(literal) in true) == (literal > 0) for literal in clause) for clause in clauses)
 
 
 def answer(program, path):
@@ -396,7 +405,7 @@ def measure(folder, programs):
         faults += bool(fault)
         cells = "  ".join(f"{what} {taken:.2f}" for what, taken, _ in answers)
         print(f"{path.stem} ({len(clauses)} clauses): {cells}{fault}", flush=True)
-        family = sums.setdefault(path.stem.rpartition("-")[0].split("-")[0], [])
+        family = sums.setdefault(path.stem.split("-")[0], [])
         family.append([None if what == "none" else taken for what, taken, _ in answers])
     print("\n| Family | Files | " + " | ".join(programs) + " |\n|---|---|" + "---|" * len(programs))
     rows = {**sums, "all": list(itertools.chain(*sums.values()))}
@@ -405,8 +414,8 @@ def measure(folder, programs):
         totals = [sum(column) for column in zip(*done)] or [0.0] * len(programs)
         left = [sum(cell is None for cell in column) for column in zip(*times)]
         cells = [
-            f"{total:.2f}" + f" ({total / totals[0]:.1f})" * (place > 0 and totals[0] > 0) + f", {lost} left" * (lost > 0)
-            for place, (total, lost) in enumerate(zip(totals, left))
+            f"{total:.2f}" + f" ({total / totals[0]:.1f})" * (totals[0] > 0) + f", {lost} left" * (lost > 0)
+            for total, lost in zip(totals, left)
         ]
         print(f"| {family} | {len(times)} | {' | '.join(cells)} |")
     return faults

@@ -1,8 +1,8 @@
 //! Formulas, for each of which a model is asked.
 //!
 //! A line `cnf CLAUSE..` has a word for each clause, and a letter for each literal: `A` is a variable, and `a` its
-//! negation. A digit tells which 26 variables the letters behind it are; a clause begins with 0, as does the word of the
-//! clause that has no literal. The answer is `sat` or `unsat`; a model is tried on the clauses that were read.
+//! negation. A digit tells which 26 variables the letters behind it are; without one they are those of 0, and `0` is
+//! the clause of no literal. The answer is `sat` or `unsat`; a model is tried on the clauses that were read.
 
 use anyhow::{Context, Result, bail};
 use giputils_sat::{Answer, Literal, Solver};

@@ -125,8 +125,8 @@ fn add_sum(formula: &mut Vec<i32>, a: u16, b: u16, c: u16) -> Result<(), AllocEr
     formula.extend([no(a), no(b), no(c), 0])
 }
 
-// The sum of all variables modulo 2, by a chain to the last one, and on by a chain through all of them again: it is even,
-// and is said to be odd or not.
+// The sum of all variables modulo 2, by a chain to the last one, and on by a chain through all of them again: it is
+// even, and is said to be odd or not.
 fn there_and_back(alloc: Global, variables: u8, is_odd: bool) -> Result<Vec<i32>, AllocError> {
     let mut formula = Vec::new(alloc);
     let variables = u16::from(variables);
@@ -251,7 +251,7 @@ fn colourings(rt: HostRuntime) {
     }
 }
 
-// What a solver says that is given clauses after each answer, and at last no conflict: it goes on from what it has learned.
+// What a solver says that is given clauses after each answer, and is then allowed no conflict before it is asked again.
 fn said_as_clauses_come(alloc: Global) -> Result<[Said; 4], AllocError> {
     let formula = [1, 2, 0, -1, 2, 0, 1, -2, 0, -1, -2, 0];
     let mut solver = Solver::new(alloc);
