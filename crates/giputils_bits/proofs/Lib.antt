@@ -9,7 +9,9 @@ mod Kept
 pub mod Logic
 pub mod Ones
 mod OnesLeft
+mod Ordered
 mod Overlaid
+mod Parsed
 mod Patterns
 mod Places
 mod Rewritten

@@ -1,6 +1,6 @@
 -- How words keep a list of booleans: place i is digit i % 64 of word i / 64. Only this crate's own functions speak of
 -- it.
-use Rattle.std.specs.Prelude.{◌≡◌, ◌≢◌, ℕ, ◌+◌, ◌-◌, ◌/◌, ◌%◌, ◌<◌, ◌≤◌, max, Bool, false, ◌||◌, List, [], ◌∷◌, ◌++◌, map, length, drop, replicate, slice_index, bit_and, bit_xor}
+use Rattle.std.specs.Prelude.{◌≡◌, ◌≢◌, ℕ, ◌+◌, ◌-◌, ◌/◌, ◌%◌, ◌<◌, ◌≤◌, max, Bool, false, ◌||◌, not, List, [], ◌∷◌, ◌++◌, map, length, drop, replicate, slice_index, bit_and, bit_xor}
 use Rattle.std.specs.List.{range_with_len}
 use Rattle.giputils_bits.specs.Bits.{has_digit, word_count}
 
@@ -59,6 +59,15 @@ pub record Overlays (n : ℕ) (others old new : List ℕ) (end : ℕ) : Type 0 w
   pub before : (i : ℕ) → i < n → place new i ≡ place old i
   pub laid : (i : ℕ) → n ≤ i → i < end → place new i ≡ (place old i || place others (i - n))
   pub rest : (i : ℕ) → end ≤ i → place new i ≡ place old i
+
+-- the first n places of both are the same
+abbrev pub AlikeBelow : List ℕ → List ℕ → ℕ → Type 0
+AlikeBelow words others n = (i : ℕ) → i < n → place words i ≡ place others i
+
+-- at the first place that differs the words have this bit, and the others the contrary
+abbrev pub IsDecided : List ℕ → List ℕ → Bool → Type 0
+IsDecided words others bit =
+    (i : ℕ) × AlikeBelow words others i × (place words i ≡ bit) × (place others i ≡ not bit)
 
 -- the number without the digits that another has
 abbrev pub without_digits : ℕ → ℕ → ℕ

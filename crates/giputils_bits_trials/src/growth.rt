@@ -39,6 +39,10 @@ fn is_collected(memory: &Refusing) -> bool {
     BitVec::from(memory, [true; 300]).is_ok()
 }
 
+fn is_read(memory: &Refusing) -> bool {
+    BitVec::from_binary_text(memory, &[b'1'; 300]).is_ok()
+}
+
 fn is_cloned(memory: &Refusing) -> bool {
     let Ok(bits) = BitVec::ones(memory, 65) else {
         return false;
@@ -112,6 +116,7 @@ fn each_request_of_a_bit_vector_is_refused_in_turn(rt: HostRuntime) {
         ("from_usize", refuse_each(alloc, is_numbered), 1),
         ("new_rand", refuse_each(alloc, is_drawn), 1),
         ("from", refuse_from_each(alloc, is_collected), 1),
+        ("from_binary_text", refuse_each(alloc, is_read), 1),
         ("clone", refuse_each(alloc, is_cloned), 2),
         ("not", refuse_each(alloc, is_negated), 2),
         ("resize", refuse_each(alloc, is_resized), 1),
