@@ -128,7 +128,13 @@ fn exchange<A: Allocator + Copy>(
     }
     hints.watches.bump(reason);
     marks.remove(l.negated());
-    let more = note_others(trail, &mut hints.activity, marks, database.clause(reason), l)?;
+    let more = note_others(
+        trail,
+        &mut hints.activity,
+        marks,
+        database.clause(reason),
+        l,
+    )?;
     Ok(pending.saturating_add(more).saturating_sub(1))
 }
 
@@ -162,9 +168,7 @@ fn is_covered<A: Allocator + Copy>(
     clause: &[Literal],
     but: Literal,
 ) -> bool {
-    clause
-        .iter()
-        .all(|l| l.code() == but.code() || marks.has(*l) || trail.level_of(*l) == 0)
+    clause.iter().all(|l| l.code() == but.code() || marks.has(*l) || trail.level_of(*l) == 0)
 }
 
 // Where the negation of the true literal at a place of the trail is marked, and all that its reason would add is marked
@@ -187,9 +191,7 @@ fn shorten<A: Allocator + Copy>(
     let Some(reason) = step.reason else {
         return Ok(());
     };
-    if reason < database.len()
-        && is_covered(trail, marks, database.clause(reason), step.literal)
-    {
+    if reason < database.len() && is_covered(trail, marks, database.clause(reason), step.literal) {
         exchange(database, trail, hints, marks, *step, 0)?;
     }
     Ok(())

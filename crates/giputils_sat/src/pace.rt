@@ -3,6 +3,9 @@
 // How many conflicts a unit of the restarts' sequence has.
 const UNIT: usize = 100;
 
+// How many learned clauses are watched at the least before some are forgotten.
+const LEAST_ROOM: usize = 500;
+
 // How many conflicts are left until all decisions are taken back. The runs between follow Luby's sequence,
 // 1, 1, 2, 1, 1, 2, 4, .., whose pairs Knuth's rule makes: each is a counter and the value that it has now.
 #[derive(Clone, Copy)]
@@ -10,9 +13,11 @@ pub struct Pace {
     left: usize,
     counter: u64,
     run: usize,
-    // How many learned clauses may be watched before some are forgotten, and how many are.
-    pub room: usize,
+    // How many learned clauses are watched, and how many may be before some are forgotten.
     pub learned: usize,
+    room: usize,
+    // At how many conflicts there is more room.
+    growth: u64,
 }
 
 impl Pace {
@@ -22,8 +27,9 @@ impl Pace {
             left: UNIT,
             counter: 1,
             run: 1,
-            room: 0,
             learned: 0,
+            room: 0,
+            growth: 0,
         }
     }
 
@@ -36,6 +42,18 @@ impl Pace {
         }
         self.turn();
         true
+    }
+
+    // Whether some learned clauses are to be forgotten, when so many clauses are known and so many conflicts were met.
+    pub fn is_full(&mut self, known: usize, conflicts: u64) -> bool {
+        if self.room == 0 {
+            self.room = (known / 3).max(LEAST_ROOM);
+        }
+        if conflicts >= self.growth {
+            self.growth = conflicts.saturating_add(conflicts / 2);
+            self.room = self.room.saturating_add(self.room / 10);
+        }
+        self.learned >= self.room
     }
 
     // The next run.

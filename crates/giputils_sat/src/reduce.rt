@@ -14,16 +14,20 @@ pub fn reduce<A: Allocator + Copy>(
     trail: &Trail<A>,
     hints: &mut Hints<A>,
 ) -> Result<(), AllocError> {
-    let room = hints.pace.room.max(database.len() / 3).max(1000);
-    if hints.pace.learned < room {
+    if !hints.pace.is_full(database.len(), hints.stats.conflicts) {
         return Ok(());
     }
-    hints.pace.room = room.saturating_add(room / 10);
     let least = median(alloc, &hints.watches)?;
     hints.watches.clear();
     let mut learned = 0usize;
     for place in 0..database.len() {
-        let stays = keep(&mut hints.watches, trail, database.clause(place), place, least)?;
+        let stays = keep(
+            &mut hints.watches,
+            trail,
+            database.clause(place),
+            place,
+            least,
+        )?;
         learned = learned.saturating_add(usize::from(stays));
     }
     let gone = hints.pace.learned.saturating_sub(learned) as u64;

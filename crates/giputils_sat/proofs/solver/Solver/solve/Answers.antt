@@ -11,9 +11,11 @@ run-requires g c =
     let taken : StandsBy c.self.inside.database.clauses c.replace-trail.result =
     subst (StandsBy c.self.inside.database.clauses) (sym c.replace-trail.ensures.value) c.self.invariant.trail
     in
-    record { ready = record {
-      len = omega (arith, rewound, c.backtrack.ensures.len, c.in_ok-trail.ensures.len, c.count-count.ensures.value);
-      trail = c.rewind.ensures.trail clauses (c.in_ok-backtrack.ensures.trail clauses (c.in_ok-trail.ensures.trail clauses taken));
-      room = omega (arith, c.in_ok-marks.ensures.len, c.count-count.ensures.value);
-      clear = c.in_ok-marks.ensures.clear;
-    } }
+    record {
+      ready = record {
+        len = omega (arith, rewound, c.backtrack.ensures.len, c.in_ok-trail.ensures.len, c.count-count.ensures.value);
+        trail = c.rewind.ensures.trail clauses (c.in_ok-backtrack.ensures.trail clauses (c.in_ok-trail.ensures.trail clauses taken));
+        room = omega (arith, c.in_ok-marks.ensures.len, c.count-count.ensures.value);
+        clear = c.in_ok-marks.ensures.clear;
+      };
+    }
