@@ -1,5 +1,6 @@
 -- The lemmas of the gathered crates that callers may cite. Where two crates have a file of one name, it says whose it is.
 pub use Rattle.giputils_base.proofs.LiveValues
+pub use Rattle.giputils_base.proofs.Members
 pub use Rattle.giputils_base.proofs.Renumbering
 pub use Rattle.giputils_base.proofs.Runs as IndexRuns
 pub use Rattle.giputils_base.proofs.Slots

@@ -2,6 +2,7 @@ mod Examples
 mod IndexMaps
 mod LastValues
 pub mod LiveValues
+pub mod Members
 mod Renaming
 pub mod Runs
 pub mod Renumbering
