@@ -57,7 +57,7 @@ impl<T: HeapKey> BinaryHeapCmp<T> for ByRank<'_> {
     }
 }
 
-/// Compares keys by their ranks in a table, whose order is that of any type `R`, and those of one rank by their numbers.
+/// Compares keys by their ranks in a table, whose order is that of any type `R`, and those of one rank by number.
 ///
 /// The rank of a key stands in the table at the place of its number; a key past the table's end comes after all others.
 /// As an `Ord` is a total order, so is this on any keys: an activity may be a `u64`, or a key of one's own that wraps a
