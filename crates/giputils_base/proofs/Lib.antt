@@ -1,6 +1,7 @@
 mod Examples
 mod IndexMaps
 mod LastValues
+pub mod LiveValues
 mod Renaming
 pub mod Runs
 pub mod Renumbering

@@ -11,6 +11,9 @@ const COMPARISONS: u32 = 64;
 // How often two vectors are joined.
 const JOINTS: u32 = 64;
 
+// How often a vector is appended.
+const APPENDS: u32 = 16;
+
 /// Pushes `size` drawn bits one at a time, and mixes how many are true.
 pub fn push(
     alloc: Global,
@@ -87,7 +90,7 @@ pub fn logic(
     for _ in 0..JOINTS {
         a ^= &b;
         b |= &a;
-        a = a.not()?;
+        a.negate();
         b &= &a;
     }
     mix_words(&a, checksum);
@@ -119,20 +122,52 @@ pub fn bin(
     Ok(())
 }
 
-// A vector of `size` drawn bits. The last word is drawn whole.
-fn vector(alloc: Global, size: u32, rng: &mut Generator) -> Result<BitVec, BitVecError>
+/// How a vector is appended to another.
+#[derive(Clone, Copy)]
+pub enum Growth {
+    /// Whole.
+    Append,
+    /// A bit at a time.
+    Push,
+}
+
+/// Appends a bit and then a drawn vector, again and again, so that it seldom comes to stand at a word's beginning, and
+/// mixes the words.
+pub fn append(
+    alloc: Global,
+    size: u32,
+    growth: Growth,
+    rng: &mut Generator,
+    checksum: &mut Checksum,
+) -> Result<(), BitVecError> {
+    let part = vector(alloc, size, rng)?;
+    let mut whole = BitVec::new(alloc);
+    for _ in 0..APPENDS {
+        whole.push(true)?;
+        match growth {
+            Growth::Append => whole.append(&part)?,
+            Growth::Push => push_each(&mut whole, &part)?,
+        }
+    }
+    mix_words(&whole, checksum);
+    Ok(())
+}
+
+// Appends the bits of a vector one at a time.
+fn push_each(bits: &mut BitVec, others: &BitVec) -> Result<(), BitVecError> {
+    for bit in others {
+        bits.push(bit)?;
+    }
+    Ok(())
+}
+
+/// A vector of `size` drawn bits, by words.
+pub fn vector(alloc: Global, size: u32, rng: &mut Generator) -> Result<BitVec, BitVecError>
     ensures { IfOk result (λ bits. length bits ≡ size) }
 {
-    let mut bits = BitVec::new(alloc);
-    for _ in 0..size / 64 {
-        bits.push_word(rng.draw_word())?;
-    }
-    if size % 64 > 0 {
-        let mut word = rng.draw_word();
-        for _ in 0..size % 64 {
-            bits.push(word % 2 == 1)?;
-            word >>= 1;
-        }
+    let mut bits = BitVec::zero(alloc, size as usize)?;
+    for k in 0..bits.word_len() {
+        bits.set_word(k, rng.draw_word());
     }
     Ok(bits)
 }
@@ -148,7 +183,8 @@ fn count_true(bits: &BitVec) -> u64
     count
 }
 
-fn mix_words(bits: &BitVec, checksum: &mut Checksum) {
+/// Mixes the words, in order.
+pub fn mix_words(bits: &BitVec, checksum: &mut Checksum) {
     for word in bits.words() {
         checksum.mix(*word);
     }

@@ -10,15 +10,17 @@ mod bits;
 mod common;
 mod galloc;
 mod heap;
+mod sets;
 
 use anyhow::{Context, bail};
+use bits::Growth;
 use common::{Checksum, Generator};
 use heap::{Renewal, Repair};
 use std::alloc::Global;
 use std::env;
 use std::process::ExitCode;
 
-const WORKLOADS: [&str; 14] = [
+const WORKLOADS: [&str; 22] = [
     "heapsort",
     "vsids",
     "vsids_up",
@@ -27,12 +29,20 @@ const WORKLOADS: [&str; 14] = [
     "rebuild_by_update",
     "rebuild_std",
     "galloc",
+    "galloc_table",
     "bits_push",
     "bits_eq",
     "bits_get",
     "bits_logic",
     "bits_hex",
     "bits_bin",
+    "bits_count",
+    "bits_ones",
+    "bits_few",
+    "bits_subset",
+    "bits_aig",
+    "bits_append",
+    "bits_append_by_push",
 ];
 
 fn main(rt: HostRuntime) -> anyhow::Result<ExitCode> {
@@ -86,12 +96,24 @@ fn repeat(
             }
             "rebuild_std" => heap::renewals_of_std(alloc, size, &mut rng, &mut checksum)?,
             "galloc" => galloc::galloc(alloc, size, &mut rng, &mut checksum)?,
+            "galloc_table" => galloc::galloc_table(alloc, size, &mut rng, &mut checksum)?,
             "bits_push" => bits::push(alloc, size, &mut rng, &mut checksum)?,
             "bits_eq" => bits::eq(alloc, size, &mut rng, &mut checksum)?,
             "bits_get" => bits::get(alloc, size, &mut rng, &mut checksum)?,
             "bits_logic" => bits::logic(alloc, size, &mut rng, &mut checksum)?,
             "bits_hex" => bits::hex(alloc, size, &mut rng, &mut checksum)?,
             "bits_bin" => bits::bin(alloc, size, &mut rng, &mut checksum)?,
+            "bits_count" => sets::count(alloc, size, &mut rng, &mut checksum)?,
+            "bits_ones" => sets::ones(alloc, size, &mut rng, &mut checksum)?,
+            "bits_few" => sets::few(alloc, size, &mut rng, &mut checksum)?,
+            "bits_subset" => sets::subset(alloc, size, &mut rng, &mut checksum)?,
+            "bits_aig" => sets::aig(alloc, size, &mut rng, &mut checksum)?,
+            "bits_append" => {
+                bits::append(alloc, size, Growth::Append, &mut rng, &mut checksum)?;
+            }
+            "bits_append_by_push" => {
+                bits::append(alloc, size, Growth::Push, &mut rng, &mut checksum)?;
+            }
             _ => return Ok(None),
         }
     }

@@ -1,8 +1,7 @@
 -- Literals and their numbers.
-use Rattle.std.proofs.Common.{◌≡◌, ◌∙◌, ℕ, ◌+◌, ◌*◌, ◌/◌, ◌%◌, ◌<◌, ◌==◌, Bool, true, false, cond, suc, zero, refl, sym, ap, arith, ⊎_elim}
+use Rattle.std.proofs.Common.{◌≡◌, ◌∙◌, ℕ, ◌+◌, ◌*◌, ◌/◌, ◌%◌, ◌<◌, ◌==◌, Bool, true, false, cond, suc, zero, refl, ap, arith}
 use Rattle.std.proofs.Math.Nat.{div-add-mod}
-use Rattle.std.proofs.lemmas.Bool.{cases_Bool}
-use Rattle.giputils_sat.specs.Literals.{Lit, code, decoded}
+use Rattle.giputils_sat.specs.Literals.{code, decoded}
 
 rest : (b : Bool) (n q r : ℕ) → b ≡ (r == 1) → 2 * q + r ≡ n → r < 2 → 2 * q + cond b 1 0 ≡ n
 rest b n q zero is split less = rw is (omega (arith, split))

@@ -1,0 +1,130 @@
+//! How far the search is, in lines on standard error.
+
+use giputils_dimacs::dimacs::DimacsError;
+use giputils_dimacs::dimacs::progress::Progress;
+use giputils_sat::Solver;
+use giputils_stat::logger::IntervalLogger;
+use giputils_stat::statistic::MovingAverage;
+use log::kv::Source;
+use log::span::Spans;
+use log::{Level, Log, Metadata, Record};
+use std::alloc::Global;
+use std::fmt::{self, Display};
+use std::time::{Duration, Instant};
+
+// How many of the last clauses count for their average length.
+const LAST: usize = 1_000;
+
+// How many seconds it is at least from one line to the next.
+const INTERVAL_SECONDS: u64 = 5;
+
+// What is written in a line.
+#[derive(Clone, Copy)]
+struct Known<'a> {
+    conflicts: usize,
+    clauses: usize,
+    lengths: &'a MovingAverage,
+}
+
+impl Display for Known<'_> {
+    fn fmt<W: fmt::Write>(&self, f: &mut fmt::Formatter<W>) -> fmt::Result {
+        write!(
+            f,
+            "{} conflicts, {} clauses, {:?} literals in each of the last",
+            self.conflicts, self.clauses, self.lengths
+        )
+    }
+}
+
+// Writes each record to standard error, as a line that begins with `c`.
+#[derive(Clone, Copy)]
+struct Comments<'a> {
+    rt: &'a HostRuntime,
+}
+
+impl Log for Comments<'_> {
+    fn enabled(&self, _metadata: &Metadata<'_>) -> bool {
+        true
+    }
+
+    fn log<D: Display, K: Source, S: Spans>(&self, record: &Record<'_, D, K, S>) {
+        let _ = eprintln!(self.rt; "c {}", record.args());
+    }
+
+    fn flush(&self) {}
+
+    fn target(&self) -> &str {
+        ""
+    }
+}
+
+/// Writes now and then how far the search is.
+#[derive(Drop)]
+pub struct Watch<'a> {
+    rt: &'a HostRuntime,
+    started: Option<Instant>,
+    logger: IntervalLogger,
+    lengths: MovingAverage,
+    // How many clauses were counted.
+    seen: usize,
+    stats: bool,
+}
+
+impl<'a> Watch<'a> {
+    /// Before the search.
+    pub fn new(rt: &'a HostRuntime, stats: bool) -> Result<Self, DimacsError> {
+        Ok(Watch {
+            rt,
+            started: Instant::now(rt).ok(),
+            logger: IntervalLogger::new(
+                Duration::from_secs(0),
+                Duration::from_secs(INTERVAL_SECONDS),
+            ),
+            lengths: MovingAverage::with_room(rt.alloc(), LAST)?,
+            seen: 0,
+            stats,
+        })
+    }
+
+    // The time since the beginning, or none where there is no clock.
+    fn now(&self) -> Duration {
+        match self.started {
+            Some(started) => started.elapsed(self.rt).unwrap_or(Duration::from_secs(0)),
+            None => Duration::from_secs(0),
+        }
+    }
+
+    // Counts the last clauses that came since.
+    fn count(&mut self, solver: &Solver) {
+        let len = solver.len();
+        for place in self.seen.max(len.saturating_sub(LAST))..len {
+            self.lengths.push(solver.clause(place).len());
+        }
+        self.seen = len;
+    }
+}
+
+impl Progress<Global> for Watch<'_> {
+    fn note(&mut self, solver: &Solver, conflicts: usize) {
+        self.count(solver);
+        let now = self.now();
+        let known = Known {
+            conflicts,
+            clauses: solver.len(),
+            lengths: &self.lengths,
+        };
+        self.logger
+            .log(&Comments { rt: self.rt }, now, Level::Info, &known);
+    }
+
+    fn end(&mut self, solver: &Solver, learned: usize) {
+        if self.stats {
+            self.count(solver);
+            let _ = eprintln!(self.rt;
+                "c {learned} clauses learned, {} known, {:?} literals in each of the last",
+                solver.len(),
+                self.lengths
+            );
+        }
+    }
+}

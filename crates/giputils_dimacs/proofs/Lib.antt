@@ -1,0 +1,7 @@
+mod Examples
+mod Numbers
+mod Outcomes
+mod Splits
+mod Stages
+mod Streams
+mod ValueLines

@@ -1,0 +1,140 @@
+//! Answers, and their texts.
+ghost use Rattle.std.specs.Prelude.{◌≡◌, ◌++◌, ◌<◌, ◌-◌, ◌^◌, ◌∷◌, [], List, codes, decimal, IfOk, OnOk};
+ghost use Rattle.giputils_sat.specs.Values.{assignment_in};
+ghost use Rattle.giputils_dimacs.specs.Dimacs.Answers.{laid_out, literal_word, values_text, verdict_status, TellsRight};
+ghost use Rattle.giputils_dimacs.specs.Dimacs.Texts.{Word};
+
+use giputils_sat::Answer;
+use std::alloc::{AllocError, Allocator};
+use std::io::Write;
+
+/// What was found out about a formula.
+#[derive(Clone, Copy, Debug, PartialEq, Eq, Hash)]
+pub enum Verdict {
+    /// Something satisfies it.
+    Satisfiable,
+    /// Nothing satisfies it.
+    Unsatisfiable,
+    /// As many conflicts were met as were allowed.
+    Unknown,
+}
+
+impl Verdict {
+    /// The exit status of a program that answers so: 10, 20 or 0.
+    pub fn status(self) -> u8
+        ensures { result ≡ verdict_status self }
+    {
+        match self {
+            Verdict::Satisfiable => 10,
+            Verdict::Unsatisfiable => 20,
+            Verdict::Unknown => 0,
+        }
+    }
+}
+
+// The most bytes of a line.
+const WIDTH: usize = 78;
+
+// What an answer finds out, and its text, where there are so many variables.
+pub(crate) fn answer_text<A: Allocator + Copy>(
+    alloc: A,
+    variables: u32,
+    answer: &Answer<A>,
+) -> Result<(Verdict, Vec<u8, A>), AllocError>
+    ensures { IfOk result (λ made. TellsRight variables answer.now made.0 made.1.items) }
+{
+    let (verdict, text) = match answer {
+        Answer::Sat(model) => (
+            Verdict::Satisfiable,
+            satisfiable_text(alloc, variables, model)?,
+        ),
+        Answer::Unsat => (Verdict::Unsatisfiable, bytes(alloc, b"s UNSATISFIABLE\n")?),
+        Answer::Unknown => (Verdict::Unknown, bytes(alloc, b"s UNKNOWN\n")?),
+    };
+    Ok((verdict, text))
+}
+
+// These bytes.
+fn bytes<A: Allocator>(alloc: A, text: &[u8]) -> Result<Vec<u8, A>, AllocError>
+    ensures { IfOk result (λ made. made.items ≡ text.now) }
+{
+    let mut made = Vec::new(alloc);
+    made.extend_from_slice(text)?;
+    Ok(made)
+}
+
+// The text of an answer by a model of so many variables; those past its end are false.
+fn satisfiable_text<A: Allocator + Copy>(
+    alloc: A,
+    variables: u32,
+    model: &[bool],
+) -> Result<Vec<u8, A>, AllocError>
+    ensures { IfOk result (λ text. text.items ≡
+        codes "s SATISFIABLE\n" ++ values_text (assignment_in model.now) variables) }
+{
+    let mut text = bytes(alloc, b"s SATISFIABLE\nv")?;
+    let mut word = Vec::new(alloc);
+    let mut column = 1;
+    for variable in 0..variables {
+        word.clear();
+        write_value(&mut word, variable, value_in(model, variable))?;
+        column = write_word(&mut text, column, &word)?;
+    }
+    write_word(&mut text, column, b"0")?;
+    text.push(b'\n')?;
+    Ok(text)
+}
+
+// The value of a variable in a model.
+fn value_in(model: &[bool], variable: u32) -> bool
+    ensures { result ≡ assignment_in model.now variable }
+{
+    match model.get(variable as usize) {
+        Some(value) => *value,
+        None => false,
+    }
+}
+
+// Writes the literal of a variable that has this value.
+fn write_value<A: Allocator>(
+    word: &mut Vec<u8, A>,
+    variable: u32,
+    value: bool,
+) -> Result<(), AllocError>
+    requires empty { word.old.items ≡ [] }
+    requires small { variable < 2 ^ 32 - 1 }
+    ensures { OnOk result (word.new.items ≡ literal_word value variable) }
+{
+    let number = variable + 1;
+    if value {
+        return write_number(word, number);
+    }
+    word.push(b'-')?;
+    write_number(word, number)
+}
+
+// Writes a number.
+fn write_number<A: Allocator>(word: &mut Vec<u8, A>, number: u32) -> Result<(), AllocError>
+    ensures { OnOk result (word.new.items ≡ word.old.items ++ decimal number) }
+{
+    write!(word, "{number}").map_err(|_| AllocError)
+}
+
+// Writes a word into the line of which so many bytes stand, or into the next one. Answers how many stand then.
+fn write_word<A: Allocator>(
+    text: &mut Vec<u8, A>,
+    column: usize,
+    word: &[u8],
+) -> Result<usize, AllocError>
+    ensures { IfOk result (λ after. (words : List Word) →
+        text.old.items ++ laid_out column (word.now ∷ words) ≡ text.new.items ++ laid_out after words) }
+{
+    if column as u128 + 1 + word.len() as u128 <= WIDTH as u128 {
+        text.push(b' ')?;
+        text.extend_from_slice(word)?;
+        return Ok(column + 1 + word.len());
+    }
+    text.extend_from_slice(b"\nv ")?;
+    text.extend_from_slice(word)?;
+    Ok(2 + word.len())
+}

@@ -1,0 +1,228 @@
+//! A parser that is given a text in parts.
+ghost use Rattle.std.specs.Prelude.{◌≡◌, ◌<◌, ◌++◌, ◌∷◌, [], ℕ, Bool, true, false, List, length, slice_index, ◌==◌, Some, None, IfOk, IfErr, OnOk, OnErr, IsErrOf};
+ghost use Rattle.giputils_dimacs.specs.Dimacs.Texts.{Word, problem_of};
+ghost use Rattle.giputils_dimacs.specs.Dimacs.Reading.{IsReading, OnRefusal, SaysOn, SaysNothing, begins_comment, begins_line, problem_at, problem_from, problem_next, problem_staged, with_word};
+ghost use Rattle.giputils_dimacs.specs.declared.dimacs.stage.Stage.TheVariants.{Words};
+
+use crate::dimacs::error::{DimacsError, Reason, Stop};
+use crate::dimacs::instance::Instance;
+use crate::dimacs::stage::{Header, Stage, expect, next_line};
+use crate::dimacs::words::{Item, is_blank, item_in, number};
+use giputils_sat::{Literal, Solver};
+use std::alloc::{Allocator, Global};
+
+// What has been read of a text.
+#[derive(Drop)]
+pub struct Parser<A: Allocator = Global> {
+    // The clauses that have ended.
+    pub solver: Solver<A>,
+    // The literals of the clause that has not ended.
+    pub clause: Vec<Literal, A>,
+    // The word that has not ended.
+    pub word: Vec<u8, A>,
+    pub stage: Stage,
+    pub in_comment: bool,
+    // The number of the line.
+    pub line: usize,
+}
+
+impl<A: Allocator + Copy> Parser<A> {
+    // Before a text.
+    pub fn new(alloc: A) -> Self
+        ensures reading { IsReading result }
+        ensures all { (text : List ℕ) → problem_from result text ≡ problem_of text }
+    {
+        Parser {
+            solver: Solver::new(alloc),
+            clause: Vec::new(alloc),
+            word: Vec::new(alloc),
+            stage: Stage::Start,
+            in_comment: false,
+            line: 1,
+        }
+    }
+
+    // Reads some bytes more.
+    pub fn feed(&mut self, bytes: &[u8]) -> Result<(), DimacsError>
+        requires reading { IsReading self.old }
+        ensures reading { OnOk result (IsReading self.new) }
+        ensures ok { OnOk result (SaysOn self.old bytes.now self.new) }
+        ensures line { (line : ℕ) (reason : Reason) → IsErrOf result (DimacsError.Line line reason) →
+            SaysNothing self.old bytes.now }
+    {
+        for byte in bytes {
+            if let Err(stop) = self.byte(*byte) {
+                return Err(stop.at(self.line));
+            }
+        }
+        Ok(())
+    }
+
+    // Reads a byte more.
+    fn byte(&mut self, byte: u8) -> Result<(), Stop>
+        requires reading { IsReading self.old }
+        ensures reading { OnOk result (IsReading self.new) }
+        ensures ok { OnOk result (SaysOn self.old (byte ∷ []) self.new) }
+        ensures err { IfErr result (OnRefusal (SaysNothing self.old (byte ∷ []))) }
+    {
+        if byte == b'\n' {
+            return self.end_line();
+        }
+        if self.in_comment {
+            return Ok(());
+        }
+        if is_blank(byte) {
+            return self.end_word();
+        }
+        if self.begins_comment(byte) {
+            self.in_comment = true;
+            return Ok(());
+        }
+        self.word.push(byte)?;
+        Ok(())
+    }
+
+    // Whether a byte begins a comment.
+    fn begins_comment(&self, byte: u8) -> bool
+        ensures { result ≡ begins_comment byte self.now.word.items self.now.stage }
+    {
+        byte == b'c' && self.word.is_empty() && self.stage.begins_line()
+    }
+
+    // Ends the line.
+    fn end_line(&mut self) -> Result<(), Stop>
+        requires reading { IsReading self.old }
+        ensures reading { OnOk result (IsReading self.new) }
+        ensures ok { OnOk result (SaysOn self.old (10 ∷ []) self.new) }
+        ensures err { IfErr result (OnRefusal (SaysNothing self.old (10 ∷ []))) }
+    {
+        self.in_comment = false;
+        self.end_word()?;
+        self.stage = next_line(self.stage)?;
+        self.line = self.line.saturating_add(1);
+        Ok(())
+    }
+
+    // Ends the word, if there is one.
+    fn end_word(&mut self) -> Result<(), Stop>
+        requires reading { IsReading self.old }
+        ensures word { OnOk result (self.new.word.items ≡ []) }
+        ensures comment { self.new.in_comment ≡ self.old.in_comment }
+        ensures ok { OnOk result ((words : List Word) (lines : List (List Word)) →
+            problem_next self.old (with_word self.old.word.items words) lines ≡ problem_next self.new words lines) }
+        ensures err { IfErr result (OnRefusal ((words : List Word) (lines : List (List Word)) →
+            problem_next self.old (with_word self.old.word.items words) lines ≡ None)) }
+    {
+        if self.word.is_empty() {
+            return Ok(());
+        }
+        self.stage = self.take_word()?;
+        self.word.clear();
+        Ok(())
+    }
+
+    // The stage after the word.
+    fn take_word(&mut self) -> Result<Stage, Stop>
+        requires some { 0 < length self.old.word.items }
+        requires first { begins_line self.old.stage ≡ true → (slice_index self.old.word.items 0 == 99) ≡ false }
+        ensures comment { self.new.in_comment ≡ self.old.in_comment }
+        ensures ok { IfOk result (λ stage. (words : List Word) (lines : List (List Word)) →
+            problem_next self.old (self.old.word.items ∷ words) lines ≡ problem_staged stage self.new words lines) }
+        ensures err { IfErr result (OnRefusal ((words : List Word) (lines : List (List Word)) →
+            problem_next self.old (self.old.word.items ∷ words) lines ≡ None)) }
+    {
+        match self.stage {
+            Stage::Start => Ok(expect(&self.word, b"p", Stage::Problem)?),
+            Stage::Problem => Ok(expect(&self.word, b"cnf", Stage::Format)?),
+            Stage::Format => Ok(Stage::Variables(number(&self.word)?)),
+            Stage::Variables(variables) => {
+                let left = number(&self.word)?;
+                Ok(Stage::Clauses(Header { variables, left }))
+            }
+            Stage::Clauses(_) => Err(Stop::Refused(Reason::Header)),
+            Stage::Line(header) => self.take_item(header),
+            Stage::Words(header) => self.take_item(header),
+        }
+    }
+
+    // The stage after the word, which is one of a clause.
+    fn take_item(&mut self, header: Header) -> Result<Stage, Stop>
+        ensures comment { self.new.in_comment ≡ self.old.in_comment }
+        ensures ok { IfOk result (λ stage. (words : List Word) (lines : List (List Word)) →
+            problem_at (Words header) self.old.solver.formula self.old.clause.items (self.old.word.items ∷ words) lines ≡
+            problem_staged stage self.new words lines) }
+        ensures err { IfErr result (OnRefusal ((words : List Word) (lines : List (List Word)) →
+            problem_at (Words header) self.old.solver.formula self.old.clause.items (self.old.word.items ∷ words) lines ≡ None)) }
+    {
+        let item = item_in(&self.word, header.variables)?;
+        if header.left == 0 {
+            return Err(Stop::Refused(Reason::MoreClauses));
+        }
+        match item {
+            Item::Literal(l) => {
+                self.clause.push(l)?;
+                Ok(Stage::Words(header))
+            }
+            Item::End => {
+                self.solver.add_clause(&self.clause)?;
+                self.clause.clear();
+                Ok(Stage::Words(Header {
+                    variables: header.variables,
+                    left: header.left - 1,
+                }))
+            }
+        }
+    }
+
+    // The number of variables and the clauses, where the text has ended.
+    pub fn finish(mut self) -> Result<Instance<A>, DimacsError>
+        requires reading { IsReading self }
+        ensures ok { IfOk result (λ f. problem_from self [] ≡
+            Some (record { variables = f.variables; clauses = f.solver.formula })) }
+        ensures line { (line : ℕ) (reason : Reason) → IsErrOf result (DimacsError.Line line reason) →
+            problem_from self [] ≡ None }
+    {
+        self.in_comment = false;
+        match self.end_word() {
+            Ok(()) => self.close(),
+            Err(stop) => Err(stop.at(self.line)),
+        }
+    }
+
+    // The formula, where the text may end.
+    fn close(self) -> Result<Instance<A>, DimacsError>
+        ensures ok { IfOk result (λ f. problem_next self [] [] ≡
+            Some (record { variables = f.variables; clauses = f.solver.formula })) }
+        ensures line { (line : ℕ) (reason : Reason) → IsErrOf result (DimacsError.Line line reason) →
+            problem_next self [] [] ≡ None }
+    {
+        match self.ended() {
+            Ok(variables) => Ok(Instance {
+                variables,
+                solver: self.solver,
+            }),
+            Err(reason) => Err(DimacsError::Line(self.line, reason)),
+        }
+    }
+
+    // The number of variables, where the text may end.
+    fn ended(&self) -> Result<u32, Reason>
+        ensures ok { IfOk result (λ n. problem_next self.now [] [] ≡
+            Some (record { variables = n; clauses = self.now.solver.formula })) }
+        ensures err { OnErr result (problem_next self.now [] [] ≡ None) }
+    {
+        let header = match self.stage {
+            Stage::Start | Stage::Problem | Stage::Format | Stage::Variables(_) => {
+                return Err(Reason::Header);
+            }
+            Stage::Clauses(header) | Stage::Line(header) | Stage::Words(header) => header,
+        };
+        if !self.clause.is_empty() {
+            return Err(Reason::OpenClause);
+        }
+        if header.left > 0 {
+            return Err(Reason::FewerClauses);
+        }
+        Ok(header.variables)
+    }
+}

@@ -1,0 +1,57 @@
+//! A search that tells now and then how far it is.
+ghost use Rattle.std.specs.Prelude.{◌≡◌, IfOk};
+ghost use Rattle.giputils_sat.specs.Answers.{IsRight};
+
+use giputils_sat::{Answer, Solver};
+use std::alloc::{AllocError, Allocator};
+
+// How many conflicts are met between two notes.
+const SLICE: usize = 2_000;
+
+/// What is told how far a search is.
+pub trait Progress<A: Allocator> {
+    /// So many conflicts were met, and this is known now. The search goes on.
+    fn note(&mut self, solver: &Solver<A>, conflicts: usize);
+
+    /// The search has ended, and so many clauses were learned by it.
+    fn end(&mut self, solver: &Solver<A>, learned: usize);
+}
+
+/// Finds out whether anything satisfies the solver's formula, as [`Solver::solve`] does, and tells `progress` now and
+/// then how far it is.
+///
+/// # Errors
+/// Those of [`Solver::solve`].
+pub fn solve_in_slices<A: Allocator + Copy, P: Progress<A>>(
+    solver: &mut Solver<A>,
+    limit: usize,
+    progress: &mut P,
+) -> Result<Answer<A>, AllocError>
+    ensures right { IfOk result (IsRight solver.old solver.new limit) }
+    ensures formula { solver.new.formula ≡ solver.old.formula }
+{
+    let known = solver.len();
+    let answer = solve_on(solver, limit, progress)?;
+    progress.end(solver, solver.len().saturating_sub(known));
+    Ok(answer)
+}
+
+// The search, without its end.
+fn solve_on<A: Allocator + Copy, P: Progress<A>>(
+    solver: &mut Solver<A>,
+    limit: usize,
+    progress: &mut P,
+) -> Result<Answer<A>, AllocError>
+    ensures right { IfOk result (IsRight solver.old solver.new limit) }
+    ensures formula { solver.new.formula ≡ solver.old.formula }
+{
+    let mut left = limit;
+    while left > SLICE {
+        match solver.solve(SLICE)? {
+            Answer::Unknown => left -= SLICE,
+            answer => return Ok(answer),
+        }
+        progress.note(solver, limit - left);
+    }
+    solver.solve(left)
+}
