@@ -31,32 +31,36 @@ struct List {
 
 fn main(rt: HostRuntime) -> anyhow::Result<()> {
     let alloc = rt.alloc();
+    let lists = read_lists(alloc, BufReader::new(alloc, rt.reader())?)?;
     let mut out = BufWriter::new(alloc, io::writer(&rt))?;
-    let mut current: Option<List> = None;
-    for (i, line) in BufReader::new(alloc, rt.reader())?.lines(alloc).enumerate() {
-        let line = line?;
-        if line.starts_with("new ") {
-            if let Some(list) = current {
-                replay(alloc, &mut out, &list)?;
-            }
-            current = Some(List {
-                first: i + 1,
-                header: line,
-                calls: Vec::new(alloc),
-            });
-        } else if let Some(list) = &mut current {
-            list.calls.push(line)?;
-        } else {
-            bail!("the input begins with no list");
-        }
-    }
-    if let Some(list) = current {
-        replay(alloc, &mut out, &list)?;
+    for list in &lists {
+        replay(alloc, &mut out, list)?;
     }
     out.flush()?;
     Ok(())
 }
 
+// The lists of the input.
+fn read_lists<R: BufRead + Drop>(alloc: Global, input: R) -> anyhow::Result<Vec<List>> {
+    let mut lists: Vec<List> = Vec::new(alloc);
+    for (i, line) in input.lines(alloc).enumerate() {
+        let line = line?;
+        if line.starts_with("new ") {
+            lists.push(List {
+                first: i + 1,
+                header: line,
+                calls: Vec::new(alloc),
+            })?;
+        } else if let Some(list) = lists.last_mut() {
+            list.calls.push(line)?;
+        } else {
+            bail!("the input begins with no list");
+        }
+    }
+    Ok(lists)
+}
+
+// Runs a list, and writes its answers.
 fn replay<W: Write>(alloc: Global, out: &mut W, list: &List) -> anyhow::Result<()> {
     writeln!(out, "{}", list.header)?;
     let outcome = match list.header.as_str() {
