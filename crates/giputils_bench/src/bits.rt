@@ -14,8 +14,30 @@ const JOINTS: u32 = 64;
 // How often a vector is appended.
 const APPENDS: u32 = 16;
 
-/// Pushes `size` drawn bits one at a time, and mixes how many are true.
-pub fn push(
+/// Makes the workload of this name, if it is one of this file.
+pub fn run(
+    alloc: Global,
+    workload: &str,
+    size: u32,
+    rng: &mut Generator,
+    checksum: &mut Checksum,
+) -> Result<bool, BitVecError> {
+    match workload {
+        "bits_push" => push(alloc, size, rng, checksum)?,
+        "bits_eq" => eq(alloc, size, rng, checksum)?,
+        "bits_get" => get(alloc, size, rng, checksum)?,
+        "bits_logic" => logic(alloc, size, rng, checksum)?,
+        "bits_hex" => hex(alloc, size, rng, checksum)?,
+        "bits_bin" => bin(alloc, size, rng, checksum)?,
+        "bits_append" => append(alloc, size, Growth::Append, rng, checksum)?,
+        "bits_append_by_push" => append(alloc, size, Growth::Push, rng, checksum)?,
+        _ => return Ok(false),
+    }
+    Ok(true)
+}
+
+// Pushes `size` drawn bits one at a time, and mixes how many are true.
+fn push(
     alloc: Global,
     size: u32,
     rng: &mut Generator,
@@ -34,9 +56,9 @@ pub fn push(
     Ok(())
 }
 
-/// Compares a drawn vector with a copy, turns one bit of the copy, compares again and turns it back, and
-/// mixes which bit and both answers.
-pub fn eq(
+// Compares a drawn vector with a copy, turns one bit of the copy, compares again and turns it back, and
+// mixes which bit and both answers.
+fn eq(
     alloc: Global,
     size: u32,
     rng: &mut Generator,
@@ -58,8 +80,8 @@ pub fn eq(
     Ok(())
 }
 
-/// Reads a drawn bit and sets another, four times as often as there are bits, and mixes what was read and the words.
-pub fn get(
+// Reads a drawn bit and sets another, four times as often as there are bits, and mixes what was read and the words.
+fn get(
     alloc: Global,
     size: u32,
     rng: &mut Generator,
@@ -78,8 +100,8 @@ pub fn get(
     Ok(())
 }
 
-/// Joins two drawn vectors by each operation, again and again, and mixes the words of both.
-pub fn logic(
+// Joins two drawn vectors by each operation, again and again, and mixes the words of both.
+fn logic(
     alloc: Global,
     size: u32,
     rng: &mut Generator,
@@ -98,8 +120,8 @@ pub fn logic(
     Ok(())
 }
 
-/// Mixes the hexadecimal text of a drawn vector.
-pub fn hex(
+// Mixes the hexadecimal text of a drawn vector.
+fn hex(
     alloc: Global,
     size: u32,
     rng: &mut Generator,
@@ -110,8 +132,8 @@ pub fn hex(
     Ok(())
 }
 
-/// Mixes the binary text of a drawn vector.
-pub fn bin(
+// Mixes the binary text of a drawn vector.
+fn bin(
     alloc: Global,
     size: u32,
     rng: &mut Generator,
@@ -122,18 +144,18 @@ pub fn bin(
     Ok(())
 }
 
-/// How a vector is appended to another.
+// How a vector is appended to another.
 #[derive(Clone, Copy)]
-pub enum Growth {
-    /// Whole.
+enum Growth {
+    // Whole.
     Append,
-    /// A bit at a time.
+    // A bit at a time.
     Push,
 }
 
-/// Appends a bit and then a drawn vector, again and again, so that it seldom comes to stand at a word's beginning, and
-/// mixes the words.
-pub fn append(
+// Appends a bit and then a drawn vector, again and again, so that it seldom comes to stand at a word's beginning, and
+// mixes the words.
+fn append(
     alloc: Global,
     size: u32,
     growth: Growth,

@@ -10,9 +10,25 @@ use std::alloc::{AllocError, Global};
 // How often values are allocated and collected again.
 const ROUNDS: u32 = 8;
 
-/// In each round, allocates `size` values, marks about half of all that are held, collects, and takes the held indexes
-/// through the map to their new places, mixing each and its value.
-pub fn galloc(
+/// Makes the workload of this name, if it is one of the index allocator.
+pub fn run(
+    alloc: Global,
+    workload: &str,
+    size: u32,
+    rng: &mut Generator,
+    checksum: &mut Checksum,
+) -> Result<bool, AllocError> {
+    match workload {
+        "galloc" => galloc(alloc, size, rng, checksum)?,
+        "galloc_table" => galloc_table(alloc, size, rng, checksum)?,
+        _ => return Ok(false),
+    }
+    Ok(true)
+}
+
+// In each round, allocates `size` values, marks about half of all that are held, collects, and takes the held indexes
+// through the map to their new places, mixing each and its value.
+fn galloc(
     alloc: Global,
     size: u32,
     rng: &mut Generator,
@@ -30,9 +46,9 @@ pub fn galloc(
     Ok(())
 }
 
-/// The same, with a table in the place of the map: the held indexes are renamed by it where they stand, and then mixed
-/// with their values.
-pub fn galloc_table(
+// The same, with a table in the place of the map: the held indexes are renamed by it where they stand, and then mixed
+// with their values.
+fn galloc_table(
     alloc: Global,
     size: u32,
     rng: &mut Generator,

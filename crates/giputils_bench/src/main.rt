@@ -13,9 +13,7 @@ mod heap;
 mod sets;
 
 use anyhow::{Context, bail};
-use bits::Growth;
 use common::{Checksum, Generator};
-use heap::{Renewal, Repair};
 use std::alloc::Global;
 use std::env;
 use std::process::ExitCode;
@@ -83,39 +81,25 @@ fn repeat(
     let mut checksum = Checksum::new();
     for rep in 0..reps {
         let mut rng = Generator::new(seed.wrapping_add(rep));
-        match workload {
-            "heapsort" => heap::heapsort(alloc, size, &mut rng, &mut checksum)?,
-            "vsids" => heap::vsids(alloc, size, Repair::Update, &mut rng, &mut checksum)?,
-            "vsids_up" => heap::vsids(alloc, size, Repair::Up, &mut rng, &mut checksum)?,
-            "decrease" => heap::decrease(alloc, size, &mut rng, &mut checksum)?,
-            "rebuild" => {
-                heap::renewals(alloc, size, Renewal::Rebuild, &mut rng, &mut checksum)?;
-            }
-            "rebuild_by_update" => {
-                heap::renewals(alloc, size, Renewal::Update, &mut rng, &mut checksum)?;
-            }
-            "rebuild_std" => heap::renewals_of_std(alloc, size, &mut rng, &mut checksum)?,
-            "galloc" => galloc::galloc(alloc, size, &mut rng, &mut checksum)?,
-            "galloc_table" => galloc::galloc_table(alloc, size, &mut rng, &mut checksum)?,
-            "bits_push" => bits::push(alloc, size, &mut rng, &mut checksum)?,
-            "bits_eq" => bits::eq(alloc, size, &mut rng, &mut checksum)?,
-            "bits_get" => bits::get(alloc, size, &mut rng, &mut checksum)?,
-            "bits_logic" => bits::logic(alloc, size, &mut rng, &mut checksum)?,
-            "bits_hex" => bits::hex(alloc, size, &mut rng, &mut checksum)?,
-            "bits_bin" => bits::bin(alloc, size, &mut rng, &mut checksum)?,
-            "bits_count" => sets::count(alloc, size, &mut rng, &mut checksum)?,
-            "bits_ones" => sets::ones(alloc, size, &mut rng, &mut checksum)?,
-            "bits_few" => sets::few(alloc, size, &mut rng, &mut checksum)?,
-            "bits_subset" => sets::subset(alloc, size, &mut rng, &mut checksum)?,
-            "bits_aig" => sets::aig(alloc, size, &mut rng, &mut checksum)?,
-            "bits_append" => {
-                bits::append(alloc, size, Growth::Append, &mut rng, &mut checksum)?;
-            }
-            "bits_append_by_push" => {
-                bits::append(alloc, size, Growth::Push, &mut rng, &mut checksum)?;
-            }
-            _ => return Ok(None),
+        if !run(alloc, workload, size, &mut rng, &mut checksum)? {
+            return Ok(None);
         }
     }
     Ok(Some(checksum))
+}
+
+// Makes the workload of this name, if there is one.
+fn run(
+    alloc: Global,
+    workload: &str,
+    size: u32,
+    rng: &mut Generator,
+    checksum: &mut Checksum,
+) -> anyhow::Result<bool> {
+    Ok(
+        heap::run(alloc, workload, size, rng, checksum)?
+            || galloc::run(alloc, workload, size, rng, checksum)?
+            || bits::run(alloc, workload, size, rng, checksum)?
+            || sets::run(alloc, workload, size, rng, checksum)?,
+    )
 }

@@ -23,8 +23,27 @@ const NODES: usize = 64;
 // How often a node is made anew.
 const GATES: u32 = 1024;
 
-/// Turns a drawn bit of a drawn vector, and mixes how many are true, again and again.
-pub fn count(
+/// Makes the workload of this name, if it is one of this file.
+pub fn run(
+    alloc: Global,
+    workload: &str,
+    size: u32,
+    rng: &mut Generator,
+    checksum: &mut Checksum,
+) -> Result<bool, BitVecError> {
+    match workload {
+        "bits_count" => count(alloc, size, rng, checksum)?,
+        "bits_ones" => ones(alloc, size, rng, checksum)?,
+        "bits_few" => few(alloc, size, rng, checksum)?,
+        "bits_subset" => subset(alloc, size, rng, checksum)?,
+        "bits_aig" => aig(alloc, size, rng, checksum)?,
+        _ => return Ok(false),
+    }
+    Ok(true)
+}
+
+// Turns a drawn bit of a drawn vector, and mixes how many are true, again and again.
+fn count(
     alloc: Global,
     size: u32,
     rng: &mut Generator,
@@ -41,8 +60,8 @@ pub fn count(
     Ok(())
 }
 
-/// Lists the true places of a drawn vector, again and again.
-pub fn ones(
+// Lists the true places of a drawn vector, again and again.
+fn ones(
     alloc: Global,
     size: u32,
     rng: &mut Generator,
@@ -53,8 +72,8 @@ pub fn ones(
     Ok(())
 }
 
-/// The same of a vector of which one place in a hundred is true.
-pub fn few(
+// The same of a vector of which one place in a hundred is true.
+fn few(
     alloc: Global,
     size: u32,
     rng: &mut Generator,
@@ -68,9 +87,9 @@ pub fn few(
     Ok(())
 }
 
-/// Turns a bit of a copy of a drawn vector, asks of each whether it is within the other, and turns it back; mixes
-/// which bit and both answers.
-pub fn subset(
+// Turns a bit of a copy of a drawn vector, asks of each whether it is within the other, and turns it back; mixes
+// which bit and both answers.
+fn subset(
     alloc: Global,
     size: u32,
     rng: &mut Generator,
@@ -92,9 +111,9 @@ pub fn subset(
     Ok(())
 }
 
-/// Makes drawn ones of 64 drawn vectors what two others have in common, each of these negated as drawn, as the nodes of
-/// an and-inverter graph; mixes the words of all.
-pub fn aig(
+// Makes drawn ones of 64 drawn vectors what two others have in common, each of these negated as drawn, as the nodes of
+// an and-inverter graph; mixes the words of all.
+fn aig(
     alloc: Global,
     size: u32,
     rng: &mut Generator,
