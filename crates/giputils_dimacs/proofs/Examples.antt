@@ -8,6 +8,7 @@ use Rattle.giputils_dimacs.specs.Dimacs.Answers.{values_text, laid_out}
 -- a variable of a formula and its negation
 abbrev yes_of : ℕ → Lit
 yes_of variable = record { variable = variable; positive = true }
+
 abbrev no_of : ℕ → Lit
 no_of variable = record { variable = variable; positive = false }
 

@@ -8,6 +8,8 @@ pub mod progress;
 pub mod reader;
 mod stage;
 mod task;
+#[cfg(test)]
+mod tests;
 mod words;
 
 pub use answers::Verdict;

@@ -17,6 +17,13 @@ pub trait Progress<A: Allocator> {
     fn end(&mut self, solver: &Solver<A>, learned: usize);
 }
 
+/// Nobody is told.
+impl<A: Allocator> Progress<A> for () {
+    fn note(&mut self, _solver: &Solver<A>, _conflicts: usize) {}
+
+    fn end(&mut self, _solver: &Solver<A>, _learned: usize) {}
+}
+
 /// Finds out whether anything satisfies the solver's formula, as [`Solver::solve`] does, and tells `progress` now and
 /// then how far it is.
 ///

@@ -51,14 +51,14 @@ pub fn item_in(word: &[u8], variables: u32) -> Result<Item, Reason>
     ensures ok { IfOk result (λ item. item_of variables word.now ≡ Some item) }
     ensures err { OnErr result (item_of variables word.now ≡ None) }
 {
-    if let Some(b'-') = word.first() {
-        return literal(number(&word[1..])?, false, variables);
+    match word {
+        [b'p'] => Err(Reason::SecondHeader),
+        [b'-', digits @ ..] => literal(number(digits)?, false, variables),
+        _ => match number(word)? {
+            0 => Ok(Item::End),
+            n => literal(n, true, variables),
+        },
     }
-    let n = number(word)?;
-    if n == 0 {
-        return Ok(Item::End);
-    }
-    literal(n, true, variables)
 }
 
 // The literal of a variable's number in a text that has so many.
