@@ -1,22 +1,29 @@
--- What a heap holds after a push, where it held the keys of a list.
-use Rattle.std.proofs.Common.{◌≡◌, ℕ, ◌+◌, ◌<◌, List, [], ◌∷◌, ◌++◌, length, take, get_or, sym, ap, ◌∙◌}
+-- What a heap holds after `push_or_update`, and which numbers may be held.
+use Rattle.std.proofs.Common.{ℕ, suc, ◌+◌, ◌<◌, ◌≤◌, List, [], ◌∷◌, length, get_or, refl, sym, ◌∙◌, arith, ⊎_elim, lt-ltb, Fits, w16}
 use Rattle.std.specs.List.Sorted.{IsPermutation}
-use Rattle.std.proofs.lemmas.List.{take_more}
-use Rattle.std.proofs.lemmas.List.Sorted.{IsPermutation-to_front}
-use Rattle.giputils.specs.Keys.{IsHeld, IsAbsent, is_held, HoldAlike}
-use Rattle.giputils.proofs.HoldAlike.{HoldAlike-cons, HoldAlike-IsPermutation}
+use Rattle.std.proofs.Math.Facts.{Fits-lt-pow}
+use Rattle.std.proofs.lemmas.Bool.{cases_Bool}
+use Rattle.std.proofs.lemmas.List.Sorted.{length_permutation}
+use Rattle.giputils.specs.Keys.{IsHeld, IsAbsent, is_held, key_limit, AreBelow, HoldAlike}
+use Rattle.giputils.proofs.HoldAlike.{HoldAlike-IsPermutation}
 use Rattle.giputils.proofs.Pushes.{HoldAlike-pushed}
 
-module _ {T : Type 0} (number : T → ℕ) (v : T) (old new : List T) (stays : IsHeld number old v → new ≡ old)
+module _ {T : Type 0} (number : T → ℕ) (v : T) (old new : List T) (moved : IsHeld number old v → IsPermutation old new)
     (added : IsAbsent number old v → IsPermutation (v ∷ old) new) where
-  -- that key, and those of the list
-  pub HoldAlike-pushed_to : (keys : List T) → HoldAlike number keys old → HoldAlike number new (v ∷ keys)
-  HoldAlike-pushed_to keys alike q = HoldAlike-pushed number v old new stays added q ∙ HoldAlike-cons number v old keys (λ p. sym (alike p)) q
+  -- the held keys and v
+  pub HoldAlike-renewed : HoldAlike number new (v ∷ old)
+  HoldAlike-renewed q =
+      ⊎_elim (λ held. sym (HoldAlike-IsPermutation number old new (moved held) q) ∙ HoldAlike-pushed number v old old (λ is. refl) (λ absent. absurd (cc)) q)
+      (λ absent. sym (HoldAlike-IsPermutation number (v ∷ old) new (added absent) q)) (cases_Bool (is_held number old v))
 
-  -- where the key was the next of the list, one item more
-  pub HoldAlike-pushed_next : (keys : List T) (i : ℕ) (d : T) → i < length keys → v ≡ get_or keys i d → HoldAlike number (take i keys) old
-      → HoldAlike number (take (i + 1) keys) new
-  HoldAlike-pushed_next keys i d inside is alike q =
-      ap (λ ks. is_held number ks q) (take_more keys i d inside ∙ ap (λ k. take i keys ++ k ∷ []) (sym is))
-      ∙ HoldAlike-IsPermutation number (take i keys ++ v ∷ []) (v ∷ take i keys) (IsPermutation-to_front (take i keys) v) q
-      ∙ sym (HoldAlike-pushed_to (take i keys) alike q)
+  -- one more at most
+  pub length-renewed : length new ≤ length old + 1
+  length-renewed =
+      ⊎_elim (λ held. omega (arith, length_permutation old new (moved held))) (λ absent. omega (arith, length_permutation (v ∷ old) new (added absent)))
+      (cases_Bool (is_held number old v))
+
+-- numbers of 16 bits may be
+pub AreBelow-16_bits : (keys : List ℕ) → ((i : ℕ) → Fits w16 (get_or keys i 0)) → AreBelow (λ k. k) key_limit keys
+AreBelow-16_bits [] fits = refl
+AreBelow-16_bits (k ∷ keys) fits =
+    let below : k < 65536 = Fits-lt-pow {w = w16} {n = k} (fits 0) in rw (lt-ltb k 4294967295 (omega (arith, below))) (AreBelow-16_bits keys (λ i. fits (suc i)))

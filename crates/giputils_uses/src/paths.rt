@@ -18,10 +18,10 @@ use std::cmp::Reverse;
 ///
 /// Every edge must end at a node, which [`ends_at_nodes`] tests.
 ///
-/// Shows a search that takes the nearest waiting node first, and moves a waiting one by `update` when its distance
-/// falls. That each answer is least is proved of the edges alone, whatever the order in which nodes are taken. The order
-/// makes it fast: in order each node is taken once, so there is a `pop` a node, and an `update` and a `push` an edge at
-/// most. This bound is not proved.
+/// Shows a search that takes the nearest waiting node first, and moves a waiting one by `push_or_update` when its
+/// distance falls. That each answer is least is proved of the edges alone, whatever the order in which nodes are taken.
+/// The order makes it fast: each node is taken once, so the heap is called once a node and once an edge at most. This
+/// bound is not proved.
 ///
 /// # Errors
 /// `AllocError` where memory is refused.
@@ -94,7 +94,5 @@ fn relax<A: Allocator + Copy>(
         return Ok(());
     }
     far[usize::from(end)] = through;
-    let nearest = Reverse(ByRank(far));
-    waiting.update(end, &nearest);
-    waiting.push(end, &nearest)
+    waiting.push_or_update(end, &Reverse(ByRank(far)))
 }

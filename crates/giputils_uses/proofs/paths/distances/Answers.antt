@@ -1,11 +1,11 @@
 -- What the search does with each node and each edge, handed to the lemmas on searches.
-use Rattle.std.proofs.Common.{◌≡◌, [], length, get_or, set, replicate, arith, rules, refl, sym, ap, ◌∙◌, ⊎_elim}
+use Rattle.std.proofs.Common.{◌≡◌, [], length, get_or, set, replicate, arith, rules, sym, ap, ◌∙◌, ⊎_elim}
 use Rattle.std.proofs.lemmas.Bool.{cases_lt, false≢true}
 use Rattle.std.proofs.lemmas.List.{nil_from_length, get_or-set_same, get_or-set_other, get_or-replicate, length-set}
 use Rattle.giputils.proofs.HoldAlike.{HoldAlike-IsPermutation}
+use Rattle.giputils.proofs.Pushes.{HoldAlike-pushed}
 use Rattle.giputils.proofs.KeySets.{is_held-taken}
 use Rattle.giputils_uses.specs.Paths.{edges_from}
-use Rattle.giputils_uses.proofs.Held.{HoldAlike-pushed_to}
 use Rattle.giputils_uses.proofs.Searches.{IsSearch-start, IsSearch-taken, IsSearch-next, IsSearch-least, edge_at, edge_nodes}
 use Rattle.giputils_uses.proofs.paths.distances.Goals as goal
 
@@ -24,7 +24,7 @@ loop-node-init g c =
       IsSearch-start graph source (set fresh source 0) c.push.new.self source _ c.requires.ends c.requires.source (length-set fresh source 0 ∙ len)
           (get_or-set_same fresh source 0 0 (rw len c.requires.source))
           (λ v inside other. get_or-set_other fresh source v 0 0 other ∙ ap (λ xs. get_or xs v 0) filled ∙ get_or-replicate (length graph) v 4294967295 0 inside)
-          (HoldAlike-pushed_to (λ k. k) source _ _ pushed.held_stays pushed.added [] (rw c.new-waiting.ensures.empty (λ q. refl))),
+          (rw c.new-waiting.ensures.empty at (HoldAlike-pushed (λ k. k) source _ _ pushed.held_stays pushed.added)),
     )
 
 pub from_node-edge-items-requires : goal.from_node-edge-items-requires
