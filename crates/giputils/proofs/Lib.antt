@@ -3,6 +3,7 @@ pub use Rattle.giputils_base.proofs.Renumbering
 pub use Rattle.giputils_base.proofs.Runs as IndexRuns
 pub use Rattle.giputils_base.proofs.Slots
 pub use Rattle.giputils_base.proofs.Vectors
+pub use Rattle.giputils_bits.proofs.BinaryTexts
 pub use Rattle.giputils_bits.proofs.Digits as BitDigits
 pub use Rattle.giputils_bits.proofs.Logic
 pub use Rattle.giputils_bits.proofs.Ones
