@@ -1,4 +1,5 @@
--- Paths in a directed graph, which lists for each node the edges that begin there: an edge is where it ends, and its weight.
+-- Paths in a directed graph, which lists for each node the edges that begin there. An edge is where it ends, and its
+-- weight.
 use Rattle.std.specs.Prelude.{◌≡◌, ℕ, ◌+◌, ◌*◌, ◌<◌, ◌≤◌, ◌⊎◌, nat_lt, min, Bool, List, [], ◌∷◌, length, slice_get, slice_index, slice_index_or, Some}
 use Rattle.std.specs.List.{list_all, sum_by}
 use Rattle.giputils.specs.Keys.{IsHeld}

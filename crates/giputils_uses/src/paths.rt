@@ -20,8 +20,8 @@ use std::cmp::Reverse;
 ///
 /// Shows a search that takes the nearest waiting node first, and moves a waiting one by `push_or_update` when its
 /// distance falls. That each answer is least is proved of the edges alone, whatever the order in which nodes are taken.
-/// The order makes it fast: each node is taken once, so the heap is called once a node and once an edge at most. This
-/// bound is not proved.
+/// The order makes it fast: each node is taken once, so there are at most as many `push_or_update` as edges, and one
+/// `pop` more than nodes. This bound is not proved.
 ///
 /// # Errors
 /// `AllocError` where memory is refused.
