@@ -9,13 +9,15 @@ use Rattle.giputils_sat.specs.Stores.{Known}
 use Rattle.giputils_sat.specs.Formulas.{Formula, satisfies, Implies, IsSatisfiable}
 use Rattle.giputils_sat.specs.Values.{assignment_of, assignment_in}
 
-model_at : (values : List (Option Bool)) (v : ℕ) → get_or (map (λ o. unwrap_or o false) values) v false ≡ unwrap_or (get_or values v None) false
+model_at : (values : List (Option Bool)) (v : ℕ)
+    → get_or (map (λ o. unwrap_or o false) values) v false ≡ unwrap_or (get_or values v None) false
 model_at [] v = refl
 model_at (o ∷ values) zero = refl
 model_at (o ∷ values) (suc v) = model_at values v
 
 -- the model is the assignment that the values are
-pub satisfied-model : (f g : Formula) (values : List (Option Bool)) (model : List Bool) → g ≡ f → model ≡ map (λ o. unwrap_or o false) values
+pub satisfied-model : (f g : Formula) (values : List (Option Bool)) (model : List Bool) → g ≡ f
+    → model ≡ map (λ o. unwrap_or o false) values
     → satisfies (assignment_of values) g ≡ true → satisfies (assignment_in model) f ≡ true
 satisfied-model f g values model same is sat =
     let equal : assignment_of values ≡ assignment_in model = fun_ext (λ v. sym (ap (λ m. get_or m v false) is ∙ model_at values v)) in

@@ -49,7 +49,8 @@ contradiction_is_not (a, sat) = by_value (a 0) sat
 second_follows : Implies two (yes 1 ∷ [])
 second_follows = record { follows = λ a all. by_values (a 0) (a 1) all }
   where
-    by_values : (b c : Bool) → satisfies (λ v. elim v [ zero ↦ b | suc n ↦ c ]) two ≡ true → satisfies_clause (λ v. c) (yes 1 ∷ []) ≡ true
+    by_values : (b c : Bool) → satisfies (λ v. elim v [ zero ↦ b | suc n ↦ c ]) two ≡ true
+        → satisfies_clause (λ v. c) (yes 1 ∷ []) ≡ true
     by_values b true e = refl
     by_values true false e = e
     by_values false false e = e

@@ -9,7 +9,8 @@ use Rattle.giputils_sat.specs.Stores.{given_among, IsKnown, KeepsKnown, Known}
 use Rattle.giputils_sat.proofs.Places.{none_some, each_push, stands_last}
 
 -- a clause of the formula follows
-satisfied_at : (a : Assignment) (f : Formula) (k : ℕ) (c : Clause) → satisfies a f ≡ true → slice_get f k ≡ Some c → satisfies_clause a c ≡ true
+satisfied_at : (a : Assignment) (f : Formula) (k : ℕ) (c : Clause) → satisfies a f ≡ true → slice_get f k ≡ Some c
+    → satisfies_clause a c ≡ true
 satisfied_at a [] k c all at = none_some c at
 satisfied_at a (d ∷ f) zero c all at = subst (λ x. satisfies_clause a x ≡ true) (ap (λ o. unwrap_or o d) at) (and_parts (satisfies_clause a d) (satisfies a f) all).0
 satisfied_at a (d ∷ f) (suc k) c all at = satisfied_at a f k c (and_parts (satisfies_clause a d) (satisfies a f) all).1 at
@@ -18,13 +19,15 @@ pub Implies-given : (f : Formula) (k : ℕ) (c : Clause) → slice_get f k ≡ S
 Implies-given f k c at = record { follows = λ a all. satisfied_at a f k c all at }
 
 -- a satisfied clause has a true literal
-pub true_literal : (a : Assignment) (c : Clause) → satisfies_clause a c ≡ true → (l : Lit) × Has c l × (is_true a l ≡ true)
+pub true_literal : (a : Assignment) (c : Clause) → satisfies_clause a c ≡ true
+    → (l : Lit) × Has c l × (is_true a l ≡ true)
 true_literal a [] none = absurd (false≢true none)
 true_literal a (l ∷ c) some =
     ⊎_elim (λ here. (l, (0, refl), here)) (λ later. let found = true_literal a c later in (found.0, (suc found.1.0, found.1.1), found.2))
     (or_cases (is_true a l) (satisfies_clause a c) some)
 
-pub satisfied_by : (a : Assignment) (c : Clause) (k : ℕ) (l : Lit) → slice_get c k ≡ Some l → is_true a l ≡ true → satisfies_clause a c ≡ true
+pub satisfied_by : (a : Assignment) (c : Clause) (k : ℕ) (l : Lit) → slice_get c k ≡ Some l → is_true a l ≡ true
+    → satisfies_clause a c ≡ true
 satisfied_by a [] k l at is = none_some l at
 satisfied_by a (m ∷ c) zero l at is = or_left (is_true a m) (satisfies_clause a c) (subst (λ x. is_true a x ≡ true) (sym (ap (λ o. unwrap_or o m) at)) is)
 satisfied_by a (m ∷ c) (suc k) l at is = or_right (is_true a m) (satisfies_clause a c) (satisfied_by a c k l at is)
@@ -81,7 +84,8 @@ IsKnown-none = record {
 }
 
 -- a clause of the formula more
-pub IsKnown-given : (flags : List Bool) (count more : ℕ) (cs : List Clause) (c : Clause) → IsKnown flags count cs → count ≤ more → more ≤ 2 ^ 31 → AreBelow more c
+pub IsKnown-given : (flags : List Bool) (count more : ℕ) (cs : List Clause) (c : Clause) → IsKnown flags count cs
+    → count ≤ more → more ≤ 2 ^ 31 → AreBelow more c
     → IsKnown (flags ++ true ∷ []) more (cs ++ c ∷ [])
 IsKnown-given flags count more cs c known least small below = record {
   as_many = omega (arith, length_push flags true, length_push cs c, known.as_many);
@@ -93,7 +97,8 @@ IsKnown-given flags count more cs c known least small below = record {
 }
 
 -- a learned clause more
-pub IsKnown-learned : (flags : List Bool) (count : ℕ) (cs : List Clause) (c : Clause) → IsKnown flags count cs → Implies (given_among flags cs) c → AreBelow count c
+pub IsKnown-learned : (flags : List Bool) (count : ℕ) (cs : List Clause) (c : Clause) → IsKnown flags count cs
+    → Implies (given_among flags cs) c → AreBelow count c
     → IsKnown (flags ++ false ∷ []) count (cs ++ c ∷ [])
 IsKnown-learned flags count cs c known follows below = record {
   as_many = omega (arith, length_push flags false, length_push cs c, known.as_many);

@@ -21,17 +21,20 @@ same_literal v w false true e = absurd (omega (arith, e))
 pub code-injective : (m l : Lit) → code m ≡ code l → m ≡ l
 code-injective m l e = same_literal m.variable l.variable m.positive l.positive e
 
-pub marked-set_other : (marks : List Bool) (l m : Lit) (b : Bool) → m ≢ l → is_marked (set marks (code l) b) m ≡ is_marked marks m
+pub marked-set_other : (marks : List Bool) (l m : Lit) (b : Bool) → m ≢ l
+    → is_marked (set marks (code l) b) m ≡ is_marked marks m
 marked-set_other marks l m b other = get_or-set_other marks (code l) (code m) b false (λ e. other (code-injective m l e))
 
-pub marked-set_same : (marks : List Bool) (l : Lit) (b : Bool) → code l < length marks → is_marked (set marks (code l) b) l ≡ b
+pub marked-set_same : (marks : List Bool) (l : Lit) (b : Bool) → code l < length marks
+    → is_marked (set marks (code l) b) l ≡ b
 marked-set_same marks l b within = get_or-set_same marks (code l) b false within
 
 pub cases_literal : (m l : Lit) → (m ≡ l) ⊎ (m ≢ l)
 cases_literal m l = ⊎_elim (λ e. inl (code-injective m l e)) (λ ne. inr (λ same. ne (ap code same))) (cases_eq (code m) (code l))
 
 -- one more literal is marked and noted
-pub IsNoted-add : (marks : List Bool) (noted : Clause) (l : Lit) → code l < length marks → IsNoted marks noted → IsNoted (set marks (code l) true) (noted ++ l ∷ [])
+pub IsNoted-add : (marks : List Bool) (noted : Clause) (l : Lit) → code l < length marks → IsNoted marks noted
+    → IsNoted (set marks (code l) true) (noted ++ l ∷ [])
 IsNoted-add marks noted l within is = record {
   among = λ m marked.
       ⊎_elim (λ same. (length noted, stands_last noted l ∙ ap Some (sym same)))
@@ -53,13 +56,15 @@ IsTaking-start noted before = record {
   cleared = λ k m less at. absurd (omega (arith, less));
 }
 
-pub unmark : (marks : List Bool) (l m : Lit) → code l < length marks → is_marked (set marks (code l) false) m ≡ true → (m ≢ l) × (is_marked marks m ≡ true)
+pub unmark : (marks : List Bool) (l m : Lit) → code l < length marks → is_marked (set marks (code l) false) m ≡ true
+    → (m ≢ l) × (is_marked marks m ≡ true)
 unmark marks l m within is =
     ⊎_elim (λ same. absurd (false≢true (sym (marked-set_same marks l false within) ∙ ap (is_marked (set marks (code l) false)) (sym same) ∙ is)))
     (λ other. (other, sym (marked-set_other marks l m false other) ∙ is)) (cases_literal m l)
 
 -- a marked literal is taken
-pub IsTaking-took : (noted : Clause) (before now : List Bool) (taken : Clause) (i : ℕ) (l : Lit) → slice_get noted i ≡ Some l → code l < length now → is_marked now l ≡ true
+pub IsTaking-took : (noted : Clause) (before now : List Bool) (taken : Clause) (i : ℕ) (l : Lit)
+    → slice_get noted i ≡ Some l → code l < length now → is_marked now l ≡ true
     → IsTaking noted before now taken i → IsTaking noted before (set now (code l) false) (taken ++ l ∷ []) (i + 1)
 IsTaking-took noted before now taken i l at within marked is = record {
   only = λ m has. ⊎_elim (λ earlier. is.only m (has.0, earlier)) (λ last. is.shrinks m (subst (λ x. is_marked now x ≡ true) last.1 marked)) (before_or_last taken l has.0 m has.1);
@@ -79,7 +84,8 @@ IsTaking-took noted before now taken i l at within marked is = record {
 }
 
 -- a literal that was not marked is left out
-pub IsTaking-left : (noted : Clause) (before now : List Bool) (taken : Clause) (i : ℕ) (l : Lit) → slice_get noted i ≡ Some l → is_marked now l ≡ false
+pub IsTaking-left : (noted : Clause) (before now : List Bool) (taken : Clause) (i : ℕ) (l : Lit)
+    → slice_get noted i ≡ Some l → is_marked now l ≡ false
     → IsTaking noted before now taken i → IsTaking noted before now taken (i + 1)
 IsTaking-left noted before now taken i l at unmarked is = record {
   only = is.only;
@@ -94,43 +100,50 @@ IsTaking-left noted before now taken i l at unmarked is = record {
 }
 
 -- the marks that are left are still noted
-pub IsNoted-taking : (noted : Clause) (before now : List Bool) (taken : Clause) (i : ℕ) → IsNoted before noted → IsTaking noted before now taken i → IsNoted now noted
+pub IsNoted-taking : (noted : Clause) (before now : List Bool) (taken : Clause) (i : ℕ) → IsNoted before noted
+    → IsTaking noted before now taken i → IsNoted now noted
 IsNoted-taking noted before now taken i was is = record {
   among = λ m marked. was.among m (is.shrinks m marked);
   within = λ m has. omega (arith, is.len, was.within m has);
 }
 
 -- at the end no mark is left
-pub none_left : (noted : Clause) (before now : List Bool) (taken : Clause) (i : ℕ) → length noted ≤ i → IsNoted before noted → IsTaking noted before now taken i
+pub none_left : (noted : Clause) (before now : List Bool) (taken : Clause) (i : ℕ) → length noted ≤ i
+    → IsNoted before noted → IsTaking noted before now taken i
     → (m : Lit) → is_marked now m ≡ false
 none_left noted before now taken i all was is m =
     ⊎_elim (λ marked. let has = was.among m (is.shrinks m marked) in is.cleared has.0 m (omega (arith, all, slice_get_within noted has.0 m has.1)) has.1)
     (λ unmarked. unmarked) (cases_Bool (is_marked now m))
 
-pub IsNoted-end : (noted : Clause) (before now : List Bool) (taken : Clause) (i : ℕ) → length noted ≤ i → IsNoted before noted → IsTaking noted before now taken i → IsNoted now []
+pub IsNoted-end : (noted : Clause) (before now : List Bool) (taken : Clause) (i : ℕ) → length noted ≤ i
+    → IsNoted before noted → IsTaking noted before now taken i → IsNoted now []
 IsNoted-end noted before now taken i all was is = record {
   among = λ m marked. absurd (false≢true (sym (none_left noted before now taken i all was is m) ∙ marked));
   within = λ m has. none_some m has.1;
 }
 
-pub AreAmong-end : (noted : Clause) (before now : List Bool) (taken : Clause) (i : ℕ) → length noted ≤ i → IsNoted before noted → IsTaking noted before now taken i → AreAmong before taken
+pub AreAmong-end : (noted : Clause) (before now : List Bool) (taken : Clause) (i : ℕ) → length noted ≤ i
+    → IsNoted before noted → IsTaking noted before now taken i → AreAmong before taken
 AreAmong-end noted before now taken i all was is m marked =
     ⊎_elim (λ still. absurd (false≢true (sym (none_left noted before now taken i all was is m) ∙ still))) (λ has. has) (is.caught m marked)
 
 -- what follows of a set follows of the clause that has its literals
-pub Implies-among : (f : Formula) (marks : List Bool) (c : Clause) → ImpliesMarked f marks → AreAmong marks c → Implies f c
+pub Implies-among : (f : Formula) (marks : List Bool) (c : Clause) → ImpliesMarked f marks → AreAmong marks c
+    → Implies f c
 Implies-among f marks c implied among = record {
   follows = λ a all. let found = implied.follows a all in let has = among found.0 found.1 in satisfied_by a c has.0 found.0 has.1 found.2;
 }
 
 -- a clause that is marked follows as a set
-pub ImpliesMarked-clause : (f : Formula) (marks : List Bool) (c : Clause) → Implies f c → ((l : Lit) → Has c l → is_marked marks l ≡ true) → ImpliesMarked f marks
+pub ImpliesMarked-clause : (f : Formula) (marks : List Bool) (c : Clause) → Implies f c
+    → ((l : Lit) → Has c l → is_marked marks l ≡ true) → ImpliesMarked f marks
 ImpliesMarked-clause f marks c implied marked = record {
   follows = λ a all. let found = true_literal a c (implied.follows a all) in (found.0, marked found.0 found.1, found.2);
 }
 
 -- literals of variables below the count have codes
-pub codes-below : (count : ℕ) (c : Clause) (l : Lit) → ((k : ℕ) (m : Lit) → slice_get c k ≡ Some m → m.variable < count) → Has c l → code l < 2 * count
+pub codes-below : (count : ℕ) (c : Clause) (l : Lit) → ((k : ℕ) (m : Lit) → slice_get c k ≡ Some m → m.variable < count)
+    → Has c l → code l < 2 * count
 codes-below count c l below has = code-lt l.variable count l.positive (below has.0 l has.1)
   where
     code-lt : (v n : ℕ) (p : Bool) → v < n → 2 * v + cond p 1 0 < 2 * n
@@ -155,7 +168,8 @@ pub not_both : (a : Assignment) (l : Lit) → is_true a l ≡ true → is_true a
 not_both a l is_l is_n = opposite (a l.variable) l.positive is_l is_n
 
 -- resolution: a clause without l in the place of l's negation
-pub ImpliesMarked-resolved : (f : Formula) (old new : List Bool) (l : Lit) (c : Clause) → ImpliesMarked f old → Implies f c
+pub ImpliesMarked-resolved : (f : Formula) (old new : List Bool) (l : Lit) (c : Clause) → ImpliesMarked f old
+    → Implies f c
     → ((m : Lit) → m ≢ negated l → is_marked old m ≡ true → is_marked new m ≡ true)
     → ((m : Lit) → Has c m → m ≢ l → is_marked new m ≡ true)
     → ImpliesMarked f new
@@ -171,7 +185,8 @@ ImpliesMarked-resolved f old new l c set_follows clause_follows stay come = reco
 }
 
 -- what a mark more makes
-pub only_added : (marks : List Bool) (l m : Lit) → is_marked (set marks (code l) true) m ≡ true → (is_marked marks m ≡ true) ⊎ (m ≡ l)
+pub only_added : (marks : List Bool) (l m : Lit) → is_marked (set marks (code l) true) m ≡ true
+    → (is_marked marks m ≡ true) ⊎ (m ≡ l)
 only_added marks l m is = ⊎_elim (λ same. inr same) (λ other. inl (sym (marked-set_other marks l m true other) ∙ is)) (cases_literal m l)
 
 pub none_in : (n : ℕ) (l : Lit) → is_marked (replicate n false) l ≡ false

@@ -18,19 +18,22 @@ range_last xs ys =
     let n : length xs + length ys - length xs ≡ length ys = omega arith in
     ap (λ m. take m (drop (length xs) (xs ++ ys))) n ∙ ap (take (length ys)) (drop_at xs ys (length xs) refl) ∙ take_all (length ys) ys (omega arith)
 
-clauses_before : (xs ys : List Lit) (spans : List Span) → AreSpans (length xs) spans → clauses_of (xs ++ ys) spans ≡ clauses_of xs spans
+clauses_before : (xs ys : List Lit) (spans : List Span) → AreSpans (length xs) spans
+    → clauses_of (xs ++ ys) spans ≡ clauses_of xs spans
 clauses_before xs ys [] are = refl
 clauses_before xs ys (s ∷ spans) are =
     let here = are zero s refl in
     ap (λ c. c ∷ clauses_of (xs ++ ys) spans) (range_before xs ys s.start s.end here.0 here.1)
     ∙ ap (λ cs. slice_range xs s.start s.end ∷ cs) (clauses_before xs ys spans (λ k t at. are (suc k) t at))
 
-clauses_push : (xs : List Lit) (spans : List Span) (s : Span) → clauses_of xs (spans ++ s ∷ []) ≡ clauses_of xs spans ++ slice_range xs s.start s.end ∷ []
+clauses_push : (xs : List Lit) (spans : List Span) (s : Span)
+    → clauses_of xs (spans ++ s ∷ []) ≡ clauses_of xs spans ++ slice_range xs s.start s.end ∷ []
 clauses_push xs [] s = refl
 clauses_push xs (t ∷ spans) s = ap (λ cs. slice_range xs t.start t.end ∷ cs) (clauses_push xs spans s)
 
 -- one more clause behind the others
-pub clauses-append : (xs ys : List Lit) (spans : List Span) (start end : ℕ) → start ≡ length xs → end ≡ length xs + length ys → AreSpans (length xs) spans
+pub clauses-append : (xs ys : List Lit) (spans : List Span) (start end : ℕ) → start ≡ length xs
+    → end ≡ length xs + length ys → AreSpans (length xs) spans
     → clauses_of (xs ++ ys) (spans ++ record { start = start; end = end } ∷ []) ≡ clauses_of xs spans ++ ys ∷ []
 clauses-append xs ys spans start end from to are =
     let s : Span = record { start = start; end = end } in
@@ -38,10 +41,12 @@ clauses-append xs ys spans start end from to are =
     clauses_push (xs ++ ys) spans s ∙ ap (λ cs. cs ++ slice_range (xs ++ ys) start end ∷ []) (clauses_before xs ys spans are) ∙ ap (λ c. clauses_of xs spans ++ c ∷ []) last
 
 -- more literals change no clause
-pub clauses-same : (xs ys : List Lit) (spans : List Span) → AreSpans (length xs) spans → clauses_of (xs ++ ys) spans ≡ clauses_of xs spans
+pub clauses-same : (xs ys : List Lit) (spans : List Span) → AreSpans (length xs) spans
+    → clauses_of (xs ++ ys) spans ≡ clauses_of xs spans
 clauses-same = clauses_before
 
-pub AreSpans-push : (xs ys : List Lit) (spans : List Span) (start end : ℕ) → start ≡ length xs → end ≡ length xs + length ys → AreSpans (length xs) spans
+pub AreSpans-push : (xs ys : List Lit) (spans : List Span) (start end : ℕ) → start ≡ length xs
+    → end ≡ length xs + length ys → AreSpans (length xs) spans
     → AreSpans (length (xs ++ ys)) (spans ++ record { start = start; end = end } ∷ [])
 AreSpans-push xs ys spans start end from to are k s at =
     each_push (λ (t : Span). (t.start ≤ t.end) × (t.end ≤ length (xs ++ ys))) spans (record { start = start; end = end })

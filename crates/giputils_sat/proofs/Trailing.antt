@@ -30,11 +30,13 @@ beq_not false true e = refl
 beq_not false false e = absurd (false≢true (sym e))
 
 -- a false literal's negation is true
-negated_value : (o : Option Bool) (p : Bool) → option_map (λ v. beq v p) o ≡ Some false → option_map (λ v. beq v (not p)) o ≡ Some true
+negated_value : (o : Option Bool) (p : Bool) → option_map (λ v. beq v p) o ≡ Some false
+    → option_map (λ v. beq v (not p)) o ≡ Some true
 negated_value None p e = none_some false e
 negated_value (Some v) p e = ap Some (beq_not v p (same_some _ _ e))
 
-pub true_negation : (values : List (Option Bool)) (m : Lit) → value_of values m ≡ Some false → value_of values (negated m) ≡ Some true
+pub true_negation : (values : List (Option Bool)) (m : Lit) → value_of values m ≡ Some false
+    → value_of values (negated m) ≡ Some true
 true_negation values m is = negated_value (get_or values m.variable None) m.positive is
 
 some_value : (o : Option Bool) (p b : Bool) → option_map (λ v. beq v p) o ≡ Some b → o ≡ None → ⊥
@@ -47,20 +49,24 @@ no_value (Some v) p e = none_some (beq v p) (sym e)
 literal_equal : (m l : Lit) → m.variable ≡ l.variable → m.positive ≡ l.positive → m ≡ l
 literal_equal m l v p = ap (λ u. record { variable = u; positive = m.positive }) v ∙ ap (λ q. record { variable = l.variable; positive = q }) p
 
-value_at : (values : List (Option Bool)) (m : Lit) (v : ℕ) (o : Option Bool) → m.variable ≡ v → v < length values → value_of (set values v o) m ≡ option_map (λ b. beq b m.positive) o
+value_at : (values : List (Option Bool)) (m : Lit) (v : ℕ) (o : Option Bool) → m.variable ≡ v → v < length values
+    → value_of (set values v o) m ≡ option_map (λ b. beq b m.positive) o
 value_at values m v o same within = ap (option_map (λ b. beq b m.positive)) (ap (λ u. get_or (set values v o) u None) same ∙ get_or-set_same values v o None within)
 
-value_other : (values : List (Option Bool)) (m : Lit) (v : ℕ) (o : Option Bool) → m.variable ≢ v → value_of (set values v o) m ≡ value_of values m
+value_other : (values : List (Option Bool)) (m : Lit) (v : ℕ) (o : Option Bool) → m.variable ≢ v
+    → value_of (set values v o) m ≡ value_of values m
 value_other values m v o other = ap (option_map (λ b. beq b m.positive)) (get_or-set_other values v m.variable o None other)
 
 -- what is true after a literal became so
-true_after : (values : List (Option Bool)) (l m : Lit) → l.variable < length values → value_of (set values l.variable (Some l.positive)) m ≡ Some true
+true_after : (values : List (Option Bool)) (l m : Lit) → l.variable < length values
+    → value_of (set values l.variable (Some l.positive)) m ≡ Some true
     → (m ≡ l) ⊎ (value_of values m ≡ Some true)
 true_after values l m within is =
     ⊎_elim (λ same. inl (literal_equal m l same (beq_equal l.positive m.positive (same_some _ _ (sym (value_at values m l.variable (Some l.positive) same within) ∙ is)))))
     (λ other. inr (sym (value_other values m l.variable (Some l.positive) other) ∙ is)) (cases_eq m.variable l.variable)
 
-pub Extends-set : (values : List (Option Bool)) (l : Lit) → value_of values l ≡ None → Extends values (set values l.variable (Some l.positive))
+pub Extends-set : (values : List (Option Bool)) (l : Lit) → value_of values l ≡ None
+    → Extends values (set values l.variable (Some l.positive))
 Extends-set values l none m b is =
     ⊎_elim (λ same. absurd (some_value (get_or values m.variable None) m.positive b is (ap (λ u. get_or values u None) same ∙ no_value (get_or values l.variable None) l.positive none)))
     (λ other. value_other values m l.variable (Some l.positive) other ∙ is) (cases_eq m.variable l.variable)
@@ -71,19 +77,23 @@ Extends-same values m b is = is
 pub Extends-both : (u v w : List (Option Bool)) → Extends u v → Extends v w → Extends u w
 Extends-both u v w first then m b is = then m b (first m b is)
 
-pub IsConflict-extended : (clauses : List Clause) (old new : List (Option Bool)) (i : ℕ) → Extends old new → IsConflict clauses old i → IsConflict clauses new i
+pub IsConflict-extended : (clauses : List Clause) (old new : List (Option Bool)) (i : ℕ) → Extends old new
+    → IsConflict clauses old i → IsConflict clauses new i
 IsConflict-extended clauses old new i more is = (is.0, is.1, λ m has. more m false (is.2 m has))
 
 -- what stands, stands also in a longer trail, and before a farther place
-stands_more : (steps : List Step) (s : Step) (l : Lit) (i k : ℕ) → i ≤ k → Stands steps l i → Stands (steps ++ s ∷ []) l k
+stands_more : (steps : List Step) (s : Step) (l : Lit) (i k : ℕ) → i ≤ k → Stands steps l i
+    → Stands (steps ++ s ∷ []) l k
 stands_more steps s l i k far (j, t, before, at, is) = (j, t, omega (arith, far, before), stays_before steps (s ∷ []) j t at, is)
 
-reason_more : (clauses : List Clause) (steps : List Step) (s : Step) (i : ℕ) (l : Lit) (r : ℕ) → HasReason clauses steps i l r → HasReason clauses (steps ++ s ∷ []) i l r
+reason_more : (clauses : List Clause) (steps : List Step) (s : Step) (i : ℕ) (l : Lit) (r : ℕ)
+    → HasReason clauses steps i l r → HasReason clauses (steps ++ s ∷ []) i l r
 reason_more clauses steps s i l r (c, at, others) = (c, at, λ m has other. stands_more steps s (negated m) i i (omega arith) (others m has other))
 
 stand_more : (values : List (Option Bool)) (steps : List Step) (s : Step) → s.literal.variable < length values
     → ((l : Lit) → value_of values l ≡ Some true → Stands steps l (length steps))
-    → (l : Lit) → value_of (set values s.literal.variable (Some s.literal.positive)) l ≡ Some true → Stands (steps ++ s ∷ []) l (length (steps ++ s ∷ []))
+    → (l : Lit) → value_of (set values s.literal.variable (Some s.literal.positive)) l ≡ Some true
+    → Stands (steps ++ s ∷ []) l (length (steps ++ s ∷ []))
 stand_more values steps s within stand l is =
     let longer = length_push steps s in
     ⊎_elim (λ same. (length steps, s, omega (arith, longer), stands_last steps s, sym same))
@@ -92,7 +102,8 @@ stand_more values steps s within stand l is =
 reasons_more : (clauses : List Clause) (steps : List Step) (s : Step)
     → ((k : ℕ) (t : Step) (r : ℕ) → slice_get steps k ≡ Some t → t.reason ≡ Some r → HasReason clauses steps k t.literal r)
     → ((r : ℕ) → s.reason ≡ Some r → HasReason clauses steps (length steps) s.literal r)
-    → (k : ℕ) (t : Step) (r : ℕ) → slice_get (steps ++ s ∷ []) k ≡ Some t → t.reason ≡ Some r → HasReason clauses (steps ++ s ∷ []) k t.literal r
+    → (k : ℕ) (t : Step) (r : ℕ) → slice_get (steps ++ s ∷ []) k ≡ Some t → t.reason ≡ Some r
+    → HasReason clauses (steps ++ s ∷ []) k t.literal r
 reasons_more clauses steps s reasons last k t r at is =
     ⊎_elim (λ before. reason_more clauses steps s k t.literal r (reasons k t r before is))
     (λ e.
@@ -180,31 +191,40 @@ IsTrail-decided clauses values steps starts l within is =
       rising = λ i p at. ⊎_elim (λ before. rising_old starts i p before is.rising) (λ e. rising_last starts p e.1 is.low) (before_or_last starts (length steps) i p at);
     }
   where
-    first_old : (starts : List ℕ) (k n : ℕ) → k < length steps → k < get_or (starts ++ length steps ∷ []) 0 n → k < get_or starts 0 (length steps)
+    first_old : (starts : List ℕ) (k n : ℕ) → k < length steps → k < get_or (starts ++ length steps ∷ []) 0 n
+        → k < get_or starts 0 (length steps)
     first_old [] k n inside less = inside
     first_old (p ∷ rest) k n inside less = less
 
-    first_last : (starts : List ℕ) (k n : ℕ) → k ≡ length steps → k < get_or (starts ++ length steps ∷ []) 0 n → get_or starts 0 0 ≤ length steps → ⊥
+    first_last : (starts : List ℕ) (k n : ℕ) → k ≡ length steps → k < get_or (starts ++ length steps ∷ []) 0 n
+        → get_or starts 0 0 ≤ length steps → ⊥
     first_last [] k n same less low = omega (arith, same, less)
     first_last (p ∷ rest) k n same less low = omega (arith, same, less, low)
 
-    first_low : (starts : List ℕ) → get_or starts 0 0 ≤ length steps → length (steps ++ record { literal = l; reason = None } ∷ []) ≡ length steps + 1 → get_or (starts ++ length steps ∷ []) 0 0 ≤ length (steps ++ record { literal = l; reason = None } ∷ [])
+    first_low : (starts : List ℕ) → get_or starts 0 0 ≤ length steps
+        → length (steps ++ record { literal = l; reason = None } ∷ []) ≡ length steps + 1
+        → get_or (starts ++ length steps ∷ []) 0 0 ≤ length (steps ++ record { literal = l; reason = None } ∷ [])
     first_low [] low more = omega (arith, more)
     first_low (p ∷ rest) low more = omega (arith, more, low)
 
-    rising_old : (starts : List ℕ) (i p : ℕ) → slice_get starts i ≡ Some p → ((i p : ℕ) → slice_get starts i ≡ Some p → get_or starts 0 0 ≤ p) → get_or (starts ++ length steps ∷ []) 0 0 ≤ p
+    rising_old : (starts : List ℕ) (i p : ℕ) → slice_get starts i ≡ Some p
+        → ((i p : ℕ) → slice_get starts i ≡ Some p → get_or starts 0 0 ≤ p)
+        → get_or (starts ++ length steps ∷ []) 0 0 ≤ p
     rising_old [] i p at rising = none_some p at
     rising_old (q ∷ rest) i p at rising = rising i p at
 
-    rising_last : (starts : List ℕ) (p : ℕ) → length steps ≡ p → get_or starts 0 0 ≤ length steps → get_or (starts ++ length steps ∷ []) 0 0 ≤ p
+    rising_last : (starts : List ℕ) (p : ℕ) → length steps ≡ p → get_or starts 0 0 ≤ length steps
+        → get_or (starts ++ length steps ∷ []) 0 0 ≤ p
     rising_last [] p same low = omega (arith, same)
     rising_last (q ∷ rest) p same low = omega (arith, same, low)
 
-stands_less : (steps : List Step) (s : Step) (l : Lit) (i : ℕ) → i ≤ length steps → Stands (steps ++ s ∷ []) l i → Stands steps l i
+stands_less : (steps : List Step) (s : Step) (l : Lit) (i : ℕ) → i ≤ length steps → Stands (steps ++ s ∷ []) l i
+    → Stands steps l i
 stands_less steps s l i inside (j, t, before, at, is) =
     ⊎_elim (λ there. (j, t, before, there, is)) (λ e. let last : j ≡ length steps = e.0 in absurd (omega (arith, inside, before, last))) (before_or_last steps s j t at)
 
-popped_value : (values : List (Option Bool)) (v : ℕ) (m : Lit) → value_of (set values v None) m ≡ Some true → (m.variable ≢ v) × (value_of values m ≡ Some true)
+popped_value : (values : List (Option Bool)) (v : ℕ) (m : Lit) → value_of (set values v None) m ≡ Some true
+    → (m.variable ≢ v) × (value_of values m ≡ Some true)
 popped_value values v m is =
     ⊎_elim (λ same. ⊎_elim (λ within. none_some true (sym (value_at values m v None same within) ∙ is))
     (λ past. absurd (some_value (get_or (set values v None) m.variable None) m.positive true is (get_or_past (set values v None) m.variable None (omega (arith, past, same, length-set values v None))))) (cases_lt v (length values)))
@@ -215,8 +235,10 @@ starts_less [] k m n less inside = omega (arith, less, inside)
 starts_less (p ∷ starts) k m n less inside = inside
 
 -- the last literal's value is taken away
-pub IsTrail-popped : (clauses : List Clause) (values : List (Option Bool)) (steps : List Step) (starts : List ℕ) (s : Step) → get_or starts 0 0 ≤ length steps
-    → IsTrail clauses values (steps ++ s ∷ []) starts → IsTrail clauses (set values s.literal.variable None) steps starts
+pub IsTrail-popped : (clauses : List Clause) (values : List (Option Bool)) (steps : List Step) (starts : List ℕ) (s : Step)
+    → get_or starts 0 0 ≤ length steps
+    → IsTrail clauses values (steps ++ s ∷ []) starts
+    → IsTrail clauses (set values s.literal.variable None) steps starts
 IsTrail-popped clauses values steps starts s low is =
     let longer = length_push steps s in
     record {
@@ -242,7 +264,8 @@ taken (q ∷ starts) (suc level) zero p at = at
 taken (q ∷ starts) (suc level) (suc i) p at = taken starts level i p at
 
 -- decisions that are no more are forgotten
-pub IsTrail-truncated : (clauses : List Clause) (values : List (Option Bool)) (steps : List Step) (starts : List ℕ) (level start : ℕ) → slice_get starts level ≡ Some start → length steps ≤ start
+pub IsTrail-truncated : (clauses : List Clause) (values : List (Option Bool)) (steps : List Step) (starts : List ℕ) (level start : ℕ)
+    → slice_get starts level ≡ Some start → length steps ≤ start
     → IsTrail clauses values steps starts → IsTrail clauses values steps (take level starts)
 IsTrail-truncated clauses values steps [] level start at short is = none_some start at
 IsTrail-truncated clauses values steps (p ∷ starts) zero start at short is = record {
@@ -261,7 +284,8 @@ IsTrail-truncated clauses values steps (p ∷ starts) (suc level) start at short
 }
 
 -- a clause more
-pub IsTrail-learned : (clauses : List Clause) (c : Clause) (values : List (Option Bool)) (steps : List Step) (starts : List ℕ) → IsTrail clauses values steps starts → IsTrail (clauses ++ c ∷ []) values steps starts
+pub IsTrail-learned : (clauses : List Clause) (c : Clause) (values : List (Option Bool)) (steps : List Step) (starts : List ℕ)
+    → IsTrail clauses values steps starts → IsTrail (clauses ++ c ∷ []) values steps starts
 IsTrail-learned clauses c values steps starts is = record {
   stand = is.stand;
   reasons = λ k s r at by. let reason = is.reasons k s r at by in (reason.0, stays_before clauses (c ∷ []) r reason.0 reason.1, reason.2);
@@ -271,8 +295,10 @@ IsTrail-learned clauses c values steps starts is = record {
 }
 
 -- what is false but for one literal is a reason
-pub HasReason-unit : (clauses : List Clause) (values : List (Option Bool)) (steps : List Step) (starts : List ℕ) (l : Lit) (r : ℕ) (c : Clause) → IsTrail clauses values steps starts
-    → slice_get clauses r ≡ Some c → ((m : Lit) → Has c m → m ≢ l → value_of values m ≡ Some false) → HasReason clauses steps (length steps) l r
+pub HasReason-unit : (clauses : List Clause) (values : List (Option Bool)) (steps : List Step) (starts : List ℕ) (l : Lit) (r : ℕ) (c : Clause)
+    → IsTrail clauses values steps starts
+    → slice_get clauses r ≡ Some c → ((m : Lit) → Has c m → m ≢ l → value_of values m ≡ Some false)
+    → HasReason clauses steps (length steps) l r
 HasReason-unit clauses values steps starts l r c is at others = (c, at, λ m has other. is.stand (negated m) (true_negation values m (others m has other)))
 
 negated_twice : (l : Lit) → negated (negated l) ≡ l
@@ -282,7 +308,8 @@ negated_twice l = ap (λ p. record { variable = l.variable; positive = p }) (twi
     twice true = refl
     twice false = refl
 
-stands_before : (steps : List Step) (i : ℕ) (step : Step) (m : Lit) → slice_get steps i ≡ Some step → Stands steps (negated m) (i + 1) → m ≢ negated step.literal → Stands steps (negated m) i
+stands_before : (steps : List Step) (i : ℕ) (step : Step) (m : Lit) → slice_get steps i ≡ Some step
+    → Stands steps (negated m) (i + 1) → m ≢ negated step.literal → Stands steps (negated m) i
 stands_before steps i step m at (j, s, before, there, is) other =
     ⊎_elim (λ earlier. (j, s, earlier, there, is))
     (λ later.
@@ -291,13 +318,15 @@ stands_before steps i step m at (j, s, before, there, is) other =
     absurd (other (sym (negated_twice m) ∙ ap negated (sym is ∙ ap (λ x. x.literal) (sym step_is))))) (cases_lt j i)
 
 -- before any decision: a place whose literal's negation isn't marked
-pub AreUndone-unmarked : (steps : List Step) (marks : List Bool) (i : ℕ) (step : Step) → slice_get steps i ≡ Some step → is_marked marks (negated step.literal) ≡ false
+pub AreUndone-unmarked : (steps : List Step) (marks : List Bool) (i : ℕ) (step : Step) → slice_get steps i ≡ Some step
+    → is_marked marks (negated step.literal) ≡ false
     → AreUndone steps marks (i + 1) → AreUndone steps marks i
 AreUndone-unmarked steps marks i step at none undone m marked =
     stands_before steps i step m at (undone m marked) (λ same. false≢true (sym none ∙ ap (is_marked marks) (sym same) ∙ marked))
 
 -- and one whose reason takes the negation's place
-pub AreUndone-resolved : (clauses : List Clause) (steps : List Step) (old new : List Bool) (i : ℕ) (step : Step) (r : ℕ) (c : Clause) → slice_get steps i ≡ Some step
+pub AreUndone-resolved : (clauses : List Clause) (steps : List Step) (old new : List Bool) (i : ℕ) (step : Step) (r : ℕ) (c : Clause)
+    → slice_get steps i ≡ Some step
     → HasReason clauses steps i step.literal r → slice_get clauses r ≡ Some c → AreUndone steps old (i + 1)
     → ((m : Lit) → is_marked new m ≡ true → ((is_marked old m ≡ true) × (m ≢ negated step.literal)) ⊎ (Has c m × (m ≢ step.literal)))
     → AreUndone steps new i
@@ -306,13 +335,16 @@ AreUndone-resolved clauses steps old new i step r c at reason c_at undone only m
     (λ come. let same : c ≡ reason.0 = same_some c reason.0 (sym c_at ∙ reason.1) in reason.2 m (subst (λ (x : Clause). Has x m) same come.0) come.1) (only m marked)
 
 -- a conflict's literals are false by what stands
-pub AreUndone-conflict : (clauses : List Clause) (values : List (Option Bool)) (steps : List Step) (starts : List ℕ) (marks : List Bool) (i : ℕ) (c : Clause) → IsTrail clauses values steps starts
-    → IsConflict clauses values i → slice_get clauses i ≡ Some c → ((m : Lit) → is_marked marks m ≡ true → Has c m) → AreUndone steps marks (length steps)
+pub AreUndone-conflict : (clauses : List Clause) (values : List (Option Bool)) (steps : List Step) (starts : List ℕ) (marks : List Bool) (i : ℕ) (c : Clause)
+    → IsTrail clauses values steps starts
+    → IsConflict clauses values i → slice_get clauses i ≡ Some c → ((m : Lit) → is_marked marks m ≡ true → Has c m)
+    → AreUndone steps marks (length steps)
 AreUndone-conflict clauses values steps starts marks i c is conflict c_at only m marked =
     let same : c ≡ conflict.0 = same_some c conflict.0 (sym c_at ∙ conflict.1) in
     is.stand (negated m) (true_negation values m (conflict.2 m (subst (λ (x : Clause). Has x m) same (only m marked))))
 
 -- with no place left nothing is marked
-pub none_undone : (steps : List Step) (marks : List Bool) → AreUndone steps marks 0 → (m : Lit) → is_marked marks m ≡ false
+pub none_undone : (steps : List Step) (marks : List Bool) → AreUndone steps marks 0 → (m : Lit)
+    → is_marked marks m ≡ false
 none_undone steps marks undone m =
     ⊎_elim (λ marked. absurd (omega (arith, (undone m marked).2))) (λ unmarked. unmarked) (cases_Bool (is_marked marks m))

@@ -13,14 +13,16 @@ no_value : (o : Option Bool) (p : Bool) → option_map (λ v. beq v p) o ≡ Non
 no_value None p e = refl
 no_value (Some v) p e = absurd (false≢true (sym (ap is_some e)))
 
-unset-set : (values : List (Option Bool)) (v : ℕ) (b : Bool) → v < length values → get_or values v None ≡ None → unset (set values v (Some b)) + 1 ≡ unset values
+unset-set : (values : List (Option Bool)) (v : ℕ) (b : Bool) → v < length values → get_or values v None ≡ None
+    → unset (set values v (Some b)) + 1 ≡ unset values
 unset-set [] v b within none = absurd (omega (arith, within))
 unset-set (None ∷ values) zero b within none = refl
 unset-set (Some w ∷ values) zero b within none = absurd (false≢true (sym (ap is_some none)))
 unset-set (None ∷ values) (suc v) b within none = let rest = unset-set values v b (omega (arith, within)) none in omega (arith, rest)
 unset-set (Some w ∷ values) (suc v) b within none = unset-set values v b (omega (arith, within)) none
 
-pub unset-assigned : (values : List (Option Bool)) (l : Lit) → l.variable < length values → value_of values l ≡ None → unset (set values l.variable (Some l.positive)) + 1 ≡ unset values
+pub unset-assigned : (values : List (Option Bool)) (l : Lit) → l.variable < length values → value_of values l ≡ None
+    → unset (set values l.variable (Some l.positive)) + 1 ≡ unset values
 unset-assigned values l within none = unset-set values l.variable l.positive within (no_value (get_or values l.variable None) l.positive none)
 
 true_value : (o : Option Bool) (p : Bool) → option_map (λ v. beq v p) o ≡ Some true → beq (unwrap_or o false) p ≡ true
@@ -28,10 +30,12 @@ true_value None p e = none_some true e
 true_value (Some v) p e = ap (λ o. unwrap_or o false) e
 
 -- what is true by the values is true by the assignment that they are
-pub is_true-valued : (values : List (Option Bool)) (l : Lit) → value_of values l ≡ Some true → is_true (assignment_of values) l ≡ true
+pub is_true-valued : (values : List (Option Bool)) (l : Lit) → value_of values l ≡ Some true
+    → is_true (assignment_of values) l ≡ true
 is_true-valued values l is = true_value (get_or values l.variable None) l.positive is
 
 -- a clause with a literal that is true by the values is satisfied
-pub satisfied-valued : (values : List (Option Bool)) (c : Clause) (k : ℕ) (l : Lit) → slice_get c k ≡ Some l → value_of values l ≡ Some true
+pub satisfied-valued : (values : List (Option Bool)) (c : Clause) (k : ℕ) (l : Lit) → slice_get c k ≡ Some l
+    → value_of values l ≡ Some true
     → satisfies_clause (assignment_of values) c ≡ true
 satisfied-valued values c k l at is = satisfied_by (assignment_of values) c k l at (is_true-valued values l is)

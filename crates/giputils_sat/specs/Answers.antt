@@ -6,7 +6,7 @@ use Rattle.giputils_sat.specs.Formulas.{satisfies, IsSatisfiable}
 use Rattle.giputils_sat.specs.Stores.{Known, HasMore}
 use Rattle.giputils_sat.specs.Values.{assignment_in}
 
--- a model satisfies the formula; where there is said to be none there is none; where it is open so many clauses were learned
+-- a model satisfies the formula; none is said only where there is none; left open, so many clauses were learned
 abbrev pub IsRight : {A : Type 0} → Known → Known → ℕ → Answer A → Type 0
 IsRight old new limit (Sat model) = IsTrue (satisfies (assignment_in model.items) old.formula)
 IsRight old new limit Unsat = ¬ (IsSatisfiable old.formula)

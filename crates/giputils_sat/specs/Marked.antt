@@ -8,7 +8,8 @@ is_marked marks l = slice_index_or marks (code l) false
 
 -- what satisfies the formula makes one of the marked literals true
 pub record ImpliesMarked (formula : Formula) (marks : List Bool) : Type 0 where
-  pub follows : (a : Assignment) → IsTrue (satisfies a formula) → (l : Lit) × (is_marked marks l ≡ true) × (is_true a l ≡ true)
+  pub follows : (a : Assignment) → IsTrue (satisfies a formula)
+      → (l : Lit) × (is_marked marks l ≡ true) × (is_true a l ≡ true)
 
 -- each marked literal stays marked
 abbrev pub Grows : List Bool → List Bool → Type 0

@@ -19,8 +19,10 @@ HasReason clauses steps i l r =
 -- what has a value stands in the trail; each reason is one; before the first decision each literal has a reason
 pub record IsTrail (clauses : List Clause) (values : List (Option Bool)) (steps : List Step) (starts : List ℕ) : Type 0 where
   pub stand : (l : Lit) → value_of values l ≡ Some true → Stands steps l (length steps)
-  pub reasons : (k : ℕ) (s : Step) (r : ℕ) → slice_get steps k ≡ Some s → s.reason ≡ Some r → HasReason clauses steps k s.literal r
-  pub implied : (k : ℕ) (s : Step) → slice_get steps k ≡ Some s → k < slice_index_or starts 0 (length steps) → s.reason ≢ None
+  pub reasons : (k : ℕ) (s : Step) (r : ℕ) → slice_get steps k ≡ Some s → s.reason ≡ Some r
+      → HasReason clauses steps k s.literal r
+  pub implied : (k : ℕ) (s : Step) → slice_get steps k ≡ Some s → k < slice_index_or starts 0 (length steps)
+      → s.reason ≢ None
   pub low : slice_index_or starts 0 0 ≤ length steps
   pub rising : (i p : ℕ) → slice_get starts i ≡ Some p → slice_index_or starts 0 0 ≤ p
 

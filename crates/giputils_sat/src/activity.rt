@@ -11,7 +11,7 @@ const LEAST_STEP: u32 = 0x1000;
 // By how many digits all scores fall when a step has grown by as many.
 const SHIFT: u32 = 14;
 
-/// The variables that wait to be decided, in a heap by their scores. It is seen as their list.
+// The variables that wait to be decided, in a heap by their scores. It is seen as their list.
 #[derive(Drop)]
 pub struct Activity<A: Allocator = Global> {
     queue: BinaryHeap<u32, A>,
@@ -67,10 +67,7 @@ impl<A: Allocator + Copy> Activity<A> {
         Ok(activity)
     }
 
-    /// Lets a variable wait.
-    ///
-    /// # Errors
-    /// `AllocError` where memory is refused.
+    // Lets a variable wait.
     pub fn put_back(&mut self, variable: u32) -> Result<(), AllocError> {
         if variable < u32::MAX {
             self.queue.push(variable, &ByRank(&self.scores))?;
@@ -78,7 +75,7 @@ impl<A: Allocator + Copy> Activity<A> {
         Ok(())
     }
 
-    /// Raises the score of a variable.
+    // Raises the score of a variable.
     pub fn bump(&mut self, variable: u32) {
         if (variable as usize) < self.scores.len() {
             let score = self.scores[variable as usize].saturating_add(self.step);
@@ -87,7 +84,7 @@ impl<A: Allocator + Copy> Activity<A> {
         }
     }
 
-    /// Lets later bumps count more than those so far.
+    // Lets later bumps count more than those so far.
     pub fn decay(&mut self) {
         self.step = self.step.saturating_add(self.step / 16);
         if self.step >= LEAST_STEP << SHIFT {
@@ -99,7 +96,7 @@ impl<A: Allocator + Copy> Activity<A> {
         }
     }
 
-    /// Takes out a waiting variable that none has a greater score than. None if none waits.
+    // Takes out a waiting variable that none has a greater score than. None if none waits.
     pub fn pick(&mut self) -> Option<u32>
         ensures some { IfSome result (λ _. length self.new + 1 ≡ length self.old) }
         ensures none { IfNone result (self.old ≡ []) }

@@ -62,7 +62,7 @@ impl<A: Allocator + Copy> Trail<A> {
         self.head = 0;
     }
 
-    /// Whether the literal is true, if it has a value.
+    // Whether the literal is true, if it has a value.
     pub fn value(&self, l: Literal) -> Option<bool>
         ensures { result ≡ value_of self.now.values.items l }
     {
@@ -72,7 +72,7 @@ impl<A: Allocator + Copy> Trail<A> {
         }
     }
 
-    /// The number of decisions.
+    // The number of decisions.
     pub fn level(&self) -> usize
         ensures { result ≡ length self.now.starts.items }
     {
@@ -90,7 +90,7 @@ impl<A: Allocator + Copy> Trail<A> {
         }
     }
 
-    /// The level at which the literal's variable got its value.
+    // The level at which the literal's variable got its value.
     pub fn level_of(&self, l: Literal) -> usize {
         match self.stands.get(l.variable() as usize) {
             Some(stand) => stand.level,
@@ -106,10 +106,7 @@ impl<A: Allocator + Copy> Trail<A> {
         }
     }
 
-    /// Makes a literal true.
-    ///
-    /// # Errors
-    /// `AllocError` where memory is refused.
+    // Makes a literal true.
     pub fn assign(&mut self, l: Literal, reason: Option<usize>) -> Result<(), AllocError>
         requires within { l.variable < length self.old.values.items }
         requires unset { value_of self.old.values.items l ≡ None }
@@ -129,10 +126,7 @@ impl<A: Allocator + Copy> Trail<A> {
         Ok(())
     }
 
-    /// Makes a literal true at a new level.
-    ///
-    /// # Errors
-    /// `AllocError` where memory is refused.
+    // Makes a literal true at a new level.
     pub fn decide(&mut self, l: Literal) -> Result<(), AllocError>
         requires within { l.variable < length self.old.values.items }
         requires unset { value_of self.old.values.items l ≡ None }
@@ -146,7 +140,7 @@ impl<A: Allocator + Copy> Trail<A> {
         self.assign(l, None)
     }
 
-    /// The value that a variable had last.
+    // The value that a variable had last.
     pub fn phase(&self, variable: u32) -> bool {
         match self.phases.get(variable as usize) {
             Some(phase) => *phase,
@@ -154,7 +148,7 @@ impl<A: Allocator + Copy> Trail<A> {
         }
     }
 
-    /// The next literal to propagate.
+    // The next literal to propagate.
     pub fn next(&mut self) -> Option<Literal>
         ensures values { self.new.values ≡ self.old.values }
         ensures steps { self.new.steps ≡ self.old.steps }
@@ -186,10 +180,7 @@ impl<A: Allocator + Copy> Trail<A> {
         step
     }
 
-    /// Goes back to a level. What is not true any more may be decided again.
-    ///
-    /// # Errors
-    /// `AllocError` where memory is refused.
+    // Goes back to a level. What is not true any more may be decided again.
     pub fn backtrack(&mut self, level: usize, activity: &mut Activity<A>) -> Result<(), AllocError>
         ensures len { length self.new.values.items ≡ length self.old.values.items }
         ensures trail { OnOk result (StandsOn self.old self.new) }

@@ -12,7 +12,7 @@ pub struct Span {
     pub end: usize,
 }
 
-/// A list of clauses.
+// A list of clauses.
 #[derive(Drop)]
 pub struct Clauses<A: Allocator = Global> {
     literals: Vec<Literal, A>,
@@ -33,7 +33,7 @@ impl<A: Allocator> Model for Clauses<A> {
 }
 
 impl<A: Allocator + Copy> Clauses<A> {
-    /// No clause.
+    // No clause.
     pub fn new(alloc: A) -> Self
         ensures { result ≡ [] }
     {
@@ -43,17 +43,14 @@ impl<A: Allocator + Copy> Clauses<A> {
         }
     }
 
-    /// How many there are.
+    // How many there are.
     pub fn len(&self) -> usize
         ensures { result ≡ length self.now }
     {
         self.spans.len()
     }
 
-    /// Adds a clause.
-    ///
-    /// # Errors
-    /// `AllocError` where memory is refused.
+    // Adds a clause.
     pub fn push(&mut self, clause: &[Literal]) -> Result<(), AllocError>
         ensures ok { OnOk result (self.new ≡ self.old ++ clause.now ∷ []) }
         ensures err { OnErr result (self.new ≡ self.old) }
@@ -65,7 +62,7 @@ impl<A: Allocator + Copy> Clauses<A> {
         Ok(())
     }
 
-    /// The clause at a place.
+    // The clause at a place.
     pub fn clause(&self, place: usize) -> &[Literal]
         requires { place < length self.now }
         ensures { slice_get self.now place ≡ Some result.now }

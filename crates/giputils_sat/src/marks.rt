@@ -7,7 +7,7 @@ use crate::literal::Literal;
 use std::alloc::{AllocError, Allocator, Global};
 use std::marker::Model;
 
-/// Marks on literals, by their codes.
+// Marks on literals, by their codes.
 #[derive(Drop)]
 pub struct Marks<A: Allocator = Global> {
     marks: Vec<bool, A>,
@@ -27,7 +27,7 @@ impl<A: Allocator> Model for Marks<A> {
 }
 
 impl<A: Allocator + Copy> Marks<A> {
-    /// Nothing is marked, among the literals of so many variables.
+    // Nothing is marked, among the literals of so many variables.
     pub fn new(alloc: A, count: usize) -> Result<Self, AllocError>
         requires { count < 2 ^ 40 }
         ensures len { IfOk result (λ m. length m ≡ 2 * count) }
@@ -38,7 +38,7 @@ impl<A: Allocator + Copy> Marks<A> {
         Ok(Marks { marks, noted })
     }
 
-    /// Whether the literal is marked.
+    // Whether the literal is marked.
     pub fn has(&self, l: Literal) -> bool
         ensures { result ≡ is_marked self.now l }
     {
@@ -53,10 +53,7 @@ impl<A: Allocator + Copy> Marks<A> {
         &self.noted
     }
 
-    /// Marks a literal.
-    ///
-    /// # Errors
-    /// `AllocError` where memory is refused.
+    // Marks a literal.
     pub fn add(&mut self, l: Literal) -> Result<(), AllocError>
         requires { code l < length self.old }
         ensures len { length self.new ≡ length self.old }
@@ -69,7 +66,7 @@ impl<A: Allocator + Copy> Marks<A> {
         Ok(())
     }
 
-    /// Takes a mark away.
+    // Takes a mark away.
     pub fn remove(&mut self, l: Literal)
         ensures len { length self.new ≡ length self.old }
         ensures others { KeepsBut l self.old self.new }
@@ -81,10 +78,7 @@ impl<A: Allocator + Copy> Marks<A> {
         }
     }
 
-    /// The marked literals. None is marked afterwards.
-    ///
-    /// # Errors
-    /// `AllocError` where memory is refused.
+    // The marked literals. None is marked afterwards.
     pub fn take(&mut self, alloc: A) -> Result<Vec<Literal, A>, AllocError>
         ensures len { length self.new ≡ length self.old }
         ensures all { IfOk result (λ c. AreAmong self.old c.items) }

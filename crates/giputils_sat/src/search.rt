@@ -36,7 +36,7 @@ fn seen(clause: usize, blocker: Literal, stays: bool) -> Look
     }
 }
 
-/// The first place but one whose literal isn't false.
+// The first place but one whose literal isn't false.
 pub fn free_place<A: Allocator + Copy>(
     trail: &Trail<A>,
     clause: &[Literal],
@@ -160,10 +160,7 @@ fn visit<A: Allocator + Copy>(
     Ok(conflict)
 }
 
-/// Propagates what has become true. The place of a clause all of whose literals are false, if one is met.
-///
-/// # Errors
-/// `AllocError` where memory is refused.
+// Propagates what has become true. The place of a clause all of whose literals are false, if one is met.
 pub fn propagate<A: Allocator + Copy>(
     alloc: A,
     database: &Database<A>,
@@ -187,8 +184,8 @@ pub fn propagate<A: Allocator + Copy>(
     Ok(None)
 }
 
-/// What the solver does next: a decision was made, each clause of the formula is satisfied, or one has no literal that
-/// isn't false.
+// What the solver does next: a decision was made, each clause of the formula is satisfied, or one has no literal that
+// isn't false.
 pub enum Choice {
     Decided,
     Model,
@@ -252,11 +249,8 @@ fn choose<A: Allocator + Copy>(
     Ok(Choice::Decided)
 }
 
-/// Decides and propagates until a clause has no literal that isn't false, whose place it is, or until the formula is
-/// satisfied.
-///
-/// # Errors
-/// `AllocError` where memory is refused.
+// Decides and propagates until a clause has no literal that isn't false, whose place it is, or until the formula is
+// satisfied.
 pub fn search<A: Allocator + Copy>(
     alloc: A,
     database: &Database<A>,

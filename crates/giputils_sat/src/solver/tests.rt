@@ -99,6 +99,22 @@ fn clauses_added_after_an_answer(rt: HostRuntime) -> Result<(), Fail> {
     Ok(())
 }
 
+#[test]
+fn variables_added_after_an_answer(rt: HostRuntime) -> Result<(), Fail> {
+    let alloc = rt.alloc();
+    let mut solver = Solver::new(alloc);
+    let rows: [(&[i16], &str); 3] = [
+        (&[1, 2, 0], "sat"),
+        (&[-1, 7, 0, -2, -7, 0, 7, 9, 0], "sat"),
+        (&[-9, 0, -7, 0], "unsat"),
+    ];
+    for (numbers, wanted) in rows {
+        add_all(&mut solver, numbers)?;
+        assert_eq!(rt; label(&mut solver, 100)?, wanted);
+    }
+    Ok(())
+}
+
 // Pigeon i sits in hole j.
 fn sits(holes: u8, i: u8, j: u8, positive: bool) -> Literal {
     Literal::new(u32::from(i) * u32::from(holes) + u32::from(j), positive)
@@ -132,6 +148,26 @@ fn pigeonhole(rt: HostRuntime) -> Result<(), Fail> {
     assert_eq!(rt; label(&mut solver, 10000)?, "unsat");
     let mut solver = pigeons(alloc, 6)?;
     assert_eq!(rt; label(&mut solver, 100000)?, "unsat");
+    Ok(())
+}
+
+// What is answered after calls with so few conflicts each.
+fn label_in_slices(solver: &mut Solver, slice: usize) -> Result<&'static str, AllocError> {
+    for _ in 0..1000 {
+        match label(solver, slice)? {
+            "unknown" => {}
+            answer => return Ok(answer),
+        }
+    }
+    Ok("unknown")
+}
+
+#[test]
+fn a_further_call_goes_on(rt: HostRuntime) -> Result<(), Fail> {
+    let alloc = rt.alloc();
+    let mut solver = pigeons(alloc, 5)?;
+    assert_eq!(rt; label_in_slices(&mut solver, 20)?, "unsat");
+    assert!(rt; solver.stats().conflicts > 20);
     Ok(())
 }
 

@@ -13,7 +13,9 @@ loop-self-preserved g c =
     let starts : c.loop-self.self.starts.items ≡ c.args.self.now.starts.items = ap (λ v. v.items) c.loop-self.invariant.starts in
     let inside : c.args.level < length c.args.self.now.starts.items = grind (arith, common_steps) in
     let at : slice_get c.loop-self.self.starts.items c.args.level ≡ Some c.index-start.result.now =
-    ap (λ (xs : List ℕ). slice_get xs c.args.level) starts ∙ slice_get_read c.args.self.now.starts.items (length c.args.self.now.starts.items) c.args.level c.index-start.result.now refl inside c.index-start.ensures
+    ap (λ (xs : List ℕ). slice_get xs c.args.level) starts
+    ∙ slice_get_read c.args.self.now.starts.items (length c.args.self.now.starts.items) c.args.level c.index-start.result.now refl inside
+    c.index-start.ensures
     in
     let over : c.index-start.result.now < length c.loop-self.self.steps.items = grind (arith, common_steps) in
     let longer : length c.loop-self.self.steps.items ≡ length c.pop-step.new.self.steps.items + 1 = ap length c.pop-step.ensures.steps ∙ length_push c.pop-step.new.self.steps.items c.pop-step.result in
@@ -35,7 +37,9 @@ returns-clause-trail g c = λ clauses was.
     let starts : c.loop-self.self.starts.items ≡ c.args.self.now.starts.items = ap (λ v. v.items) c.loop-self.invariant.starts in
     let inside : c.args.level < length c.args.self.now.starts.items = grind (arith, common_steps) in
     let at : slice_get c.loop-self.self.starts.items c.args.level ≡ Some c.index-start.result.now =
-    ap (λ (xs : List ℕ). slice_get xs c.args.level) starts ∙ slice_get_read c.args.self.now.starts.items (length c.args.self.now.starts.items) c.args.level c.index-start.result.now refl inside c.index-start.ensures
+    ap (λ (xs : List ℕ). slice_get xs c.args.level) starts
+    ∙ slice_get_read c.args.self.now.starts.items (length c.args.self.now.starts.items) c.args.level c.index-start.result.now refl inside
+    c.index-start.ensures
     in
     let short : length c.loop-self.self.steps.items ≤ c.index-start.result.now = grind (arith, common_steps) in
     rw c.truncate.ensures.items
