@@ -1,7 +1,6 @@
 #!/usr/bin/env bash
 # Tries what README says of another repository that takes the heap: makes an empty repository with the folders and the
-# lines of crates.txt that are named there and no others, writes a caller, and proves it. What an earlier run has built of
-# these crates (out/rlib) is taken along, since rt compares it with the sources; else they are proved here.
+# lines of crates.txt that are named there and no others, writes a caller, and proves all of it from nothing.
 # The last line is 'N passed, M failed'.
 set -u
 here=$(cd "$(dirname "$0")/.." && pwd) || exit 2
@@ -10,10 +9,8 @@ trap 'rm -rf "$there"' EXIT
 cd "$there" && git init -q . || exit 2
 
 for crate in giputils_base giputils_heap; do
-    mkdir -p "crates/$crate/out"
-    for folder in src specs proofs out/rlib; do
-        [ ! -d "$here/crates/$crate/$folder" ] || cp -r "$here/crates/$crate/$folder" "crates/$crate/$folder"
-    done
+    mkdir -p "crates/$crate"
+    cp -r "$here/crates/$crate"/{src,specs,proofs} "crates/$crate" || exit 2
     grep "^$crate:" "$here/crates.txt" >> crates.txt
 done
 echo 'caller: giputils_heap' >> crates.txt

@@ -42,9 +42,9 @@ def stage_of(process):
     if "--crate-name" not in words or not words[0].endswith("rattle"):
         return None
     crate = words[words.index("--crate-name") + 1]
-    # An edit is checked in a copy of the crate.
+    # An edit is checked in a copy of the crate, and the caller in an empty repository is no crate's.
     if not pathlib.Path(folder).is_relative_to(ROOT):
-        return crate, "edits"
+        return (crate, "edits") if "/rt-edit-" in folder else None
     return crate, "tests" if "--test" in words else "proof"
 
 

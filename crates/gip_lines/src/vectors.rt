@@ -12,7 +12,7 @@ use crate::fault::GipFault;
 use crate::texts;
 use crate::transfer::{read_all, write_all};
 use crate::watched::Watched;
-use lines::BitLine;
+use giputils_bits::bitvec::BitVec;
 use replies::replies_to;
 use std::alloc::Allocator;
 use std::io::{Read, Write};
@@ -59,7 +59,7 @@ pub fn bits<A: Allocator + Copy, R: Read, W: Write>(
     ensures unwritten { IfErr result (λ fault. fault ≢ GipFault.Output → writer.new ≡ writer.old) }
 {
     let input = read_all(alloc, reader)?;
-    let lines: Vec<BitLine<A>, A> = texts::parse(alloc, &input)?;
+    let lines: Vec<BitVec<A>, A> = texts::parse(alloc, &input)?;
     let text = replies_to(alloc, &lines)?;
     write_all(writer, &text)
 }

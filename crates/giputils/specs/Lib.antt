@@ -8,6 +8,7 @@ pub use Rattle.giputils_base.specs.Lends
 pub use Rattle.giputils_base.specs.LendsHashed
 pub use Rattle.giputils_base.specs.LendsValue
 pub use Rattle.giputils_base.specs.Others
+pub use Rattle.giputils_base.specs.Room
 pub use Rattle.giputils_bits.specs.BitRun
 pub use Rattle.giputils_bits.specs.Bits
 pub use Rattle.giputils_bits.specs.Error
@@ -15,10 +16,14 @@ pub use Rattle.giputils_bits.specs.Extended
 pub use Rattle.giputils_bits.specs.Hashed
 pub use Rattle.giputils_bits.specs.Logic
 pub use Rattle.giputils_bits.specs.Ones
+pub use Rattle.giputils_bits.specs.Ordered
 pub use Rattle.giputils_bits.specs.Text
+pub use Rattle.giputils_heap.specs.Bounded
 pub use Rattle.giputils_heap.specs.Bounds
+pub use Rattle.giputils_heap.specs.Calls
 pub use Rattle.giputils_heap.specs.Comparers
 pub use Rattle.giputils_heap.specs.Counted
+pub use Rattle.giputils_heap.specs.Falls
 pub use Rattle.giputils_heap.specs.InOrder
 pub use Rattle.giputils_heap.specs.Keys
 pub use Rattle.giputils_heap.specs.Laws

@@ -11,11 +11,12 @@ pub use giputils_base::{allocator, grc, gvec, hash, others};
 pub use giputils_bits::bitvec;
 pub use giputils_stat::{decimal, logger, statistic};
 
-/// A set of small keys that gives up a greatest one and repairs a changed one, lent its comparer at each call.
+/// A set of small keys that gives up a greatest one and repairs a changed one, lent its comparer at each call; and one
+/// that takes all its memory at once.
 pub mod heap {
     pub use giputils_heap::{
-        BinaryHeap, BinaryHeapCmp, ByNumber, ByRank, Counting, HeapCall, HeapKey, HeapReply,
-        HeapStep, RankTable, answers_at_each_step, heap_run, keeps_counts_at_each_step,
-        one_order_is_steady, order_laws, pops_list_downward,
+        BinaryHeap, BinaryHeapCmp, BoundedHeap, ByNumber, ByOrd, ByRank, Counting, HeapCall,
+        HeapKey, HeapReply, HeapStep, RankTable, answers_at_each_step, heap_run,
+        keeps_counts_at_each_step, one_order_is_steady, order_laws, pops_list_downward,
     };
 }

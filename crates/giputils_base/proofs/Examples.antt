@@ -6,7 +6,7 @@ use Rattle.std.proofs.lemmas.Bool.Decides.{nat_tests}
 use Rattle.giputils_base.specs.Others.{option_of}
 use Rattle.giputils_base.specs.Gvec.{swap_remove, FilledTo, IsPlace}
 use Rattle.giputils_base.specs.Hash.{get, last_value, contains, PutsValue, TakesKey, PutsMember, TakesMember, HasUniqueKeys, IsMapOf, IsSetOf}
-use Rattle.giputils_base.specs.Allocator.{value_at, mark_at, live_at, live_count, mark, write, survivors, unmarked_slots, new_index, index_map, table_at, IsIndexMap, IsIndexTable, Renumbers}
+use Rattle.giputils_base.specs.Allocator.{value_at, mark_at, live_at, live_count, live_slots, mark, write, survivors, unmarked_slots, new_index, index_map, table_at, IsIndexMap, IsIndexTable, Renumbers}
 use Rattle.giputils_base.specs.AllocatorRun.{Answers}
 use Rattle.giputils_base.proofs.Renumbering.{Renumbers-index_map}
 use Rattle.giputils_base.specs.declared.allocator.run.GallocCall.{GallocCall}
@@ -117,6 +117,13 @@ a_marked_one_is_not = refl
 two_are_live : live_count slots ≡ 2
 unfolding slots
 two_are_live = refl
+
+each_live_value_has_its_index : live_slots 0 slots ≡ (0, 10) ∷ (2, 30) ∷ []
+unfolding slots
+each_live_value_has_its_index = refl
+
+a_marked_one_is_passed_over : live_slots {T = ℕ} 0 ((10, true) ∷ (20, false) ∷ []) ≡ (0, 10) ∷ (1, 20) ∷ [] → ⊥
+a_marked_one_is_passed_over same = cc
 
 two_survive : survivors slots ≡ 10 ∷ 30 ∷ []
 unfolding slots

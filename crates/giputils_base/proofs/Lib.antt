@@ -1,6 +1,8 @@
 mod Examples
 mod IndexMaps
 mod LastValues
+pub mod LiveValues
+pub mod Members
 mod Renaming
 pub mod Runs
 pub mod Renumbering

@@ -1,5 +1,5 @@
 -- An allocator of indexes as a list of slots. A slot is a value, and whether it is marked as removed.
-use Rattle.std.specs.Prelude.{◌≡◌, ◌↔◌, ℕ, ◌<◌, Bool, true, false, not, List, length, map, filter, take, slice_get, slice_set, Option, Some, None, IsSome, option_map, option_and_then, if◌then◌else◌, nat_eq}
+use Rattle.std.specs.Prelude.{◌≡◌, ◌↔◌, ℕ, ◌+◌, ◌<◌, Bool, true, false, not, List, [], ◌∷◌, length, map, filter, take, slice_get, slice_set, Option, Some, None, IsSome, option_map, option_and_then, if◌then◌else◌, nat_eq}
 use Rattle.std.specs.Option.{option_map_or}
 use Rattle.giputils_base.specs.Hash.{get, HasUniqueKeys}
 
@@ -39,6 +39,12 @@ module _ {T : Type 0} where
   -- how many slots are unmarked
   abbrev pub live_count : List (T × Bool) → ℕ
   live_count slots = length (survivors slots)
+
+  -- the unmarked slots, each as its index and its value, by rising index; the first of all slots has the index `start`
+  abbrev pub live_slots : ℕ → List (T × Bool) → List (ℕ × T)
+  live_slots start [] = []
+  live_slots start (slot ∷ slots) =
+      if slot.1 then live_slots (start + 1) slots else (start, slot.0) ∷ live_slots (start + 1) slots
 
   -- the slots of these values, each unmarked
   abbrev pub unmarked_slots : List T → List (T × Bool)

@@ -6,3 +6,4 @@ pub mod Lends
 pub mod LendsHashed
 pub mod LendsValue
 pub mod Others
+pub mod Room

@@ -5,14 +5,18 @@ ghost use Rattle.std.specs.Borrow.{Lends, sem};
 ghost use Rattle.giputils_base.specs.Hash.{get};
 ghost use Rattle.giputils_base.specs.Allocator.{value_at, mark_at, live_at, live_count, mark, write, survivors, unmarked_slots, table_at, IsIndexMap, IsIndexTable, Renumbers};
 
+mod live;
 mod renaming;
+mod room;
 mod run;
 #[cfg(test)]
 mod tests;
 
 use crate::gvec::Gvec;
 use crate::hash::GHashMap;
+pub use live::Live;
 pub use renaming::rename;
+pub use room::Reserved;
 pub use run::{GallocCall, GallocReply, galloc_run};
 use std::alloc::{AllocError, Allocator, Global};
 use std::marker::Model;

@@ -13,6 +13,9 @@ use std::ops::{Deref, DerefMut, Index, IndexMut};
 use std::vec;
 
 /// A vector, seen as the list of its items.
+///
+/// Its room is that of the `Vec` that it lends ([`Gvec::deref_mut`]), with whose `reserve` and `push_reserved` a list
+/// grows by pushes that can't be refused.
 #[derive(Drop)]
 #[derive_where(Debug; T)]
 pub struct Gvec<T, A: Allocator = Global> {
@@ -126,6 +129,14 @@ impl<T, A: Allocator> Gvec<T, A> {
             self.items.push_reserved(T::default());
         }
         Ok(())
+    }
+
+    /// The `Vec` of the items, with its room. It takes no memory, nor does the way back ([`Gvec::from`]).
+    #[inline]
+    pub fn into_vec(self) -> Vec<T, A>
+        ensures { result.items ≡ self }
+    {
+        self.items
     }
 }
 

@@ -1,6 +1,8 @@
 //! Allocators of indexes, and lists of their calls.
 
-use giputils_base::allocator::{GallocCall, GallocElem, GallocReply, Gallocator, galloc_run};
+use giputils_base::allocator::{
+    GallocCall, GallocElem, GallocReply, Gallocator, galloc_run, rename,
+};
 use giputils_base::gvec::Gvec;
 use giputils_refusing::{Refusing, refuse_each};
 use std::alloc::Allocator;
@@ -33,6 +35,11 @@ fn are_tabled(memory: &Refusing) -> bool {
         return false;
     };
     slots.gc_table().is_ok()
+}
+
+fn is_room_made(memory: &Refusing) -> bool {
+    let mut slots = Slots::new(memory);
+    slots.reserve(3).is_ok() && slots.into_reserved().reserve(9).is_ok()
 }
 
 fn are_allocated(memory: &Refusing) -> bool {
@@ -158,6 +165,7 @@ fn each_request_of_an_allocator_is_refused_in_turn(rt: HostRuntime) {
         ("alloc", refuse_each(alloc, are_allocated), 1),
         ("gc", refuse_each(alloc, are_collected), 2),
         ("gc_table", refuse_each(alloc, are_tabled), 2),
+        ("reserve", refuse_each(alloc, is_room_made), 2),
         ("galloc_run", refuse_each(alloc, is_run), 4),
     ];
     for (call, outcome, least) in outcomes {
@@ -272,6 +280,53 @@ fn slots_are_marked_read_and_written_in_place(rt: HostRuntime) -> Result<(), Fai
     );
     assert_eq!(rt; memory.requests(), counted.requests());
     assert_eq!(rt; Slots::new(&memory).len(), 0);
+    Ok(())
+}
+
+// The value of the second of three slots, taken out.
+fn taken(slots: &mut Slots<'_>) -> Option<u32> {
+    if slots.len() != 3 {
+        return None;
+    }
+    Some(slots.take_out(1, 0))
+}
+
+fn last_live(slots: &Slots<'_>) -> Option<(usize, u32)> {
+    let (index, value) = slots.iter().last()?;
+    Some((index, *value))
+}
+
+#[test]
+fn slots_are_taken_walked_and_renamed_in_place(rt: HostRuntime) -> Result<(), Fail> {
+    let memory = Refusing::none(rt.alloc());
+    let mut slots = three_slots(&memory)?;
+    let mut watched = Vec::from_array(&memory, [2usize, 1])?;
+    let before = memory.requests();
+    let value = taken(&mut slots);
+    rename(&[Some(0), None, Some(1)], &mut watched);
+    let seen = (value, slots.live_len(), slots.get(1).is_none());
+    assert_eq!(rt;
+        (seen, last_live(&slots)),
+        ((Some(20), 2, true), Some((2, 30)))
+    );
+    assert_eq!(rt;
+        (watched.pop(), watched.len(), memory.requests()),
+        (Some(1), 0, before)
+    );
+    Ok(())
+}
+
+#[test]
+fn values_with_room_ahead_take_no_memory(rt: HostRuntime) -> Result<(), Fail> {
+    let memory = Refusing::from(rt.alloc(), 2);
+    let mut slots = Slots::new(&memory);
+    slots.reserve(3)?;
+    slots.alloc(10)?;
+    slots.alloc(20)?;
+    let mut room = slots.into_reserved();
+    room.reserve(1)?;
+    let index = room.alloc_reserved(30);
+    assert_eq!(rt; (index, room.finish().len(), memory.requests()), (2, 3, 1));
     Ok(())
 }
 

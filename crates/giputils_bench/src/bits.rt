@@ -11,8 +11,33 @@ const COMPARISONS: u32 = 64;
 // How often two vectors are joined.
 const JOINTS: u32 = 64;
 
-/// Pushes `size` drawn bits one at a time, and mixes how many are true.
-pub fn push(
+// How often a vector is appended.
+const APPENDS: u32 = 16;
+
+/// Makes the workload of this name, if it is one of this file.
+pub fn run(
+    alloc: Global,
+    workload: &str,
+    size: u32,
+    rng: &mut Generator,
+    checksum: &mut Checksum,
+) -> Result<bool, BitVecError> {
+    match workload {
+        "bits_push" => push(alloc, size, rng, checksum)?,
+        "bits_eq" => eq(alloc, size, rng, checksum)?,
+        "bits_get" => get(alloc, size, rng, checksum)?,
+        "bits_logic" => logic(alloc, size, rng, checksum)?,
+        "bits_hex" => hex(alloc, size, rng, checksum)?,
+        "bits_bin" => bin(alloc, size, rng, checksum)?,
+        "bits_append" => append(alloc, size, Growth::Append, rng, checksum)?,
+        "bits_append_by_push" => append(alloc, size, Growth::Push, rng, checksum)?,
+        _ => return Ok(false),
+    }
+    Ok(true)
+}
+
+// Pushes `size` drawn bits one at a time, and mixes how many are true.
+fn push(
     alloc: Global,
     size: u32,
     rng: &mut Generator,
@@ -31,9 +56,9 @@ pub fn push(
     Ok(())
 }
 
-/// Compares a drawn vector with a copy, turns one bit of the copy, compares again and turns it back, and
-/// mixes which bit and both answers.
-pub fn eq(
+// Compares a drawn vector with a copy, turns one bit of the copy, compares again and turns it back, and
+// mixes which bit and both answers.
+fn eq(
     alloc: Global,
     size: u32,
     rng: &mut Generator,
@@ -55,8 +80,8 @@ pub fn eq(
     Ok(())
 }
 
-/// Reads a drawn bit and sets another, four times as often as there are bits, and mixes what was read and the words.
-pub fn get(
+// Reads a drawn bit and sets another, four times as often as there are bits, and mixes what was read and the words.
+fn get(
     alloc: Global,
     size: u32,
     rng: &mut Generator,
@@ -75,8 +100,8 @@ pub fn get(
     Ok(())
 }
 
-/// Joins two drawn vectors by each operation, again and again, and mixes the words of both.
-pub fn logic(
+// Joins two drawn vectors by each operation, again and again, and mixes the words of both.
+fn logic(
     alloc: Global,
     size: u32,
     rng: &mut Generator,
@@ -87,7 +112,7 @@ pub fn logic(
     for _ in 0..JOINTS {
         a ^= &b;
         b |= &a;
-        a = a.not()?;
+        a.negate();
         b &= &a;
     }
     mix_words(&a, checksum);
@@ -95,8 +120,8 @@ pub fn logic(
     Ok(())
 }
 
-/// Mixes the hexadecimal text of a drawn vector.
-pub fn hex(
+// Mixes the hexadecimal text of a drawn vector.
+fn hex(
     alloc: Global,
     size: u32,
     rng: &mut Generator,
@@ -107,8 +132,8 @@ pub fn hex(
     Ok(())
 }
 
-/// Mixes the binary text of a drawn vector.
-pub fn bin(
+// Mixes the binary text of a drawn vector.
+fn bin(
     alloc: Global,
     size: u32,
     rng: &mut Generator,
@@ -119,20 +144,52 @@ pub fn bin(
     Ok(())
 }
 
-// A vector of `size` drawn bits. The last word is drawn whole.
-fn vector(alloc: Global, size: u32, rng: &mut Generator) -> Result<BitVec, BitVecError>
+// How a vector is appended to another.
+#[derive(Clone, Copy)]
+enum Growth {
+    // Whole.
+    Append,
+    // A bit at a time.
+    Push,
+}
+
+// Appends a bit and then a drawn vector, again and again, so that it seldom comes to stand at a word's beginning, and
+// mixes the words.
+fn append(
+    alloc: Global,
+    size: u32,
+    growth: Growth,
+    rng: &mut Generator,
+    checksum: &mut Checksum,
+) -> Result<(), BitVecError> {
+    let part = vector(alloc, size, rng)?;
+    let mut whole = BitVec::new(alloc);
+    for _ in 0..APPENDS {
+        whole.push(true)?;
+        match growth {
+            Growth::Append => whole.append(&part)?,
+            Growth::Push => push_each(&mut whole, &part)?,
+        }
+    }
+    mix_words(&whole, checksum);
+    Ok(())
+}
+
+// Appends the bits of a vector one at a time.
+fn push_each(bits: &mut BitVec, others: &BitVec) -> Result<(), BitVecError> {
+    for bit in others {
+        bits.push(bit)?;
+    }
+    Ok(())
+}
+
+/// A vector of `size` drawn bits, by words.
+pub fn vector(alloc: Global, size: u32, rng: &mut Generator) -> Result<BitVec, BitVecError>
     ensures { IfOk result (λ bits. length bits ≡ size) }
 {
-    let mut bits = BitVec::new(alloc);
-    for _ in 0..size / 64 {
-        bits.push_word(rng.draw_word())?;
-    }
-    if size % 64 > 0 {
-        let mut word = rng.draw_word();
-        for _ in 0..size % 64 {
-            bits.push(word % 2 == 1)?;
-            word >>= 1;
-        }
+    let mut bits = BitVec::zero(alloc, size as usize)?;
+    for k in 0..bits.word_len() {
+        bits.set_word(k, rng.draw_word());
     }
     Ok(bits)
 }
@@ -148,7 +205,8 @@ fn count_true(bits: &BitVec) -> u64
     count
 }
 
-fn mix_words(bits: &BitVec, checksum: &mut Checksum) {
+/// Mixes the words, in order.
+pub fn mix_words(bits: &BitVec, checksum: &mut Checksum) {
     for word in bits.words() {
         checksum.mix(*word);
     }

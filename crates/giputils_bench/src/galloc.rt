@@ -3,16 +3,32 @@ ghost use Rattle.std.specs.Prelude.{◌≡◌, length, OnOk, IfOk};
 ghost use Rattle.giputils_bench.specs.Galloc.{AreIndexes, LeadsTo};
 
 use crate::common::{Checksum, Generator};
-use giputils_base::allocator::Gallocator;
+use giputils_base::allocator::{Gallocator, rename};
 use giputils_base::hash::GHashMap;
 use std::alloc::{AllocError, Global};
 
 // How often values are allocated and collected again.
 const ROUNDS: u32 = 8;
 
-/// In each round, allocates `size` values, marks about half of all that are held, collects, and takes the held indexes
-/// through the map to their new places, mixing each and its value.
-pub fn galloc(
+/// Makes the workload of this name, if it is one of the index allocator.
+pub fn run(
+    alloc: Global,
+    workload: &str,
+    size: u32,
+    rng: &mut Generator,
+    checksum: &mut Checksum,
+) -> Result<bool, AllocError> {
+    match workload {
+        "galloc" => galloc(alloc, size, rng, checksum)?,
+        "galloc_table" => galloc_table(alloc, size, rng, checksum)?,
+        _ => return Ok(false),
+    }
+    Ok(true)
+}
+
+// In each round, allocates `size` values, marks about half of all that are held, collects, and takes the held indexes
+// through the map to their new places, mixing each and its value.
+fn galloc(
     alloc: Global,
     size: u32,
     rng: &mut Generator,
@@ -25,6 +41,27 @@ pub fn galloc(
         mark_some(&mut gallocator, &held, rng);
         let map = gallocator.gc()?;
         held = renumber(alloc, &gallocator, &map, held, checksum)?;
+    }
+    checksum.mix(held.len() as u64);
+    Ok(())
+}
+
+// The same, with a table in the place of the map: the held indexes are renamed by it where they stand, and then mixed
+// with their values.
+fn galloc_table(
+    alloc: Global,
+    size: u32,
+    rng: &mut Generator,
+    checksum: &mut Checksum,
+) -> Result<(), AllocError> {
+    let mut gallocator = Gallocator::new(alloc);
+    let mut held: Vec<usize> = Vec::new(alloc);
+    for _ in 0..ROUNDS {
+        fill(&mut gallocator, &mut held, size, rng)?;
+        mark_some(&mut gallocator, &held, rng);
+        let table = gallocator.gc_table()?;
+        rename(&table, &mut held);
+        mix_values(&gallocator, &held, checksum);
     }
     checksum.mix(held.len() as u64);
     Ok(())
@@ -79,4 +116,14 @@ fn renumber(
         }
     }
     Ok(kept)
+}
+
+// Mixes each held index and its value.
+fn mix_values(gallocator: &Gallocator<u32>, held: &[usize], checksum: &mut Checksum)
+    requires { AreIndexes gallocator.now held.now }
+{
+    for &index in held {
+        checksum.mix(index as u64);
+        checksum.mix(u64::from(gallocator[index]));
+    }
 }

@@ -10,15 +10,15 @@ mod bits;
 mod common;
 mod galloc;
 mod heap;
+mod sets;
 
 use anyhow::{Context, bail};
 use common::{Checksum, Generator};
-use heap::{Renewal, Repair};
 use std::alloc::Global;
 use std::env;
 use std::process::ExitCode;
 
-const WORKLOADS: [&str; 14] = [
+const WORKLOADS: [&str; 22] = [
     "heapsort",
     "vsids",
     "vsids_up",
@@ -27,12 +27,20 @@ const WORKLOADS: [&str; 14] = [
     "rebuild_by_update",
     "rebuild_std",
     "galloc",
+    "galloc_table",
     "bits_push",
     "bits_eq",
     "bits_get",
     "bits_logic",
     "bits_hex",
     "bits_bin",
+    "bits_count",
+    "bits_ones",
+    "bits_few",
+    "bits_subset",
+    "bits_aig",
+    "bits_append",
+    "bits_append_by_push",
 ];
 
 fn main(rt: HostRuntime) -> anyhow::Result<ExitCode> {
@@ -73,27 +81,25 @@ fn repeat(
     let mut checksum = Checksum::new();
     for rep in 0..reps {
         let mut rng = Generator::new(seed.wrapping_add(rep));
-        match workload {
-            "heapsort" => heap::heapsort(alloc, size, &mut rng, &mut checksum)?,
-            "vsids" => heap::vsids(alloc, size, Repair::Update, &mut rng, &mut checksum)?,
-            "vsids_up" => heap::vsids(alloc, size, Repair::Up, &mut rng, &mut checksum)?,
-            "decrease" => heap::decrease(alloc, size, &mut rng, &mut checksum)?,
-            "rebuild" => {
-                heap::renewals(alloc, size, Renewal::Rebuild, &mut rng, &mut checksum)?;
-            }
-            "rebuild_by_update" => {
-                heap::renewals(alloc, size, Renewal::Update, &mut rng, &mut checksum)?;
-            }
-            "rebuild_std" => heap::renewals_of_std(alloc, size, &mut rng, &mut checksum)?,
-            "galloc" => galloc::galloc(alloc, size, &mut rng, &mut checksum)?,
-            "bits_push" => bits::push(alloc, size, &mut rng, &mut checksum)?,
-            "bits_eq" => bits::eq(alloc, size, &mut rng, &mut checksum)?,
-            "bits_get" => bits::get(alloc, size, &mut rng, &mut checksum)?,
-            "bits_logic" => bits::logic(alloc, size, &mut rng, &mut checksum)?,
-            "bits_hex" => bits::hex(alloc, size, &mut rng, &mut checksum)?,
-            "bits_bin" => bits::bin(alloc, size, &mut rng, &mut checksum)?,
-            _ => return Ok(None),
+        if !run(alloc, workload, size, &mut rng, &mut checksum)? {
+            return Ok(None);
         }
     }
     Ok(Some(checksum))
+}
+
+// Makes the workload of this name, if there is one.
+fn run(
+    alloc: Global,
+    workload: &str,
+    size: u32,
+    rng: &mut Generator,
+    checksum: &mut Checksum,
+) -> anyhow::Result<bool> {
+    Ok(
+        heap::run(alloc, workload, size, rng, checksum)?
+            || galloc::run(alloc, workload, size, rng, checksum)?
+            || bits::run(alloc, workload, size, rng, checksum)?
+            || sets::run(alloc, workload, size, rng, checksum)?,
+    )
 }

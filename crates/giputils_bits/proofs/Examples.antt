@@ -1,16 +1,17 @@
 -- The definitions, computed on worked examples.
-use Rattle.std.specs.Prelude.{◌≡◌, ◌≢◌, ℕ, zero, suc, ◌+◌, ◌^◌, Bool, true, false, List, [], ◌∷◌, ◌++◌, length, replicate, codes, None, refl}
+use Rattle.std.specs.Prelude.{◌≡◌, ◌≢◌, ℕ, zero, suc, ◌+◌, ◌-◌, ◌^◌, Bool, true, false, List, [], ◌∷◌, ◌++◌, length, replicate, codes, None, refl}
 use Rattle.std.specs.Borrow.{Bor}
 use Rattle.std.proofs.Common.{arith, ap, get_or}
-use Rattle.giputils_bits.specs.declared.bitvec.error.BitVecError.TheVariants.{Memory}
+use Rattle.giputils_bits.specs.declared.bitvec.error.BitVecError.TheVariants.{TooLong, Memory}
 use Rattle.giputils_bits.specs.declared.bitvec.run.BitCall.TheVariants.{Push, PushWord, SetBit, GetBit, Clear, Extend, Len, ToUsize, IsZero, IsOne, Bool as BoolCall, TryBool}
 use Rattle.giputils_bits.specs.declared.bitvec.run.BitReply.TheVariants.{Done, Refused, Skipped, Bit, MaybeBit, Number}
-use Rattle.giputils_bits.specs.BitRun.{Answers}
+use Rattle.giputils_bits.specs.BitRun.{Answers, StopsAt, CanRefuseWord, max_len}
 use Rattle.giputils_bits.specs.Bits.{digits_of, value_of, words_of, one_of, with_word}
 use Rattle.giputils_bits.specs.Ones.{true_count, true_places, HasNoneFrom, IsNextOne, HasOne}
-use Rattle.giputils_bits.specs.Text.{binary_text, hex_text}
+use Rattle.giputils_bits.specs.Text.{binary_text, hex_text, places_written, IsNoBinaryText}
+use Rattle.giputils_bits.proofs.BinaryTexts.{no_text, no_empty_text}
 use Rattle.std.specs.Fmt.{digits}
-use Rattle.giputils_bits.specs.Logic.{and_of, or_of, xor_of, not_of}
+use Rattle.giputils_bits.specs.Logic.{and_of, or_of, xor_of, not_of, negated_if}
 
 -- a list, lent
 abbrev lent : List Bool → Bor (List Bool)
@@ -123,6 +124,12 @@ not_of_five = refl
 not_of_ones_has_no_true_place : not_of (replicate 65 true) ≡ replicate 65 false
 not_of_ones_has_no_true_place = refl
 
+a_node_of_four : and_of (negated_if true (true ∷ true ∷ false ∷ false ∷ [])) (negated_if false (true ∷ false ∷ true ∷ false ∷ [])) ≡ false ∷ false ∷ true ∷ false ∷ []
+a_node_of_four = refl
+
+an_input_stays_where_nothing_is_told : negated_if false (true ∷ []) ≢ not_of (true ∷ [])
+an_input_stays_where_nothing_is_told e = cc
+
 -- true places
 
 -- the list of the text 01101
@@ -181,6 +188,26 @@ a_word_wherever_the_bits_end = (omega arith, (omega arith, (refl, (refl, refl)))
 some_items_are_kept : Answers {A = ℕ} (replicate 64 false) (Extend (lent (true ∷ true ∷ [])) ∷ []) (Refused Memory 0 ∷ []) (replicate 64 false)
 some_items_are_kept = ((omega arith, (omega arith, omega arith)), refl)
 
+-- where a call is refused
+
+a_full_word_may_be_refused_another : StopsAt 128 Memory
+a_full_word_may_be_refused_another = (omega arith, refl)
+
+the_greatest_length_ends_all : StopsAt max_len TooLong
+the_greatest_length_ends_all = refl
+
+a_length_below_the_greatest_is_not_too_long : ¬ (StopsAt 128 TooLong)
+a_length_below_the_greatest_is_not_too_long stops = absurd (omega (arith, stops))
+
+a_word_after_a_place_may_be_refused : CanRefuseWord 3 Memory
+a_word_after_a_place_may_be_refused = (omega arith, omega arith)
+
+the_first_word_is_not_refused : ¬ (CanRefuseWord 0 Memory)
+the_first_word_is_not_refused refused = absurd (omega (arith, refused.0))
+
+a_word_past_the_greatest_length : CanRefuseWord (max_len - 63) TooLong
+a_word_past_the_greatest_length = omega arith
+
 -- what is no run
 
 a_read_past_the_end_is_skipped : ¬ (Answers {A = ℕ} [] (GetBit 0 ∷ []) (Bit false ∷ []) [])
@@ -208,6 +235,9 @@ no_place_has_brackets = refl
 
 the_last_place_comes_first : binary_text (true ∷ false ∷ true ∷ true ∷ false ∷ []) ≡ codes "01101"
 the_last_place_comes_first = refl
+
+the_last_digit_is_the_first_place : places_written (codes "01101") ≡ true ∷ false ∷ true ∷ true ∷ false ∷ []
+the_last_digit_is_the_first_place = refl
 
 no_place_has_brackets_in_hexadecimal : hex_text false [] ≡ codes "[]"
 no_place_has_brackets_in_hexadecimal = refl
@@ -243,6 +273,12 @@ two_lists_of_one_text = refl
 
 the_first_place_first : binary_text (true ∷ false ∷ true ∷ true ∷ false ∷ []) ≢ codes "10110"
 the_first_place_first e = absurd (omega (arith, ap (λ t. get_or t 0 0) e))
+
+another_digit : IsNoBinaryText (codes "012")
+another_digit = no_text (codes "012") refl refl
+
+no_byte_at_all : IsNoBinaryText []
+no_byte_at_all = no_empty_text [] refl
 
 inner_words_without_zeros : hex_text false (digits_of 64 7 ++ digits_of 64 1) ≢ codes "0x17"
 unfolding digits_of digits

@@ -1,4 +1,6 @@
 mod Appended
+pub mod BinaryTexts
+mod Conjoined
 pub mod Digits
 mod Errors
 mod Examples
@@ -7,6 +9,9 @@ mod Kept
 pub mod Logic
 pub mod Ones
 mod OnesLeft
+mod Ordered
+mod Overlaid
+mod Parsed
 mod Patterns
 mod Places
 mod Rewritten

@@ -4,7 +4,7 @@ use Rattle.std.specs.List.{zip}
 use Rattle.std.proofs.lemmas.List.{length-map, length-replicate, get_or-map, get_or-replicate, get_or_past}
 use Rattle.std.proofs.lemmas.Bool.{cases_lt, false≢true}
 use Rattle.std.proofs.lemmas.Slice.Zip.{length-zip, get_or-zip}
-use Rattle.giputils_bits.specs.Logic.{zip_with, xor, and_of, or_of, not_of, DeMorgan, DoubleNot, XorWithItself}
+use Rattle.giputils_bits.specs.Logic.{zip_with, xor, and_of, or_of, not_of, negated_if, DeMorgan, DoubleNot, XorWithItself}
 
 -- ---- lists, place by place
 pub length-zip_with : (f : Bool → Bool → Bool) (xs ys : List Bool) → length xs ≡ length ys → length (zip_with f xs ys) ≡ length xs
@@ -34,6 +34,23 @@ length-not_of xs = length-map xs not
 
 pub get_or-not_of : (xs : List Bool) (i : ℕ) → i < length xs → get_or (not_of xs) i false ≡ not (get_or xs i false)
 get_or-not_of xs i l = get_or-map not xs i false false l
+
+pub xor_true : (b : Bool) → xor b true ≡ not b
+xor_true true = refl
+xor_true false = refl
+
+pub xor_false : (b : Bool) → xor b false ≡ b
+xor_false true = refl
+xor_false false = refl
+
+-- a list that is negated where that is told
+pub length-negated_if : (told : Bool) (xs : List Bool) → length (negated_if told xs) ≡ length xs
+length-negated_if true xs = length-not_of xs
+length-negated_if false xs = refl
+
+pub get_or-negated_if : (told : Bool) (xs : List Bool) (i : ℕ) → i < length xs → get_or (negated_if told xs) i false ≡ xor (get_or xs i false) told
+get_or-negated_if true xs i l = get_or-not_of xs i l ∙ sym (xor_true (get_or xs i false))
+get_or-negated_if false xs i l = sym (xor_false (get_or xs i false))
 
 -- ---- De Morgan
 not_and : (x y : Bool) → not (x && y) ≡ (not x || not y)

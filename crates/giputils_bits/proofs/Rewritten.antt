@@ -1,16 +1,16 @@
 -- Words that are rewritten one by one, and the lists that they keep then.
-use Rattle.std.proofs.Common.{◌≡◌, ℕ, ◌+◌, ◌-◌, ◌*◌, ◌/◌, ◌%◌, ◌≢◌, ◌^◌, ◌<◌, Bool, true, false, ◌&&◌, not, List, length, replicate, ◌↔◌, get_or, set, refl, sym, ap, ◌∙◌, arith, inl, inr, w64}
+use Rattle.std.proofs.Common.{◌≡◌, ℕ, ◌+◌, ◌-◌, ◌*◌, ◌/◌, ◌%◌, ◌≢◌, ◌^◌, ◌<◌, Bool, true, false, ◌&&◌, not, List, map, length, replicate, ◌↔◌, get_or, set, refl, sym, ap, ◌∙◌, arith, inl, inr, w64}
 use Rattle.std.specs.Prelude.{bit_and, bit_xor}
 use Rattle.std.specs.Int.{bit_not}
 use Rattle.std.proofs.Math.Bool.{and-true, and-false}
-use Rattle.std.proofs.lemmas.List.{same_lists, get_or_default, length-set, length-replicate, get_or-replicate, get_or-set_same, get_or-set_other}
+use Rattle.std.proofs.lemmas.List.{same_lists, length-map, get_or-map, get_or_past, get_or_default, length-set, length-replicate, get_or-replicate, get_or-set_same, get_or-set_other}
 use Rattle.std.proofs.lemmas.Nat.Bits.{same_from_bits, bit_at-lt}
 use Rattle.std.proofs.lemmas.Bool.{cases_eq, cases_lt}
 use Rattle.giputils_bits.specs.Bits.{has_digit}
 use Rattle.giputils_bits.specs.Logic.{zip_with, xor, not_of}
 use Rattle.giputils_bits.specs.Places.{place, bits_of, IsPacked, MakesZeros, Rewrites, SetsDigit, without_digits}
 use Rattle.giputils_bits.proofs.Digits.{has_digit-and, has_digit-xor, has_digit-not, has_digit-zero, has_digit-above, has_digit-ones, has_digit-ones_above, has_digit-shl_low, has_digit-shl_high, same_digit}
-use Rattle.giputils_bits.proofs.Logic.{length-zip_with, get_or-zip_with, get_or-zip_with_all, get_or-falses, length-not_of, get_or-not_of}
+use Rattle.giputils_bits.proofs.Logic.{xor_true, xor_false, length-zip_with, get_or-zip_with, get_or-zip_with_all, get_or-falses, length-not_of, get_or-not_of}
 use Rattle.giputils_bits.proofs.Places.{place_is, place-past, kept-length, length-bits_of, get_or-bits_of, get_or-bits_of_all, bits_of_is}
 
 -- the digits of one that another has not
@@ -23,14 +23,6 @@ pub has_digit-without : (a b i : ℕ) → has_digit (without_digits a b) i ≡ (
 has_digit-without a b i = has_digit-xor a (bit_and a b) i ∙ ap (xor (has_digit a i)) (has_digit-and a b i) ∙ without_test (has_digit a i) (has_digit b i)
 
 -- ---- a digit turned round
-xor_true : (b : Bool) → xor b true ≡ not b
-xor_true true = refl
-xor_true false = refl
-
-xor_false : (b : Bool) → xor b false ≡ b
-xor_false true = refl
-xor_false false = refl
-
 one-here : (k : ℕ) → k < 64 → has_digit (1 * 2 ^ k % 2 ^ 64) k ≡ true
 one-here k within =
     let none : k - k ≡ 0 = omega arith in
@@ -60,6 +52,13 @@ Rewrites-more f old new i w h e r = record {
     | inr m ↦ get_or-set_other new i k w 0 m ∙ r.done k (omega arith)
   ];
   rest = λ k l. get_or-set_other new i k w 0 (λ q. omega arith) ∙ r.rest k (omega arith);
+}
+
+pub Rewrites-map : (f : ℕ → ℕ) (old : List ℕ) → Rewrites (λ k w. f w) old (map f old) (length old)
+Rewrites-map f old = record {
+  count = length-map old f;
+  done = λ k l. get_or-map f old k 0 0 l;
+  rest = λ k h. get_or_past (map f old) k 0 (omega (arith, length-map old f)) ∙ sym (get_or_past old k 0 h);
 }
 
 -- lists of one length are kept in as many words

@@ -9,7 +9,7 @@ use Rattle.std.proofs.lemmas.Nat.Bits.{same_from_bits, bit_at-zero, bit_at-lt, b
 use Rattle.std.proofs.lemmas.Bool.{cases_eq}
 
 -- numbers that do not differ are equal
-same_from_xor : (a b : ℕ) → bit_xor a b ≡ 0 → a ≡ b
+pub same_from_xor : (a b : ℕ) → bit_xor a b ≡ 0 → a ≡ b
 same_from_xor a b none = same_from_bits a b (λ i.
     let even : (bit_at a i + bit_at b i) % 2 ≡ 0 = sym (bit_at_xor a b i) ∙ ap (λ n. bit_at n i) none ∙ bit_at-zero i in
     omega (arith, even, bit_at-lt a i, bit_at-lt b i))

@@ -134,6 +134,29 @@ module _ (n m : ℕ) (ws : List ℕ) (some : 0 < m) (shorter : m ≤ n) (p : IsP
       ]
       ∙ sym (get_or-take m (bits_of n ws) i false below ∙ get_or-bits_of n ws i false (omega arith)))
 
+-- the digits past the last of m places taken away
+module _ (m : ℕ) (ws : List ℕ) (some : 0 < m) (count : length ws ≡ (m - 1) / 64 + 1) where
+  abbrev pub trimmed : List ℕ
+  trimmed = set ws ((m - 1) / 64) (bit_and (get_or ws ((m - 1) / 64) 0) (2 ^ (m - 64 * ((m - 1) / 64)) - 1))
+
+  as_whole : take ((m - 1) / 64 + 1) ws ≡ ws
+  as_whole = take_all ((m - 1) / 64 + 1) ws (omega (arith, count))
+
+  all_packed : IsPacked (64 * length ws) ws
+  all_packed = record { count = omega (arith, count); padding = λ i past. place-past ws i past }
+
+  fewer_places : take m (bits_of (64 * length ws) ws) ≡ bits_of m ws
+  fewer_places = sym (bits_of_is m ws (take m (bits_of (64 * length ws) ws))
+      (omega (arith, length-take m (bits_of (64 * length ws) ws), length-bits_of (64 * length ws) ws, count)) (λ i below.
+      sym (get_or-take m (bits_of (64 * length ws) ws) i false below
+      ∙ get_or-bits_of (64 * length ws) ws i false (omega (arith, count)))))
+
+  pub IsPacked-trimmed : IsPacked m trimmed
+  IsPacked-trimmed = rw as_whole at (IsPacked-shortened (64 * length ws) m ws some (omega (arith, count)) all_packed)
+
+  pub bits_of-trimmed : bits_of m trimmed ≡ bits_of m ws
+  bits_of-trimmed = (rw as_whole at (bits_of-shortened (64 * length ws) m ws some (omega (arith, count)) all_packed)) ∙ fewer_places
+
 -- a list is all but its last place, and then that one
 pub last_taken : (bs : List Bool) → 0 < length bs → bs ≡ take (length bs - 1) bs ++ get_or bs (length bs - 1) false ∷ []
 last_taken bs some =

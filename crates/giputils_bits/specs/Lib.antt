@@ -5,6 +5,7 @@ pub mod Extended
 pub mod Hashed
 pub mod Logic
 pub mod Ones
+pub mod Ordered
 pub mod Places
 pub mod Spelt
 pub mod Text

@@ -25,6 +25,11 @@ xor_of = zip_with xor
 abbrev pub not_of : List Bool → List Bool
 not_of = map not
 
+-- the list, or each place of it negated where that is told
+abbrev pub negated_if : Bool → List Bool → List Bool
+negated_if true bs = not_of bs
+negated_if false bs = bs
+
 -- De Morgan's laws
 abbrev pub DeMorgan : Type 0
 DeMorgan =

@@ -1,6 +1,6 @@
 -- How words keep a list of booleans: place i is digit i % 64 of word i / 64. Only this crate's own functions speak of
 -- it.
-use Rattle.std.specs.Prelude.{◌≡◌, ◌≢◌, ℕ, ◌+◌, ◌-◌, ◌/◌, ◌%◌, ◌<◌, ◌≤◌, max, Bool, false, List, [], ◌∷◌, ◌++◌, map, length, drop, replicate, slice_index, bit_and, bit_xor}
+use Rattle.std.specs.Prelude.{◌≡◌, ◌≢◌, ℕ, ◌+◌, ◌-◌, ◌/◌, ◌%◌, ◌<◌, ◌≤◌, max, Bool, false, ◌||◌, not, List, [], ◌∷◌, ◌++◌, map, length, drop, replicate, slice_index, bit_and, bit_xor}
 use Rattle.std.specs.List.{range_with_len}
 use Rattle.giputils_bits.specs.Bits.{has_digit, word_count}
 
@@ -52,9 +52,30 @@ pub record Rewrites (f : ℕ → ℕ → ℕ) (old new : List ℕ) (n : ℕ) : T
   pub done : (k : ℕ) → k < n → slice_index new k ≡ f k (slice_index old k)
   pub rest : (k : ℕ) → n ≤ k → slice_index new k ≡ slice_index old k
 
+-- words laid over others from place n on, as far as place `end`: a place is true there where it was, or where the one
+-- laid on it is
+pub record Overlays (n : ℕ) (others old new : List ℕ) (end : ℕ) : Type 0 where
+  pub count : length new ≡ length old
+  pub before : (i : ℕ) → i < n → place new i ≡ place old i
+  pub laid : (i : ℕ) → n ≤ i → i < end → place new i ≡ (place old i || place others (i - n))
+  pub rest : (i : ℕ) → end ≤ i → place new i ≡ place old i
+
+-- the first n places of both are the same
+abbrev pub AlikeBelow : List ℕ → List ℕ → ℕ → Type 0
+AlikeBelow words others n = (i : ℕ) → i < n → place words i ≡ place others i
+
+-- at the first place that differs the words have this bit, and the others the contrary
+abbrev pub IsDecided : List ℕ → List ℕ → Bool → Type 0
+IsDecided words others bit =
+    (i : ℕ) × AlikeBelow words others i × (place words i ≡ bit) × (place others i ≡ not bit)
+
 -- the number without the digits that another has
 abbrev pub without_digits : ℕ → ℕ → ℕ
 without_digits a b = bit_xor a (bit_and a b)
+
+-- the digits that both numbers have, each with those of its mask turned round
+abbrev pub common_digits : ℕ → ℕ → ℕ → ℕ → ℕ
+common_digits a mask_a b mask_b = bit_and (bit_xor a mask_a) (bit_xor b mask_b)
 
 -- f makes 0 of each word and the one at its place
 abbrev pub MakesZeros : (ℕ → ℕ → ℕ) → List ℕ → List ℕ → Type 0

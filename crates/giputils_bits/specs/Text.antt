@@ -1,5 +1,5 @@
 -- The texts of a list of booleans.
-use Rattle.std.specs.Prelude.{◌≡◌, ◌≢◌, ◌↔◌, ℕ, zero, suc, ◌+◌, ◌-◌, ◌*◌, ◌/◌, ◌%◌, ◌==◌, Bool, true, false, List, [], ◌∷◌, ◌++◌, map, reverse, length, codes, if◌then◌else◌}
+use Rattle.std.specs.Prelude.{◌≡◌, ◌≢◌, ◌↔◌, ℕ, zero, suc, ◌+◌, ◌-◌, ◌*◌, ◌/◌, ◌%◌, ◌==◌, ◌||◌, Bool, true, false, List, [], ◌∷◌, ◌++◌, map, reverse, length, codes, if◌then◌else◌}
 use Rattle.std.specs.Fmt.{digit_glyph, digits}
 use Rattle.giputils_bits.specs.Bits.{value_of, word_count, word_of}
 
@@ -12,6 +12,18 @@ bit_glyph false = 48
 abbrev pub binary_text : List Bool → List ℕ
 binary_text [] = codes "[]"
 binary_text (b ∷ bs) = map bit_glyph (reverse (b ∷ bs))
+
+-- whether a byte is the digit 0 or 1
+abbrev pub is_binary_digit : ℕ → Bool
+is_binary_digit byte = (byte == 48) || (byte == 49)
+
+-- the places that digits write, the last digit the first place
+abbrev pub places_written : List ℕ → List Bool
+places_written text = map (λ digit. digit == 49) (reverse text)
+
+-- it is the binary text of no list
+abbrev pub IsNoBinaryText : List ℕ → Type 0
+IsNoBinaryText text = (bs : List Bool) → text ≢ binary_text bs
 
 -- the n lowest digits of a number in the base, the highest of them first
 abbrev pub lowest_digits : ℕ → ℕ → ℕ → List ℕ

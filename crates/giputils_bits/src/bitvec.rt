@@ -9,6 +9,7 @@ mod iter;
 mod logic;
 mod make;
 mod ones;
+mod parsed;
 mod queries;
 mod run;
 mod storage;

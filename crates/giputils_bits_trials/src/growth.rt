@@ -1,7 +1,7 @@
 //! How many requests a vector of more than 64 bits makes.
 
 use giputils_bits::bitvec::BitVec;
-use giputils_refusing::{Refusing, refuse_each};
+use giputils_refusing::{Refusing, refuse_each, refuse_from_each};
 use rand_core::Rng;
 use rand_pcg::Pcg32;
 
@@ -34,8 +34,13 @@ fn is_drawn(memory: &Refusing) -> bool {
     BitVec::new_rand(memory, 2, &mut rng).is_ok() || rng.next_u32() != FIRST_DRAWN
 }
 
+// An iterator that tells its length is one request. Where that is refused, another is made for a word.
 fn is_collected(memory: &Refusing) -> bool {
-    BitVec::from(memory, [true; 65]).is_ok()
+    BitVec::from(memory, [true; 300]).is_ok()
+}
+
+fn is_read(memory: &Refusing) -> bool {
+    BitVec::from_binary_text(memory, &[b'1'; 300]).is_ok()
 }
 
 fn is_cloned(memory: &Refusing) -> bool {
@@ -60,10 +65,32 @@ fn is_resized(memory: &Refusing) -> bool {
         && bits.resize(65, true).is_ok()
 }
 
-// A vector of one full word is extended by a bit.
+// A vector that is not aligned is appended to one of a full word.
+fn is_appended(memory: &Refusing) -> bool {
+    let mut bits = BitVec::new(memory);
+    let Ok(more) = BitVec::ones(memory, 63) else {
+        return false;
+    };
+    bits.append(&more).is_ok() && bits.append(&more).is_ok()
+}
+
+// There is room for 200 bits at once.
+fn is_reserved(memory: &Refusing) -> bool {
+    let mut bits = BitVec::new(memory);
+    bits.push(true).is_ok() && bits.reserve(199).is_ok() && bits.resize(200, true).is_ok()
+}
+
+fn is_made_with_room(memory: &Refusing) -> bool {
+    let Ok(mut bits) = BitVec::with_capacity(memory, 200) else {
+        return false;
+    };
+    bits.resize(200, true).is_ok()
+}
+
+// A vector of one full word is extended by more.
 fn is_extended(memory: &Refusing) -> bool {
     let mut bits = BitVec::new(memory);
-    bits.push_word(7).is_ok() && bits.extend([true]).is_ok()
+    bits.push_word(7).is_ok() && bits.extend([true; 200]).is_ok()
 }
 
 // A vector of one full word is followed by a bit.
@@ -88,11 +115,15 @@ fn each_request_of_a_bit_vector_is_refused_in_turn(rt: HostRuntime) {
         ("one", refuse_each(alloc, is_one_made), 1),
         ("from_usize", refuse_each(alloc, is_numbered), 1),
         ("new_rand", refuse_each(alloc, is_drawn), 1),
-        ("from", refuse_each(alloc, is_collected), 1),
+        ("from", refuse_from_each(alloc, is_collected), 1),
+        ("from_binary_text", refuse_each(alloc, is_read), 1),
         ("clone", refuse_each(alloc, is_cloned), 2),
         ("not", refuse_each(alloc, is_negated), 2),
         ("resize", refuse_each(alloc, is_resized), 1),
-        ("extend", refuse_each(alloc, is_extended), 1),
+        ("append", refuse_each(alloc, is_appended), 1),
+        ("reserve", refuse_each(alloc, is_reserved), 1),
+        ("with_capacity", refuse_each(alloc, is_made_with_room), 1),
+        ("extend", refuse_from_each(alloc, is_extended), 1),
         ("push", refuse_each(alloc, is_bit_pushed), 1),
         ("push_word", refuse_each(alloc, is_word_pushed), 1),
     ];

@@ -112,19 +112,32 @@ fn a_cleared_vector_keeps_its_memory(rt: HostRuntime) -> Result<(), Fail> {
     Ok(())
 }
 
-// A join by value, whose right side is false everywhere. Tells whether the answer was right.
+// Joins by value, the right side false everywhere, and lent twice. Tells whether the answer was right.
 fn is_joined_by_value(memory: &Refusing, len: usize) -> bool {
-    let (Ok(and), Ok(other)) = (
+    let (Ok(bits), Ok(other)) = (
         BitVec::from_elem(memory, len, true),
         BitVec::from_elem(memory, len, false),
     ) else {
         return false;
     };
-    if and.len() != other.len() {
+    if bits.len() != other.len() {
         return false;
     }
-    let joined = and & other;
-    joined.iter().all(|bit| !bit) && joined.len() == len
+    let bits = bits ^ &other;
+    if bits.len() != other.len() {
+        return false;
+    }
+    let bits = bits | &other;
+    if bits.len() != other.len() || !bits.all() {
+        return false;
+    }
+    let bits = bits & &other;
+    if bits.len() != other.len() || !bits.none() {
+        return false;
+    }
+    let mut bits = !(bits | other);
+    bits.negate();
+    bits.none() && bits.len() == len
 }
 
 #[test]

@@ -1,7 +1,7 @@
 //! What stands in a vector that was refused memory as it grew.
 
 use giputils_bits::bitvec::BitVec;
-use giputils_refusing::{Refusing, refuse_each};
+use giputils_refusing::{Refusing, refuse_each, refuse_from_each};
 use std::test::Fail;
 
 // The three bits that a vector begins with.
@@ -85,7 +85,7 @@ fn what_came_before_a_refusal_stands(rt: HostRuntime) {
     let outcomes = [
         ("push", refuse_each(alloc, is_pushed)),
         ("push_word", refuse_each(alloc, is_word_pushed)),
-        ("extend", refuse_each(alloc, is_extended)),
+        ("extend", refuse_from_each(alloc, is_extended)),
     ];
     for (call, outcome) in outcomes {
         assert!(rt;

@@ -14,6 +14,8 @@ mod hashed;
 #[cfg(test)]
 mod in_place;
 #[cfg(test)]
+mod joined;
+#[cfg(test)]
 mod left;
 #[cfg(test)]
 mod runs;

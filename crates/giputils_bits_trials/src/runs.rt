@@ -1,7 +1,7 @@
 //! Runs of calls that are refused memory.
 
 use giputils_bits::bitvec::{BitCall, BitReply, BitVecError, bit_run};
-use giputils_refusing::{Refusing, refuse_each};
+use giputils_refusing::{Refusing, refuse_from_each};
 
 // A run that grows and negates a vector.
 fn is_run(memory: &Refusing) -> bool {
@@ -28,7 +28,7 @@ fn is_run(memory: &Refusing) -> bool {
 // How many requests a growing vector makes is open: the replies, a second word and a negation make one each.
 #[test]
 fn each_request_of_a_run_is_refused_in_turn(rt: HostRuntime) {
-    let outcome = refuse_each(rt.alloc(), is_run);
+    let outcome = refuse_from_each(rt.alloc(), is_run);
     assert!(rt; outcome.is_ok_and(|requests| requests >= 3), "{outcome:?}");
 }
 
@@ -51,7 +51,7 @@ fn goes_on(memory: &Refusing) -> bool {
 
 #[test]
 fn a_run_goes_on_after_a_refusal(rt: HostRuntime) {
-    let memory = Refusing::nth(rt.alloc(), 2);
+    let memory = Refusing::from(rt.alloc(), 2);
     assert!(rt; goes_on(&memory));
 }
 

@@ -40,6 +40,11 @@ pub and_not-or : (a b : Bool) → (a ≡ true → b ≡ false) → b ≡ ((a || 
 and_not-or true b fails = fails refl
 and_not-or false b fails = sym (and-true b)
 
+-- a test is itself without another, where it fails with that
+pub and_not-itself : (a b : Bool) → (a ≡ true → b ≡ false) → b ≡ (b && not a)
+and_not-itself true b fails = rw (fails refl) refl
+and_not-itself false b fails = sym (and-true b)
+
 -- tests that agree are equal
 pub beq-true : (a b : Bool) → beq a b ≡ true → a ≡ b
 beq-true true true e = refl

@@ -71,6 +71,15 @@ module _ {T : Type 0} where
         (λ x x_kept. list_all-filter kept (λ y. beq (by_rank number ranks x y) (by_rank number (set ranks (number v) r) x y))
         (λ y y_kept. rw (rank_of-other v x ranks r x_kept, rank_of-other v y ranks r y_kept) (beq-refl (by_rank number ranks x y))) keys) keys
 
+    -- the other way round too
+    pub AgreesExcept-by_least_rank : (v : T) (ranks : List ℕ) (r : ℕ) (keys : List T)
+        → AgreesExcept number v (reverse_of (by_rank number ranks)) (reverse_of (by_rank number (slice_set ranks (number v) r))) keys
+    AgreesExcept-by_least_rank v ranks r keys =
+        let kept : T → Bool = λ k. not (same_key number v k) in
+        list_all-filter kept (λ x. list_all (λ y. beq (by_rank number ranks y x) (by_rank number (set ranks (number v) r) y x)) (filter kept keys))
+        (λ x x_kept. list_all-filter kept (λ y. beq (by_rank number ranks y x) (by_rank number (set ranks (number v) r) y x))
+        (λ y y_kept. rw (rank_of-other v x ranks r x_kept, rank_of-other v y ranks r y_kept) (beq-refl (by_rank number ranks y x))) keys) keys
+
     -- where the rank rises, so does the key
     pub HasRisen-by_rank : (v : T) (ranks : List ℕ) (r : ℕ) (keys : List T) → number v < length ranks → rank_of ranks (number v) ≤ r
         → HasRisen v (by_rank number ranks) (by_rank number (slice_set ranks (number v) r)) keys

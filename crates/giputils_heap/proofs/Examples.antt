@@ -4,11 +4,12 @@ use Rattle.std.proofs.Common.{◌≡◌, ℕ, ◌+◌, Bool, true, false, ◌||�
 use Rattle.std.specs.Prelude.{◌%◌, ◌==◌}
 use Rattle.std.specs.List.{IsDistinct}
 use Rattle.std.proofs.lemmas.Bool.{false≢true}
-use Rattle.giputils_heap.specs.Comparers.{by_number, reverse_of, by_rank}
-use Rattle.giputils_heap.specs.Bounds.{floor_log2}
+use Rattle.std.specs.Ordering.{nat_cmp}
+use Rattle.giputils_heap.specs.Comparers.{by_number, reverse_of, by_rank, by_ord}
+use Rattle.giputils_heap.specs.Bounds.{floor_log2, drain_bound}
 use Rattle.giputils_heap.specs.Record.{Entry, start, answers_from, is_steady, keeps_counts_from, record_of, held_before, KeepsSteps}
 use Rattle.giputils_heap.specs.Laws.{is_descending, PopUntilNone, ListsDownward}
-use Rattle.giputils_heap.specs.Relations.{is_total, is_transitive, is_lawful, agrees_except, has_no_ties, HasRisen, HasFallen}
+use Rattle.giputils_heap.specs.Relations.{is_total, is_transitive, is_lawful, agrees_except, has_no_ties, HasRisen, HasFallen, CanRepair}
 use Rattle.giputils_heap.specs.declared.run.HeapCall.{HeapCall}
 use Rattle.giputils_heap.specs.declared.run.HeapCall.TheVariants.{Push, Pop, Up, Down, Update, Rebuild, Clear, Len, IsEmpty}
 use Rattle.giputils_heap.specs.declared.run.HeapReply.{HeapReply}
@@ -569,3 +570,34 @@ no_rank_past_the_end = refl
 
 less_than_any_rank_past_the_end : at_least (ranked (0 ∷ 1 ∷ [])) 2 1 ≡ false
 less_than_any_rank_past_the_end = refl
+
+-- ---- ranks of any order
+
+abbrev scores : List ℕ
+scores = 7 ∷ 9 ∷ 7 ∷ []
+
+by_a_greater_score : by_ord number nat_cmp scores 1 2 ≡ true
+by_a_greater_score = refl
+
+of_one_score_the_greater_number : by_ord number nat_cmp scores 2 0 ≡ true
+of_one_score_the_greater_number = refl
+
+not_the_smaller : by_ord number nat_cmp scores 0 2 ≡ false
+not_the_smaller = refl
+
+a_key_without_a_score_is_last : by_ord number nat_cmp scores 3 0 ≡ false
+a_key_without_a_score_is_last = refl
+
+-- ---- a repair
+
+one_changed_rank : CanRepair number 1 (by_rank number (5 ∷ 3 ∷ [])) (by_rank number (5 ∷ 9 ∷ [])) (0 ∷ 1 ∷ [])
+one_changed_rank = record { lawful = refl; agrees = refl; lawful_now = refl }
+
+two_changed_ranks : CanRepair number 1 (by_rank number (5 ∷ 3 ∷ 4 ∷ [])) (by_rank number (4 ∷ 9 ∷ 5 ∷ [])) (0 ∷ 1 ∷ 2 ∷ []) → ⊥
+two_changed_ranks can = false≢true can.agrees
+
+-- ---- how often all keys may compare
+
+of_eight_keys : drain_bound 8 ≡ 48
+unfolding floor_log2
+of_eight_keys = refl

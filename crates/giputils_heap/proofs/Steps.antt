@@ -7,7 +7,7 @@ use Rattle.std.specs.List.Sorted.{IsPermutation}
 use Rattle.std.proofs.lemmas.Bool.{and_parts, and_from, or_cases, cases_Bool, false≢true, lt-ltb}
 use Rattle.std.proofs.lemmas.List.Sorted.{IsPermutation-sym}
 use Rattle.std.proofs.lemmas.Map.Keys.{IsDistinct-tail}
-use Rattle.giputils_heap.specs.Keys.{same_key, is_held, AreDistinct, HoldAlike, without, key_limit}
+use Rattle.giputils_heap.specs.Keys.{same_key, is_held, AreDistinct, HoldAlike, HoldsWithin, without, key_limit}
 use Rattle.giputils_heap.specs.Relations.{is_lawful, IsLawful, agree_on, AgreeOn, agrees_except, AgreesExcept, is_greatest, IsGreatest}
 use Rattle.giputils_heap.specs.InOrder.{IsInOrder, KeepsOrder, RepairsChanged, RepairsRisen, RepairsFallen}
 use Rattle.giputils_heap.proofs.OrderLaws.{IsInOrder-empty, IsInOrder-agree}
@@ -20,7 +20,7 @@ use Rattle.giputils_heap.specs.Stands.{Stands, IsInOrderByLast, IsInOrderSince}
 use Rattle.giputils_heap.proofs.BoolsAndLists.{implied_from}
 use Rattle.giputils_heap.proofs.KeySets.{is_held-head, AreDistinct-nil, AreDistinct-IsPermutation}
 use Rattle.giputils_heap.proofs.Preorders.{agree_on-refl}
-use Rattle.giputils_heap.proofs.HoldAlike.{nil_from_alike, is_nil-HoldAlike, length-HoldAlike, HoldAlike-cons, HoldAlike-IsPermutation, HoldAlike-taken, AreDistinct-cons, AreDistinct-filter, HoldsWithin, HoldsWithin-alike, HoldsWithin-cons, HoldAlike-without, list_all-fewer, all_pairs-fewer, IsLawful-fewer, IsGreatest-HoldAlike}
+use Rattle.giputils_heap.proofs.HoldAlike.{nil_from_alike, is_nil-HoldAlike, length-HoldAlike, HoldAlike-cons, HoldAlike-IsPermutation, HoldAlike-taken, AreDistinct-cons, AreDistinct-filter, HoldsWithin-alike, HoldsWithin-cons, HoldAlike-without, list_all-fewer, all_pairs-fewer, IsLawful-fewer, IsGreatest-HoldAlike}
 
 -- where a key would be popped and none is, there is none
 nil_from_no_some : {T : Type 0} (keys : List T) → (0 < length keys → IsSome {T = T} None) → keys ≡ []

@@ -1,6 +1,6 @@
 //! Comparers that everyone writes: by number, the other way round, and by rank.
 ghost use Rattle.std.specs.Prelude.{◌≡◌};
-ghost use Rattle.giputils_heap.specs.Comparers.{by_number, reverse_of, rank_of, by_rank};
+ghost use Rattle.giputils_heap.specs.Comparers.{by_number, reverse_of, rank_of, by_rank, by_ord};
 
 #[cfg(test)]
 mod tests;
@@ -54,6 +54,24 @@ impl<T: HeapKey> BinaryHeapCmp<T> for ByRank<'_> {
         let (s, o) = (s.key(), o.key());
         let (s_rank, o_rank) = (self.rank(s), self.rank(o));
         s_rank > o_rank || s_rank == o_rank && s >= o
+    }
+}
+
+/// Compares keys by their ranks in a table, whose order is that of any type `R`, and those of one rank by number.
+///
+/// The rank of a key stands in the table at the place of its number; a key past the table's end comes after all others.
+/// As an `Ord` is a total order, so is this on any keys: an activity may be a `u64`, or a key of one's own that wraps a
+/// float.
+#[derive(Clone, Copy, Debug)]
+pub struct ByOrd<'a, R>(pub &'a [R]);
+
+impl<T: HeapKey, R: Ord> BinaryHeapCmp<T> for ByOrd<'_, R> {
+    ghost at_least = { λ c. by_ord T.number R.cmp c.0.now };
+
+    fn gte(&self, s: T, o: T) -> bool {
+        let (s, o) = (s.key(), o.key());
+        let order = self.0.get(s as usize).cmp(&self.0.get(o as usize));
+        order.then(s.cmp(&o)).is_ge()
     }
 }
 

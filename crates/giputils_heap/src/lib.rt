@@ -1,6 +1,8 @@
 //! A binary heap of small integer keys, lent its comparer at each call.
 #![tactic(auto)]
 
+pub mod bounded;
+mod calls;
 pub mod comparers;
 pub mod counting;
 pub mod heap;
@@ -11,7 +13,8 @@ mod sift;
 mod table;
 mod tree;
 
-pub use comparers::{ByNumber, ByRank, RankTable};
+pub use bounded::BoundedHeap;
+pub use comparers::{ByNumber, ByOrd, ByRank, RankTable};
 pub use counting::Counting;
 pub use heap::{BinaryHeap, order_laws};
 pub use key::{BinaryHeapCmp, HeapKey};

@@ -6,6 +6,8 @@
 #![tactic(auto)]
 
 #[cfg(test)]
+mod bounded;
+#[cfg(test)]
 mod comparers;
 #[cfg(test)]
 mod comparisons;

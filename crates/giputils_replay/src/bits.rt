@@ -1,9 +1,9 @@
 //! Lists of calls of a bit vector.
 ghost use Rattle.std.specs.Prelude.{◌<◌, IfOk};
 
-use crate::calls::NotACall;
 use anyhow::Context;
 use giputils_bits::bitvec::BitVec;
+use giputils_calls::NotACall;
 use std::alloc::Global;
 use std::io::{self, Write};
 
@@ -11,17 +11,53 @@ use std::io::{self, Write};
 pub fn replay<W: Write>(alloc: Global, out: &mut W, lines: &[String]) -> anyhow::Result<()> {
     let mut bits = BitVec::new(alloc);
     for (i, line) in lines.iter().enumerate() {
-        let words: Vec<&str> = line.split(' ').collect(alloc)?;
-        if let Some(made) = make(alloc, &words).context(format_args!("call {}", i + 1))? {
-            bits = made;
-            writeln!(out, "ok")?;
-        } else if grow(&mut bits, &words).context(format_args!("call {}", i + 1))? {
-            writeln!(out, "ok")?;
-        } else {
-            ask(alloc, out, &mut bits, &words).context(format_args!("call {}", i + 1))?;
-        }
+        answer(alloc, out, &mut bits, line).context(format_args!("call {}", i + 1))?;
     }
     Ok(())
+}
+
+// The answer to a call.
+#[derive(Clone, Copy)]
+enum Reply {
+    Done,
+    // The call's condition does not hold.
+    Skipped,
+    Number(usize),
+    Flag(bool),
+    Bit(Option<bool>),
+}
+
+// Makes the call of a line, and writes its reply.
+fn answer<W: Write>(
+    alloc: Global,
+    out: &mut W,
+    bits: &mut BitVec,
+    line: &str,
+) -> anyhow::Result<()> {
+    let words: Vec<&str> = line.split(' ').collect(alloc)?;
+    if !show(out, bits, &words)? {
+        let reply = call(alloc, bits, &words)?;
+        write_reply(out, reply)?;
+    }
+    Ok(())
+}
+
+// Makes the call that the words stand for.
+fn call(alloc: Global, bits: &mut BitVec, words: &[&str]) -> anyhow::Result<Reply> {
+    if let Some(made) = make(alloc, words)? {
+        *bits = made;
+        return Ok(Reply::Done);
+    }
+    if change(bits, words)? {
+        return Ok(Reply::Done);
+    }
+    Ok(match *words {
+        [name] => ask(bits, name)?,
+        ["get", index] => get(bits, index.parse()?),
+        ["set", index, bit] => set(bits, index.parse()?, bit == "1"),
+        [name, text] => join(alloc, bits, name, text)?,
+        _ => return Err(NotACall.into()),
+    })
 }
 
 // The vector that a constructor's words make, if they are a constructor's: `from BITS`, `from_elem LEN BIT`,
@@ -51,83 +87,58 @@ fn positive(word: &str) -> Result<usize, NotACall>
     Ok(number)
 }
 
-// Makes the call of `push BIT`, `push_word WORD`, `extend BITS` or `clear`, if the words are one of these.
-fn grow(bits: &mut BitVec, words: &[&str]) -> anyhow::Result<bool> {
+// Makes the call of `push BIT`, `push_word WORD`, `extend BITS`, `invert` or `clear`, if the words are one of these.
+fn change(bits: &mut BitVec, words: &[&str]) -> anyhow::Result<bool> {
     match *words {
         ["push", bit] => bits.push(bit == "1")?,
         ["push_word", word] => bits.push_word(word.parse()?)?,
         ["extend", items] => bits.extend(items.bytes().map(|digit| digit == b'1'))?,
+        ["invert"] => *bits = bits.not()?,
         ["clear"] => bits.clear(),
         _ => return Ok(false),
     }
     Ok(true)
 }
 
-// Makes another call, and writes its reply: a number, a truth value, `ok`, `some BIT`, `none`, the bits of an iterator,
-// a text of the vector, or `skipped` where the call's condition does not hold.
-fn ask<W: Write>(
-    alloc: Global,
-    out: &mut W,
-    bits: &mut BitVec,
-    words: &[&str],
-) -> anyhow::Result<()> {
-    match *words {
-        ["get", index] => {
-            let index: usize = index.parse()?;
-            if index < bits.len() {
-                writeln!(out, "{}", bits.get(index))?;
-            } else {
-                writeln!(out, "skipped")?;
-            }
-        }
-        ["set", index, bit] => {
-            let index: usize = index.parse()?;
-            if index < bits.len() {
-                bits.set(index, bit == "1");
-                writeln!(out, "ok")?;
-            } else {
-                writeln!(out, "skipped")?;
-            }
-        }
-        ["len"] => writeln!(out, "{}", bits.len())?,
-        ["word_len"] => writeln!(out, "{}", bits.word_len())?,
-        ["to_usize"] => writeln!(out, "{}", bits.to_usize())?,
-        ["is_empty"] => writeln!(out, "{}", bits.is_empty())?,
-        ["is_zero" | "is_one" | "is_ones"] if bits.is_empty() => writeln!(out, "skipped")?,
-        ["is_zero"] => writeln!(out, "{}", bits.is_zero())?,
-        ["is_one"] => writeln!(out, "{}", bits.is_one())?,
-        ["is_ones"] => writeln!(out, "{}", bits.is_ones())?,
-        ["try_bool"] => match bits.try_bool() {
-            Some(bit) => writeln!(out, "some {bit}")?,
-            None => writeln!(out, "none")?,
-        },
-        ["iter", steps] => write_steps(out, bits, steps)?,
-        ["bin"] => writeln!(out, "{bits}")?,
-        ["hex"] => writeln!(out, "{}", bits.lower_hex())?,
-        ["HEX"] => writeln!(out, "{}", bits.upper_hex())?,
-        ["invert"] => {
-            *bits = bits.not()?;
-            writeln!(out, "ok")?;
-        }
-        [name, text] => join(alloc, out, bits, name, text)?,
-        _ => return Err(NotACall.into()),
-    }
-    Ok(())
+// The reply to a question of one word.
+fn ask(bits: &BitVec, name: &str) -> Result<Reply, NotACall> {
+    Ok(match name {
+        "len" => Reply::Number(bits.len()),
+        "word_len" => Reply::Number(bits.word_len()),
+        "to_usize" => Reply::Number(bits.to_usize()),
+        "is_empty" => Reply::Flag(bits.is_empty()),
+        "try_bool" => Reply::Bit(bits.try_bool()),
+        "is_zero" | "is_one" | "is_ones" if bits.is_empty() => Reply::Skipped,
+        "is_zero" => Reply::Flag(bits.is_zero()),
+        "is_one" => Reply::Flag(bits.is_one()),
+        "is_ones" => Reply::Flag(bits.is_ones()),
+        _ => return Err(NotACall),
+    })
 }
 
-// Joins the vector by `and`, `or` or `xor` with the one that has this text, the last bit first, and writes `ok`, or
-// `skipped` where their lengths differ.
-fn join<W: Write>(
-    alloc: Global,
-    out: &mut W,
-    bits: &mut BitVec,
-    name: &str,
-    text: &str,
-) -> anyhow::Result<()> {
+fn get(bits: &BitVec, index: usize) -> Reply {
+    if index < bits.len() {
+        Reply::Flag(bits.get(index))
+    } else {
+        Reply::Skipped
+    }
+}
+
+fn set(bits: &mut BitVec, index: usize, bit: bool) -> Reply {
+    if index < bits.len() {
+        bits.set(index, bit);
+        Reply::Done
+    } else {
+        Reply::Skipped
+    }
+}
+
+// Joins the vector by `and`, `or` or `xor` with the one that has this text, the last bit first, where the lengths are
+// alike.
+fn join(alloc: Global, bits: &mut BitVec, name: &str, text: &str) -> anyhow::Result<Reply> {
     let other = BitVec::from(alloc, text.bytes().rev().map(|digit| digit == b'1'))?;
     if bits.len() != other.len() {
-        writeln!(out, "skipped")?;
-        return Ok(());
+        return Ok(Reply::Skipped);
     }
     match name {
         "and" => *bits &= &other,
@@ -135,8 +146,31 @@ fn join<W: Write>(
         "xor" => *bits ^= &other,
         _ => return Err(NotACall.into()),
     }
-    writeln!(out, "ok")?;
-    Ok(())
+    Ok(Reply::Done)
+}
+
+// Writes a reply as a line: a number, a truth value, `ok`, `some BIT`, `none` or `skipped`.
+fn write_reply<W: Write>(out: &mut W, reply: Reply) -> io::Result<()> {
+    match reply {
+        Reply::Done => writeln!(out, "ok"),
+        Reply::Skipped => writeln!(out, "skipped"),
+        Reply::Number(n) => writeln!(out, "{n}"),
+        Reply::Flag(flag) => writeln!(out, "{flag}"),
+        Reply::Bit(Some(bit)) => writeln!(out, "some {bit}"),
+        Reply::Bit(None) => writeln!(out, "none"),
+    }
+}
+
+// Writes a text of the vector, or the bits of an iterator, if the words ask for one.
+fn show<W: Write>(out: &mut W, bits: &BitVec, words: &[&str]) -> io::Result<bool> {
+    match *words {
+        ["iter", steps] => write_steps(out, bits, steps)?,
+        ["bin"] => writeln!(out, "{bits}")?,
+        ["hex"] => writeln!(out, "{}", bits.lower_hex())?,
+        ["HEX"] => writeln!(out, "{}", bits.upper_hex())?,
+        _ => return Ok(false),
+    }
+    Ok(true)
 }
 
 // Takes bits from the front at `n` and from the back at any other step, and writes each as a digit, and `-` at the end.

@@ -2,14 +2,17 @@
 //!
 //! A line `new NAME ..` begins a list and names the container that its calls are made on, which is
 //! empty at first. It is answered by itself. A container has a module of its own, which parses its
-//! calls and writes its replies. `new texts` begins a list of lines that ask for texts of statistics.
+//! calls and writes its replies. `new texts` begins a list of lines that ask for texts of statistics,
+//! and `new formulas` one of formulas.
 //!
 //! The lists of the file `stdin` and the answers of the file `stdout` are made by
-//! `tests/make_lists.py`: the texts are python's, all others those of the Rust crate.
+//! `tests/make_lists.py` and `tests/formulas.py`: the texts are python's, the answers to formulas
+//! those of minisat, all others those of the Rust crate.
 #![tactic(auto)]
 
 mod bits;
 mod calls;
+mod formulas;
 mod galloc;
 mod heap;
 mod texts;
@@ -28,40 +31,44 @@ struct List {
 
 fn main(rt: HostRuntime) -> anyhow::Result<()> {
     let alloc = rt.alloc();
+    let lists = read_lists(alloc, BufReader::new(alloc, rt.reader())?)?;
     let mut out = BufWriter::new(alloc, io::writer(&rt))?;
-    let mut current: Option<List> = None;
-    for (i, line) in BufReader::new(alloc, rt.reader())?.lines(alloc).enumerate() {
-        let line = line?;
-        if line.starts_with("new ") {
-            if let Some(list) = current {
-                replay(alloc, &mut out, &list)?;
-            }
-            current = Some(List {
-                first: i + 1,
-                header: line,
-                calls: Vec::new(alloc),
-            });
-        } else if let Some(list) = &mut current {
-            list.calls.push(line)?;
-        } else {
-            bail!("the input begins with no list");
-        }
-    }
-    if let Some(list) = current {
-        replay(alloc, &mut out, &list)?;
+    for list in &lists {
+        replay(alloc, &mut out, list)?;
     }
     out.flush()?;
     Ok(())
 }
 
+// The lists of the input.
+fn read_lists<R: BufRead + Drop>(alloc: Global, input: R) -> anyhow::Result<Vec<List>> {
+    let mut lists: Vec<List> = Vec::new(alloc);
+    for (i, line) in input.lines(alloc).enumerate() {
+        let line = line?;
+        if line.starts_with("new ") {
+            lists.push(List {
+                first: i + 1,
+                header: line,
+                calls: Vec::new(alloc),
+            })?;
+        } else if let Some(list) = lists.last_mut() {
+            list.calls.push(line)?;
+        } else {
+            bail!("the input begins with no list");
+        }
+    }
+    Ok(lists)
+}
+
+// Runs a list, and writes its answers.
 fn replay<W: Write>(alloc: Global, out: &mut W, list: &List) -> anyhow::Result<()> {
     writeln!(out, "{}", list.header)?;
-    let words: Vec<&str> = list.header.split(' ').collect(alloc)?;
-    let outcome = match *words {
-        ["new", "bits"] => bits::replay(alloc, out, &list.calls),
-        ["new", "galloc"] => galloc::replay(alloc, out, &list.calls),
-        ["new", "heap"] => heap::replay(alloc, out, &list.calls),
-        ["new", "texts"] => texts::replay(alloc, out, &list.calls),
+    let outcome = match list.header.as_str() {
+        "new bits" => bits::replay(alloc, out, &list.calls),
+        "new formulas" => formulas::replay(alloc, out, &list.calls),
+        "new galloc" => galloc::replay(alloc, out, &list.calls),
+        "new heap" => heap::replay(alloc, out, &list.calls),
+        "new texts" => texts::replay(alloc, out, &list.calls),
         _ => bail!("line {}: no container has this name", list.first),
     };
     outcome.context(format_args!("the list at line {}", list.first))

@@ -1,10 +1,10 @@
 -- Worked examples of the definitions: accepted and refused ones.
-use Rattle.std.proofs.Common.{◌≡◌, ℕ, eqb, Bool, true, false, ◌||◌, List, [], ◌∷◌, Some, None, refl, arith, ap, suc, zero}
+use Rattle.std.proofs.Common.{◌≡◌, ℕ, eqb, Bool, true, false, ◌||◌, [], ◌∷◌, Some, None, refl, suc, zero}
 use Rattle.giputils_sat.specs.Literals.{Lit, code, decoded}
-use Rattle.std.proofs.lemmas.Bool.{false≢true, true≢false}
-use Rattle.giputils_sat.specs.Formulas.{Clause, Formula, Assignment, is_true, satisfies_clause, satisfies, IsSatisfiable, Implies}
+use Rattle.std.proofs.lemmas.Bool.{false≢true}
+use Rattle.giputils_sat.specs.Formulas.{Formula, Assignment, satisfies_clause, satisfies, IsSatisfiable, Implies}
 use Rattle.giputils_sat.specs.Marked.{is_marked}
-use Rattle.giputils_sat.specs.Values.{value_of, assignment_of, assignment_in, unset}
+use Rattle.giputils_sat.specs.Values.{value_of, unset}
 use Rattle.giputils_sat.specs.Stores.{clauses_of, given_among}
 
 abbrev yes : ℕ → Lit

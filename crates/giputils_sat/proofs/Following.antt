@@ -1,8 +1,7 @@
 -- What follows from a formula.
-use Rattle.std.proofs.Common.{add-one, ◌≡◌, ◌^◌, ℕ, ◌+◌, ◌<◌, ◌≤◌, List, [], ◌∷◌, ◌++◌, length, map, take, drop, get_or, Some, None, is_some, unwrap_or, suc, zero, refl, sym, ap, subst, ◌∙◌, arith, ◌⊎◌, ⊎_elim, inl, inr, Bool, true, false, ◌&&◌}
+use Rattle.std.proofs.Common.{◌≡◌, ◌^◌, ℕ, ◌<◌, ◌≤◌, List, [], ◌∷◌, ◌++◌, length, take, Some, unwrap_or, suc, zero, refl, sym, ap, subst, ◌∙◌, arith, ⊎_elim, Bool, true, false}
 use Rattle.giputils_sat.specs.Literals.{Lit}
 use Rattle.std.specs.Prelude.{slice_get}
-use Rattle.std.specs.List.{list_any, list_all}
 use Rattle.std.proofs.lemmas.List.{take-append-le, take_all, length_push}
 use Rattle.std.proofs.lemmas.Bool.{false≢true, and_parts, and_from, or_cases, or_left, or_right}
 use Rattle.giputils_sat.specs.Formulas.{Clause, Formula, Assignment, is_true, satisfies, satisfies_clause, Implies, AreBelow, Has}

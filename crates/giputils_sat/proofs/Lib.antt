@@ -3,6 +3,7 @@ mod Examples
 mod Following
 mod Marking
 mod Places
+mod Ready
 mod Stored
 mod Trailing
 mod Valued

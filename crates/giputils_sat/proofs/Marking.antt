@@ -1,13 +1,13 @@
 -- Marks on literals.
-use Rattle.std.proofs.Common.{◌≡◌, ◌≢◌, ℕ, ◌+◌, ◌*◌, ◌<◌, ◌≤◌, List, [], ◌∷◌, ◌++◌, length, get_or, set, replicate, Some, None, suc, zero, refl, sym, ap, subst, ◌∙◌, arith, ◌⊎◌, ⊎_elim, inl, inr, Bool, true, false, cond, not}
+use Rattle.std.proofs.Common.{◌≡◌, ◌≢◌, ℕ, ◌+◌, ◌*◌, ◌<◌, ◌≤◌, List, [], ◌∷◌, ◌++◌, length, get_or, set, replicate, Some, suc, zero, refl, sym, ap, subst, ◌∙◌, arith, ◌⊎◌, ⊎_elim, inl, inr, Bool, true, false, cond, not}
 use Rattle.giputils_sat.specs.Literals.{Lit, code, negated}
 use Rattle.std.specs.Bool.{beq}
 use Rattle.std.specs.Prelude.{slice_get}
 use Rattle.std.proofs.lemmas.List.{get_or-set_same, get_or-set_other, length-set}
 use Rattle.std.proofs.lemmas.Bool.{false≢true, cases_eq, cases_lt, cases_Bool}
 use Rattle.std.proofs.lemmas.Option.{slice_get_within}
-use Rattle.giputils_sat.specs.Formulas.{Clause, Formula, Assignment, is_true, satisfies, satisfies_clause, Has, Implies}
-use Rattle.giputils_sat.specs.Marked.{is_marked, ImpliesMarked, Grows, AreAmong, IsNoted, IsTaking}
+use Rattle.giputils_sat.specs.Formulas.{Clause, Formula, Assignment, is_true, Has, Implies}
+use Rattle.giputils_sat.specs.Marked.{is_marked, ImpliesMarked, AreAmong, IsNoted, IsTaking}
 use Rattle.giputils_sat.proofs.Places.{stays_before, stands_last, before_or_last, none_some, same_some}
 use Rattle.giputils_sat.proofs.Following.{true_literal, satisfied_by}
 

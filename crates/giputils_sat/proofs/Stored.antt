@@ -1,12 +1,10 @@
 -- Clauses in one list of literals.
-use Rattle.std.proofs.Common.{◌≡◌, ℕ, ◌+◌, ◌-◌, ◌<◌, ◌≤◌, List, [], ◌∷◌, ◌++◌, length, map, take, drop, get_or, Some, None, is_some, suc, zero, refl, sym, ap, subst, ◌∙◌, arith, ◌⊎◌, inl, inr}
+use Rattle.std.proofs.Common.{◌≡◌, ℕ, ◌+◌, ◌-◌, ◌≤◌, List, [], ◌∷◌, ◌++◌, length, take, drop, suc, zero, refl, ap, ◌∙◌, arith}
 use Rattle.giputils_sat.specs.Literals.{Lit}
-use Rattle.std.specs.Prelude.{slice_get, slice_range}
+use Rattle.std.specs.Prelude.{slice_range}
 use Rattle.std.proofs.lemmas.List.{take-append-le, drop-append-le, drop_at, take_all, length-drop, length-append}
-use Rattle.std.proofs.lemmas.Bool.{false≢true}
 use Rattle.giputils_sat.specs.declared.clauses.Span.{Span}
 use Rattle.giputils_sat.proofs.Places.{each_push}
-use Rattle.giputils_sat.specs.Formulas.{Clause}
 use Rattle.giputils_sat.specs.Stores.{clauses_of, AreSpans}
 
 range_before : (xs ys : List Lit) (i j : ℕ) → i ≤ j → j ≤ length xs → slice_range (xs ++ ys) i j ≡ slice_range xs i j

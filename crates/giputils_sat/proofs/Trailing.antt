@@ -1,17 +1,17 @@
 -- The trail: a literal more, a literal less, a clause more.
-use Rattle.std.proofs.Common.{◌≡◌, ◌≢◌, ℕ, ◌+◌, ◌<◌, ◌≤◌, List, [], ◌∷◌, ◌++◌, length, get_or, set, take, replicate, Option, Some, None, is_some, unwrap_or, suc, zero, refl, sym, ap, subst, ◌∙◌, arith, ◌⊎◌, ⊎_elim, inl, inr, Bool, true, false, not}
+use Rattle.std.proofs.Common.{◌≡◌, ◌≢◌, ℕ, ◌+◌, ◌<◌, ◌≤◌, List, [], ◌∷◌, ◌++◌, length, get_or, set, take, replicate, Option, Some, None, suc, zero, refl, sym, ap, subst, ◌∙◌, arith, ◌⊎◌, ⊎_elim, inl, inr, Bool, true, false, not}
 use Rattle.giputils_sat.specs.Literals.{Lit, negated}
 use Rattle.std.specs.Prelude.{slice_get, option_map}
 use Rattle.std.specs.Bool.{beq}
-use Rattle.std.proofs.lemmas.List.{get_or-set_same, get_or-set_other, length-set, get_or-take, length_push, get_or_append_left, get_or_past}
-use Rattle.std.proofs.lemmas.Option.{slice_get_within, slice_get-get_or, get_or_from_slice_get}
+use Rattle.std.proofs.lemmas.List.{get_or-set_same, get_or-set_other, length-set, length_push, get_or_past}
+use Rattle.std.proofs.lemmas.Option.{slice_get_within}
 use Rattle.std.proofs.lemmas.Bool.{false≢true, cases_eq, cases_lt, cases_Bool}
 use Rattle.giputils_sat.specs.declared.trail.Step.{Step}
 use Rattle.giputils_sat.specs.Formulas.{Clause, Has}
 use Rattle.giputils_sat.specs.Values.{value_of}
-use Rattle.giputils_sat.specs.Trails.{Stands, HasReason, IsTrail, AreFalse, IsConflict, Extends, AreUndone}
+use Rattle.giputils_sat.specs.Trails.{Stands, HasReason, IsTrail, IsConflict, Extends, AreUndone}
 use Rattle.giputils_sat.specs.Marked.{is_marked}
-use Rattle.giputils_sat.proofs.Places.{none_some, same_some, stays_before, stands_last, before_or_last, each_push, same_at}
+use Rattle.giputils_sat.proofs.Places.{none_some, same_some, stays_before, stands_last, before_or_last, same_at}
 
 beq_same : (p : Bool) → beq p p ≡ true
 beq_same true = refl
@@ -101,20 +101,46 @@ reasons_more clauses steps s reasons last k t r at is =
     subst (λ (x : Step). HasReason clauses (steps ++ s ∷ []) k x.literal r) same (subst (λ i. HasReason clauses (steps ++ s ∷ []) i s.literal r) (sym e.0) here))
     (before_or_last steps s k t at)
 
+get_none : (n v : ℕ) → get_or {A = Option Bool} (replicate n None) v None ≡ None
+get_none zero v = refl
+get_none (suc n) zero = refl
+get_none (suc n) (suc v) = get_none n v
+
 -- no literal is true yet
 pub IsTrail-new : (clauses : List Clause) (n : ℕ) → IsTrail clauses (replicate n None) [] []
 IsTrail-new clauses n = record {
-  stand = λ l is. absurd (some_value (get_or (replicate n None) l.variable None) l.positive true is (nothing n l.variable));
+  stand = λ l is. absurd (some_value (get_or (replicate n None) l.variable None) l.positive true is (get_none n l.variable));
   reasons = λ k s r at is. none_some s at;
   implied = λ k s at less. none_some s at;
   low = omega arith;
   rising = λ i p at. none_some p at;
 }
-  where
-    nothing : (n v : ℕ) → get_or {A = Option Bool} (replicate n None) v None ≡ None
-    nothing zero v = refl
-    nothing (suc n) zero = refl
-    nothing (suc n) (suc v) = nothing n v
+
+get_resized : (values : List (Option Bool)) (n k v : ℕ)
+    → (get_or (take n values ++ replicate k None) v None ≡ get_or values v None) ⊎ (get_or (take n values ++ replicate k None) v None ≡ None)
+get_resized [] zero k v = inr (get_none k v)
+get_resized [] (suc n) k v = inr (get_none k v)
+get_resized (o ∷ values) zero k v = inr (get_none k v)
+get_resized (o ∷ values) (suc n) k zero = inl refl
+get_resized (o ∷ values) (suc n) k (suc v) = get_resized values n k v
+
+-- what has a value among cut or longer values had it before
+pub Extends-resized : (values : List (Option Bool)) (n k : ℕ) → Extends (take n values ++ replicate k None) values
+Extends-resized values n k m b is =
+    ⊎_elim (λ same. ap (option_map (λ v. beq v m.positive)) (sym same) ∙ is)
+    (λ none. absurd (some_value (get_or (take n values ++ replicate k None) m.variable None) m.positive b is none))
+    (get_resized values n k m.variable)
+
+-- variables that have no value change nothing
+pub IsTrail-resized : (clauses : List Clause) (old new : List (Option Bool)) (steps : List Step) (starts : List ℕ)
+    → Extends new old → IsTrail clauses old steps starts → IsTrail clauses new steps starts
+IsTrail-resized clauses old new steps starts back is = record {
+  stand = λ l true_now. is.stand l (back l true true_now);
+  reasons = is.reasons;
+  implied = is.implied;
+  low = is.low;
+  rising = is.rising;
+}
 
 start_stays : (starts : List ℕ) (k m n : ℕ) → n ≡ m + 1 → k < get_or starts 0 n → (k < get_or starts 0 m) ⊎ (m ≤ k)
 start_stays [] k m n more less = ⊎_elim (λ b. inl b) (λ f. inr f) (cases_lt k m)

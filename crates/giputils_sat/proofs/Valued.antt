@@ -1,11 +1,11 @@
 -- Values of variables.
-use Rattle.std.proofs.Common.{◌≡◌, ◌≢◌, ℕ, ◌+◌, ◌*◌, ◌<◌, ◌≤◌, List, [], ◌∷◌, ◌++◌, length, get_or, set, take, Option, Some, None, is_some, suc, zero, refl, sym, ap, subst, ◌∙◌, arith, ◌⊎◌, ⊎_elim, inl, inr, Bool, true, false, cond, unwrap_or}
+use Rattle.std.proofs.Common.{◌≡◌, ℕ, ◌+◌, ◌<◌, List, [], ◌∷◌, length, get_or, set, Option, Some, None, is_some, suc, zero, refl, sym, ap, arith, Bool, true, false, unwrap_or}
 use Rattle.giputils_sat.specs.Literals.{Lit}
 use Rattle.std.specs.Prelude.{slice_get, option_map}
 use Rattle.std.specs.Bool.{beq}
 use Rattle.std.proofs.lemmas.Bool.{false≢true}
-use Rattle.giputils_sat.specs.Formulas.{Clause, Formula, Assignment, is_true, satisfies, satisfies_clause}
-use Rattle.giputils_sat.specs.Values.{value_of, assignment_of, assignment_in, unset}
+use Rattle.giputils_sat.specs.Formulas.{Clause, is_true, satisfies_clause}
+use Rattle.giputils_sat.specs.Values.{value_of, assignment_of, unset}
 use Rattle.giputils_sat.proofs.Places.{none_some}
 use Rattle.giputils_sat.proofs.Following.{satisfied_by}
 

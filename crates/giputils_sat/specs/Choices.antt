@@ -1,5 +1,5 @@
 -- What a choice says.
-use Rattle.std.specs.Prelude.{◌≡◌, ℕ, ◌+◌}
+use Rattle.std.specs.Prelude.{◌≡◌, ◌+◌}
 use Rattle.giputils_sat.specs.declared.search.Choice.{Choice}
 use Rattle.giputils_sat.specs.declared.search.Choice.TheVariants.{Decided, Model, Conflict}
 use Rattle.giputils_sat.specs.declared.trail.Trail.{Trail}

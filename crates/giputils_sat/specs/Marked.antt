@@ -1,5 +1,5 @@
 -- A set of literals, as a mark for each code.
-use Rattle.std.specs.Prelude.{◌≡◌, ◌≢◌, ℕ, ◌*◌, ◌<◌, ◌⊎◌, Bool, true, false, List, length, slice_get, slice_index_or, Some, IsTrue}
+use Rattle.std.specs.Prelude.{◌≡◌, ◌≢◌, ℕ, ◌<◌, ◌⊎◌, Bool, true, false, List, length, slice_get, slice_index_or, Some, IsTrue}
 use Rattle.giputils_sat.specs.Literals.{Lit, code}
 use Rattle.giputils_sat.specs.Formulas.{Clause, Formula, Assignment, is_true, satisfies, Has}
 

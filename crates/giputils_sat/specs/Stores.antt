@@ -1,5 +1,5 @@
 -- Clauses that lie one after another in one list of literals, and which of them were given.
-use Rattle.std.specs.Prelude.{◌≡◌, ℕ, ◌+◌, ◌^◌, ◌<◌, ◌≤◌, Bool, true, false, List, [], ◌∷◌, length, map, take, slice_range, slice_get, Some}
+use Rattle.std.specs.Prelude.{◌≡◌, ℕ, ◌+◌, ◌^◌, ◌≤◌, Bool, true, false, List, [], ◌∷◌, length, map, take, slice_range, slice_get, Some}
 use Rattle.giputils_sat.specs.Literals.{Lit}
 use Rattle.giputils_sat.specs.declared.clauses.Span.{Span}
 use Rattle.giputils_sat.specs.Formulas.{Clause, Formula, Implies, AreBelow}

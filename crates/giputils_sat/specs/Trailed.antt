@@ -1,9 +1,11 @@
 -- The trail of a search, as its own calls state it.
-use Rattle.std.specs.Prelude.{◌≡◌, ℕ, ◌+◌, ◌++◌, ◌∷◌, [], Bool, List, length, slice_get, Option, Some, IfSome, IfNone}
+use Rattle.std.specs.Prelude.{◌≡◌, ℕ, ◌+◌, ◌*◌, ◌≤◌, ◌++◌, ◌∷◌, [], Bool, List, length, slice_get, Option, Some, IfSome, IfNone}
 use Rattle.giputils_sat.specs.declared.trail.Step.{Step}
 use Rattle.giputils_sat.specs.declared.trail.Trail.{Trail}
 use Rattle.giputils_sat.specs.Formulas.{Clause, Formula}
 use Rattle.giputils_sat.specs.Trails.{IsTrail, IsConflict, AreUndone}
+use Rattle.giputils_sat.specs.Marked.{NoneMarked}
+use Rattle.giputils_sat.specs.Stores.{Known}
 use Rattle.giputils_sat.specs.Values.{unset, IsModelOf}
 
 -- the trail's literals stand by these clauses
@@ -39,3 +41,15 @@ abbrev pub UndoesAtRoot : {A : Type 0} → List Clause → Trail A → Step → 
 UndoesAtRoot clauses t step old new =
     (place : ℕ) → t.starts.items ≡ [] → StandsBy clauses t → slice_get t.steps.items place ≡ Some step
     → AreUndone t.steps.items old (place + 1) → AreUndone t.steps.items new place
+
+-- the trail stands by the known clauses, and has no variable that is not below their count
+pub record IsBelow {A : Type 0} (known : Known) (t : Trail A) : Type 0 where
+  pub within : length t.values.items ≤ known.count
+  pub trail : StandsBy known.clauses t
+
+-- the trail has each variable and stands by the known clauses; there is a mark for each literal, and none is marked
+pub record IsReady {A : Type 0} (known : Known) (t : Trail A) (marks : List Bool) : Type 0 where
+  pub len : length t.values.items ≡ known.count
+  pub trail : StandsBy known.clauses t
+  pub room : length marks ≡ 2 * known.count
+  pub clear : NoneMarked marks

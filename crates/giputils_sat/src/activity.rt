@@ -1,9 +1,15 @@
 //! The order in which variables are decided: the most active first.
-ghost use Rattle.std.specs.Prelude.{◌≡◌, ◌+◌, [], length, IfOk, IfSome, IfNone};
+ghost use Rattle.std.specs.Prelude.{◌≡◌, ◌+◌, [], length, IfSome, IfNone};
 
 use giputils_heap::{BinaryHeap, ByRank};
 use std::alloc::{AllocError, Allocator, Global};
 use std::marker::Model;
+
+// What the first bump adds.
+const LEAST_STEP: u32 = 0x1000;
+
+// By how many digits all scores fall when a step has grown by as many.
+const SHIFT: u32 = 14;
 
 /// The variables that wait to be decided, in a heap by their scores. It is seen as their list.
 #[derive(Drop)]
@@ -27,18 +33,38 @@ impl<A: Allocator> Model for Activity<A> {
 }
 
 impl<A: Allocator + Copy> Activity<A> {
-    /// So many variables, none of which waits.
-    pub fn new(alloc: A, count: usize) -> Result<Self, AllocError>
-        ensures { IfOk result (λ a. a ≡ []) }
+    // No variable. It takes no memory.
+    pub fn new(alloc: A) -> Self
+        ensures { result ≡ [] }
     {
-        let scores = vec![in alloc; 0; count]?;
-        let queue = BinaryHeap::new(alloc);
-        let step = 16;
-        Ok(Activity {
+        Activity {
+            queue: BinaryHeap::new(alloc),
+            scores: Vec::new(alloc),
+            step: LEAST_STEP,
+        }
+    }
+
+    // The same with so many variables at least. Those that are new wait.
+    pub fn grown(self, count: usize) -> Result<Self, AllocError> {
+        let Activity {
+            mut queue,
+            mut scores,
+            step,
+        } = self;
+        let old = scores.len();
+        scores.resize(old.max(count), 0)?;
+        queue.rebuild(&ByRank(&scores));
+        let mut activity = Activity {
             queue,
             scores,
             step,
-        })
+        };
+        for variable in old..count {
+            if let Ok(variable) = u32::try_from(variable) {
+                activity.put_back(variable)?;
+            }
+        }
+        Ok(activity)
     }
 
     /// Lets a variable wait.
@@ -64,10 +90,10 @@ impl<A: Allocator + Copy> Activity<A> {
     /// Lets later bumps count more than those so far.
     pub fn decay(&mut self) {
         self.step = self.step.saturating_add(self.step / 16);
-        if self.step >= 0x10_0000 {
-            self.step = 16;
+        if self.step >= LEAST_STEP << SHIFT {
+            self.step = LEAST_STEP;
             for score in self.scores.iter_mut() {
-                *score >>= 16;
+                *score >>= SHIFT;
             }
             self.queue.rebuild(&ByRank(&self.scores));
         }

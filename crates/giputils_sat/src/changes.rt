@@ -1,32 +1,65 @@
 //! The calls of a trail: a literal more, a literal less.
-ghost use Rattle.std.specs.Prelude.{◌≡◌, ◌++◌, ◌∷◌, ◌+◌, ◌^◌, ◌<◌, ◌≤◌, [], None, length, replicate, IfOk, IfSome, OnOk};
+ghost use Rattle.std.specs.Prelude.{◌≡◌, ◌++◌, ◌∷◌, ◌+◌, ◌^◌, ◌<◌, ◌≤◌, [], None, length, IfOk, IfSome, OnOk};
 ghost use Rattle.giputils_sat.specs.Trailed.{StandsOn, starts_after};
 ghost use Rattle.giputils_sat.specs.Trails.{steps_with};
 ghost use Rattle.giputils_sat.specs.Values.{unset, value_of, values_with, values_without};
 
 use crate::activity::Activity;
 use crate::literal::Literal;
-use crate::trail::{Step, Trail};
+use crate::trail::{Stand, Step, Trail};
 use std::alloc::{AllocError, Allocator};
 
 impl<A: Allocator + Copy> Trail<A> {
-    /// So many variables with no value.
-    pub fn new(alloc: A, count: usize) -> Result<Self, AllocError>
-        requires { count ≤ 2 ^ 31 }
-        ensures values { IfOk result (λ t. t.values.items ≡ replicate count None) }
-        ensures steps { IfOk result (λ t. t.steps.items ≡ []) }
-        ensures starts { IfOk result (λ t. t.starts.items ≡ []) }
+    // No variable. It takes no memory.
+    pub fn new(alloc: A) -> Self
+        ensures values { result.values.items ≡ [] }
+        ensures steps { result.steps.items ≡ [] }
+        ensures starts { result.starts.items ≡ [] }
     {
-        let values = vec![in alloc; None; count]?;
-        let levels = vec![in alloc; 0; count]?;
-        Ok(Trail {
-            values,
-            levels,
+        Trail {
+            values: Vec::new(alloc),
+            stands: Vec::new(alloc),
             steps: Vec::new(alloc),
-            phases: vec![in alloc; false; count]?,
+            phases: Vec::new(alloc),
             starts: Vec::new(alloc),
             head: 0,
+        }
+    }
+
+    // The same with so many variables. Those that are new have no value.
+    pub fn grown(self, count: usize) -> Result<Self, AllocError>
+        requires least { length self.values.items ≤ count }
+        requires small { count ≤ 2 ^ 31 }
+        ensures len { IfOk result (λ t. length t.values.items ≡ count) }
+        ensures trail { IfOk result (λ t. StandsOn self t) }
+    {
+        let Trail {
+            mut values,
+            mut stands,
+            steps,
+            mut phases,
+            starts,
+            head,
+        } = self;
+        values.resize(count, None)?;
+        stands.resize(count, Stand { level: 0, place: 0 })?;
+        phases.resize(count, false)?;
+        Ok(Trail {
+            values,
+            stands,
+            steps,
+            phases,
+            starts,
+            head,
         })
+    }
+
+    // Lets each literal be propagated once more.
+    pub fn rewind(&mut self)
+        ensures values { self.new.values ≡ self.old.values }
+        ensures trail { StandsOn self.old self.new }
+    {
+        self.head = 0;
     }
 
     /// Whether the literal is true, if it has a value.
@@ -46,10 +79,29 @@ impl<A: Allocator + Copy> Trail<A> {
         self.starts.len()
     }
 
+    // The place at which the first decision stands, or would stand.
+    pub fn first_start(&self) -> usize
+        ensures root { self.now.starts.items ≡ [] → result ≡ length self.now.steps.items }
+        ensures within { result ≤ length self.now.steps.items }
+    {
+        match self.starts.first() {
+            Some(start) => self.steps.len().min(*start),
+            None => self.steps.len(),
+        }
+    }
+
     /// The level at which the literal's variable got its value.
     pub fn level_of(&self, l: Literal) -> usize {
-        match self.levels.get(l.variable() as usize) {
-            Some(level) => *level,
+        match self.stands.get(l.variable() as usize) {
+            Some(stand) => stand.level,
+            None => 0,
+        }
+    }
+
+    // The place of the trail at which the literal's variable got its value.
+    pub fn place_of(&self, l: Literal) -> usize {
+        match self.stands.get(l.variable() as usize) {
+            Some(stand) => stand.place,
             None => 0,
         }
     }
@@ -68,10 +120,11 @@ impl<A: Allocator + Copy> Trail<A> {
         ensures unset { OnOk result (unset self.new.values.items + 1 ≡ unset self.old.values.items) }
         ensures head { self.new.head ≡ self.old.head }
     {
-        self.steps.push(Step { literal: l, reason })?;
         let level = self.starts.len();
+        let place = self.steps.len();
+        self.steps.push(Step { literal: l, reason })?;
         self.values[l.variable() as usize] = Some(l.is_positive());
-        self.levels[l.variable() as usize] = level;
+        self.stands[l.variable() as usize] = Stand { level, place };
         self.phases[l.variable() as usize] = l.is_positive();
         Ok(())
     }

@@ -71,6 +71,14 @@ impl<A: Allocator + Copy> Database<A> {
         self.clauses.clause(place)
     }
 
+    // Whether the clause at a place is one of the formula's.
+    pub fn is_given(&self, place: usize) -> bool {
+        match self.given.get(place) {
+            Some(given) => *given,
+            None => false,
+        }
+    }
+
     // The place of a clause of the formula that has no true literal. None if there is none.
     pub fn open_clause(&self, trail: &Trail<A>) -> Option<usize>
         ensures some { IfSome result (λ i. i < length self.now.clauses) }
@@ -88,6 +96,7 @@ impl<A: Allocator + Copy> Database<A> {
     // Adds a clause to the formula. Nothing changes where memory is refused.
     pub fn give(&mut self, clause: &[Literal]) -> Result<(), AllocError>
         ensures formula { OnOk result (self.new.formula ≡ self.old.formula ++ clause.now ∷ []) }
+        ensures count { self.old.count ≤ self.new.count }
         ensures clauses { OnOk result (self.new.clauses ≡ self.old.clauses ++ clause.now ∷ []) }
         ensures err { OnErr result (self.new ≡ self.old) }
     {

@@ -5,16 +5,17 @@ ghost use Rattle.giputils_sat.specs.Formulas.{Has, Implies};
 ghost use Rattle.giputils_sat.specs.Literals.{code};
 ghost use Rattle.giputils_sat.specs.Marked.{AddsAtMost, AreMarked, AreMarkedBut, Grows, HaveMarks, ImpliesMarked, NoneMarked, is_marked};
 ghost use Rattle.giputils_sat.specs.Stores.{HasMore, KeepsKnown};
-ghost use Rattle.giputils_sat.specs.Trailed.{IsConflictOf, StandsBy, UndoesAtRoot};
+ghost use Rattle.giputils_sat.specs.Trailed.{IsConflictOf, MeetsConflict, StandsBy, UndoesAtRoot};
 
 use crate::activity::Activity;
 use crate::database::Database;
+use crate::hints::Hints;
 use crate::literal::Literal;
 use crate::marks::Marks;
 use crate::search::free_place;
 use crate::trail::{Step, Trail};
-use crate::watches::{Pair, Watch, Watches};
-use std::alloc::{AllocError, Allocator, Global};
+use crate::watches::{Pair, Watches, Worth};
+use std::alloc::{AllocError, Allocator};
 
 // Marks a literal. 1 if it had no mark and its variable has its value by the last decision, else 0.
 fn note<A: Allocator + Copy>(
@@ -99,12 +100,12 @@ fn note_others<A: Allocator + Copy>(
     Ok(count)
 }
 
-// Where a true literal's negation is marked, puts the literal's reason in the negation's place: at level 0 always, and at
-// the last level while more than one marked literal is of that level.
+// Where a true literal's negation is marked, puts the literal's reason in the negation's place. How many marked literals
+// are of the last level, if there were so many.
 fn exchange<A: Allocator + Copy>(
     database: &Database<A>,
     trail: &Trail<A>,
-    activity: &mut Activity<A>,
+    hints: &mut Hints<A>,
     marks: &mut Marks<A>,
     step: Step,
     pending: usize,
@@ -116,11 +117,6 @@ fn exchange<A: Allocator + Copy>(
     ensures root { OnOk result (UndoesAtRoot database.now.clauses trail.now step marks.old marks.new) }
 {
     let l = step.literal;
-    let level = trail.level_of(l);
-    let is_last = level == trail.level() && pending > 1;
-    if level != 0 && trail.level() != 0 && !is_last {
-        return Ok(pending);
-    }
     if !marks.has(l.negated()) {
         return Ok(pending);
     }
@@ -130,16 +126,141 @@ fn exchange<A: Allocator + Copy>(
     if reason >= database.len() {
         return Ok(pending);
     }
+    hints.watches.bump(reason);
     marks.remove(l.negated());
-    let more = note_others(trail, activity, marks, database.clause(reason), l)?;
+    let more = note_others(
+        trail,
+        &mut hints.activity,
+        marks,
+        database.clause(reason),
+        l,
+    )?;
     Ok(pending.saturating_add(more).saturating_sub(1))
+}
+
+// Puts reasons in the place of literals of the last level, the latest first, until one such literal is left.
+fn narrow<A: Allocator + Copy>(
+    database: &Database<A>,
+    trail: &Trail<A>,
+    hints: &mut Hints<A>,
+    marks: &mut Marks<A>,
+    pending: usize,
+) -> Result<(), AllocError>
+    requires len { length marks.old ≡ 2 * database.now.count }
+    requires follows { ImpliesMarked database.now.formula marks.old }
+    ensures len { length marks.new ≡ length marks.old }
+    ensures follows { OnOk result (ImpliesMarked database.now.formula marks.new) }
+{
+    let mut pending = pending;
+    for place in (0..trail.steps.len()).rev() {
+        if pending < 2 {
+            return Ok(());
+        }
+        pending = exchange(database, trail, hints, marks, trail.steps[place], pending)?;
+    }
+    Ok(())
+}
+
+// Whether each literal of a clause but one is marked, or false by no decision.
+fn is_covered<A: Allocator + Copy>(
+    trail: &Trail<A>,
+    marks: &Marks<A>,
+    clause: &[Literal],
+    but: Literal,
+) -> bool {
+    clause.iter().all(|l| l.code() == but.code() || marks.has(*l) || trail.level_of(*l) == 0)
+}
+
+// Where the negation of the true literal at a place of the trail is marked, and all that its reason would add is marked
+// already, puts the reason in its place.
+fn shorten<A: Allocator + Copy>(
+    database: &Database<A>,
+    trail: &Trail<A>,
+    hints: &mut Hints<A>,
+    marks: &mut Marks<A>,
+    place: usize,
+) -> Result<(), AllocError>
+    requires len { length marks.old ≡ 2 * database.now.count }
+    requires follows { ImpliesMarked database.now.formula marks.old }
+    ensures len { length marks.new ≡ length marks.old }
+    ensures follows { OnOk result (ImpliesMarked database.now.formula marks.new) }
+{
+    let Some(step) = trail.steps.get(place) else {
+        return Ok(());
+    };
+    let Some(reason) = step.reason else {
+        return Ok(());
+    };
+    if reason < database.len() && is_covered(trail, marks, database.clause(reason), step.literal) {
+        exchange(database, trail, hints, marks, *step, 0)?;
+    }
+    Ok(())
+}
+
+// Shortens what is marked, the latest literals first, but for those of the last level.
+fn minimize<A: Allocator + Copy>(
+    alloc: A,
+    database: &Database<A>,
+    trail: &Trail<A>,
+    hints: &mut Hints<A>,
+    marks: &mut Marks<A>,
+) -> Result<(), AllocError>
+    requires len { length marks.old ≡ 2 * database.now.count }
+    requires follows { ImpliesMarked database.now.formula marks.old }
+    ensures len { length marks.new ≡ length marks.old }
+    ensures follows { OnOk result (ImpliesMarked database.now.formula marks.new) }
+{
+    let mut places = places_of(alloc, trail, marks.noted())?;
+    places.sort_unstable();
+    for place in places.iter().rev() {
+        shorten(database, trail, hints, marks, *place)?;
+    }
+    Ok(())
+}
+
+// Where literals of lower levels than the last stand in the trail.
+fn places_of<A: Allocator + Copy>(
+    alloc: A,
+    trail: &Trail<A>,
+    literals: &[Literal],
+) -> Result<Vec<usize, A>, AllocError> {
+    let mut places: Vec<usize, A> = Vec::new(alloc);
+    for l in literals {
+        if trail.level_of(*l) < trail.level() {
+            places.push(trail.place_of(*l))?;
+        }
+    }
+    Ok(places)
+}
+
+// Marks literals of which one has to be true, where a decision stands, beginning with those that are marked.
+fn analyze<A: Allocator + Copy>(
+    alloc: A,
+    database: &Database<A>,
+    trail: &Trail<A>,
+    hints: &mut Hints<A>,
+    marks: &mut Marks<A>,
+    pending: usize,
+) -> Result<(), AllocError>
+    requires len { length marks.old ≡ 2 * database.now.count }
+    requires follows { ImpliesMarked database.now.formula marks.old }
+    ensures len { length marks.new ≡ length marks.old }
+    ensures follows { OnOk result (ImpliesMarked database.now.formula marks.new) }
+    ensures root { OnOk result (trail.now.starts.items ≡ [] → marks.new ≡ marks.old) }
+{
+    if trail.level() == 0 {
+        return Ok(());
+    }
+    narrow(database, trail, hints, marks, pending)?;
+    minimize(alloc, database, trail, hints, marks)
 }
 
 // Marks literals of which one has to be true, beginning with those of a clause.
 fn resolve<A: Allocator + Copy>(
+    alloc: A,
     database: &Database<A>,
     trail: &Trail<A>,
-    activity: &mut Activity<A>,
+    hints: &mut Hints<A>,
     marks: &mut Marks<A>,
     conflict: usize,
 ) -> Result<(), AllocError>
@@ -151,10 +272,12 @@ fn resolve<A: Allocator + Copy>(
     ensures follows { OnOk result (ImpliesMarked database.now.formula marks.new) }
     ensures root { OnOk result (trail.now.starts.items ≡ [] → NoneMarked marks.new) }
 {
-    let mut pending = note_all(trail, activity, marks, database.clause(conflict))?;
-    for place in (0..trail.steps.len()).rev() {
+    hints.watches.bump(conflict);
+    let pending = note_all(trail, &mut hints.activity, marks, database.clause(conflict))?;
+    analyze(alloc, database, trail, hints, marks, pending)?;
+    for place in (0..trail.first_start()).rev() {
         let step = trail.steps[place];
-        pending = exchange(database, trail, activity, marks, step, pending)?;
+        exchange(database, trail, hints, marks, step, 0)?;
     }
     Ok(())
 }
@@ -184,43 +307,8 @@ fn highest<A: Allocator + Copy>(trail: &Trail<A>, clause: &[Literal]) -> Pair {
     Pair { first, second }
 }
 
-/// Watches two places of the next clause.
-///
-/// # Errors
-/// `AllocError` where memory is refused.
-pub fn attach<A: Allocator + Copy>(
-    watches: &mut Watches<A>,
-    clause: &[Literal],
-    place: usize,
-    pair: Pair,
-) -> Result<(), AllocError> {
-    watches.push_pair(pair)?;
-    if let Some(first) = clause.get(pair.first) {
-        if let Some(second) = clause.get(pair.second) {
-            watches.add(
-                *first,
-                Watch {
-                    clause: place,
-                    blocker: *second,
-                },
-            )?;
-            watches.add(
-                *second,
-                Watch {
-                    clause: place,
-                    blocker: *first,
-                },
-            )?;
-        }
-    }
-    Ok(())
-}
-
-/// Makes a literal of a clause true, where it has no value and the others are false.
-///
-/// # Errors
-/// `AllocError` where memory is refused.
-pub fn follow<A: Allocator + Copy>(
+// Makes a literal of a clause true, where it has no value and the others are false.
+fn follow<A: Allocator + Copy>(
     database: &Database<A>,
     trail: &mut Trail<A>,
     place: usize,
@@ -247,18 +335,14 @@ pub fn follow<A: Allocator + Copy>(
     Ok(())
 }
 
-/// Learns from a conflict: adds a clause that follows, goes back and makes a literal of it true. `true` where the empty
-/// clause follows.
-///
-/// # Errors
-/// `AllocError` where memory is refused.
+// Learns from a conflict: adds a clause that follows, goes back and makes a literal of it true. `true` where the empty
+// clause follows.
 #[tactic(auto, using(crate::proofs::Following::kept_same, crate::proofs::Following::kept_pushed))]
 pub fn learn<A: Allocator + Copy>(
     alloc: A,
     database: &mut Database<A>,
     trail: &mut Trail<A>,
-    watches: &mut Watches<A>,
-    activity: &mut Activity<A>,
+    hints: &mut Hints<A>,
     marks: &mut Marks<A>,
     conflict: usize,
 ) -> Result<bool, AllocError>
@@ -278,8 +362,8 @@ pub fn learn<A: Allocator + Copy>(
     ensures empty { IfOk result (λ is_empty. IsTrue is_empty → Implies database.old.formula []) }
     ensures more { IfOk result (λ is_empty. IsFalse is_empty → HasMore 1 database.old database.new) }
 {
-    resolve(database, trail, activity, marks, conflict)?;
-    activity.decay();
+    resolve(alloc, database, trail, hints, marks, conflict)?;
+    hints.count_conflict();
     let learned = marks.take(alloc)?;
     if learned.is_empty() {
         return Ok(true);
@@ -288,8 +372,53 @@ pub fn learn<A: Allocator + Copy>(
     database.learn(&learned)?;
     let pair = highest(trail, &learned);
     let level = level_at(trail, &learned, pair.second);
-    trail.backtrack(level, activity)?;
-    attach(watches, &learned, place, pair)?;
+    trail.backtrack(level, &mut hints.activity)?;
+    attach(&mut hints.watches, &learned, place, pair, false)?;
     follow(database, trail, place, pair.first)?;
     Ok(false)
+}
+
+// Watches two places of the next clause.
+fn attach<A: Allocator + Copy>(
+    watches: &mut Watches<A>,
+    clause: &[Literal],
+    place: usize,
+    pair: Pair,
+    is_given: bool,
+) -> Result<(), AllocError> {
+    let worth = if is_given {
+        Worth::Fixed
+    } else {
+        Worth::Learned(watches.step())
+    };
+    watches.push_pair(pair, worth)?;
+    watches.watch(clause, place)
+}
+
+// Watches the known clauses that are not watched yet, and makes true the literals that stand alone in one. The place of
+// a clause all of whose literals are false, if one is met.
+pub fn attach_all<A: Allocator + Copy>(
+    database: &Database<A>,
+    trail: &mut Trail<A>,
+    watches: &mut Watches<A>,
+) -> Result<Option<usize>, AllocError>
+    requires len { length trail.old.values.items ≡ database.now.count }
+    requires trail { StandsBy database.now.clauses trail.old }
+    ensures len { length trail.new.values.items ≡ length trail.old.values.items }
+    ensures trail { OnOk result (StandsBy database.now.clauses trail.new) }
+    ensures conflict { IfOk result (MeetsConflict database.now.clauses trail.new) }
+{
+    for place in watches.len()..database.len() {
+        let clause = database.clause(place);
+        if let None = free_place(trail, clause, clause.len()) {
+            return Ok(Some(place));
+        }
+        let pair = Pair {
+            first: 0,
+            second: 1,
+        };
+        attach(watches, clause, place, pair, database.is_given(place))?;
+        follow(database, trail, place, 0)?;
+    }
+    Ok(None)
 }

@@ -5,13 +5,17 @@ mod activity;
 mod changes;
 mod clauses;
 mod database;
+pub mod hints;
 mod learn;
 pub mod literal;
 mod marks;
+mod pace;
+mod reduce;
 mod search;
 pub mod solver;
 mod trail;
 mod watches;
 
+pub use hints::Stats;
 pub use literal::Literal;
 pub use solver::{Answer, Solver};

@@ -48,6 +48,11 @@ impl<A: Allocator + Copy> Marks<A> {
         }
     }
 
+    // The literals that were marked since all were taken, also those whose marks were taken away.
+    pub fn noted(&self) -> &[Literal] {
+        &self.noted
+    }
+
     /// Marks a literal.
     ///
     /// # Errors

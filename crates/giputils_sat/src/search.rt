@@ -8,6 +8,8 @@ ghost use Rattle.giputils_sat.specs.Values.{AreAllSet, AreFalseBut, unset, value
 
 use crate::activity::Activity;
 use crate::database::Database;
+use crate::hints::Hints;
+use crate::learn::attach_all;
 use crate::literal::Literal;
 use crate::trail::Trail;
 use crate::watches::{Pair, Watch, Watches};
@@ -166,7 +168,7 @@ pub fn propagate<A: Allocator + Copy>(
     alloc: A,
     database: &Database<A>,
     trail: &mut Trail<A>,
-    watches: &mut Watches<A>,
+    hints: &mut Hints<A>,
 ) -> Result<Option<usize>, AllocError>
     requires len { length trail.old.values.items ≡ database.now.count }
     requires trail { StandsBy database.now.clauses trail.old }
@@ -176,7 +178,8 @@ pub fn propagate<A: Allocator + Copy>(
     ensures conflict { IfOk result (MeetsConflict database.now.clauses trail.new) }
 {
     while let Some(l) = trail.next() {
-        let conflict = visit(alloc, database, trail, watches, l.negated())?;
+        hints.count_propagation();
+        let conflict = visit(alloc, database, trail, &mut hints.watches, l.negated())?;
         if let Some(_) = conflict {
             return Ok(conflict);
         }
@@ -226,7 +229,7 @@ fn most_active<A: Allocator + Copy>(trail: &Trail<A>, activity: &mut Activity<A>
 fn choose<A: Allocator + Copy>(
     database: &Database<A>,
     trail: &mut Trail<A>,
-    activity: &mut Activity<A>,
+    hints: &mut Hints<A>,
 ) -> Result<Choice, AllocError>
     requires len { length trail.old.values.items ≡ database.now.count }
     requires trail { StandsBy database.now.clauses trail.old }
@@ -234,7 +237,8 @@ fn choose<A: Allocator + Copy>(
     ensures trail { OnOk result (StandsBy database.now.clauses trail.new) }
     ensures choice { IfOk result (FollowsChoice database.now trail.old trail.new) }
 {
-    if let Some(l) = most_active(trail, activity) {
+    hints.count_decision();
+    if let Some(l) = most_active(trail, &mut hints.activity) {
         trail.decide(l)?;
         return Ok(Choice::Decided);
     }
@@ -257,8 +261,7 @@ pub fn search<A: Allocator + Copy>(
     alloc: A,
     database: &Database<A>,
     trail: &mut Trail<A>,
-    watches: &mut Watches<A>,
-    activity: &mut Activity<A>,
+    hints: &mut Hints<A>,
 ) -> Result<Option<usize>, AllocError>
     requires len { length trail.old.values.items ≡ database.now.count }
     requires trail { StandsBy database.now.clauses trail.old }
@@ -267,11 +270,14 @@ pub fn search<A: Allocator + Copy>(
     ensures conflict { IfOk result (MeetsConflict database.now.clauses trail.new) }
     ensures model { IfOk result (SatisfiesUnless database.now.formula trail.new) }
 {
+    if let Some(conflict) = attach_all(database, trail, &mut hints.watches)? {
+        return Ok(Some(conflict));
+    }
     loop {
-        if let Some(conflict) = propagate(alloc, database, trail, watches)? {
+        if let Some(conflict) = propagate(alloc, database, trail, hints)? {
             return Ok(Some(conflict));
         }
-        match choose(database, trail, activity)? {
+        match choose(database, trail, hints)? {
             Choice::Decided => {}
             Choice::Model => return Ok(None),
             Choice::Conflict(place) => return Ok(Some(place)),

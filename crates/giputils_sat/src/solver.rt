@@ -1,24 +1,25 @@
 //! The solver.
 ghost use Rattle.std.specs.Prelude.{◌≡◌, ◌++◌, ◌∷◌, ◌<◌, [], Some, length, slice_get, IfOk, OnOk, OnErr};
-ghost use Rattle.giputils_sat.specs.Answers.{IsRight};
+ghost use Rattle.giputils_sat.specs.Answers.{IsRight, IsRightTurn};
 ghost use Rattle.giputils_sat.specs.Formulas.{Implies};
 ghost use Rattle.giputils_sat.specs.Stores.{KeepsKnown};
-ghost use Rattle.giputils_sat.specs.Trailed.{StandsBy, StandsOn};
+ghost use Rattle.giputils_sat.specs.Trailed.{IsReady, StandsOn};
 ghost use Rattle.giputils_sat.specs.Values.{model_in};
 
 #[cfg(test)]
 mod tests;
 
-use crate::activity::Activity;
 use crate::database::Database;
-use crate::learn::{attach, follow, learn};
+use crate::hints::{Hints, Stats};
+use crate::learn::learn;
 use crate::literal::Literal;
 use crate::marks::Marks;
+use crate::reduce::reduce;
 use crate::search::search;
 use crate::trail::Trail;
-use crate::watches::{Pair, Watches};
 use std::alloc::{AllocError, Allocator, Global};
 use std::marker::Model;
+use std::mem;
 
 /// What is found out about a formula.
 #[derive(Drop)]
@@ -39,14 +40,19 @@ pub enum Answer<A: Allocator = Global> {
 pub struct Solver<A: Allocator = Global> {
     alloc: A,
     database: Database<A>,
+    trail: Trail<A>,
+    hints: Hints<A>,
 }
 
 impl<A: Allocator> Model for Solver<A> {
     ghost use Rattle.giputils_sat.specs.Stores.{Known};
+    ghost use Rattle.giputils_sat.specs.Trailed.{IsBelow};
 
     ghost Value = { Known };
 
     ghost view = { λ s. s.database };
+
+    ghost invariant = { λ s. IsBelow s.database s.trail };
 }
 
 impl<A: Allocator + Copy> Solver<A> {
@@ -58,6 +64,8 @@ impl<A: Allocator + Copy> Solver<A> {
         Solver {
             alloc,
             database: Database::new(alloc),
+            trail: Trail::new(alloc),
+            hints: Hints::new(alloc, Stats::new()),
         }
     }
 
@@ -91,10 +99,15 @@ impl<A: Allocator + Copy> Solver<A> {
         self.database.clause(place)
     }
 
+    /// How much was done so far. Nothing is proved of it.
+    pub fn stats(&self) -> Stats {
+        self.hints.stats
+    }
+
     /// Finds out whether anything satisfies the formula, and gives up after `limit` conflicts, of each of which a clause
     /// was learned then.
     ///
-    /// It may be called again: it begins anew, with what was learned so far.
+    /// It may be called again: it goes on with what was learned so far.
     ///
     /// # Errors
     /// `AllocError` where memory is refused. The formula stays as it was; some clauses may have been learned.
@@ -103,48 +116,29 @@ impl<A: Allocator + Copy> Solver<A> {
         ensures formula { self.new.formula ≡ self.old.formula }
         ensures kept { KeepsKnown self.old self.new }
     {
-        run(self.alloc, &mut self.database, limit)
-    }
-}
-
-// Watches the known clauses, and makes true the literals that stand alone in one.
-fn attach_all<A: Allocator + Copy>(
-    database: &Database<A>,
-    trail: &mut Trail<A>,
-    watches: &mut Watches<A>,
-) -> Result<(), AllocError>
-    requires len { length trail.old.values.items ≡ database.now.count }
-    requires trail { StandsBy database.now.clauses trail.old }
-    ensures len { length trail.new.values.items ≡ length trail.old.values.items }
-    ensures trail { OnOk result (StandsBy database.now.clauses trail.new) }
-{
-    for place in 0..database.len() {
-        let clause = database.clause(place);
-        attach(
-            watches,
-            clause,
-            place,
-            Pair {
-                first: 0,
-                second: 1,
-            },
+        let alloc = self.alloc;
+        let count = self.database.count();
+        let mut marks = Marks::new(alloc, count)?;
+        // Where memory is refused, the search begins anew at the next call.
+        let trail = mem::replace(&mut self.trail, Trail::new(alloc));
+        let stats = self.hints.stats;
+        let hints = mem::replace(&mut self.hints, Hints::new(alloc, stats));
+        let mut trail = trail.grown(count)?;
+        let mut hints = hints.grown(alloc, count)?;
+        trail.backtrack(0, &mut hints.activity)?;
+        trail.rewind();
+        let answer = run(
+            alloc,
+            &mut self.database,
+            &mut trail,
+            &mut hints,
+            &mut marks,
+            limit,
         )?;
-        follow(database, trail, place, 0)?;
+        self.trail = trail;
+        self.hints = hints;
+        Ok(answer)
     }
-    Ok(())
-}
-
-// Lets each variable wait.
-fn queue_all<A: Allocator + Copy>(
-    count: usize,
-    activity: &mut Activity<A>,
-) -> Result<(), AllocError> {
-    for variable in 0..count {
-        if let Ok(variable) = u32::try_from(variable) {
-            activity.put_back(variable)?;
-        }
-    }
-    Ok(())
 }
 
 // The values as a model: a variable with none is false.
@@ -158,72 +152,69 @@ fn model_of<A: Allocator + Copy>(alloc: A, trail: &Trail<A>) -> Result<Vec<bool,
         .collect(alloc)
 }
 
-// How many conflicts are left until all decisions are taken back, and how many there were to be.
-#[derive(Clone, Copy)]
-struct Pace {
-    left: usize,
-    span: usize,
-}
-
-// One conflict more. Where it is time takes all decisions back; next time it takes half as many conflicts again.
+// One conflict more. Where it is time takes all decisions back, and forgets clauses.
 fn restart<A: Allocator + Copy>(
-    pace: Pace,
+    alloc: A,
+    database: &Database<A>,
     trail: &mut Trail<A>,
-    activity: &mut Activity<A>,
-) -> Result<Pace, AllocError>
+    hints: &mut Hints<A>,
+) -> Result<(), AllocError>
     ensures len { length trail.new.values.items ≡ length trail.old.values.items }
     ensures trail { OnOk result (StandsOn trail.old trail.new) }
 {
-    if pace.left > 0 {
-        return Ok(Pace {
-            left: pace.left - 1,
-            span: pace.span,
-        });
+    if !hints.pace.step() {
+        return Ok(());
     }
-    trail.backtrack(0, activity)?;
-    let span = pace.span.saturating_add(pace.span / 2);
-    Ok(Pace { left: span, span })
+    hints.stats.restarts = hints.stats.restarts.saturating_add(1);
+    trail.backtrack(0, &mut hints.activity)?;
+    reduce(alloc, database, trail, hints)
 }
 
-// Searches for an assignment and learns of conflicts, until there is an answer or as many conflicts as are allowed.
-#[tactic(auto, using(crate::proofs::Following::kept_same, crate::proofs::Following::kept_both))]
+// Searches until an assignment is found or a conflict is met, and learns of that. None if a clause was learned.
+#[tactic(auto, using(crate::proofs::Following::kept_same))]
+fn turn<A: Allocator + Copy>(
+    alloc: A,
+    database: &mut Database<A>,
+    trail: &mut Trail<A>,
+    hints: &mut Hints<A>,
+    marks: &mut Marks<A>,
+) -> Result<Option<Answer<A>>, AllocError>
+    requires ready { IsReady database.old trail.old marks.old }
+    ensures ready { OnOk result (IsReady database.new trail.new marks.new) }
+    ensures right { IfOk result (IsRightTurn database.old database.new) }
+    ensures formula { database.new.formula ≡ database.old.formula }
+    ensures kept { KeepsKnown database.old database.new }
+{
+    let Some(conflict) = search(alloc, database, trail, hints)? else {
+        return Ok(Some(Answer::Sat(model_of(alloc, trail)?)));
+    };
+    if learn(alloc, database, trail, hints, marks, conflict)? {
+        return Ok(Some(Answer::Unsat));
+    }
+    restart(alloc, database, trail, hints)?;
+    Ok(None)
+}
+
+// Searches and learns until there is an answer, or as many conflicts as are allowed.
+#[tactic(auto, using(crate::proofs::Following::kept_same))]
 fn run<A: Allocator + Copy>(
     alloc: A,
     database: &mut Database<A>,
+    trail: &mut Trail<A>,
+    hints: &mut Hints<A>,
+    marks: &mut Marks<A>,
     limit: usize,
 ) -> Result<Answer<A>, AllocError>
+    requires ready { IsReady database.old trail.old marks.old }
+    ensures ready { OnOk result (IsReady database.new trail.new marks.new) }
     ensures right { IfOk result (IsRight database.old database.new limit) }
     ensures formula { database.new.formula ≡ database.old.formula }
     ensures kept { KeepsKnown database.old database.new }
 {
-    let count = database.count();
-    let mut trail = Trail::new(alloc, count)?;
-    let mut watches = Watches::new(alloc, count)?;
-    let mut activity = Activity::new(alloc, count)?;
-    let mut marks = Marks::new(alloc, count)?;
-    queue_all(count, &mut activity)?;
-    attach_all(database, &mut trail, &mut watches)?;
-    let mut pace = Pace {
-        left: 100,
-        span: 100,
-    };
     for _ in 0..limit {
-        let found = search(alloc, database, &mut trail, &mut watches, &mut activity)?;
-        let Some(conflict) = found else {
-            return Ok(Answer::Sat(model_of(alloc, &trail)?));
-        };
-        if learn(
-            alloc,
-            database,
-            &mut trail,
-            &mut watches,
-            &mut activity,
-            &mut marks,
-            conflict,
-        )? {
-            return Ok(Answer::Unsat);
+        if let Some(answer) = turn(alloc, database, trail, hints, marks)? {
+            return Ok(answer);
         }
-        pace = restart(pace, &mut trail, &mut activity)?;
     }
     Ok(Answer::Unknown)
 }

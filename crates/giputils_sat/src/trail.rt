@@ -11,11 +11,19 @@ pub struct Step {
     pub reason: Option<usize>,
 }
 
+// Where a variable got its value: at which level, and at which place of the trail.
+#[derive(Clone, Copy)]
+pub struct Stand {
+    pub level: usize,
+    pub place: usize,
+}
+
 // The true literals in order, with the values of all variables.
 #[derive(Drop)]
 pub struct Trail<A: Allocator = Global> {
     pub values: Vec<Option<bool>, A>,
-    pub levels: Vec<usize, A>,
+    // Where each variable got the value that it had last.
+    pub stands: Vec<Stand, A>,
     pub steps: Vec<Step, A>,
     // The value that each variable had last.
     pub phases: Vec<bool, A>,
@@ -23,7 +31,7 @@ pub struct Trail<A: Allocator = Global> {
     pub starts: Vec<usize, A>,
     // The literals before this place have been propagated.
     pub head: usize,
-    ghost same_len: { length levels.items ≡ length values.items },
+    ghost same_len: { length stands.items ≡ length values.items },
     ghost small: { length values.items ≤ 2 ^ 31 },
     ghost as_many: { length phases.items ≡ length values.items },
 }

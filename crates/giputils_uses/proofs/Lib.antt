@@ -1,9 +1,11 @@
-mod Actives
-mod Deadlines
 mod Examples
 mod Gathered
+mod Held
+mod Members
 mod Multiples
 mod Outcomes
+mod Picked
 mod Reaching
-mod Renamed
 mod Searches
+mod SmallSets
+mod TruePlaces

@@ -2,8 +2,7 @@
 use Rattle.std.proofs.Common.{Result, Ok, Err}
 use Rattle.std.specs.Result.{IfOk}
 
--- where two facts of the value give a third
-pub IfOk-from_both : {X E : Type 0} (r : Result X E) (P Q S : X → Type 0)
-    → IfOk r P → IfOk r Q → ((x : X) → P x → Q x → S x) → IfOk r S
-IfOk-from_both (Ok x) P Q S p q both = both x p q
-IfOk-from_both (Err e) P Q S p q both = tt
+-- where three facts of the value give a fourth
+pub IfOk-from_three : {X E : Type 0} (r : Result X E) (P Q R S : X → Type 0) → IfOk r P → IfOk r Q → IfOk r R → ((x : X) → P x → Q x → R x → S x) → IfOk r S
+IfOk-from_three (Ok x) P Q R S p q r all = all x p q r
+IfOk-from_three (Err e) P Q R S p q r all = tt

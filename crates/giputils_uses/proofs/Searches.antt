@@ -1,184 +1,136 @@
 -- A search for shortest paths: what is known of the edges and of the distances so far.
-use Rattle.std.proofs.Common.{◌≡◌, ◌≢◌, ℕ, ◌+◌, ◌*◌, ◌<◌, ◌≤◌, Bool, true, List, [], ◌∷◌, ◌++◌, length, get_or, set, Some, slice_index, arith, refl, sym, ap, subst, ◌∙◌, ◌⊎◌, ⊎_elim, inl, inr, ◌||◌, eqb, min, sum_by, unwrap_or, zero, suc, ltb, ◌&&◌}
+use Rattle.std.proofs.Common.{◌≡◌, ◌≢◌, ℕ, ◌+◌, ◌<◌, ◌≤◌, Bool, true, false, List, [], ◌∷◌, ◌++◌, length, get_or, set, Some, slice_index, arith, refl, sym, ap, ◌∙◌, ◌⊎◌, ⊎_elim, inl, inr, eqb, min, ltb}
 use Rattle.std.specs.Prelude.{slice_get}
 use Rattle.std.specs.List.{list_all}
-use Rattle.std.proofs.lemmas.Bool.{and_parts, or_parts, ltb-true, cases_lt, eqb-false, ne_eqb, false≢true}
+use Rattle.std.proofs.lemmas.Bool.{cases_Bool, or_cases, ltb-true, cases_lt, eqb-true, false≢true}
 use Rattle.std.proofs.lemmas.Bool.Decides.{eqb_tells}
-use Rattle.std.proofs.lemmas.List.{get_or-set_same, get_or-set_other, get_or_default, length-set}
+use Rattle.std.proofs.lemmas.List.{get_or-set_same, get_or-set_other, get_or_past, length-set}
+use Rattle.std.proofs.lemmas.List.Folds.{list_all_at}
 use Rattle.std.proofs.lemmas.List.Sums.{sum_by-set}
-use Rattle.std.proofs.lemmas.Option.{slice_get_within, slice_get_read}
-use Rattle.giputils.specs.Keys.{is_held, IsHeld, IsAbsent, HoldAlike}
-use Rattle.giputils_uses.specs.Paths.{Edge, IsEdge, HasNodesBelow, IsPath, HasPath, cost}
+use Rattle.std.proofs.lemmas.Option.{slice_get_within, slice_get-get_or, get_or_from_slice_get}
+use Rattle.giputils.specs.Keys.{is_held, IsHeld, HoldAlike}
+use Rattle.giputils_uses.specs.Paths.{Edge, Graph, edges_from, IsEdge, ends_at_nodes, IsPath, HasPath, cost, farthest, AreCosts, AreLeast, Relaxes}
 
--- what a written distance leaves
-module _ (far : List ℕ) (x t : ℕ) (inside : x < length far) (nearer : t < slice_index far x) where
-  falls_at : (v : ℕ) → v ≡ x → slice_index (set far x t) v ≡ t
-  falls_at v same = ap (λ i. slice_index (set far x t) i) same ∙ get_or-set_same far x t 0 inside
+-- what passes for all items passes for one
+passes_at : {X : Type 0} (p : X → Bool) (xs : List X) (k : ℕ) (d : X) → list_all p xs ≡ true → k < length xs → p (get_or xs k d) ≡ true
+passes_at p xs k d all inside =
+    ⊎_elim (λ yes. yes) (λ no. absurd (false≢true (sym (list_all_at p xs k d inside no) ∙ all))) (cases_Bool (p (get_or xs k d)))
 
-  stays_at : (v : ℕ) → v ≢ x → slice_index (set far x t) v ≡ slice_index far v
-  stays_at v apart = get_or-set_other far x v t 0 apart
+-- an end that comes nearer, and waits
+pub Relaxes-nearer : (u : ℕ) (e : Edge) (far waiting waits : List ℕ) (t : ℕ) → e.0 < length far → t < slice_index far e.0
+    → t ≡ min (slice_index far u + e.1) farthest → HoldAlike (λ k. k) waits (e.0 ∷ waiting) → length waits ≤ length waiting + 1
+    → Relaxes u e far waiting (set far e.0 t) waits
+Relaxes-nearer u e far waiting waits t inside nearer by_edge alike few = record {
+  len = length-set far e.0 t;
+  falls = λ v. ⊎_elim (λ is. rw (is.1, here) (omega (arith, nearer))) (λ is_not. rw (there v is_not.1) (omega arith)) (eqb_tells v e.0);
+  along = ⊎_elim (λ is. rw is.1 (omega arith)) (λ is_not. rw (there u is_not.1, here) (omega (arith, by_edge))) (eqb_tells u e.0);
+  nearer = λ v. ⊎_elim (λ is. inr (is.1, alike v ∙ rw is.0 refl, rw (is.1, here) by_edge)) (λ is_not. inl (there v is_not.1)) (eqb_tells v e.0);
+  stay = λ v held. alike v ∙ ⊎_elim (λ is. rw is.0 refl) (λ is_not. rw is_not.0 held) (eqb_tells v e.0);
+  others = λ v held. ⊎_elim (λ is. inr (eqb-true v e.0 is)) (λ was. inl was) (or_cases (eqb v e.0) (is_held (λ k. k) waiting v) (sym (alike v) ∙ held));
+  smaller = let moved = sum_by-set (λ x. x) far e.0 t 0 inside in omega (arith, moved, nearer, few);
+}
+  where
+    here : slice_index (set far e.0 t) e.0 ≡ t
+    here = get_or-set_same far e.0 t 0 inside
 
-  falls : (v : ℕ) → slice_index (set far x t) v ≤ slice_index far v
-  falls v = ⊎_elim (λ is. rw (falls_at v is.1, is.1) (omega (arith, nearer))) (λ is_not. rw (stays_at v is_not.1) (omega arith)) (eqb_tells v x)
+    there : (v : ℕ) → v ≢ e.0 → slice_index (set far e.0 t) v ≡ slice_index far v
+    there v apart = get_or-set_other far e.0 v t 0 apart
 
--- where the beginning of an edge is not waiting, its end is no farther than along it
-abbrev pub IsSettled : List ℕ → List ℕ → Edge → Type 0
-IsSettled far waiting e = IsAbsent (λ k. k) waiting e.0 → slice_index far e.1 ≤ slice_index far e.0 + e.2
-
-module _ (edges : List Edge) where
-  cost-append : (path : List Edge) (e : Edge) → cost (path ++ e ∷ []) ≡ cost path + e.2
+module _ (graph : Graph) where
+  cost-append : (path : List Edge) (e : Edge) → cost (path ++ e ∷ []) ≡ cost path + e.1
   cost-append [] e = omega arith
   cost-append (f ∷ path) e = let rest = cost-append path e in omega (arith, rest)
 
-  IsPath-append : (u v : ℕ) (path : List Edge) (e : Edge) → IsPath edges u path v → IsEdge edges e → e.0 ≡ v → IsPath edges u (path ++ e ∷ []) e.1
-  IsPath-append u v [] e same is from = (is, from ∙ sym same, refl)
-  IsPath-append u v (f ∷ path) e (f_is, f_from, rest) is from = (f_is, f_from, IsPath-append f.1 v path e rest is from)
+  IsPath-append : (u v : ℕ) (path : List Edge) (e : Edge) → IsPath graph u path v → IsEdge graph v e → IsPath graph u (path ++ e ∷ []) e.0
+  IsPath-append u v [] e same is = (rw same is, refl)
+  IsPath-append u v (f ∷ path) e (f_is, rest) is = (f_is, IsPath-append f.0 v path e rest is)
 
-  -- where every edge is settled and no node is waiting, no path is shorter
-  pub path_least : (far : List ℕ) → ((e : Edge) → IsEdge edges e → slice_index far e.1 ≤ slice_index far e.0 + e.2)
-      → (u v : ℕ) (path : List Edge) → IsPath edges u path v → slice_index far v ≤ slice_index far u + cost path
-  path_least far settled u v [] same = rw same (omega arith)
-  path_least far settled u v (e ∷ path) (is, from, rest) =
-      let here = settled e is in
-      let on = path_least far settled e.1 v path rest in
-      let at : slice_index far e.0 ≡ slice_index far u = ap (slice_index far) from in
-      omega (arith, here, on, at)
+  -- an edge begins and ends at a node
+  pub edge_nodes : ends_at_nodes graph ≡ true → (u k : ℕ) (e : Edge) → slice_get (edges_from graph u) k ≡ Some e → (u < length graph) × (e.0 < length graph)
+  edge_nodes ends u k e at =
+      let within = slice_get_within (edges_from graph u) k e at in
+      let begins : u < length graph = ⊎_elim (λ inside. inside)
+      (λ past. let none : edges_from graph u ≡ [] = get_or_past graph u [] past in absurd (omega (arith, within, ap length none))) (cases_lt u (length graph)) in
+      let below = passes_at (λ f. ltb f.0 (length graph)) (edges_from graph u) k e (passes_at (list_all (λ f. ltb f.0 (length graph))) graph u [] ends begins) within in
+      (begins, ltb-true e.0 (length graph) (rw (get_or_from_slice_get (edges_from graph u) k e e at) at below))
 
-  -- of the edges from node those before place i are settled, and so are all others; each distance is a path's
-  pub record IsSearch (source count : ℕ) (far waiting : List ℕ) (node i : ℕ) : Type 0 where
-    pub len : length far ≡ count
-    pub settled : (k : ℕ) (e : Edge) → slice_get edges k ≡ Some e → (k < i) ⊎ (e.0 ≢ node) → IsSettled far waiting e
-    pub reached : (v : ℕ) → v < count → slice_index far v < 4294967295 → HasPath edges source v (slice_index far v)
-    pub here : slice_index far source ≡ 0
+  -- the edge that is read at a place of a node's edges
+  pub edge_at : (u i : ℕ) (items : List Edge) → items ≡ edges_from graph u → i < length items → slice_get (edges_from graph u) i ≡ Some (get_or items i (0, 0))
+  edge_at u i items same inside = rw (← same) (slice_get-get_or items i (0, 0) inside)
 
-  -- the edge at place i is settled too
-  pub IsSearch-next : (source count : ℕ) (far waiting : List ℕ) (node i : ℕ) (e : Edge) → slice_get edges i ≡ Some e
-      → (e.0 ≡ node → IsSettled far waiting e)
-      → IsSearch source count far waiting node i → IsSearch source count far waiting node (i + 1)
-  IsSearch-next source count far waiting node i e at here so_far = record {
-    len = so_far.len;
-    settled = λ k f f_at done. one_more k f f_at done (cases_lt k i);
-    reached = so_far.reached;
-    here = so_far.here;
-  }
-    where
-      at_e : IsSettled far waiting e
-      at_e = ⊎_elim (λ is. here is.1) (λ is_not. so_far.settled i e at (inr is_not.1)) (eqb_tells e.0 node)
+  module _ (source : ℕ) where
+    -- an edge leads to no nearer end than along it, where its beginning doesn't wait, but for the edges of `node` from place i on; each
+    -- distance is a path's
+    pub record IsSearch (far waiting : List ℕ) (node i : ℕ) : Type 0 where
+      pub len : length far ≡ length graph
+      pub here : slice_index far source ≡ 0
+      pub reached : AreCosts graph source far
+      pub nodes : (v : ℕ) → IsHeld (λ k. k) waiting v → v < length graph
+      pub settled : (u k : ℕ) (e : Edge) → slice_get (edges_from graph u) k ≡ Some e
+          → (slice_index far e.0 ≤ slice_index far u + e.1) ⊎ (IsHeld (λ k. k) waiting u ⊎ ((u ≡ node) × (i ≤ k)))
 
-      one_more : (k : ℕ) (f : Edge) → slice_get edges k ≡ Some f → (k < i + 1) ⊎ (f.0 ≢ node) → (k < i) ⊎ (i ≤ k) → IsSettled far waiting f
-      one_more k f f_at done (inl before) = so_far.settled k f f_at (inl before)
-      one_more k f f_at (inr other) (inr after) = so_far.settled k f f_at (inr other)
-      one_more k f f_at (inl before) (inr after) =
-          let same : k ≡ i = omega (arith, before, after) in
-          subst (IsSettled far waiting) (ap (λ o. unwrap_or o e) (sym at ∙ ap (slice_get edges) (sym same) ∙ f_at)) at_e
+    -- at the start the source alone waits, and no other node has been reached
+    pub IsSearch-start : (far waiting : List ℕ) (node i : ℕ) → ends_at_nodes graph ≡ true → source < length graph → length far ≡ length graph
+        → slice_index far source ≡ 0 → ((v : ℕ) → v < length graph → v ≢ source → slice_index far v ≡ farthest)
+        → HoldAlike (λ k. k) waiting (source ∷ []) → IsSearch far waiting node i
+    IsSearch-start far waiting node i ends inside len here others alike = record {
+      len = len;
+      here = here;
+      reached = λ v below near.
+          ⊎_elim (λ is. ([], sym is.1, sym here ∙ ap (slice_index far) (sym is.1))) (λ is_not. absurd (omega (arith, near, others v below is_not.1))) (eqb_tells v source);
+      nodes = λ v held. ⊎_elim (λ is. rw (eqb-true v source is) inside) (λ none. absurd (false≢true none)) (or_cases (eqb v source) false (sym (alike v) ∙ held));
+      settled = λ u k e at. ⊎_elim (λ is. inr (inl (alike u ∙ rw is.0 refl)))
+          (λ (is_not : (eqb u source ≡ false) × (u ≢ source)). let nodes = edge_nodes ends u k e at in
+          inl (⊎_elim (λ same. rw (same.1, here) (omega arith))
+          (λ apart. omega (arith, others e.0 nodes.1 apart.1, others u nodes.0 is_not.1)) (eqb_tells e.0 source))) (eqb_tells u source);
+    }
 
-  -- a node that is taken leaves the edges from it to be settled
-  pub IsSearch-taken : (source count : ℕ) (far waiting left : List ℕ) (was node : ℕ) → HoldAlike (λ k. k) waiting (node ∷ left)
-      → IsSearch source count far waiting was (length edges) → IsSearch source count far left node 0
-  IsSearch-taken source count far waiting left was node alike so_far = record {
-    len = so_far.len;
-    settled = λ k e at done absent. ⊎_elim (λ before. absurd (omega (arith, before)))
-        (λ other. so_far.settled k e at (inl (slice_get_within edges k e at)) (alike e.0 ∙ ap (λ b. b || is_held (λ q. q) left e.0) (ne_eqb e.0 node other) ∙ absent)) done;
-    reached = so_far.reached;
-    here = so_far.here;
-  }
+    -- a node is taken that waits
+    pub IsSearch-taken : (far waiting left : List ℕ) (was n node : ℕ) → length (edges_from graph was) ≤ n → HoldAlike (λ k. k) waiting (node ∷ left)
+        → IsSearch far waiting was n → IsSearch far left node 0
+    IsSearch-taken far waiting left was n node all alike so_far = record {
+      len = so_far.len;
+      here = so_far.here;
+      reached = so_far.reached;
+      nodes = λ v held. so_far.nodes v (alike v ∙ ⊎_elim (λ is. rw is.0 refl) (λ is_not. rw is_not.0 held) (eqb_tells v node));
+      settled = λ u k e at. ⊎_elim (λ done. inl done)
+          (⊎_elim (λ held. inr (⊎_elim (λ is. inr (eqb-true u node is, omega arith)) (λ still. inl still) (or_cases (eqb u node) (is_held (λ q. q) left u) (sym (alike u) ∙ held))))
+          (λ before. absurd (omega (arith, before.1, all, slice_get_within (edges_from graph u) k e at, ap (λ v. length (edges_from graph v)) before.0))))
+          (so_far.settled u k e at);
+    }
 
-  -- all edges from the node are settled
-  pub IsSearch-done : (source count : ℕ) (far waiting : List ℕ) (node i : ℕ) → length edges ≤ i → IsSearch source count far waiting node i
-      → IsSearch source count far waiting 0 (length edges)
-  IsSearch-done source count far waiting node i end so_far = record {
-    len = so_far.len;
-    settled = λ k e at done. so_far.settled k e at (inl (omega (arith, end, slice_get_within edges k e at)));
-    reached = so_far.reached;
-    here = so_far.here;
-  }
+    -- the edge at place i of the node is relaxed
+    module _ (far waiting new waits : List ℕ) (node i : ℕ) (e : Edge) (at : slice_get (edges_from graph node) i ≡ Some e)
+        (node_inside : node < length graph) (end_inside : e.0 < length graph) (now : Relaxes node e far waiting new waits) (so_far : IsSearch far waiting node i) where
+      path_by_it : min (slice_index far node + e.1) farthest < farthest → HasPath graph source e.0 (min (slice_index far node + e.1) farthest)
+      path_by_it near =
+          let (path, goes, costs) = so_far.reached node node_inside (omega (arith, near)) in
+          (path ++ e ∷ [], IsPath-append source node path e goes (i, at), cost-append path e ∙ omega (arith, costs, near))
 
-  -- at the start the source alone waits, and no other node has been reached
-  pub IsSearch-start : (source count : ℕ) (far waiting : List ℕ) → ((e : Edge) → IsEdge edges e → (e.0 < count) × (e.1 < count)) → length far ≡ count
-      → slice_index far source ≡ 0 → IsHeld (λ k. k) waiting source → ((v : ℕ) → v < count → v ≢ source → slice_index far v ≡ 4294967295)
-      → IsSearch source count far waiting 0 (length edges)
-  IsSearch-start source count far waiting nodes len here waits others = record {
-    len = len;
-    settled = λ k e at done absent.
-        ⊎_elim (λ is. absurd (false≢true (sym absent ∙ ap (is_held (λ q. q) waiting) is.1 ∙ waits)))
-        (λ is_not. let most : slice_index far e.0 ≡ 4294967295 = others e.0 (nodes e (k, at)).0 is_not.1 in
-        let less = at_most e.1 (nodes e (k, at)).1 in omega (arith, most, less)) (eqb_tells e.0 source);
-    reached = λ v inside near.
-        ⊎_elim (λ is. ([], sym is.1, sym here ∙ ap (slice_index far) (sym is.1))) (λ is_not. absurd (omega (arith, near, others v inside is_not.1))) (eqb_tells v source);
-    here = here;
-  }
-    where
-      at_most : (v : ℕ) → v < count → slice_index far v ≤ 4294967295
-      at_most v inside = ⊎_elim (λ is. rw (is.1, here) (omega arith)) (λ is_not. rw (others v inside is_not.1) (omega arith)) (eqb_tells v source)
+      pub IsSearch-next : IsSearch new waits node (i + 1)
+      IsSearch-next = record {
+        len = now.len ∙ so_far.len;
+        here = omega (arith, now.falls source, so_far.here);
+        reached = λ v below near. ⊎_elim (λ same. rw same (so_far.reached v below (omega (arith, same, near))))
+            (λ by. rw (by.2, by.0) (path_by_it (omega (arith, by.2, near)))) (now.nearer v);
+        nodes = λ v held. ⊎_elim (λ was. so_far.nodes v was) (λ is. rw is end_inside) (now.others v held);
+        settled = λ u k f f_at. ⊎_elim
+            (λ done. ⊎_elim (λ same. inl (omega (arith, now.falls f.0, same, done))) (λ by. inr (inl by.1)) (now.nearer u))
+            (⊎_elim (λ held. inr (inl (now.stay u held)))
+            (λ before. ⊎_elim (λ later. inr (inr (before.0, omega (arith, later)))) (λ here. inl (last u k f f_at before.0 (omega (arith, here, before.1)))) (cases_lt i k)))
+            (so_far.settled u k f f_at);
+      }
+        where
+          last : (u k : ℕ) (f : Edge) → slice_get (edges_from graph u) k ≡ Some f → u ≡ node → k ≡ i → slice_index new f.0 ≤ slice_index new u + f.1
+          last u k f f_at same_node same = let is : f ≡ e = cc in rw (is, same_node) now.along
 
-  -- the end of an edge comes nearer by it, and waits
-  module _ (source count : ℕ) (far waiting waits_too : List ℕ) (node i : ℕ) (e : Edge) (through : ℕ) (at : slice_get edges i ≡ Some e)
-      (nodes : (f : Edge) → IsEdge edges f → (f.0 < count) × (f.1 < count)) (nearer : through < slice_index far e.1) (by_edge : through ≡ min (slice_index far e.0 + e.2) 4294967295)
-      (alike : HoldAlike (λ k. k) waits_too (e.1 ∷ waiting)) (so_far : IsSearch source count far waiting node i) where
-    inside : e.1 < length far
-    inside = omega (arith, (nodes e (i, at)).1, so_far.len)
+    -- where no node waits, each distance is least
+    module _ (far : List ℕ) (was n : ℕ) (all : length (edges_from graph was) ≤ n) (so_far : IsSearch far [] was n) where
+      path_least : (u v : ℕ) (path : List Edge) → IsPath graph u path v → slice_index far v ≤ slice_index far u + cost path
+      path_least u v [] same = rw same (omega arith)
+      path_least u v (e ∷ path) ((k, at), rest) =
+          ⊎_elim (λ here. omega (arith, here, path_least e.0 v path rest)) (⊎_elim (λ held. absurd (false≢true held))
+          (λ before. absurd (omega (arith, before.1, all, slice_get_within (edges_from graph u) k e at, ap (λ w. length (edges_from graph w)) before.0)))) (so_far.settled u k e at)
 
-    settled_still : (f : Edge) → IsSettled far waiting f → IsSettled (set far e.1 through) waits_too f
-    settled_still f was absent =
-        let parts = or_parts (eqb f.0 e.1) (is_held (λ k. k) waiting f.0) (sym (alike f.0) ∙ absent) in
-        let less = falls far e.1 through inside nearer f.1 in
-        let same = stays_at far e.1 through inside nearer f.0 (eqb-false f.0 e.1 parts.0) in
-        omega (arith, was parts.1, less, same)
-
-    settled_itself : IsSettled (set far e.1 through) waits_too e
-    settled_itself absent =
-        let parts = or_parts (eqb e.0 e.1) (is_held (λ k. k) waiting e.0) (sym (alike e.0) ∙ absent) in
-        let now = falls_at far e.1 through inside nearer e.1 refl in
-        let same = stays_at far e.1 through inside nearer e.0 (eqb-false e.0 e.1 parts.0) in
-        omega (arith, now, same, by_edge)
-
-    path_by_it : slice_index far e.0 < 4294967295 → through ≡ slice_index far e.0 + e.2 → HasPath edges source e.1 through
-    path_by_it near is =
-        let (path, goes, costs) = so_far.reached e.0 (nodes e (i, at)).0 near in
-        (path ++ e ∷ [], IsPath-append source e.0 path e goes (i, at) refl, cost-append path e ∙ omega (arith, costs, is))
-
-    reached_now : (v : ℕ) → v < count → slice_index (set far e.1 through) v < 4294967295
-        → HasPath edges source v (slice_index (set far e.1 through) v)
-    reached_now v v_inside near =
-        ⊎_elim
-        (λ is. let now = falls_at far e.1 through inside nearer v is.1 in
-        rw (now, is.1) (path_by_it (omega (arith, near, now, by_edge)) (omega (arith, near, now, by_edge))))
-        (λ is_not. let same = stays_at far e.1 through inside nearer v is_not.1 in
-        rw same (so_far.reached v v_inside (omega (arith, same, near)))) (eqb_tells v e.1)
-
-    pub IsSearch-nearer : IsSearch source count (set far e.1 through) waits_too node (i + 1)
-    IsSearch-nearer = IsSearch-next source count (set far e.1 through) waits_too node i e at (λ same. settled_itself) (record {
-      len = length-set far e.1 through ∙ so_far.len;
-      settled = λ k f f_at done. settled_still f (so_far.settled k f f_at done);
-      reached = reached_now;
-      here = ⊎_elim (λ is. absurd (omega (arith, nearer, ap (slice_index far) is.1, so_far.here)))
-          (λ is_not. stays_at far e.1 through inside nearer source is_not.1 ∙ so_far.here) (eqb_tells source e.1);
-    })
-
-    -- and the sum of the distances falls
-    pub smaller_sum : length waits_too ≤ length waiting + 1 → 2 * sum_by (λ x. x) (set far e.1 through) + length waits_too ≤ 2 * sum_by (λ x. x) far + length waiting
-    smaller_sum few = let moved = sum_by-set (λ x. x) far e.1 through 0 inside in omega (arith, moved, nearer, few)
-
-  -- where no node waits, each distance is least
-  pub IsSearch-least : (source count : ℕ) (far waiting : List ℕ) (node : ℕ) → waiting ≡ [] → IsSearch source count far waiting node (length edges)
-      → (v : ℕ) (path : List Edge) → IsPath edges source path v → slice_index far v ≤ cost path
-  IsSearch-least source count far waiting node none so_far v path goes =
-      let least = path_least far (λ e is. so_far.settled is.0 e is.1 (inl (slice_get_within edges is.0 e is.1)) (ap (λ ks. is_held (λ q. q) ks e.0) none)) source v path goes in
-      omega (arith, least, so_far.here)
-
--- what passes for all edges passes for one
-passes_at : {X : Type 0} (p : X → Bool) (xs : List X) (k : ℕ) (x : X) → list_all p xs ≡ true → slice_get xs k ≡ Some x → p x ≡ true
-passes_at p [] k x all at = absurd (omega (arith, slice_get_within [] k x at))
-passes_at p (y ∷ ys) zero x all at = subst (λ z. p z ≡ true) (ap (λ o. unwrap_or o y) at) (and_parts (p y) (list_all p ys) all).0
-passes_at p (y ∷ ys) (suc k) x all at = passes_at p ys k x (and_parts (p y) (list_all p ys) all).1 at
-
--- an edge begins and ends at a node
-pub nodes_below : (count : ℕ) (edges : List Edge) → HasNodesBelow count edges → (e : Edge) → IsEdge edges e → (e.0 < count) × (e.1 < count)
-nodes_below count edges below e is =
-    let parts = and_parts (ltb e.0 count) (ltb e.1 count) (passes_at (λ f. ltb f.0 count && ltb f.1 count) edges is.0 e below is.1) in
-    (ltb-true e.0 count parts.0, ltb-true e.1 count parts.1)
-
--- the edge that is read at a place
-pub edge_at : (edges : List Edge) (i : ℕ) → i < length edges → slice_get edges i ≡ Some (get_or edges i (0, 0, 0))
-edge_at edges i inside =
-    slice_get_read edges (length edges) i (get_or edges i (0, 0, 0)) refl inside (get_or_default edges i (0, 0, 0) (get_or edges i (0, 0, 0)) inside)
+      pub IsSearch-least : AreLeast graph source far
+      IsSearch-least v path goes = omega (arith, path_least source v path goes, so_far.here)

@@ -5,5 +5,7 @@ pub mod Compaction
 pub mod Drained
 pub mod Paths
 pub mod Primes
+pub mod Ranked
 pub mod Reachable
 pub mod Rows
+pub mod SmallSet

@@ -1,41 +1,60 @@
--- Paths in a graph that is given as the list of its edges. An edge is where it begins, where it ends, and its weight.
-use Rattle.std.specs.Prelude.{◌≡◌, ℕ, ◌+◌, ◌<◌, ◌≤◌, nat_lt, ◌&&◌, List, [], ◌∷◌, slice_get, slice_index, Some, IsTrue}
-use Rattle.std.specs.List.{list_all}
+-- Paths in a directed graph, which lists for each node the edges that begin there: an edge is where it ends, and its weight.
+use Rattle.std.specs.Prelude.{◌≡◌, ℕ, ◌+◌, ◌*◌, ◌<◌, ◌≤◌, ◌⊎◌, nat_lt, min, Bool, List, [], ◌∷◌, length, slice_get, slice_index, slice_index_or, Some}
+use Rattle.std.specs.List.{list_all, sum_by}
+use Rattle.giputils.specs.Keys.{IsHeld}
 
 abbrev pub Edge : Type 0
-Edge = ℕ × ℕ × ℕ
+Edge = ℕ × ℕ
 
--- e is one of the edges
-abbrev pub IsEdge : List Edge → Edge → Type 0
-IsEdge edges e = (k : ℕ) × (slice_get edges k ≡ Some e)
+abbrev pub Graph : Type 0
+Graph = List (List Edge)
 
--- every edge begins and ends at a node below count
-abbrev pub HasNodesBelow : ℕ → List Edge → Type 0
-HasNodesBelow count edges = IsTrue (list_all (λ e. nat_lt e.0 count && nat_lt e.1 count) edges)
+-- the edges that begin at u
+abbrev pub edges_from : Graph → ℕ → List Edge
+edges_from graph u = slice_index_or graph u []
+
+-- e is an edge that begins at u
+abbrev pub IsEdge : Graph → ℕ → Edge → Type 0
+IsEdge graph u e = (k : ℕ) × (slice_get (edges_from graph u) k ≡ Some e)
+
+-- whether every edge ends at a node
+abbrev pub ends_at_nodes : Graph → Bool
+ends_at_nodes graph = list_all (list_all (λ e. nat_lt e.0 (length graph))) graph
 
 -- the path goes along edges of the graph from u to v, each from where the one before it ends
-abbrev pub IsPath : List Edge → ℕ → List Edge → ℕ → Type 0
-IsPath edges u [] v = u ≡ v
-IsPath edges u (e ∷ path) v = IsEdge edges e × (e.0 ≡ u) × IsPath edges e.1 path v
+abbrev pub IsPath : Graph → ℕ → List Edge → ℕ → Type 0
+IsPath graph u [] v = u ≡ v
+IsPath graph u (e ∷ path) v = IsEdge graph u e × IsPath graph e.0 path v
 
 -- the sum of the weights
 abbrev pub cost : List Edge → ℕ
 cost [] = 0
-cost (e ∷ path) = e.2 + cost path
+cost (e ∷ path) = e.1 + cost path
 
 -- there is a path from u to v of this cost
-abbrev pub HasPath : List Edge → ℕ → ℕ → ℕ → Type 0
-HasPath edges u v c = (path : List Edge) × IsPath edges u path v × (cost path ≡ c)
+abbrev pub HasPath : Graph → ℕ → ℕ → ℕ → Type 0
+HasPath graph u v c = (path : List Edge) × IsPath graph u path v × (cost path ≡ c)
 
 -- the distance of a node that no path was found to
 abbrev pub farthest : ℕ
 farthest = 4294967295
 
--- of count nodes, each that is nearer than the farthest has a path that costs its distance
-abbrev pub AreCosts : List Edge → ℕ → ℕ → List ℕ → Type 0
-AreCosts edges source count far =
-    (v : ℕ) → v < count → slice_index far v < farthest → HasPath edges source v (slice_index far v)
+-- each node that is nearer than the farthest has a path that costs its distance
+abbrev pub AreCosts : Graph → ℕ → List ℕ → Type 0
+AreCosts graph source far =
+    (v : ℕ) → v < length graph → slice_index far v < farthest → HasPath graph source v (slice_index far v)
 
 -- no path costs less than the distance of its end
-abbrev pub AreLeast : List Edge → ℕ → List ℕ → Type 0
-AreLeast edges source far = (v : ℕ) (path : List Edge) → IsPath edges source path v → slice_index far v ≤ cost path
+abbrev pub AreLeast : Graph → ℕ → List ℕ → Type 0
+AreLeast graph source far = (v : ℕ) (path : List Edge) → IsPath graph source path v → slice_index far v ≤ cost path
+
+-- the end of an edge from u is no farther than along it; where it has come nearer, it waits. The others are as before.
+pub record Relaxes (u : ℕ) (e : Edge) (far waiting new waits : List ℕ) : Type 0 where
+  pub len : length new ≡ length far
+  pub falls : (v : ℕ) → slice_index new v ≤ slice_index far v
+  pub along : slice_index new e.0 ≤ slice_index new u + e.1
+  pub nearer : (v : ℕ) → (slice_index new v ≡ slice_index far v)
+      ⊎ ((v ≡ e.0) × IsHeld (λ k. k) waits v × (slice_index new v ≡ min (slice_index far u + e.1) farthest))
+  pub stay : (v : ℕ) → IsHeld (λ k. k) waiting v → IsHeld (λ k. k) waits v
+  pub others : (v : ℕ) → IsHeld (λ k. k) waits v → IsHeld (λ k. k) waiting v ⊎ (v ≡ e.0)
+  pub smaller : 2 * sum_by (λ x. x) new + length waits ≤ 2 * sum_by (λ x. x) far + length waiting

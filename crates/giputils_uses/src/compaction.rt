@@ -1,5 +1,5 @@
 //! Lists of indexes into an index allocator, renamed by a collection.
-ghost use Rattle.std.specs.Prelude.{◌≡◌, IfOk, OnOk, OnErr};
+ghost use Rattle.std.specs.Prelude.{◌≡◌, OnOk, OnErr};
 ghost use Rattle.std.specs.List.{filter_map};
 ghost use Rattle.giputils.specs.Allocator.{index_map, survivors, unmarked_slots};
 ghost use Rattle.giputils_uses.specs.Compaction.{ReadsAlike};
@@ -7,32 +7,27 @@ ghost use Rattle.giputils_uses.specs.Compaction.{ReadsAlike};
 #[cfg(test)]
 mod tests;
 
-use giputils::allocator::Gallocator;
+use giputils::allocator::{Gallocator, rename};
 use std::alloc::{AllocError, Allocator};
 
-/// Collects the removed clauses, and answers the watched ones that are left by their new indexes, in order.
+/// Collects the removed clauses, and gives the watched ones that are left their new indexes, in order.
 ///
-/// Shows the map of `gc`: what read a clause by its old index reads the same clause by its new one. The list of new
-/// indexes is asked for first, so that a collection that was done is never lost.
+/// Shows the table of `gc_table`, by which `rename` renames any number of lists without memory: what read a clause by
+/// its old index reads the same clause by its new one.
 ///
 /// # Errors
-/// `AllocError` where memory for the list or for the map is refused. The clauses are then as they were.
+/// `AllocError` where memory for the table is refused. Nothing changes then.
 pub fn compact<T: Drop, A: Allocator + Copy>(
-    alloc: A,
     clauses: &mut Gallocator<T, A>,
-    watched: &[usize],
-) -> Result<Vec<usize, A>, AllocError>
+    watched: &mut Vec<usize, A>,
+) -> Result<(), AllocError>
     ensures collected { OnOk result (clauses.new ≡ unmarked_slots (survivors clauses.old)) }
-    ensures renamed { IfOk result (λ left. left.items ≡ filter_map (index_map clauses.old) watched.now) }
-    ensures same_clauses { IfOk result (λ left. ReadsAlike clauses.old clauses.new watched.now left.items) }
-    ensures err { OnErr result (clauses.new ≡ clauses.old) }
+    ensures renamed { OnOk result (watched.new.items ≡ filter_map (index_map clauses.old) watched.old.items) }
+    ensures same_clauses { OnOk result (ReadsAlike clauses.old clauses.new watched.old.items watched.new.items) }
+    ensures clauses { OnErr result (clauses.new ≡ clauses.old) }
+    ensures watched { OnErr result (watched.new.items ≡ watched.old.items) }
 {
-    let mut left = Vec::with_capacity(alloc, watched.len())?;
-    let moved = clauses.gc()?;
-    for old in watched {
-        if let Some(new) = moved.get(old) {
-            left.push_reserved(*new);
-        }
-    }
-    Ok(left)
+    let table = clauses.gc_table()?;
+    rename(&table, watched);
+    Ok(())
 }

@@ -12,6 +12,7 @@ pub mod report;
 pub mod rows;
 pub mod sieve;
 pub mod simulate;
+pub mod small_set;
 pub mod sorting;
 pub mod states;
 pub mod timers;

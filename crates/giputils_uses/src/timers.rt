@@ -14,8 +14,8 @@ use std::marker::Model;
 
 /// Timers by their numbers, each with a deadline.
 ///
-/// Shows a queue whose least rank goes first (`Reverse(ByRank(..))`), and a key whose rank is set to anything: `update`
-/// puts it where it belongs.
+/// Shows a queue whose least rank goes first (`Reverse(ByRank(..))`), and a key whose rank is set to anything:
+/// `push_or_update` puts it where it belongs.
 #[derive(Drop)]
 pub struct Timers<A: Allocator = Global> {
     running: BinaryHeap<u16, A>,
@@ -60,9 +60,8 @@ impl<A: Allocator + Copy> Timers<A> {
         ensures err { OnErr result (IsPermutation self.old.running self.new.running) }
     {
         self.deadlines[usize::from(timer)] = deadline;
-        let earliest = Reverse(ByRank(&self.deadlines));
-        self.running.update(timer, &earliest);
-        self.running.push(timer, &earliest)
+        self.running
+            .push_or_update(timer, &Reverse(ByRank(&self.deadlines)))
     }
 
     /// Stops a timer with the earliest deadline, and answers it. `None` where none runs.

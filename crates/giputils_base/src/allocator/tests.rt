@@ -1,8 +1,9 @@
 //! What callers learn through the clauses, and the calls once each.
-ghost use Rattle.std.specs.Prelude.{◌≡◌, ◌<◌, Some, length};
-ghost use Rattle.giputils_base.specs.Allocator.{value_at, mark_at, write};
+ghost use Rattle.std.specs.Prelude.{◌≡◌, ◌<◌, [], ◌∷◌, ◌++◌, false, Some, length, IfOk, map};
+ghost use Rattle.giputils_base.specs.Allocator.{value_at, mark_at, write, live_slots};
 
 use super::{GallocCall, GallocElem, Gallocator, galloc_run, rename};
+use std::alloc::{AllocError, Global};
 use std::test::Fail;
 
 fn read(allocator: &Gallocator<u32>, index: usize) -> u32
@@ -34,66 +35,80 @@ fn an_element_keeps_its_value_and_is_not_removed(rt: HostRuntime) {
     assert_eq!(rt; elem.take(), 4);
 }
 
+// Three values, of which the second is marked, and marked again.
+fn three_values(alloc: Global) -> Result<Gallocator<u32>, u32> {
+    let mut allocator = Gallocator::new(alloc);
+    for value in [10, 20, 30] {
+        allocator.alloc(value)?;
+    }
+    for _ in 0..2 {
+        if allocator.len() == 3 {
+            allocator.dealloc(1);
+        }
+    }
+    Ok(allocator)
+}
+
+// The marks of the last two of three slots, and their values.
+fn last_two(allocator: &Gallocator<u32>) -> Option<([bool; 2], [u32; 2])> {
+    if allocator.len() != 3 {
+        return None;
+    }
+    let marks = [allocator.is_removed(1), allocator.is_removed(2)];
+    Some((marks, [read(allocator, 1), allocator[2u32]]))
+}
+
+// What is answered of slots 0, 1 and 3, of which there is none.
+fn live_at(allocator: &Gallocator<u32>) -> [Option<u32>; 3] {
+    let (first, second) = (allocator.get(0).copied(), allocator.get(1).copied());
+    [first, second, allocator.get(3).copied()]
+}
+
+#[test]
+fn a_marked_value_is_still_read(rt: HostRuntime) -> Result<(), Fail> {
+    let allocator = three_values(rt.alloc())?;
+    let lengths = (allocator.len(), allocator.live_len());
+    assert_eq!(rt;
+        (lengths, live_at(&allocator), last_two(&allocator)),
+        (
+            (3, 2),
+            [Some(10), None, None],
+            Some(([true, false], [20, 30]))
+        )
+    );
+    Ok(())
+}
+
 #[test]
 fn a_collection_drops_marked_values_and_renumbers_the_others(rt: HostRuntime) -> Result<(), Fail> {
-    let mut allocator = Gallocator::new(rt.alloc());
-    for (value, index) in [(10u32, 0usize), (20, 1), (30, 2)] {
-        assert_eq!(rt; allocator.alloc(value).ok(), Some(index));
-    }
-    assert_eq!(rt; allocator.len(), 3);
-    allocator.dealloc(1);
-    allocator.dealloc(1);
-    assert_eq!(rt; allocator.len(), 3);
-    assert!(rt; allocator.is_removed(1));
-    assert!(rt; !allocator.is_removed(2));
-    assert_eq!(rt; read(&allocator, 1), 20);
+    let mut allocator = three_values(rt.alloc())?;
+    let indexes = allocator.gc()?;
     assert_eq!(rt;
         (
-            allocator.get(0).copied(),
-            allocator.get(1),
-            allocator.get(3)
+            indexes.get(&0).copied(),
+            indexes.get(&1).copied(),
+            indexes.get(&2).copied()
         ),
-        (Some(10), None, None)
+        (Some(0), None, Some(1))
     );
-    let indexes = allocator.gc()?;
+    if allocator.len() == 2 {
+        overwrite(&mut allocator, 1, 31);
+    }
     assert_eq!(rt;
         format!(in rt.alloc(); "{allocator:?}")?.as_str(),
         "Gallocator { slots: Gvec { items: [GallocElem { value: 10, removed: false }, \
-         GallocElem { value: 30, removed: false }] }, live: 2 }"
+         GallocElem { value: 31, removed: false }] }, live: 2 }"
     );
-    assert_eq!(rt; indexes.len(), 2);
-    assert_eq!(rt;
-        (indexes.get(&0).copied(), indexes.get(&2).copied()),
-        (Some(0), Some(1))
-    );
-    assert_eq!(rt; allocator.len(), 2);
-    assert_eq!(rt; read(&allocator, 1), 30);
-    overwrite(&mut allocator, 1, 31);
-    assert_eq!(rt; allocator.len(), 2);
-    assert_eq!(rt; (allocator[0u32], allocator[1u32]), (10, 31));
-    allocator.dealloc(0);
-    allocator.dealloc(1);
-    assert_eq!(rt; allocator.gc()?.len(), 0);
-    assert_eq!(rt; allocator.len(), 0);
     Ok(())
 }
 
 #[test]
 fn a_table_renumbers_as_a_map_does(rt: HostRuntime) -> Result<(), Fail> {
-    let mut allocator = Gallocator::new(rt.alloc());
-    for value in [10u32, 20, 30] {
-        assert!(rt; allocator.alloc(value).is_ok());
-    }
-    assert_eq!(rt; (allocator.len(), allocator.live_len()), (3, 3));
-    allocator.dealloc(1);
-    allocator.dealloc(1);
-    assert_eq!(rt; (allocator.len(), allocator.live_len()), (3, 2));
+    let mut allocator = three_values(rt.alloc())?;
     let table = allocator.gc_table()?;
     assert_eq!(rt; table.as_slice(), [Some(0), None, Some(1)].as_slice());
-    assert_eq!(rt; (allocator.len(), allocator.live_len()), (2, 2));
-    assert_eq!(rt; (read(&allocator, 0), read(&allocator, 1)), (10, 30));
     assert_eq!(rt; allocator.alloc(40).ok(), Some(2));
-    assert_eq!(rt; allocator.live_len(), 3);
+    assert_eq!(rt; (allocator.len(), allocator.live_len()), (3, 3));
     Ok(())
 }
 
@@ -103,6 +118,41 @@ fn a_list_of_indexes_is_renamed_in_place(rt: HostRuntime) -> Result<(), Fail> {
     rename([Some(0), None, Some(1)].as_slice(), &mut indexes);
     assert_eq!(rt; indexes.as_slice(), [1, 0, 1].as_slice());
     Ok(())
+}
+
+fn live_values(allocator: &Gallocator<u32>, alloc: Global) -> Result<Vec<(usize, u32)>, AllocError>
+    ensures { IfOk result (λ items. items.items ≡ live_slots 0 allocator.now) }
+{
+    allocator
+        .iter()
+        .map(|(index, value)| (index, *value))
+        .collect(alloc)
+}
+
+#[test]
+fn a_walk_gives_each_live_value_with_its_index(rt: HostRuntime) -> Result<(), Fail> {
+    let mut allocator = both_put(Gallocator::new(rt.alloc()), 10, 20)?;
+    allocator = both_put(allocator, 30, 40)?;
+    if allocator.len() == 4 {
+        allocator.dealloc(1);
+    }
+    let items = live_values(&allocator, rt.alloc())?;
+    assert_eq!(rt; items.as_slice(), [(0, 10), (2, 30), (3, 40)].as_slice());
+    Ok(())
+}
+
+fn both_put(
+    allocator: Gallocator<u32>,
+    first: u32,
+    second: u32,
+) -> Result<Gallocator<u32>, AllocError>
+    ensures { IfOk result (λ g. g ≡ (allocator ++ (first, false) ∷ []) ++ (second, false) ∷ []) }
+{
+    let mut room = allocator.into_reserved();
+    room.reserve(2)?;
+    room.alloc_reserved(first);
+    room.alloc_reserved(second);
+    Ok(room.finish())
 }
 
 #[test]

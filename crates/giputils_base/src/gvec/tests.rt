@@ -5,6 +5,7 @@ use super::Gvec;
 use rand_core::Rng;
 use rand_pcg::Pcg32;
 use std::alloc::{AllocError, AllocFailed, Allocator, Global};
+use std::ops::DerefMut;
 use std::test::Fail;
 
 fn push_through<T, A: Allocator>(g: &mut Gvec<T, A>, x: T) -> Result<(), AllocFailed<T>>
@@ -19,6 +20,17 @@ fn push_two<A: Allocator>(g: &mut Gvec<u32, A>) -> Result<(), AllocError>
 {
     g.push(1)?;
     g.push(2)?;
+    Ok(())
+}
+
+fn push_both_reserved<A: Allocator>(g: &mut Gvec<u32, A>) -> Result<(), AllocError>
+    ensures ok { OnOk result (g.new ≡ (g.old ++ 1 ∷ []) ++ 2 ∷ []) }
+    ensures err { OnErr result (g.new ≡ g.old) }
+{
+    let items = g.deref_mut();
+    items.reserve(2)?;
+    items.push_reserved(1);
+    items.push_reserved(2);
     Ok(())
 }
 

@@ -83,24 +83,42 @@ fn a_set_has_each_member_once(rt: HostRuntime) -> Result<(), Fail> {
     Ok(())
 }
 
-#[test]
-fn a_map_is_filled_and_gives_each_pair_once(rt: HostRuntime) -> Result<(), Fail> {
-    let mut map = GHashMap::new(rt.alloc());
+// The pairs of a map from which one was taken, in order.
+fn pairs_left(alloc: Global) -> Result<Vec<(u32, u32)>, AllocError> {
+    let mut map = GHashMap::new(alloc);
     put(&mut map, 4, 16)?;
     put(&mut map, 4, 20)?;
-    assert_eq!(rt; format!(in rt.alloc(); "{map:?}")?.as_str(), "{4: 20}");
-    put(&mut map, 5, 25)?;
     put(&mut map, 6, 36)?;
-    assert_eq!(rt; (map.remove(&6), map.remove(&6)), (Some(36), None));
-    assert_eq!(rt; (map.contains_key(&6), map.contains_key(&5)), (false, true));
-    let mut pairs: Vec<(u32, u32)> = map.into_iter().collect(rt.alloc())?;
+    map.remove(&6);
+    put(&mut map, 5, 25)?;
+    let mut pairs: Vec<(u32, u32)> = map.into_iter().collect(alloc)?;
     pairs.sort_unstable();
-    assert_eq!(rt; pairs.as_slice(), [(4, 20), (5, 25)].as_slice());
-    let mut members: Vec<u32> = GHashSet::from_iter(rt.alloc(), [9u32, 8])?
-        .into_iter()
-        .collect(rt.alloc())?;
+    Ok(pairs)
+}
+
+// The members of a set that was made of these items, in order.
+fn members_of(alloc: Global, items: [u32; 3]) -> Result<Vec<u32>, AllocError> {
+    let set = GHashSet::from_iter(alloc, items)?;
+    let mut members: Vec<u32> = set.into_iter().collect(alloc)?;
     members.sort_unstable();
+    Ok(members)
+}
+
+#[test]
+fn each_pair_and_each_member_is_given_once(rt: HostRuntime) -> Result<(), Fail> {
+    let pairs = pairs_left(rt.alloc())?;
+    let members = members_of(rt.alloc(), [9, 8, 9])?;
+    assert_eq!(rt; pairs.as_slice(), [(4, 20), (5, 25)].as_slice());
     assert_eq!(rt; members.as_slice(), [8, 9].as_slice());
-    assert_eq!(rt; GHashSet::<u32>::new(rt.alloc()).len(), 0);
+    Ok(())
+}
+
+#[test]
+fn a_key_is_taken_out_once(rt: HostRuntime) -> Result<(), Fail> {
+    let mut map = GHashMap::new(rt.alloc());
+    put(&mut map, 4, 20)?;
+    assert_eq!(rt; format!(in rt.alloc(); "{map:?}")?.as_str(), "{4: 20}");
+    let taken = (map.remove(&4), map.contains_key(&4), map.remove(&4));
+    assert_eq!(rt; taken, (Some(20), false, None));
     Ok(())
 }

@@ -1,7 +1,7 @@
 //! How a bit vector grows and is emptied. What refuses stands before what writes.
 ghost use Rattle.std.specs.Prelude.{◌≡◌, ◌+◌, ◌-◌, ◌*◌, ◌/◌, ◌%◌, ◌<◌, ◌≤◌, ◌↔◌, [], ◌∷◌, ◌++◌, length, replicate, take, IfOk, IfErr, OnErr, OnOk, IsOk, MatchOption};
 ghost use Rattle.std.specs.Iterator.{ExtendsWithItems};
-ghost use Rattle.giputils_bits.specs.Bits.{digits_of};
+ghost use Rattle.giputils_bits.specs.Bits.{digits_of, word_count};
 ghost use Rattle.giputils_bits.specs.Error.{IsMemory};
 ghost use Rattle.giputils_bits.specs.Extended.{CanDrain, CollectsItems, Extends, ItemsFit, StopsBefore};
 ghost use Rattle.giputils_bits.specs.Places.{bits_of, IsPacked, HasRoom, AppendsWord};
@@ -43,11 +43,13 @@ impl<A: Allocator> BitVec<A> {
     /// Leaves the first `len` bits, or appends `val` until there are `len`.
     ///
     /// # Errors
-    /// `Memory` where the vector grows above 64 bits and the one request for memory is refused. Nothing changes then.
+    /// `Memory` where the vector grows above 64 bits, by a word at least, and the one request for memory is refused.
+    /// Nothing changes then.
     pub fn resize(&mut self, len: usize, val: bool) -> Result<(), BitVecError>
         ensures ok { OnOk result (self.new ≡ take len self.old ++ replicate (len - length self.old) val) }
         ensures inline { len ≤ 64 → IsOk result }
         ensures shorter { len ≤ length self.old → IsOk result }
+        ensures full { OnErr result (word_count (length self.old) < word_count len) }
         ensures err { OnErr result (self.new ≡ self.old) }
         ensures memory { IfErr result IsMemory }
     {
@@ -127,6 +129,48 @@ impl<A: Allocator> BitVec<A> {
         Ok(())
     }
 
+    /// Makes room for `additional` bits more, by one request for memory at most, and by none for up to 64 bits in all
+    /// or where there is room. The bits stay as they are.
+    ///
+    /// # Errors
+    /// `TooLong` where the length would be above `usize::MAX`; `Memory` where memory is refused.
+    pub fn reserve(&mut self, additional: usize) -> Result<(), BitVecError>
+        ensures after { self.new ≡ self.old }
+        ensures inline { length self.old + additional ≤ 64 → IsOk result }
+        ensures too_long { (result ≡ Err BitVecError.TooLong) ↔ (usize.MAX < length self.old + additional) }
+    {
+        let Some(len) = self.len.checked_add(additional) else {
+            return Err(BitVecError::TooLong);
+        };
+        self.words.reserve(word_count(len))?;
+        Ok(())
+    }
+
+    /// Appends the bits of another vector.
+    ///
+    /// # Errors
+    /// `TooLong` where the length would be above `usize::MAX`; `Memory` where the vector grows above 64 bits, by a word at
+    /// least, and the one request for memory is refused. Nothing changes then.
+    pub fn append<B: Allocator>(&mut self, other: &BitVec<B>) -> Result<(), BitVecError>
+        ensures ok { OnOk result (self.new ≡ self.old ++ other.now) }
+        ensures inline { length self.old + length other.now ≤ 64 → IsOk result }
+        ensures memory { result ≡ Err BitVecError.Memory
+            → word_count (length self.old) < word_count (length self.old + length other.now) }
+        ensures too_long { (result ≡ Err BitVecError.TooLong) ↔ (usize.MAX < length self.old + length other.now) }
+        ensures err { OnErr result (self.new ≡ self.old) }
+    {
+        let start = self.len;
+        let Some(len) = start.checked_add(other.len) else {
+            return Err(BitVecError::TooLong);
+        };
+        if len == start {
+            return Ok(());
+        }
+        self.resize(len, false)?;
+        self.words.overlay(start, other.words.as_slice());
+        Ok(())
+    }
+
     /// Appends the items of an iterator that ends.
     ///
     /// # Errors
@@ -165,6 +209,14 @@ impl<A: Allocator> BitVec<A> {
         bits.extend(iter)?;
         Ok(bits)
     }
+}
+
+// How many words so many places take.
+#[inline]
+fn word_count(len: usize) -> usize
+    ensures { result ≡ word_count len }
+{
+    len / BitVec::WORD_SIZE + usize::from(len % BitVec::WORD_SIZE != 0)
 }
 
 // Makes room for one place after the first `len`.
@@ -227,10 +279,13 @@ fn append_items<A: Allocator, U: IntoIterator<Item = bool>>(
     ensures short { ItemsFit U.into_iter_gives U.IntoIter.remaining iter (λ n. len + n ≤ usize.MAX)
         → IfErr result.1 IsMemory }
 {
+    let items = iter.into_iter();
+    // A hint may be too high: where it is refused, memory may still do.
+    let _hinted = words.reserve(word_count(len.saturating_add(items.size_hint().0)));
     let mut end = len;
     let mut last = words.len() - 1;
     let mut word = words.as_slice()[last];
-    for bit in iter {
+    for bit in items {
         if end == usize::MAX {
             words.put(last, word);
             return (end, Err(BitVecError::TooLong));

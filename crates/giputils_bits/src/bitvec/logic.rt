@@ -1,13 +1,13 @@
 //! Logic, place by place. It works on whole words, and those of the left operand are reused.
 ghost use Rattle.std.specs.Prelude.{◌≡◌, ◌≤◌, ◌↔◌, false, length, replicate, IfOk, IfErr, IsOk, IsTrue};
 ghost use Rattle.giputils_bits.specs.Error.{IsMemory};
-ghost use Rattle.giputils_bits.specs.Logic.{and_of, or_of, xor_of, not_of, DeMorgan, DoubleNot, XorWithItself};
+ghost use Rattle.giputils_bits.specs.Logic.{and_of, negated_if, or_of, xor_of, not_of, DeMorgan, DoubleNot, XorWithItself};
 
 use super::BitVec;
 use super::error::BitVecError;
-use super::words::{And, AndNot, Or, Xor, makes_zeros};
+use super::words::{And, AndNot, Or, Xor, filled_word, low_mask, makes_zeros};
 use std::alloc::Allocator;
-use std::ops::{BitAnd, BitAndAssign, BitOr, BitOrAssign, BitXor, BitXorAssign};
+use std::ops::{BitAnd, BitAndAssign, BitOr, BitOrAssign, BitXor, BitXorAssign, Not};
 
 impl<A: Allocator> BitVec<A> {
     /// A vector with each bit turned round.
@@ -21,9 +21,17 @@ impl<A: Allocator> BitVec<A> {
         ensures inline { length self.now ≤ 64 → IsOk result }
         ensures err { IfErr result IsMemory }
     {
-        let mut bits = self.clone()?;
-        bits.negate();
-        Ok(bits)
+        if self.len == 0 {
+            return self.clone();
+        }
+        let mut words = self.words.try_negated()?;
+        let last = (self.len - 1) / BitVec::WORD_SIZE;
+        let digits = low_mask(self.len - BitVec::WORD_SIZE * last);
+        words.put(last, !self.words.as_slice()[last] & digits);
+        Ok(BitVec {
+            len: self.len,
+            words,
+        })
     }
 
     /// Makes each place false that is true in `other`, a vector of the same length ([`BitVec::len`]). It takes no
@@ -33,6 +41,31 @@ impl<A: Allocator> BitVec<A> {
         ensures { self.new ≡ and_of self.old (not_of other.now) }
     {
         self.words.join::<AndNot>(other.words.as_slice());
+    }
+
+    /// Becomes what `a` and `b` have in common, each of them negated first where that is told: a node of an and-inverter
+    /// graph. All three are of one length ([`BitVec::len`]). It takes no memory.
+    pub fn assign_and<B: Allocator, C: Allocator>(
+        &mut self,
+        a: &BitVec<B>,
+        not_a: bool,
+        b: &BitVec<C>,
+        not_b: bool,
+    )
+        requires first { length self.old ≡ length a.now }
+        requires second { length self.old ≡ length b.now }
+        ensures { self.new ≡ and_of (negated_if not_a a.now) (negated_if not_b b.now) }
+    {
+        if self.len == 0 {
+            return;
+        }
+        let mask_a = filled_word(not_a, BitVec::WORD_SIZE);
+        let mask_b = filled_word(not_b, BitVec::WORD_SIZE);
+        self.words
+            .conjoin(a.words.as_slice(), mask_a, b.words.as_slice(), mask_b);
+        let last = (self.len - 1) / BitVec::WORD_SIZE;
+        let word = self.words.as_slice()[last] & low_mask(self.len - BitVec::WORD_SIZE * last);
+        self.words.put(last, word);
     }
 
     /// Whether each place that is true is true in `other` too, a vector of the same length ([`BitVec::len`]).
@@ -176,6 +209,19 @@ impl<A: Allocator, B: Allocator> BitXorAssign<&BitVec<B>> for BitVec<A> {
 
     fn bitxor_assign(&mut self, rhs: &BitVec<B>) {
         self.words.join::<Xor>(rhs.words.as_slice());
+    }
+}
+
+/// Each bit turned round. It takes no memory.
+impl<A: Allocator> Not for BitVec<A> {
+    type Output = BitVec<A>;
+
+    ghost not_gives = { λ v r. r ≡ not_of v };
+
+    #[inline]
+    fn not(mut self) -> BitVec<A> {
+        self.negate();
+        self
     }
 }
 

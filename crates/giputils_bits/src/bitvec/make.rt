@@ -23,6 +23,20 @@ impl<A: Allocator> BitVec<A> {
         }
     }
 
+    /// The empty vector, with room for `len` bits.
+    ///
+    /// # Errors
+    /// `Memory` where there is to be room for more than 64 bits and memory is refused.
+    pub fn with_capacity(alloc: A, len: usize) -> Result<Self, BitVecError>
+        ensures ok { IfOk result (λ v. v ≡ []) }
+        ensures inline { len ≤ 64 → IsOk result }
+        ensures err { IfErr result IsMemory }
+    {
+        let mut bits = Self::new(alloc);
+        bits.reserve(len)?;
+        Ok(bits)
+    }
+
     /// A vector of `64 * num_word` bits, drawn from `rng`. Of the bits nothing is claimed.
     ///
     /// # Errors

@@ -1,9 +1,9 @@
 //! The words of a bit vector: one in the value itself, or several in a `Gvec`.
-ghost use Rattle.std.specs.Prelude.{◌≡◌, ◌-◌, ◌<◌, ◌≤◌, [], ◌∷◌, ◌++◌, length, replicate, slice_index, slice_set, take, OnErr, OnOk, IfOk, IsOk};
+ghost use Rattle.std.specs.Prelude.{◌≡◌, ◌+◌, ◌-◌, ◌*◌, ◌/◌, ◌<◌, ◌≤◌, [], ◌∷◌, ◌++◌, length, map, replicate, slice_index, slice_set, take, OnErr, OnOk, IfOk, IsOk};
 ghost use Rattle.std.specs.Int.{bit_not, w64};
-ghost use Rattle.giputils_bits.specs.Places.{Rewrites};
+ghost use Rattle.giputils_bits.specs.Places.{common_digits, Overlays, Rewrites};
 
-use super::words::{WordOp, join_words, negate_words};
+use super::words::{WordOp, conjoin_words, join_words, negate_words, overlay_words};
 use giputils_base::gvec::Gvec;
 use std::alloc::{AllocError, Allocator};
 use std::marker::Model;
@@ -157,11 +157,45 @@ impl<A: Allocator> Storage<A> {
         }
     }
 
+    // Puts in the place of each word what the two at its place have in common, each with the digits of its mask turned
+    // round.
+    #[inline]
+    pub(crate) fn conjoin(&mut self, a: &[u64], mask_a: u64, b: &[u64], mask_b: u64)
+        requires a { length self.old ≡ length a.now }
+        requires b { length self.old ≡ length b.now }
+        ensures { Rewrites (λ k _. common_digits (slice_index a.now k) mask_a (slice_index b.now k) mask_b)
+            self.old self.new (length self.old) }
+    {
+        let heap: &mut [u64] = &mut self.heap;
+        if heap.is_empty() {
+            self.inline = (a[0] ^ mask_a) & (b[0] ^ mask_b);
+        } else {
+            conjoin_words(heap, a, mask_a, b, mask_b);
+        }
+    }
+
+    // Lays the others over the words from place `start` on.
+    #[inline]
+    pub(crate) fn overlay(&mut self, start: usize, others: &[u64])
+        requires { start / 64 + length others.now ≤ length self.old }
+        ensures { Overlays start others.now self.old self.new (64 * length self.old) }
+    {
+        let heap: &mut [u64] = &mut self.heap;
+        if heap.is_empty() {
+            let mut word = [self.inline];
+            overlay_words(&mut word, start, others);
+            self.inline = word[0];
+        } else {
+            overlay_words(heap, start, others);
+        }
+    }
+
     // Appends a word until there are `count`, by one request at most, and by none for a single word.
     pub(crate) fn resize(&mut self, count: usize, word: u64) -> Result<(), AllocError>
         requires { length self.old ≤ count }
         ensures ok { OnOk result (self.new ≡ self.old ++ replicate (count - length self.old) word) }
         ensures inline { count ≡ 1 → IsOk result }
+        ensures same { count ≡ length self.old → IsOk result }
         ensures err { OnErr result (self.new ≡ self.old) }
     {
         let inline = self.inline;
@@ -175,6 +209,18 @@ impl<A: Allocator> Storage<A> {
             heap.resize(count, word)?;
         }
         Ok(())
+    }
+
+    // Makes room for `count` words in all, by one request at most, and by none for a single word.
+    pub(crate) fn reserve(&mut self, count: usize) -> Result<(), AllocError>
+        ensures after { self.new ≡ self.old }
+        ensures inline { count ≤ 1 → IsOk result }
+    {
+        if count <= 1 {
+            return Ok(());
+        }
+        let heap: &mut Vec<u64, A> = &mut self.heap;
+        heap.reserve(count.saturating_sub(heap.len()))
     }
 
     // Leaves the first `count` words. The memory is kept for the next growth.
@@ -209,4 +255,30 @@ impl<A: Allocator> Storage<A> {
         }
         Ok(Self::of_words(Vec::from_slice(alloc, words)?))
     }
+
+    // Each word with its digits turned round, by one request for memory at most, and by none for a single word.
+    pub(crate) fn try_negated(&self) -> Result<Self, AllocError>
+    where
+        A: Copy,
+        ensures ok { IfOk result (λ s. Rewrites (λ k word. bit_not w64 word) self.now s (length self.now)) }
+        ensures inline { length self.now ≡ 1 → IsOk result }
+    {
+        let words = self.as_slice();
+        let alloc = *self.heap.allocator();
+        if words.len() == 1 {
+            return Ok(Self::of_word(alloc, !words[0]));
+        }
+        Ok(Self::of_words(negated_words(alloc, words)?))
+    }
+}
+
+// Each word with its digits turned round, by one request for memory.
+fn negated_words<A: Allocator>(alloc: A, words: &[u64]) -> Result<Vec<u64, A>, AllocError>
+    ensures { IfOk result (λ v. v.items ≡ map (bit_not w64) words.now) }
+{
+    let mut negated = Vec::with_capacity(alloc, words.len())?;
+    for k in 0..words.len() {
+        negated.push_reserved(!words[k]);
+    }
+    Ok(negated)
 }

@@ -1,8 +1,8 @@
 //! Words: one of them, and loops over several.
-ghost use Rattle.std.specs.Prelude.{◌≡◌, ◌↔◌, ◌<◌, ◌≤◌, ◌-◌, ◌/◌, ◌^◌, ℕ, IsTrue, not, length, replicate, slice_index, bit_and, bit_or, bit_xor};
+ghost use Rattle.std.specs.Prelude.{◌≡◌, ◌↔◌, ◌<◌, ◌≤◌, ◌+◌, ◌-◌, ◌*◌, ◌/◌, ◌^◌, ℕ, IsTrue, not, length, replicate, slice_index, bit_and, bit_or, bit_xor};
 ghost use Rattle.std.specs.Int.{bit_not, w64};
 ghost use Rattle.giputils_bits.specs.Bits.{has_digit, value_of};
-ghost use Rattle.giputils_bits.specs.Places.{place, without_digits, MakesZeros, Rewrites, SetsDigit};
+ghost use Rattle.giputils_bits.specs.Places.{place, common_digits, without_digits, MakesZeros, Overlays, Rewrites, SetsDigit};
 
 use super::BitVec;
 
@@ -139,5 +139,37 @@ pub(crate) fn negate_words(words: &mut [u64])
 {
     for k in 0..words.len() {
         words[k] = !words[k];
+    }
+}
+
+// Puts in the place of each word what the two at its place have in common, each with the digits of its mask turned round.
+#[inline]
+pub(crate) fn conjoin_words(words: &mut [u64], a: &[u64], mask_a: u64, b: &[u64], mask_b: u64)
+    requires a { length words.old ≡ length a.now }
+    requires b { length words.old ≡ length b.now }
+    ensures { Rewrites (λ k _. common_digits (slice_index a.now k) mask_a (slice_index b.now k) mask_b)
+        words.old words.new (length words.old) }
+{
+    for k in 0..words.len() {
+        words[k] = (a[k] ^ mask_a) & (b[k] ^ mask_b);
+    }
+}
+
+// Lays the others over the words from place `start` on.
+#[inline]
+pub(crate) fn overlay_words(words: &mut [u64], start: usize, others: &[u64])
+    requires { start / 64 + length others.now ≤ length words.old }
+    ensures { Overlays start others.now words.old words.new (64 * length words.old) }
+{
+    let first = start / BitVec::WORD_SIZE;
+    let shift = start % BitVec::WORD_SIZE;
+    let mut carry = 0;
+    for k in 0..others.len() {
+        words[first + k] |= others[k] << shift | carry;
+        carry = others[k] >> 1 >> (BitVec::WORD_SIZE - 1 - shift);
+    }
+    let end = first + others.len();
+    if end < words.len() {
+        words[end] |= carry;
     }
 }

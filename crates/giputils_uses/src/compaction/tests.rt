@@ -11,8 +11,9 @@ fn renames_what_is_left(rt: HostRuntime) -> Result<(), Fail> {
     }
     assert!(rt; clauses.len() > 1);
     clauses.dealloc(1);
-    let left = compact(rt.alloc(), &mut clauses, [3, 1, 0, 3].as_slice())?;
-    assert_eq!(rt; left.as_slice(), [2, 0, 2].as_slice());
+    let mut watched = Vec::from_array(rt.alloc(), [3, 1, 0, 3])?;
+    compact(&mut clauses, &mut watched)?;
+    assert_eq!(rt; watched.as_slice(), [2, 0, 2].as_slice());
     assert_eq!(rt; clauses.len(), 3);
     Ok(())
 }

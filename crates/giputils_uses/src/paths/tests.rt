@@ -1,17 +1,16 @@
 use super::distances;
+use giputils::gvec::Gvec;
 use std::test::Fail;
 
 #[test]
 fn the_way_round_is_shorter(rt: HostRuntime) -> Result<(), Fail> {
-    let edges = [
-        (0, 1, 10),
-        (0, 2, 3),
-        (2, 1, 4),
-        (1, 3, 2),
-        (3, 0, 1),
-        (4, 0, 1),
-    ];
-    let far = distances(rt.alloc(), 5, edges.as_slice(), 0)?;
+    let mut graph = Vec::with_capacity(rt.alloc(), 5)?;
+    graph.push(Gvec::from_array(rt.alloc(), [(1, 10), (2, 3)])?)?;
+    graph.push(Gvec::from_array(rt.alloc(), [(3, 2)])?)?;
+    graph.push(Gvec::from_array(rt.alloc(), [(1, 4)])?)?;
+    graph.push(Gvec::from_array(rt.alloc(), [(0, 1)])?)?;
+    graph.push(Gvec::from_array(rt.alloc(), [(0, 1)])?)?;
+    let far = distances(rt.alloc(), &graph, 0)?;
     assert_eq!(rt; far.as_slice(), [0, 7, 3, 9, u32::MAX].as_slice());
     Ok(())
 }

@@ -1,11 +1,6 @@
-use Rattle.std.proofs.Common.{rules, arith, ◌≡◌, ◌++◌, ◌∙◌, length, ap, length-append}
-use Rattle.giputils_bits.specs.Bits.{digits_of}
-use Rattle.giputils_bits.proofs.Digits.{length-digits_of}
+use Rattle.std.proofs.Common.{◌∙◌, length, ap}
+use Rattle.giputils_bench.proofs.Lengths.{length-with_word}
 use Rattle.giputils_bench.proofs.bits.vector.Goals as goal
 
--- a word appends 64 bits
-pub loop-preserved : goal.loop-preserved
-loop-preserved c =
-    let word = digits_of 64 c.draw_word.result in
-    let grown : c.push_word.new.self ≡ c.loop.bits ++ word = search rules in
-    omega (arith, c.loop.invariant, ap length grown ∙ length-append c.loop.bits word, length-digits_of 64 c.draw_word.result)
+pub loop-k-preserved : goal.loop-k-preserved
+loop-k-preserved c = ap length c.set_word.ensures ∙ length-with_word _ _ _ ∙ c.loop-k.invariant

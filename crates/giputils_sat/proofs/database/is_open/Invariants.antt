@@ -1,4 +1,4 @@
-use Rattle.std.proofs.Common.{◌≡◌, ◌≢◌, ◌<◌, ℕ, true, Some, None}
+use Rattle.std.proofs.Common.{◌≡◌, ◌≢◌, ◌<◌, ℕ, true, Some}
 use Rattle.giputils_sat.specs.Literals.{Lit}
 use Rattle.std.specs.Prelude.{slice_get}
 use Rattle.giputils_sat.specs.Values.{value_of}

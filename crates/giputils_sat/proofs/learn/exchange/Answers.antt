@@ -1,8 +1,6 @@
-use Rattle.std.proofs.Common.{◌≡◌, ◌≢◌, ◌∙◌, true, arith, sym, ⊎_elim, inl, inr}
-use Rattle.giputils_sat.specs.Literals.{negated}
+use Rattle.std.proofs.Common.{◌∙◌, arith, sym, ⊎_elim, inl, inr}
 use Rattle.std.proofs.lemmas.Option.{slice_get_within}
 use Rattle.giputils_sat.proofs.Trailing.{AreUndone-resolved}
-use Rattle.giputils_sat.specs.Marked.{is_marked}
 use Rattle.giputils_sat.proofs.Marking.{ImpliesMarked-resolved}
 use Rattle.giputils_sat.proofs.learn.exchange.Goals as goal
 

@@ -1,12 +1,12 @@
-use Rattle.std.proofs.Common.{◌≡◌, ◌<◌, ◌*◌, ◌∙◌, length, arith, sym, ap, subst, refl, get_or, false}
-use Rattle.giputils_sat.specs.Literals.{Lit, code}
+use Rattle.std.proofs.Common.{◌≡◌, ◌<◌, ◌∙◌, length, arith, sym, ap, get_or, false}
+use Rattle.giputils_sat.specs.Literals.{Lit}
 use Rattle.std.specs.Prelude.{slice_get, Some}
 use Rattle.std.proofs.lemmas.Grind.{common_steps}
 use Rattle.std.proofs.lemmas.Option.{slice_get-get_or}
 use Rattle.std.proofs.lemmas.Bool.{false≢true}
 use Rattle.std.proofs.lemmas.Bool.Decides.{nat_tests}
 use Rattle.giputils_sat.proofs.Trailing.{IsTrail-learned}
-use Rattle.giputils_sat.specs.Formulas.{Clause, Has}
+use Rattle.giputils_sat.specs.Formulas.{Clause}
 use Rattle.giputils_sat.proofs.Marking.{Implies-among, variable-below}
 use Rattle.giputils_sat.proofs.learn.learn.Goals as goal
 

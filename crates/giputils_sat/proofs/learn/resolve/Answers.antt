@@ -4,18 +4,24 @@ use Rattle.std.proofs.lemmas.Bool.{false≢true}
 use Rattle.std.proofs.lemmas.Grind.{common_steps}
 use Rattle.std.proofs.lemmas.Option.{slice_get_read}
 use Rattle.giputils_sat.proofs.Marking.{ImpliesMarked-clause}
-use Rattle.giputils_sat.proofs.Trailing.{AreUndone-conflict, none_undone}
+use Rattle.giputils_sat.proofs.Trailing.{AreUndone-conflict}
 use Rattle.giputils_sat.proofs.learn.resolve.Goals as goal
+
+pub analyze-requires-clause-follows : goal.analyze-requires-clause-follows
+analyze-requires-clause-follows g c =
+    ImpliesMarked-clause c.args.database.now.formula c.note_all.new.marks c.clause.result.now c.clause.ensures.implied c.in_ok-pending.ensures.marked
 
 pub loop-place-init : goal.loop-place-init
 loop-place-init g c =
     let trail = c.args.trail.now in
-    let same : c.len-place.result ≡ length c.args.trail.now.steps.items = grind (arith, common_steps) in
+    let conflict = c.args.conflict in
     record {
       len = refl;
-      follows = ImpliesMarked-clause c.args.database.now.formula c.note_all.new.marks c.clause.result.now c.clause.ensures.implied c.in_ok-pending.ensures.marked;
-      root = λ none. rw same
-          (AreUndone-conflict c.args.database.now.clauses trail.values.items trail.steps.items trail.starts.items c.note_all.new.marks c.args.conflict c.clause.result.now c.requires.trail c.requires.conflict c.clause.ensures.at
+      follows = c.in_ok-analyze.ensures.follows;
+      root = λ none.
+          rw (c.first_start-place.ensures.root none, c.in_ok-analyze.ensures.root none)
+          (AreUndone-conflict c.args.database.now.clauses trail.values.items trail.steps.items trail.starts.items c.note_all.new.marks conflict
+          c.clause.result.now c.requires.trail c.requires.conflict c.clause.ensures.at
           (λ m marked. ⊎_elim (λ was. absurd (false≢true (sym (c.requires.clear m) ∙ was))) (λ has. has) (c.in_ok-pending.ensures.only m marked)));
     }
 
@@ -29,6 +35,6 @@ loop-place-preserved g c =
     in
     record {
       len = c.exchange.ensures.len ∙ c.loop-place.invariant.len;
-      follows = c.in_ok-pending-2.ensures.follows;
-      root = λ none. c.in_ok-pending-2.ensures.root (c.loop-place.place - 1) none c.requires.trail at (rw again (c.loop-place.invariant.root none));
+      follows = c.in_ok-exchange.ensures.follows;
+      root = λ none. c.in_ok-exchange.ensures.root (c.loop-place.place - 1) none c.requires.trail at (rw again (c.loop-place.invariant.root none));
     }

@@ -1,11 +1,11 @@
-use Rattle.std.proofs.Common.{◌≡◌, ◌<◌, ◌+◌, ◌∙◌, length, refl, ap, sym, arith, set, get_or, false, true}
-use Rattle.giputils_sat.specs.Literals.{Lit, code}
+use Rattle.std.proofs.Common.{◌≡◌, ◌<◌, ◌∙◌, length, refl, ap, sym, arith, get_or, false}
+use Rattle.giputils_sat.specs.Literals.{code}
 use Rattle.std.specs.Prelude.{slice_get, Some}
 use Rattle.std.proofs.lemmas.List.{get_or_default}
 use Rattle.std.proofs.lemmas.Option.{slice_get_read}
 use Rattle.std.proofs.lemmas.Grind.{common_steps}
-use Rattle.giputils_sat.specs.Marked.{IsTaking, is_marked}
-use Rattle.giputils_sat.proofs.Marking.{IsNoted-taking, IsTaking-took, IsTaking-left}
+use Rattle.giputils_sat.specs.Marked.{is_marked}
+use Rattle.giputils_sat.proofs.Marking.{IsTaking-took, IsTaking-left}
 use Rattle.giputils_sat.proofs.marks.taken.Goals as goal
 use Rattle.giputils_sat.proofs.marks.taken.Goals.{then-index+in_ok-push, else-index}
 

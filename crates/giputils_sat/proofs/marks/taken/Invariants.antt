@@ -1,4 +1,3 @@
-use Rattle.std.proofs.Common.{◌≡◌, length}
 use Rattle.giputils_sat.specs.Marked.{IsTaking}
 use Rattle.giputils_sat.proofs.marks.taken.Given as goal
 

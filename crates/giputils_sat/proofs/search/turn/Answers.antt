@@ -1,13 +1,8 @@
-use Rattle.std.proofs.Common.{◌≡◌, ◌≢◌, ◌<◌, ◌∙◌, length, refl, sym, ap, arith, ℕ, false, ⊎_elim}
-use Rattle.giputils_sat.specs.Literals.{Lit}
+use Rattle.std.proofs.Common.{◌≡◌, ◌<◌, length, refl, sym, arith}
 use Rattle.std.specs.Prelude.{slice_get, Some}
 use Rattle.std.proofs.lemmas.Option.{slice_get_read}
-use Rattle.std.proofs.lemmas.Grind.{common_steps}
-use Rattle.giputils_sat.specs.Formulas.{Has}
-use Rattle.giputils_sat.specs.Values.{value_of}
-use Rattle.giputils_sat.specs.Trails.{IsTrail, HasReason}
+use Rattle.giputils_sat.specs.Trails.{HasReason}
 use Rattle.giputils_sat.proofs.Places.{same_at}
-use Rattle.giputils_sat.proofs.Marking.{cases_literal}
 use Rattle.giputils_sat.proofs.Trailing.{IsTrail-implied, HasReason-unit}
 use Rattle.giputils_sat.proofs.search.turn.Goals as goal
 

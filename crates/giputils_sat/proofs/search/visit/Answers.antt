@@ -1,4 +1,4 @@
-use Rattle.std.proofs.Common.{◌≡◌, ◌∙◌, arith}
+use Rattle.std.proofs.Common.{◌∙◌, arith}
 use Rattle.std.proofs.lemmas.Grind.{common_steps}
 use Rattle.giputils_sat.specs.Trails.{IsConflict}
 use Rattle.giputils_sat.proofs.Places.{some_of_either}

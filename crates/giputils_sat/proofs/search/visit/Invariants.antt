@@ -1,4 +1,4 @@
-use Rattle.std.proofs.Common.{◌≡◌, ◌≤◌, ◌<◌, ◌+◌, length}
+use Rattle.std.proofs.Common.{◌≡◌, ◌≤◌, ◌+◌, length}
 use Rattle.std.specs.Option.{IfSome}
 use Rattle.giputils_sat.specs.Values.{unset}
 use Rattle.giputils_sat.specs.Trails.{IsTrail, IsConflict, Extends}

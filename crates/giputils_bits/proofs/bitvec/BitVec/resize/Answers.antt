@@ -1,5 +1,8 @@
 use Rattle.std.proofs.Common.{◌≡◌, ◌+◌, ◌-◌, ◌*◌, ◌/◌, ◌<◌, ◌≤◌, ◌∙◌, ◌++◌, length, replicate, take, refl, sym, ap, arith}
 use Rattle.std.proofs.lemmas.List.{append-nil, take_all}
+use Rattle.std.proofs.lemmas.Bool.{false≢true}
+use Rattle.giputils_bits.specs.Bits.{word_count}
+use Rattle.giputils_bits.proofs.Errors.{on_err}
 use Rattle.giputils_bits.proofs.Places.{kept-length}
 use Rattle.giputils_bits.proofs.Written.{IsPacked-grown, bits_of-grown}
 use Rattle.giputils_bits.proofs.bitvec.BitVec.resize.Goals as goal
@@ -11,6 +14,12 @@ returns-then-len-self-clause-ok g c =
 
 pub returns-in_err-resize-clause-shorter : goal.returns-in_err-resize-clause-shorter
 returns-in_err-resize-clause-shorter g c = λ short. absurd (omega (arith, kept-length _ _ _ c.self.view_is))
+
+pub returns-in_err-resize-clause-full : goal.returns-in_err-resize-clause-full
+returns-in_err-resize-clause-full g c =
+    let other : (c.args.len - 1) / 64 + 1 ≡ length c.self.inside.words → ⊥ = λ e. false≢true (c.in_err-resize.ensures.same e) in
+    let more : word_count (length c.args.self.now) < word_count c.args.len = omega (arith, other, c.self.invariant.count, kept-length _ _ _ c.self.view_is) in
+    on_err _ more
 
 pub invariant_of-self-2 : goal.invariant_of-self-2
 invariant_of-self-2 g c =

@@ -1,4 +1,4 @@
-use Rattle.std.proofs.Common.{◌≡◌, ◌∙◌, ◌++◌, ◌∷◌, [], ap}
+use Rattle.std.proofs.Common.{◌∙◌, ◌++◌, ◌∷◌, [], ap}
 use Rattle.giputils_sat.proofs.Following.{IsKnown-given, given_among-given}
 use Rattle.giputils_sat.proofs.database.Database.give.Goals as goal
 

@@ -1,4 +1,4 @@
-use Rattle.std.proofs.Common.{◌≡◌, ◌∙◌, ap}
+use Rattle.std.proofs.Common.{◌∙◌, ap}
 use Rattle.giputils_sat.specs.Formulas.{Implies, AreBelow}
 use Rattle.giputils_sat.specs.Stores.{given_among}
 use Rattle.giputils_sat.proofs.Following.{IsKnown-learned, given_among-learned}

@@ -1,4 +1,4 @@
-use Rattle.std.proofs.Common.{◌≡◌, ap, sym, arith}
+use Rattle.std.proofs.Common.{ap, sym, arith}
 use Rattle.std.proofs.lemmas.Grind.{common_steps}
 use Rattle.giputils_sat.specs.Values.{assignment_of}
 use Rattle.giputils_sat.proofs.Following.{satisfies-given}

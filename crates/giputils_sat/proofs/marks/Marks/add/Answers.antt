@@ -1,6 +1,5 @@
-use Rattle.std.proofs.Common.{◌<◌, length, ap, set}
+use Rattle.std.proofs.Common.{◌<◌, length}
 use Rattle.giputils_sat.specs.Literals.{code}
-use Rattle.giputils_sat.specs.Marked.{IsNoted}
 use Rattle.giputils_sat.proofs.Marking.{IsNoted-add}
 use Rattle.giputils_sat.proofs.marks.Marks.add.Goals as goal
 

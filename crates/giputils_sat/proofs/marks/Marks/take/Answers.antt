@@ -1,5 +1,4 @@
-use Rattle.std.proofs.Common.{◌<◌, ◌≡◌, ◌≤◌, length, ap, sym, arith, Bool, List}
-use Rattle.giputils_sat.specs.Marked.{IsNoted, AreAmong}
+use Rattle.std.proofs.Common.{sym, arith}
 use Rattle.giputils_sat.proofs.Marking.{IsNoted-end, AreAmong-end, none_left}
 use Rattle.giputils_sat.proofs.marks.Marks.take.Goals as goal
 

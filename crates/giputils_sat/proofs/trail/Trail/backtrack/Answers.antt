@@ -1,10 +1,9 @@
-use Rattle.std.proofs.Common.{◌≡◌, ◌<◌, ◌≤◌, ◌+◌, ◌++◌, ◌∷◌, [], ◌∙◌, length, ℕ, List, sym, ap, subst, refl, arith, get_or}
+use Rattle.std.proofs.Common.{◌≡◌, ◌<◌, ◌≤◌, ◌+◌, ◌++◌, ◌∷◌, [], ◌∙◌, length, ℕ, List, ap, subst, refl, arith}
 use Rattle.std.specs.Prelude.{slice_get, Some}
 use Rattle.std.proofs.lemmas.Grind.{common_steps}
 use Rattle.std.proofs.lemmas.List.{length_push}
 use Rattle.std.proofs.lemmas.Option.{slice_get_read}
 use Rattle.giputils_sat.specs.declared.trail.Step.{Step}
-use Rattle.giputils_sat.specs.Formulas.{Clause}
 use Rattle.giputils_sat.specs.Trails.{IsTrail}
 use Rattle.giputils_sat.proofs.Trailing.{IsTrail-popped, IsTrail-truncated}
 use Rattle.giputils_sat.proofs.trail.Trail.backtrack.Goals as goal

@@ -1,0 +1,129 @@
+//! Vectors joined with others, compared with them, and read from texts.
+
+use giputils_bits::bitvec::{BitVec, BitVecError};
+use giputils_refusing::Refusing;
+use std::alloc::Global;
+use std::cmp::Ordering;
+use std::test::Fail;
+
+// The bits from one place to another of a pattern.
+fn part(memory: &Refusing, start: usize, end: usize) -> Result<BitVec<&Refusing>, BitVecError> {
+    let mut bits = BitVec::new(memory);
+    for place in start..end {
+        bits.push(place % 3 == 0 || place % 7 == 2)?;
+    }
+    Ok(bits)
+}
+
+// Appends the bits from `middle` to `end` to those before. Tells whether all up to `end` are there then.
+fn is_appended(memory: &Refusing, middle: usize, end: usize) -> bool {
+    let (Ok(mut bits), Ok(more), Ok(all)) = (
+        part(memory, 0, middle),
+        part(memory, middle, end),
+        part(memory, 0, end),
+    ) else {
+        return false;
+    };
+    bits.append(&more).is_ok() && bits == all
+}
+
+#[test]
+fn a_vector_is_appended_wherever_the_other_ends(rt: HostRuntime) {
+    let memory = Refusing::none(rt.alloc());
+    for (middle, end) in [
+        (0, 5),
+        (3, 64),
+        (3, 65),
+        (64, 64),
+        (64, 192),
+        (70, 200),
+        (127, 128),
+    ] {
+        assert!(rt; is_appended(&memory, middle, end), "{middle} of {end}");
+    }
+}
+
+// The number that a node of 0011 and 0101 is.
+fn node(alloc: Global, not_a: bool, not_b: bool) -> Result<usize, BitVecError> {
+    let mut bits = BitVec::ones(alloc, 4)?;
+    let a = BitVec::from_usize(alloc, 4, 0b0011)?;
+    let b = BitVec::from_usize(alloc, 4, 0b0101)?;
+    if bits.len() == a.len() && bits.len() == b.len() {
+        bits.assign_and(&a, not_a, &b, not_b);
+    }
+    Ok(bits.to_usize())
+}
+
+#[test]
+fn a_node_negates_its_inputs_as_told(rt: HostRuntime) -> Result<(), Fail> {
+    let alloc = rt.alloc();
+    let numbers = [
+        node(alloc, false, false)?,
+        node(alloc, true, false)?,
+        node(alloc, false, true)?,
+        node(alloc, true, true)?,
+    ];
+    assert_eq!(rt; numbers, [0b0001, 0b0100, 0b0010, 0b1000]);
+    Ok(())
+}
+
+#[test]
+fn a_vector_is_negated_by_value(rt: HostRuntime) -> Result<(), Fail> {
+    let bits = BitVec::from_usize(rt.alloc(), 66, 0b01101)?;
+    assert_eq!(rt; (!bits).words(), [!0b01101, 0b11].as_slice());
+    Ok(())
+}
+
+// How the vectors of these lengths and numbers are ordered.
+fn order(
+    alloc: Global,
+    (len, number): (usize, usize),
+    (other_len, other_number): (usize, usize),
+) -> Result<Ordering, BitVecError> {
+    let bits = BitVec::from_usize(alloc, len, number)?;
+    let others = BitVec::from_usize(alloc, other_len, other_number)?;
+    Ok(bits.cmp(&others))
+}
+
+#[test]
+fn the_first_place_that_differs_decides_and_then_the_length(rt: HostRuntime) -> Result<(), Fail> {
+    let alloc = rt.alloc();
+    let orders = [
+        order(alloc, (5, 0b10), (5, 0b01))?,
+        order(alloc, (1, 1), (70, 0b10))?,
+        order(alloc, (64, 7), (65, 7))?,
+        order(alloc, (70, 7), (70, 7))?,
+    ];
+    let wanted = [
+        Ordering::Less,
+        Ordering::Greater,
+        Ordering::Less,
+        Ordering::Equal,
+    ];
+    assert_eq!(rt; orders, wanted);
+    Ok(())
+}
+
+// The length and the first word of what a text writes.
+fn read(alloc: Global, text: &str) -> Result<Option<(usize, usize)>, BitVecError> {
+    match BitVec::from_binary_text(alloc, text.as_bytes())? {
+        Some(bits) => Ok(Some((bits.len(), bits.to_usize()))),
+        None => Ok(None),
+    }
+}
+
+#[test]
+fn a_binary_text_is_read_back(rt: HostRuntime) -> Result<(), Fail> {
+    let alloc = rt.alloc();
+    let long = "10000000000000000000000000000000000000000000000000000000000000101";
+    let said = [
+        read(alloc, "01101")?,
+        read(alloc, "[]")?,
+        read(alloc, long)?,
+        read(alloc, "012")?,
+        read(alloc, "")?,
+    ];
+    let wanted = [Some((5, 13)), Some((0, 0)), Some((65, 5)), None, None];
+    assert_eq!(rt; said, wanted);
+    Ok(())
+}

@@ -1,0 +1,8 @@
+//! The words of a line in a list of calls, and the call that they stand for.
+#![tactic(auto)]
+
+pub mod fault;
+pub mod galloc;
+pub mod heap;
+
+pub use fault::NotACall;

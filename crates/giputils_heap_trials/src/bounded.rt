@@ -1,0 +1,98 @@
+//! Bounded heaps, which ask for memory where they are made and nowhere else, and lists of all keys.
+
+use giputils_heap::{BinaryHeap, BoundedHeap, ByNumber, Counting};
+use giputils_refusing::{Refusing, refuse_each};
+use std::alloc::AllocError;
+use std::test::Fail;
+
+fn is_made(memory: &Refusing) -> bool {
+    BoundedHeap::<u32, &Refusing>::with_bound(memory, 100).is_ok()
+}
+
+// Where the bound can't be raised, tells so only if it is as it was.
+fn is_raised(memory: &Refusing) -> bool {
+    let Ok(mut heap) = BoundedHeap::<u32, &Refusing>::with_bound(memory, 2) else {
+        return false;
+    };
+    heap.raise_bound(100).is_ok() || heap.bound() != 2
+}
+
+fn two_keys(memory: &Refusing) -> Result<BinaryHeap<u32, &Refusing>, AllocError> {
+    let mut heap = BinaryHeap::new(memory);
+    heap.push(0, &ByNumber)?;
+    heap.push_or_update(1, &ByNumber)?;
+    Ok(heap)
+}
+
+// Where the list is refused, tells so only if the keys are held still.
+fn is_drained(memory: &Refusing) -> bool {
+    let Ok(mut heap) = two_keys(memory) else {
+        return false;
+    };
+    heap.drain_sorted(memory, &ByNumber).is_ok() || heap.len() != 2
+}
+
+// Where memory for the keys is refused, tells so only if those of before are held still.
+fn is_built(memory: &Refusing) -> bool {
+    let Ok(mut heap) = two_keys(memory) else {
+        return false;
+    };
+    heap.build(&[9, 99, 9], &ByNumber).is_ok() || heap.len() != 2 || !heap.contains(1)
+}
+
+#[test]
+fn a_heap_asks_at_once_for_what_it_needs(rt: HostRuntime) {
+    let alloc = rt.alloc();
+    let outcomes = [
+        ("with_bound", refuse_each(alloc, is_made), 2..=2),
+        ("raise_bound", refuse_each(alloc, is_raised), 4..=4),
+        ("drain_sorted", refuse_each(alloc, is_drained), 3..=5),
+        ("build", refuse_each(alloc, is_built), 3..=6),
+    ];
+    for (call, outcome, wanted) in outcomes {
+        assert!(rt;
+            outcome.is_ok_and(|requests| wanted.contains(&requests)),
+            "{call}: {outcome:?}"
+        );
+    }
+}
+
+// Makes each call that is handed a key.
+fn call_with(heap: &mut BoundedHeap<u32, &Refusing>, key: u32) {
+    if key < heap.bound() {
+        heap.push(key, &ByNumber);
+        heap.push_counted(key, &mut Counting::new(&ByNumber));
+        heap.push_or_update(key, &ByNumber);
+        heap.push_or_update_counted(key, &mut Counting::new(&ByNumber));
+    }
+    heap.up(key, &ByNumber);
+    heap.down(key, &ByNumber);
+    heap.update(key, &ByNumber);
+    heap.up_counted(key, &mut Counting::new(&ByNumber));
+    heap.down_counted(key, &mut Counting::new(&ByNumber));
+    heap.update_counted(key, &mut Counting::new(&ByNumber));
+}
+
+// Makes the others, and answers how many keys are left.
+fn call_without(heap: &mut BoundedHeap<u32, &Refusing>) -> usize {
+    heap.rebuild(&ByNumber);
+    heap.rebuild_counted(&mut Counting::new(&ByNumber));
+    let _ = heap.pop(&ByNumber);
+    let _ = heap.pop_counted(&mut Counting::new(&ByNumber));
+    heap.remove(0, &ByNumber);
+    heap.remove_counted(1, &mut Counting::new(&ByNumber));
+    heap.len()
+}
+
+#[test]
+fn a_bounded_heap_takes_no_memory_once_it_is_made(rt: HostRuntime) -> Result<(), Fail> {
+    let memory = Refusing::from(rt.alloc(), 3);
+    let mut heap = BoundedHeap::with_bound(&memory, 64)?;
+    for key in 0..66 {
+        call_with(&mut heap, key);
+    }
+    let left = call_without(&mut heap);
+    heap.clear();
+    assert_eq!(rt; (left, heap.len(), memory.requests()), (60, 0, 2));
+    Ok(())
+}

@@ -1,0 +1,92 @@
+//! What guides a search. Nothing rests on what it says.
+ghost use Rattle.std.specs.Prelude.{◌^◌, ◌<◌};
+
+use crate::activity::Activity;
+use crate::pace::Pace;
+use crate::watches::Watches;
+use std::alloc::{AllocError, Allocator, Global};
+
+/// How much a solver did since it was made. After a call that was refused memory the counts are those of before it.
+#[derive(Clone, Copy)]
+pub struct Stats {
+    /// Clauses all of whose literals were false.
+    pub conflicts: u64,
+    /// Variables that were given a value with no reason.
+    pub decisions: u64,
+    /// Literals whose clauses were looked at.
+    pub propagations: u64,
+    /// How often all decisions were taken back to begin anew.
+    pub restarts: u64,
+    /// Learned clauses that are not looked at any more.
+    pub forgotten: u64,
+}
+
+impl Stats {
+    // Nothing was done.
+    pub fn new() -> Self {
+        Stats {
+            conflicts: 0,
+            decisions: 0,
+            propagations: 0,
+            restarts: 0,
+            forgotten: 0,
+        }
+    }
+}
+
+// The order of decisions, the index of clauses, the pace of restarts, and what was counted.
+#[derive(Drop)]
+pub struct Hints<A: Allocator = Global> {
+    pub activity: Activity<A>,
+    pub watches: Watches<A>,
+    pub pace: Pace,
+    pub stats: Stats,
+}
+
+impl<A: Allocator + Copy> Hints<A> {
+    // Of no variable and no clause. It takes no memory.
+    pub fn new(alloc: A, stats: Stats) -> Self {
+        Hints {
+            activity: Activity::new(alloc),
+            watches: Watches::new(alloc),
+            pace: Pace::new(),
+            stats,
+        }
+    }
+
+    // The same with room for so many variables.
+    pub fn grown(self, alloc: A, count: usize) -> Result<Self, AllocError>
+        requires { count < 2 ^ 40 }
+    {
+        let Hints {
+            activity,
+            mut watches,
+            pace,
+            stats,
+        } = self;
+        watches.grow(alloc, count)?;
+        Ok(Hints {
+            activity: activity.grown(count)?,
+            watches,
+            pace,
+            stats,
+        })
+    }
+
+    // A conflict was met.
+    pub fn count_conflict(&mut self) {
+        self.stats.conflicts = self.stats.conflicts.saturating_add(1);
+        self.activity.decay();
+        self.watches.decay();
+    }
+
+    // A variable was decided.
+    pub fn count_decision(&mut self) {
+        self.stats.decisions = self.stats.decisions.saturating_add(1);
+    }
+
+    // A literal is propagated.
+    pub fn count_propagation(&mut self) {
+        self.stats.propagations = self.stats.propagations.saturating_add(1);
+    }
+}

@@ -1,0 +1,69 @@
+//! Solvers that are refused memory.
+
+use crate::formulas::{Said, said_of};
+use giputils_refusing::{Refusing, refuse_each, refuse_from_each};
+use giputils_sat::{Answer, Literal, Solver};
+
+// Four clauses over two variables: no model, which is seen after a conflict alone.
+fn clashing() -> [[Literal; 2]; 4] {
+    let (a, b) = (Literal::new(1, true), Literal::new(2, true));
+    [
+        [a, b],
+        [a.negated(), b],
+        [a, b.negated()],
+        [a.negated(), b.negated()],
+    ]
+}
+
+// Adds the clauses, and one that is refused once more. Tells how many were refused.
+fn add_again(solver: &mut Solver<&Refusing>) -> usize {
+    let mut refused = 0usize;
+    for clause in clashing() {
+        if solver.add_clause(&clause).is_err() {
+            refused = refused.saturating_add(1);
+            let _ = solver.add_clause(&clause);
+        }
+    }
+    refused
+}
+
+fn says_unsat(solver: &mut Solver<&Refusing>) -> bool {
+    matches!(solver.solve(100), Ok(Answer::Unsat))
+}
+
+// Asks once more where memory is refused. That it was is told only if all clauses are there, and the answer is right.
+fn is_answered_at_last(memory: &Refusing) -> bool {
+    let mut solver = Solver::new(memory);
+    let refused = add_again(&mut solver);
+    let right = solver.len() == 4;
+    if refused == 0 && says_unsat(&mut solver) {
+        return right;
+    }
+    !(right && says_unsat(&mut solver))
+}
+
+// Two variables, which are both true.
+fn is_found_satisfied(memory: &Refusing) -> bool {
+    said_of(memory, &[1, 2, 0, -1, 2, 0, 1, -2, 0], 100) == Ok(Said::Sat)
+}
+
+fn is_found_unsatisfied(memory: &Refusing) -> bool {
+    said_of(memory, &[1, 2, 0, -1, 2, 0, 1, -2, 0, -1, -2, 0], 100) == Ok(Said::Unsat)
+}
+
+// How many requests an answer takes is open. A model is collected, and `collect` asks again.
+#[test]
+fn each_request_of_a_solver_is_refused_in_turn(rt: HostRuntime) {
+    let alloc = rt.alloc();
+    let outcomes = [
+        ("asked once more", refuse_each(alloc, is_answered_at_last)),
+        ("sat", refuse_from_each(alloc, is_found_satisfied)),
+        ("unsat", refuse_from_each(alloc, is_found_unsatisfied)),
+    ];
+    for (call, outcome) in outcomes {
+        assert!(rt;
+            outcome.is_ok_and(|requests| requests >= 4),
+            "{call}: {outcome:?}"
+        );
+    }
+}
