@@ -1,8 +1,8 @@
 -- Worked examples of texts and answers.
-use Rattle.std.proofs.Common.{◌≡◌, ℕ, List, [], ◌∷◌, ◌==◌, refl, codes, Some, None, true, false}
+use Rattle.std.proofs.Common.{◌≡◌, ℕ, [], ◌∷◌, ◌==◌, refl, codes, Some, None, true, false}
 use Rattle.std.specs.Fmt.{digits}
 use Rattle.giputils_sat.specs.Literals.{Lit}
-use Rattle.giputils_dimacs.specs.Dimacs.Texts.{Problem, problem_of, number_of, words}
+use Rattle.giputils_dimacs.specs.Dimacs.Texts.{Problem, problem_of, number_of}
 use Rattle.giputils_dimacs.specs.Dimacs.Answers.{values_text, laid_out}
 
 -- a variable of a formula and its negation

@@ -113,6 +113,28 @@ SaysOn old bytes new = (rest : List ℕ) → problem_from old (bytes ++ rest) �
 abbrev pub SaysNothing : {A : Type 0} → Parser A → List ℕ → Type 0
 SaysNothing old bytes = (rest : List ℕ) → problem_from old (bytes ++ rest) ≡ None
 
+-- whatever comes after the word, the text writes the same problem
+abbrev pub EndsWord : {A : Type 0} → Parser A → Parser A → Type 0
+EndsWord old new =
+    (words : List Word) (lines : List (List Word))
+    → problem_next old (with_word old.word.items words) lines ≡ problem_next new words lines
+
+-- whatever comes after the word, the text has not the form
+abbrev pub EndsNoWord : {A : Type 0} → Parser A → Type 0
+EndsNoWord old =
+    (words : List Word) (lines : List (List Word)) → problem_next old (with_word old.word.items words) lines ≡ None
+
+-- the same, where there is a word, and these are the stages before and after it
+abbrev pub TakesWord : {A : Type 0} → Stage → Parser A → Stage → Parser A → Type 0
+TakesWord s old t new =
+    (words : List Word) (lines : List (List Word))
+    → problem_staged s old (old.word.items ∷ words) lines ≡ problem_staged t new words lines
+
+-- where there is a word at this stage, the text has not the form, whatever comes after it
+abbrev pub TakesNoWord : {A : Type 0} → Stage → Parser A → Type 0
+TakesNoWord s old =
+    (words : List Word) (lines : List (List Word)) → problem_staged s old (old.word.items ∷ words) lines ≡ None
+
 -- whatever comes after the end of a line, the text writes the same problem at the next stage
 abbrev pub EndsLine : Stage → Stage → Type 0
 EndsLine old new =

@@ -1,7 +1,7 @@
 //! A parser that is given a text in parts.
 ghost use Rattle.std.specs.Prelude.{◌≡◌, ◌<◌, ◌++◌, ◌∷◌, [], ℕ, Bool, true, false, List, length, slice_index, ◌==◌, Some, None, IfOk, IfErr, OnOk, OnErr, IsErrOf};
-ghost use Rattle.giputils_dimacs.specs.Dimacs.Texts.{Word, problem_of};
-ghost use Rattle.giputils_dimacs.specs.Dimacs.Reading.{IsReading, OnRefusal, SaysOn, SaysNothing, begins_comment, begins_line, problem_at, problem_from, problem_next, problem_staged, with_word};
+ghost use Rattle.giputils_dimacs.specs.Dimacs.Texts.{problem_of};
+ghost use Rattle.giputils_dimacs.specs.Dimacs.Reading.{IsReading, OnRefusal, SaysOn, SaysNothing, begins_comment, begins_line, problem_from, problem_next, EndsWord, EndsNoWord, TakesWord, TakesNoWord};
 ghost use Rattle.giputils_dimacs.specs.declared.dimacs.stage.Stage.TheVariants.{Words};
 
 use crate::dimacs::error::{DimacsError, Reason, Stop};
@@ -108,10 +108,8 @@ impl<A: Allocator + Copy> Parser<A> {
         requires reading { IsReading self.old }
         ensures word { OnOk result (self.new.word.items ≡ []) }
         ensures comment { self.new.in_comment ≡ self.old.in_comment }
-        ensures ok { OnOk result ((words : List Word) (lines : List (List Word)) →
-            problem_next self.old (with_word self.old.word.items words) lines ≡ problem_next self.new words lines) }
-        ensures err { IfErr result (OnRefusal ((words : List Word) (lines : List (List Word)) →
-            problem_next self.old (with_word self.old.word.items words) lines ≡ None)) }
+        ensures ok { OnOk result (EndsWord self.old self.new) }
+        ensures err { IfErr result (OnRefusal (EndsNoWord self.old)) }
     {
         if self.word.is_empty() {
             return Ok(());
@@ -126,10 +124,8 @@ impl<A: Allocator + Copy> Parser<A> {
         requires some { 0 < length self.old.word.items }
         requires first { begins_line self.old.stage ≡ true → (slice_index self.old.word.items 0 == 99) ≡ false }
         ensures comment { self.new.in_comment ≡ self.old.in_comment }
-        ensures ok { IfOk result (λ stage. (words : List Word) (lines : List (List Word)) →
-            problem_next self.old (self.old.word.items ∷ words) lines ≡ problem_staged stage self.new words lines) }
-        ensures err { IfErr result (OnRefusal ((words : List Word) (lines : List (List Word)) →
-            problem_next self.old (self.old.word.items ∷ words) lines ≡ None)) }
+        ensures ok { IfOk result (λ stage. TakesWord self.old.stage self.old stage self.new) }
+        ensures err { IfErr result (OnRefusal (TakesNoWord self.old.stage self.old)) }
     {
         match self.stage {
             Stage::Start => Ok(expect(&self.word, b"p", Stage::Problem)?),
@@ -148,11 +144,8 @@ impl<A: Allocator + Copy> Parser<A> {
     // The stage after the word, which is one of a clause.
     fn take_item(&mut self, header: Header) -> Result<Stage, Stop>
         ensures comment { self.new.in_comment ≡ self.old.in_comment }
-        ensures ok { IfOk result (λ stage. (words : List Word) (lines : List (List Word)) →
-            problem_at (Words header) self.old.solver.formula self.old.clause.items (self.old.word.items ∷ words) lines ≡
-            problem_staged stage self.new words lines) }
-        ensures err { IfErr result (OnRefusal ((words : List Word) (lines : List (List Word)) →
-            problem_at (Words header) self.old.solver.formula self.old.clause.items (self.old.word.items ∷ words) lines ≡ None)) }
+        ensures ok { IfOk result (λ stage. TakesWord (Words header) self.old stage self.new) }
+        ensures err { IfErr result (OnRefusal (TakesNoWord (Words header) self.old)) }
     {
         let item = item_in(&self.word, header.variables)?;
         if header.left == 0 {
