@@ -145,7 +145,8 @@ module _ {A : Type 0} where
   IsAnswer bits (IsSubset other) reply =
       reply ≡ bit_if (length bits == length other.now) (pointwise beq (and_of bits other.now) bits)
   IsAnswer bits (IsDisjoint other) reply =
-      reply ≡ bit_if (length bits == length other.now) (pointwise beq (and_of bits other.now) (replicate (length bits) false))
+      reply ≡ bit_if (length bits == length other.now)
+      (pointwise beq (and_of bits other.now) (replicate (length bits) false))
 
   -- the bits after a call on these that was answered so
   abbrev pub bits_after : List Bool → BitCall A → BitReply → List Bool
