@@ -1,6 +1,6 @@
 //! What callers learn through the clauses, and the calls once each.
 ghost use Rattle.std.specs.Prelude.{◌≡◌, ◌<◌, [], ◌∷◌, ◌++◌, false, Some, length, IfOk, map};
-ghost use Rattle.giputils_base.specs.Allocator.{value_at, mark_at, write, live_slots};
+ghost use Rattle.giputils_base.specs.Allocator.{value_at, write, live_slots};
 
 use super::{GallocCall, GallocElem, Gallocator, galloc_run, rename};
 use std::alloc::{AllocError, Global};
