@@ -91,7 +91,7 @@ impl<T: Drop> From<AllocFailed<T>> for DimacsError {
 
 // What stops a parser at a line.
 #[derive(Clone, Copy)]
-pub enum Stop {
+pub(crate) enum Stop {
     // Memory was refused.
     Memory,
     // The text has another form.
@@ -100,7 +100,7 @@ pub enum Stop {
 
 impl Stop {
     // The error of it at a line.
-    pub fn at(self, line: usize) -> DimacsError
+    pub(crate) fn at(self, line: usize) -> DimacsError
         ensures { result ≡ error_at line self }
     {
         match self {
