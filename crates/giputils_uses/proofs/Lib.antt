@@ -1,7 +1,6 @@
 mod Examples
 mod Gathered
 mod Held
-mod Members
 mod Multiples
 mod Outcomes
 mod Picked
