@@ -9,7 +9,7 @@ A page for callers, crates/NAME/CALLING.md, quotes the sources between a line `<
     <!-- quote file giputils_uses/src/drain.rt -->   a file below crates/, but for its tests' declaration
     <!-- quote file giputils_uses/src/activity.rt: bump pick -->
                                                     the same, with these methods alone in its impls
-    <!-- quote functions giputils_sat/src/solver/tests.rt: pigeons -->
+    <!-- quote functions gipsat/src/main.rt: solve -->
                                                     these functions of a file alone
     <!-- quote contracts -->                         the public contracts of the crate
     <!-- quote contracts: push HeapStep::new Gvec::Index<u32> -->
@@ -110,7 +110,7 @@ def parts_of(head):
     bare = re.sub(r"^impl(<.*?>)? (?=\w)", "", head.partition(" where")[0])
     trait, _, kind = bare.rpartition(" for ")
     names = [re.sub(r"<.*", "", each).rpartition("::")[2] or None for each in (trait, kind)]
-    return names[0], trait.replace(" ", "") or None, re.findall(r"\w+", names[1])[-1]
+    return names[0], trait.replace(" ", "") or None, (re.findall(r"\w+", names[1]) or [kind])[-1]
 
 
 def contracts(crate, text, chosen, named, met):

@@ -2,7 +2,7 @@
 
 use giputils_dimacs::dimacs::DimacsError;
 use giputils_dimacs::dimacs::progress::Progress;
-use giputils_sat::Solver;
+use giputils_sat::{Solver, Stats};
 use giputils_stat::logger::IntervalLogger;
 use giputils_stat::statistic::MovingAverage;
 use log::kv::Source;
@@ -18,10 +18,10 @@ const LAST: usize = 1_000;
 // How many seconds it is at least from one line to the next.
 const INTERVAL_SECONDS: u64 = 5;
 
-// What is written in a line.
+// What is known, as it is written in a line.
 #[derive(Clone, Copy)]
 struct Known<'a> {
-    conflicts: usize,
+    stats: Stats,
     clauses: usize,
     lengths: &'a MovingAverage,
 }
@@ -30,8 +30,8 @@ impl Display for Known<'_> {
     fn fmt<W: fmt::Write>(&self, f: &mut fmt::Formatter<W>) -> fmt::Result {
         write!(
             f,
-            "{} conflicts, {} clauses, {:?} literals in each of the last",
-            self.conflicts, self.clauses, self.lengths
+            "{} conflicts, {} clauses, {} forgotten, {:?} literals in each of the last",
+            self.stats.conflicts, self.clauses, self.stats.forgotten, self.lengths
         )
     }
 }
@@ -105,11 +105,11 @@ impl<'a> Watch<'a> {
 }
 
 impl Progress<Global> for Watch<'_> {
-    fn note(&mut self, solver: &Solver, conflicts: usize) {
+    fn note(&mut self, solver: &Solver) {
         self.count(solver);
         let now = self.now();
         let known = Known {
-            conflicts,
+            stats: solver.stats(),
             clauses: solver.len(),
             lengths: &self.lengths,
         };
@@ -117,13 +117,19 @@ impl Progress<Global> for Watch<'_> {
             .log(&Comments { rt: self.rt }, now, Level::Info, &known);
     }
 
-    fn end(&mut self, solver: &Solver, learned: usize) {
+    fn end(&mut self, solver: &Solver) {
         if self.stats {
             self.count(solver);
+            let stats = solver.stats();
+            let known = Known {
+                stats,
+                clauses: solver.len(),
+                lengths: &self.lengths,
+            };
+            let _ = eprintln!(self.rt; "c {known}");
             let _ = eprintln!(self.rt;
-                "c {learned} clauses learned, {} known, {:?} literals in each of the last",
-                solver.len(),
-                self.lengths
+                "c {} decisions, {} propagations, {} restarts",
+                stats.decisions, stats.propagations, stats.restarts
             );
         }
     }

@@ -10,6 +10,8 @@ pub use Rattle.giputils_bits.proofs.Digits as BitDigits
 pub use Rattle.giputils_bits.proofs.Logic
 pub use Rattle.giputils_bits.proofs.Ones
 pub use Rattle.giputils_bits.proofs.Runs as BitRuns
+pub use Rattle.giputils_bits.proofs.Sets
+pub use Rattle.giputils_bits.proofs.TruePlaces
 pub use Rattle.giputils_bits.proofs.Words
 pub use Rattle.giputils_heap.proofs.CallBounds
 pub use Rattle.giputils_heap.proofs.ComparerOrders

@@ -1,9 +1,6 @@
--- What is joined, negated or written a word at a time keeps its length.
-use Rattle.std.proofs.Common.{◌≡◌, ◌∙◌, ℕ, ◌+◌, ◌*◌, Bool, ◌&&◌, List, ◌++◌, length, take, drop, ap, sym, arith, length-append}
-use Rattle.std.proofs.lemmas.List.{length-take, length-drop}
-use Rattle.giputils_bits.specs.Bits.{digits_of, with_word}
+-- What is joined or negated keeps its length.
+use Rattle.std.proofs.Common.{◌≡◌, ◌∙◌, ℕ, Bool, ◌&&◌, List, length, ap, sym}
 use Rattle.giputils_bits.specs.Logic.{zip_with, and_of, not_of, negated_if}
-use Rattle.giputils_bits.proofs.Digits.{length-digits_of}
 use Rattle.giputils_bits.proofs.Logic.{length-zip_with, length-not_of, length-negated_if}
 
 -- a list that is joined with another, place by place
@@ -13,21 +10,6 @@ length-joined f xs ys joined n is first second = ap length is ∙ length-zip_wit
 -- a list that is negated
 pub length-negated : (xs negated : List Bool) (n : ℕ) → negated ≡ not_of xs → length xs ≡ n → length negated ≡ n
 length-negated xs negated n is first = ap length is ∙ length-not_of xs ∙ first
-
--- a list of which a word is written
-pub length-with_word : (k word : ℕ) (bs : List Bool) → length (with_word k word bs) ≡ length bs
-length-with_word k word bs =
-    let front : List Bool = take (64 * k) bs in
-    let back : List Bool = drop (64 * k + 64) bs in
-    omega (
-      arith,
-      length-take (length bs) (front ++ (digits_of 64 word ++ back)),
-      length-append front (digits_of 64 word ++ back),
-      length-append (digits_of 64 word) back,
-      length-digits_of 64 word,
-      length-take (64 * k) bs,
-      length-drop (64 * k + 64) bs,
-    )
 
 -- two lists that are joined by `and`, each negated where that is told
 pub length-conjoined : (not_a not_b : Bool) (xs ys conjoined : List Bool) (n : ℕ) → conjoined ≡ and_of (negated_if not_a xs) (negated_if not_b ys)

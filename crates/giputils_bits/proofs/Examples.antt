@@ -1,10 +1,11 @@
 -- The definitions, computed on worked examples.
-use Rattle.std.specs.Prelude.{◌≡◌, ◌≢◌, ℕ, zero, suc, ◌+◌, ◌-◌, ◌^◌, Bool, true, false, List, [], ◌∷◌, ◌++◌, length, replicate, codes, None, refl}
+use Rattle.std.specs.Prelude.{◌≡◌, ◌≢◌, ℕ, zero, suc, ◌+◌, ◌-◌, ◌^◌, ◌<◌, ◌≤◌, Bool, true, false, List, [], ◌∷◌, ◌++◌, length, replicate, slice_index_or, codes, Some, None, refl}
 use Rattle.std.specs.Borrow.{Bor}
-use Rattle.std.proofs.Common.{arith, ap, get_or}
+use Rattle.std.proofs.Common.{arith, ap, get_or, sym}
+use Rattle.std.proofs.lemmas.Bool.{false≢true}
 use Rattle.giputils_bits.specs.declared.bitvec.error.BitVecError.TheVariants.{TooLong, Memory}
-use Rattle.giputils_bits.specs.declared.bitvec.run.BitCall.TheVariants.{Push, PushWord, SetBit, GetBit, Clear, Extend, Len, ToUsize, IsZero, IsOne, Bool as BoolCall, TryBool}
-use Rattle.giputils_bits.specs.declared.bitvec.run.BitReply.TheVariants.{Done, Refused, Skipped, Bit, MaybeBit, Number}
+use Rattle.giputils_bits.specs.declared.bitvec.run.BitCall.TheVariants.{Push, PushWord, SetBit, GetBit, Clear, Extend, Len, ToUsize, IsZero, IsOne, Bool as BoolCall, TryBool, Put, Flip, Fill, Negate, CountOnes, Any, All, NextOne, Truncate, Resize, Pop}
+use Rattle.giputils_bits.specs.declared.bitvec.run.BitReply.TheVariants.{Done, Refused, Skipped, Bit, MaybeBit, Number, Place}
 use Rattle.giputils_bits.specs.BitRun.{Answers, StopsAt, CanRefuseWord, max_len}
 use Rattle.giputils_bits.specs.Bits.{digits_of, value_of, words_of, one_of, with_word}
 use Rattle.giputils_bits.specs.Ones.{true_count, true_places, HasNoneFrom, IsNextOne, HasOne}
@@ -185,6 +186,19 @@ a_word_wherever_the_bits_end : Answers {A = ℕ} [] (Push true ∷ PushWord 5 �
 unfolding digits_of words_of
 a_word_wherever_the_bits_end = (omega arith, (omega arith, (refl, (refl, refl))))
 
+a_run_of_a_set : Answers {A = ℕ} (false ∷ true ∷ [])
+    (Put 0 true ∷ Put 2 true ∷ Flip 1 ∷ CountOnes ∷ Resize 3 true ∷ Negate ∷ Any ∷ All ∷ Pop ∷ Truncate 1 ∷ Fill true ∷ [])
+    (Bit false ∷ Skipped ∷ Done ∷ Number 1 ∷ Done ∷ Done ∷ Bit true ∷ Bit false ∷ MaybeBit (Some false) ∷ Done ∷ Done ∷ [])
+    (true ∷ [])
+a_run_of_a_set = (refl, (refl, (refl, (refl, (record {}, (refl, (refl, (refl, (refl, (refl, (refl, refl)))))))))))
+
+the_least_true_place_is_answered : Answers {A = ℕ} (false ∷ true ∷ []) (NextOne 0 ∷ []) (Place (Some 1) ∷ []) (false ∷ true ∷ [])
+the_least_true_place_is_answered = (record { past = omega arith; holds = refl; least = only_first }, refl)
+  where
+    only_first : (k : ℕ) → 0 ≤ k → k < 1 → slice_index_or (false ∷ true ∷ []) k false ≡ false
+    only_first zero from below = refl
+    only_first (suc k) from below = absurd (omega (arith, below))
+
 some_items_are_kept : Answers {A = ℕ} (replicate 64 false) (Extend (lent (true ∷ true ∷ [])) ∷ []) (Refused Memory 0 ∷ []) (replicate 64 false)
 some_items_are_kept = ((omega arith, (omega arith, omega arith)), refl)
 
@@ -212,6 +226,12 @@ a_word_past_the_greatest_length = omega arith
 
 a_read_past_the_end_is_skipped : ¬ (Answers {A = ℕ} [] (GetBit 0 ∷ []) (Bit false ∷ []) [])
 a_read_past_the_end_is_skipped run = let never = run.0 in cc
+
+a_place_is_not_passed_over : ¬ (Answers {A = ℕ} (true ∷ []) (NextOne 0 ∷ []) (Place None ∷ []) (true ∷ []))
+a_place_is_not_passed_over run = false≢true (sym (run.0 0 (omega arith)))
+
+a_shorter_length_is_not_refused : ¬ (Answers {A = ℕ} (true ∷ []) (Resize 0 true ∷ []) (Refused Memory 0 ∷ []) (true ∷ []))
+a_shorter_length_is_not_refused run = absurd (omega (arith, run.0.2))
 
 a_call_whose_condition_holds_is_made : ¬ (Answers {A = ℕ} (true ∷ []) (BoolCall ∷ []) (Skipped ∷ []) (true ∷ []))
 a_call_whose_condition_holds_is_made run = let never = run.0 in cc

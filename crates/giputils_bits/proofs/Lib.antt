@@ -7,6 +7,7 @@ mod Examples
 mod Gathered
 mod Kept
 pub mod Logic
+mod Lowest
 pub mod Ones
 mod OnesLeft
 mod Ordered
@@ -20,6 +21,9 @@ pub mod Runs
 mod SameWords
 mod Taken
 mod Text
+pub mod Sets
+pub mod TruePlaces
 pub mod Words
 mod Written
 mod Writes
+mod ZeroWords

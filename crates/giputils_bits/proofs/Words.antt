@@ -1,12 +1,12 @@
 -- The words of a list: how many they are, what each is, and that they say which list it is.
-use Rattle.std.proofs.Common.{◌≡◌, ℕ, ◌+◌, ◌*◌, ◌/◌, ◌%◌, ◌^◌, ◌<◌, ◌≤◌, Bool, false, List, length, get_or, take, drop, sym, ap, ◌∙◌, arith, inl, inr, refl}
+use Rattle.std.proofs.Common.{◌≡◌, ℕ, ◌+◌, ◌*◌, ◌/◌, ◌%◌, ◌^◌, ◌<◌, ◌≤◌, Bool, false, List, ◌++◌, length, length-append, get_or, take, drop, sym, ap, ◌∙◌, arith, inl, inr, refl}
 use Rattle.std.proofs.Math.Pow.{pow_mono}
-use Rattle.std.proofs.lemmas.List.{same_lists, get_or_default, get_or_past, get_or-take, get_or-drop, length-take, length-take-le}
+use Rattle.std.proofs.lemmas.List.{same_lists, get_or_default, get_or_past, get_or-take, get_or-drop, length-take, length-take-le, length-drop}
 use Rattle.std.proofs.lemmas.List.FromFn.{length-map-range_with_len, get_or-map-range_with_len}
 use Rattle.std.proofs.lemmas.Bool.{cases_lt}
-use Rattle.giputils_bits.specs.Bits.{has_digit, word_count, word_of, words_of}
+use Rattle.giputils_bits.specs.Bits.{digits_of, has_digit, with_word, word_count, word_of, words_of}
 use Rattle.giputils_bits.specs.Places.{place, bits_of, IsPacked}
-use Rattle.giputils_bits.proofs.Digits.{has_digit-value_of, value_of-below, same_from_digits}
+use Rattle.giputils_bits.proofs.Digits.{length-digits_of, has_digit-value_of, value_of-below, same_from_digits}
 use Rattle.giputils_bits.proofs.Places.{place_is, place-past, length-bits_of, get_or-bits_of, bits_of_is}
 
 pub length-words_of : (bs : List Bool) → length (words_of bs) ≡ word_count (length bs)
@@ -93,3 +93,18 @@ bits_of-from_words n ws bs long e = ap (λ vs. bits_of n vs) e ∙ ap (λ k. bit
 -- the words of an equal list
 pub get_or-words_of_same : (xs ys : List Bool) (k : ℕ) → xs ≡ ys → k < length (words_of xs) → get_or (words_of xs) k 0 ≡ word_of ys k
 get_or-words_of_same xs ys k same within = get_or-words_of xs k (omega (arith, length-words_of xs)) ∙ ap (λ bs. word_of bs k) same
+
+-- a list of which a word is written keeps its length
+pub length-with_word : (k word : ℕ) (bs : List Bool) → length (with_word k word bs) ≡ length bs
+length-with_word k word bs =
+    let front : List Bool = take (64 * k) bs in
+    let back : List Bool = drop (64 * k + 64) bs in
+    omega (
+      arith,
+      length-take (length bs) (front ++ (digits_of 64 word ++ back)),
+      length-append front (digits_of 64 word ++ back),
+      length-append (digits_of 64 word) back,
+      length-digits_of 64 word,
+      length-take (64 * k) bs,
+      length-drop (64 * k + 64) bs,
+    )

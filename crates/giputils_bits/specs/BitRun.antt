@@ -1,16 +1,17 @@
 -- A run of calls on a bit vector.
-use Rattle.std.specs.Prelude.{◌≡◌, ℕ, ◌+◌, ◌%◌, ◌<◌, ◌≤◌, ◌==◌, ◌⊎◌, Bool, true, false, List, [], ◌∷◌, ◌++◌, length, take, replicate, slice_get, slice_set, slice_index, nat_lt, Option, Some, None, ◌^◌, ◌-◌}
+use Rattle.std.specs.Prelude.{◌≡◌, ℕ, ◌+◌, ◌%◌, ◌<◌, ◌≤◌, ◌==◌, ◌&&◌, ◌⊎◌, ⊤, not, Bool, true, false, List, [], ◌∷◌, ◌++◌, length, take, replicate, slice_get, slice_set, slice_index, slice_index_or, nat_lt, Option, Some, None, ◌^◌, ◌-◌}
 use Rattle.std.specs.Bool.{beq}
 use Rattle.std.specs.Cmp.Lexicographic.{pointwise}
 use Rattle.std.specs.Option.{option_map_or}
 use Rattle.giputils_bits.specs.declared.bitvec.error.BitVecError.{BitVecError}
 use Rattle.giputils_bits.specs.declared.bitvec.error.BitVecError.TheVariants.{TooLong, Memory}
 use Rattle.giputils_bits.specs.declared.bitvec.run.BitCall.{BitCall}
-use Rattle.giputils_bits.specs.declared.bitvec.run.BitCall.TheVariants.{Push, PushWord, SetBit, GetBit, Clear, Extend, AndWith, OrWith, XorWith, Invert, Len, WordLen, ToUsize, IsEmpty, IsZero, IsOne, IsOnes, Bool as BoolCall, TryBool}
+use Rattle.giputils_bits.specs.declared.bitvec.run.BitCall.TheVariants.{Push, PushWord, SetBit, GetBit, Clear, Extend, AndWith, OrWith, XorWith, Invert, Len, WordLen, ToUsize, IsEmpty, IsZero, IsOne, IsOnes, Bool as BoolCall, TryBool, Put, Flip, SetWord, Fill, CopyFrom, Negate, DifferenceWith, AssignAnd, Append, Resize, Truncate, Pop, CountOnes, Any, All, None as NoneCall, NextOne, IsSubset, IsDisjoint}
 use Rattle.giputils_bits.specs.declared.bitvec.run.BitReply.{BitReply}
-use Rattle.giputils_bits.specs.declared.bitvec.run.BitReply.TheVariants.{Done, Refused, Skipped, Bit, MaybeBit, Number}
-use Rattle.giputils_bits.specs.Bits.{digits_of, words_of, one_of}
-use Rattle.giputils_bits.specs.Logic.{and_of, or_of, xor_of, not_of}
+use Rattle.giputils_bits.specs.declared.bitvec.run.BitReply.TheVariants.{Done, Refused, Skipped, Bit, MaybeBit, Number, Place}
+use Rattle.giputils_bits.specs.Bits.{digits_of, words_of, word_count, one_of, with_word}
+use Rattle.giputils_bits.specs.Logic.{and_of, negated_if, or_of, xor_of, not_of}
+use Rattle.giputils_bits.specs.Ones.{true_count, HasNoneFrom, IsNextOne}
 
 -- the greatest length, `usize::MAX`
 abbrev pub max_len : ℕ
@@ -46,6 +47,30 @@ ExtendsBy n m Done = n + m ≤ max_len
 ExtendsBy n m (Refused error kept) = (kept < m) × StopsAt (n + kept) error
 ExtendsBy n m reply = ⊥
 
+-- a call that makes the length n as great as m may be answered so: refused for memory only where it takes a word more
+abbrev pub IsResizeReply : ℕ → ℕ → BitReply → Type 0
+IsResizeReply n m Done = ⊤
+IsResizeReply n m (Refused error kept) = (error ≡ Memory) × (kept ≡ 0) × (64 < m) × (word_count n < word_count m)
+IsResizeReply n m reply = ⊥
+
+-- where the length is n and was to be m, a call may be refused so: as too long exactly where no list has so many places,
+-- and for memory only where they take a word more
+abbrev pub CanRefuseLength : ℕ → ℕ → BitVecError → Type 0
+CanRefuseLength n m TooLong = max_len < m
+CanRefuseLength n m Memory = (64 < m) × (word_count n < word_count m)
+
+-- a call that appends a list to n places, m in all then, may be answered so
+abbrev pub IsAppendReply : ℕ → ℕ → BitReply → Type 0
+IsAppendReply n m Done = m ≤ max_len
+IsAppendReply n m (Refused error kept) = CanRefuseLength n m error × (kept ≡ 0)
+IsAppendReply n m reply = ⊥
+
+-- the reply is the least true place from `start` on, or that there is none
+abbrev pub IsPlaceReply : List Bool → ℕ → BitReply → Type 0
+IsPlaceReply bits start (Place (Some i)) = IsNextOne bits start i
+IsPlaceReply bits start (Place None) = HasNoneFrom bits start
+IsPlaceReply bits start reply = ⊥
+
 -- the bits after a call that was to append these items, and was answered so
 abbrev pub bits_after_extend : List Bool → List Bool → BitReply → List Bool
 bits_after_extend bits items Done = bits ++ items
@@ -61,6 +86,11 @@ if_done reply new old = old
 abbrev pub done_if : Bool → BitReply
 done_if true = Done
 done_if false = Skipped
+
+-- the bit that is answered where a condition holds; else the call is skipped
+abbrev pub bit_if : Bool → Bool → BitReply
+bit_if true x = Bit x
+bit_if false x = Skipped
 
 -- whether a list is another, where it has a place at all
 abbrev pub equality_reply : List Bool → List Bool → BitReply
@@ -94,6 +124,29 @@ module _ {A : Type 0} where
   IsAnswer bits IsOnes reply = reply ≡ equality_reply bits (replicate (length bits) true)
   IsAnswer bits BoolCall reply = reply ≡ option_map_or Bit (only_bit bits) Skipped
   IsAnswer bits TryBool reply = reply ≡ MaybeBit (only_bit bits)
+  IsAnswer bits (Put i x) reply = reply ≡ option_map_or Bit (slice_get bits i) Skipped
+  IsAnswer bits (Flip i) reply = reply ≡ done_if (nat_lt i (length bits))
+  IsAnswer bits (SetWord k word) reply = reply ≡ done_if (nat_lt k (word_count (length bits)))
+  IsAnswer bits (Fill x) reply = reply ≡ Done
+  IsAnswer bits (CopyFrom other) reply = reply ≡ done_if (length bits == length other.now)
+  IsAnswer bits Negate reply = reply ≡ Done
+  IsAnswer bits (DifferenceWith other) reply = reply ≡ done_if (length bits == length other.now)
+  IsAnswer bits (AssignAnd a not_a b not_b) reply =
+      reply ≡ done_if (length bits == length a.now && length bits == length b.now)
+  IsAnswer bits (Append other) reply = IsAppendReply (length bits) (length bits + length other.now) reply
+  IsAnswer bits (Resize len x) reply = IsResizeReply (length bits) len reply
+  IsAnswer bits (Truncate len) reply = reply ≡ Done
+  IsAnswer bits Pop reply = reply ≡ MaybeBit (slice_get bits (length bits - 1))
+  IsAnswer bits CountOnes reply = reply ≡ Number (true_count bits)
+  IsAnswer bits Any reply = reply ≡ Bit (not (pointwise beq bits (replicate (length bits) false)))
+  IsAnswer bits All reply = reply ≡ Bit (pointwise beq bits (replicate (length bits) true))
+  IsAnswer bits NoneCall reply = reply ≡ Bit (pointwise beq bits (replicate (length bits) false))
+  IsAnswer bits (NextOne start) reply = IsPlaceReply bits start reply
+  IsAnswer bits (IsSubset other) reply =
+      reply ≡ bit_if (length bits == length other.now) (pointwise beq (and_of bits other.now) bits)
+  IsAnswer bits (IsDisjoint other) reply =
+      reply ≡ bit_if (length bits == length other.now)
+      (pointwise beq (and_of bits other.now) (replicate (length bits) false))
 
   -- the bits after a call on these that was answered so
   abbrev pub bits_after : List Bool → BitCall A → BitReply → List Bool
@@ -106,7 +159,20 @@ module _ {A : Type 0} where
   bits_after bits (OrWith other) reply = if_done reply (or_of bits other.now) bits
   bits_after bits (XorWith other) reply = if_done reply (xor_of bits other.now) bits
   bits_after bits Invert reply = if_done reply (not_of bits) bits
-  bits_after bits call reply = bits
+  bits_after bits (Put i x) reply = slice_set bits i x
+  bits_after bits (Flip i) reply = slice_set bits i (not (slice_index_or bits i false))
+  bits_after bits (SetWord k word) reply = if_done reply (with_word k word bits) bits
+  bits_after bits (Fill x) reply = replicate (length bits) x
+  bits_after bits (CopyFrom other) reply = if_done reply other.now bits
+  bits_after bits Negate reply = not_of bits
+  bits_after bits (DifferenceWith other) reply = if_done reply (and_of bits (not_of other.now)) bits
+  bits_after bits (AssignAnd a not_a b not_b) reply =
+      if_done reply (and_of (negated_if not_a a.now) (negated_if not_b b.now)) bits
+  bits_after bits (Append other) reply = if_done reply (bits ++ other.now) bits
+  bits_after bits (Resize len x) reply = if_done reply (take len bits ++ replicate (len - length bits) x) bits
+  bits_after bits (Truncate len) reply = take len bits
+  bits_after bits Pop reply = take (length bits - 1) bits
+  bits_after bits _ reply = bits
 
   -- the calls, made one after another from the bits `start` on, may be answered so, and then leave the bits `end`
   abbrev pub Answers : List Bool → List (BitCall A) → List BitReply → List Bool → Type 0

@@ -84,6 +84,15 @@ fn call_without(heap: &mut BoundedHeap<u32, &Refusing>) -> usize {
     heap.len()
 }
 
+// Builds it twice, and answers how many keys it holds then.
+fn build_of_two(heap: &mut BoundedHeap<u32, &Refusing>) -> usize {
+    if heap.bound() > 9 {
+        heap.build(&[9, 0, 9], &ByNumber);
+        heap.build_counted(&[9, 0, 9], &mut Counting::new(&ByNumber));
+    }
+    heap.len()
+}
+
 #[test]
 fn a_bounded_heap_takes_no_memory_once_it_is_made(rt: HostRuntime) -> Result<(), Fail> {
     let memory = Refusing::from(rt.alloc(), 3);
@@ -92,7 +101,8 @@ fn a_bounded_heap_takes_no_memory_once_it_is_made(rt: HostRuntime) -> Result<(),
         call_with(&mut heap, key);
     }
     let left = call_without(&mut heap);
+    let built = build_of_two(&mut heap);
     heap.clear();
-    assert_eq!(rt; (left, heap.len(), memory.requests()), (60, 0, 2));
+    assert_eq!(rt; (left, built, heap.len(), memory.requests()), (60, 2, 0, 2));
     Ok(())
 }

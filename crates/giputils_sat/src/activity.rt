@@ -13,7 +13,7 @@ const SHIFT: u32 = 14;
 
 // The variables that wait to be decided, in a heap by their scores. It is seen as their list.
 #[derive(Drop)]
-pub struct Activity<A: Allocator = Global> {
+pub(crate) struct Activity<A: Allocator = Global> {
     queue: BinaryHeap<u32, A>,
     scores: Vec<u32, A>,
     // What a bump adds. It grows, so that what was bumped lately counts more.
@@ -34,7 +34,7 @@ impl<A: Allocator> Model for Activity<A> {
 
 impl<A: Allocator + Copy> Activity<A> {
     // No variable. It takes no memory.
-    pub fn new(alloc: A) -> Self
+    pub(crate) fn new(alloc: A) -> Self
         ensures { result ≡ [] }
     {
         Activity {
@@ -45,7 +45,7 @@ impl<A: Allocator + Copy> Activity<A> {
     }
 
     // The same with so many variables at least. Those that are new wait.
-    pub fn grown(self, count: usize) -> Result<Self, AllocError> {
+    pub(crate) fn grown(self, count: usize) -> Result<Self, AllocError> {
         let Activity {
             mut queue,
             mut scores,
@@ -68,7 +68,7 @@ impl<A: Allocator + Copy> Activity<A> {
     }
 
     // Lets a variable wait.
-    pub fn put_back(&mut self, variable: u32) -> Result<(), AllocError> {
+    pub(crate) fn put_back(&mut self, variable: u32) -> Result<(), AllocError> {
         if variable < u32::MAX {
             self.queue.push(variable, &ByRank(&self.scores))?;
         }
@@ -76,7 +76,7 @@ impl<A: Allocator + Copy> Activity<A> {
     }
 
     // Raises the score of a variable.
-    pub fn bump(&mut self, variable: u32) {
+    pub(crate) fn bump(&mut self, variable: u32) {
         if (variable as usize) < self.scores.len() {
             let score = self.scores[variable as usize].saturating_add(self.step);
             self.scores[variable as usize] = score;
@@ -85,7 +85,7 @@ impl<A: Allocator + Copy> Activity<A> {
     }
 
     // Lets later bumps count more than those so far.
-    pub fn decay(&mut self) {
+    pub(crate) fn decay(&mut self) {
         self.step = self.step.saturating_add(self.step / 16);
         if self.step >= LEAST_STEP << SHIFT {
             self.step = LEAST_STEP;
@@ -97,7 +97,7 @@ impl<A: Allocator + Copy> Activity<A> {
     }
 
     // Takes out a waiting variable that none has a greater score than. None if none waits.
-    pub fn pick(&mut self) -> Option<u32>
+    pub(crate) fn pick(&mut self) -> Option<u32>
         ensures some { IfSome result (λ _. length self.new + 1 ≡ length self.old) }
         ensures none { IfNone result (self.old ≡ []) }
     {

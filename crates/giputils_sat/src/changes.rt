@@ -11,7 +11,7 @@ use std::alloc::{AllocError, Allocator};
 
 impl<A: Allocator + Copy> Trail<A> {
     // No variable. It takes no memory.
-    pub fn new(alloc: A) -> Self
+    pub(crate) fn new(alloc: A) -> Self
         ensures values { result.values.items ≡ [] }
         ensures steps { result.steps.items ≡ [] }
         ensures starts { result.starts.items ≡ [] }
@@ -27,7 +27,7 @@ impl<A: Allocator + Copy> Trail<A> {
     }
 
     // The same with so many variables. Those that are new have no value.
-    pub fn grown(self, count: usize) -> Result<Self, AllocError>
+    pub(crate) fn grown(self, count: usize) -> Result<Self, AllocError>
         requires least { length self.values.items ≤ count }
         requires small { count ≤ 2 ^ 31 }
         ensures len { IfOk result (λ t. length t.values.items ≡ count) }
@@ -55,7 +55,7 @@ impl<A: Allocator + Copy> Trail<A> {
     }
 
     // Lets each literal be propagated once more.
-    pub fn rewind(&mut self)
+    pub(crate) fn rewind(&mut self)
         ensures values { self.new.values ≡ self.old.values }
         ensures trail { StandsOn self.old self.new }
     {
@@ -63,7 +63,7 @@ impl<A: Allocator + Copy> Trail<A> {
     }
 
     // Whether the literal is true, if it has a value.
-    pub fn value(&self, l: Literal) -> Option<bool>
+    pub(crate) fn value(&self, l: Literal) -> Option<bool>
         ensures { result ≡ value_of self.now.values.items l }
     {
         match self.values.get(l.variable() as usize) {
@@ -73,14 +73,14 @@ impl<A: Allocator + Copy> Trail<A> {
     }
 
     // The number of decisions.
-    pub fn level(&self) -> usize
+    pub(crate) fn level(&self) -> usize
         ensures { result ≡ length self.now.starts.items }
     {
         self.starts.len()
     }
 
     // The place at which the first decision stands, or would stand.
-    pub fn first_start(&self) -> usize
+    pub(crate) fn first_start(&self) -> usize
         ensures root { self.now.starts.items ≡ [] → result ≡ length self.now.steps.items }
         ensures within { result ≤ length self.now.steps.items }
     {
@@ -91,7 +91,7 @@ impl<A: Allocator + Copy> Trail<A> {
     }
 
     // The level at which the literal's variable got its value.
-    pub fn level_of(&self, l: Literal) -> usize {
+    pub(crate) fn level_of(&self, l: Literal) -> usize {
         match self.stands.get(l.variable() as usize) {
             Some(stand) => stand.level,
             None => 0,
@@ -99,7 +99,7 @@ impl<A: Allocator + Copy> Trail<A> {
     }
 
     // The place of the trail at which the literal's variable got its value.
-    pub fn place_of(&self, l: Literal) -> usize {
+    pub(crate) fn place_of(&self, l: Literal) -> usize {
         match self.stands.get(l.variable() as usize) {
             Some(stand) => stand.place,
             None => 0,
@@ -107,7 +107,7 @@ impl<A: Allocator + Copy> Trail<A> {
     }
 
     // Makes a literal true.
-    pub fn assign(&mut self, l: Literal, reason: Option<usize>) -> Result<(), AllocError>
+    pub(crate) fn assign(&mut self, l: Literal, reason: Option<usize>) -> Result<(), AllocError>
         requires within { l.variable < length self.old.values.items }
         requires unset { value_of self.old.values.items l ≡ None }
         ensures len { length self.new.values.items ≡ length self.old.values.items }
@@ -127,7 +127,7 @@ impl<A: Allocator + Copy> Trail<A> {
     }
 
     // Makes a literal true at a new level.
-    pub fn decide(&mut self, l: Literal) -> Result<(), AllocError>
+    pub(crate) fn decide(&mut self, l: Literal) -> Result<(), AllocError>
         requires within { l.variable < length self.old.values.items }
         requires unset { value_of self.old.values.items l ≡ None }
         ensures len { length self.new.values.items ≡ length self.old.values.items }
@@ -141,7 +141,7 @@ impl<A: Allocator + Copy> Trail<A> {
     }
 
     // The value that a variable had last.
-    pub fn phase(&self, variable: u32) -> bool {
+    pub(crate) fn phase(&self, variable: u32) -> bool {
         match self.phases.get(variable as usize) {
             Some(phase) => *phase,
             None => false,
@@ -149,7 +149,7 @@ impl<A: Allocator + Copy> Trail<A> {
     }
 
     // The next literal to propagate.
-    pub fn next(&mut self) -> Option<Literal>
+    pub(crate) fn next(&mut self) -> Option<Literal>
         ensures values { self.new.values ≡ self.old.values }
         ensures steps { self.new.steps ≡ self.old.steps }
         ensures starts { self.new.starts ≡ self.old.starts }
@@ -181,7 +181,11 @@ impl<A: Allocator + Copy> Trail<A> {
     }
 
     // Goes back to a level. What is not true any more may be decided again.
-    pub fn backtrack(&mut self, level: usize, activity: &mut Activity<A>) -> Result<(), AllocError>
+    pub(crate) fn backtrack(
+        &mut self,
+        level: usize,
+        activity: &mut Activity<A>,
+    ) -> Result<(), AllocError>
         ensures len { length self.new.values.items ≡ length self.old.values.items }
         ensures trail { OnOk result (StandsOn self.old self.new) }
     {

@@ -7,14 +7,14 @@ use std::marker::Model;
 
 // Where a clause lies.
 #[derive(Clone, Copy)]
-pub struct Span {
+pub(crate) struct Span {
     pub start: usize,
     pub end: usize,
 }
 
 // A list of clauses.
 #[derive(Drop)]
-pub struct Clauses<A: Allocator = Global> {
+pub(crate) struct Clauses<A: Allocator = Global> {
     literals: Vec<Literal, A>,
     spans: Vec<Span, A>,
 }
@@ -34,7 +34,7 @@ impl<A: Allocator> Model for Clauses<A> {
 
 impl<A: Allocator + Copy> Clauses<A> {
     // No clause.
-    pub fn new(alloc: A) -> Self
+    pub(crate) fn new(alloc: A) -> Self
         ensures { result ≡ [] }
     {
         Clauses {
@@ -44,14 +44,14 @@ impl<A: Allocator + Copy> Clauses<A> {
     }
 
     // How many there are.
-    pub fn len(&self) -> usize
+    pub(crate) fn len(&self) -> usize
         ensures { result ≡ length self.now }
     {
         self.spans.len()
     }
 
     // Adds a clause.
-    pub fn push(&mut self, clause: &[Literal]) -> Result<(), AllocError>
+    pub(crate) fn push(&mut self, clause: &[Literal]) -> Result<(), AllocError>
         ensures ok { OnOk result (self.new ≡ self.old ++ clause.now ∷ []) }
         ensures err { OnErr result (self.new ≡ self.old) }
     {
@@ -63,7 +63,7 @@ impl<A: Allocator + Copy> Clauses<A> {
     }
 
     // The clause at a place.
-    pub fn clause(&self, place: usize) -> &[Literal]
+    pub(crate) fn clause(&self, place: usize) -> &[Literal]
         requires { place < length self.now }
         ensures { slice_get self.now place ≡ Some result.now }
     {

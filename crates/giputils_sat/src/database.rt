@@ -12,7 +12,7 @@ use std::marker::Model;
 
 // The clauses of a formula, and those that were learned of it, each at the place at which it came.
 #[derive(Drop)]
-pub struct Database<A: Allocator = Global> {
+pub(crate) struct Database<A: Allocator = Global> {
     clauses: Clauses<A>,
     // Whether the clause at a place was given, and not learned.
     given: Vec<bool, A>,
@@ -35,7 +35,7 @@ impl<A: Allocator> Model for Database<A> {
 
 impl<A: Allocator + Copy> Database<A> {
     // No clause.
-    pub fn new(alloc: A) -> Self
+    pub(crate) fn new(alloc: A) -> Self
         ensures formula { result.formula ≡ [] }
         ensures clauses { result.clauses ≡ [] }
     {
@@ -47,7 +47,7 @@ impl<A: Allocator + Copy> Database<A> {
     }
 
     // A number that each variable is below.
-    pub fn count(&self) -> usize
+    pub(crate) fn count(&self) -> usize
         ensures value { result ≡ self.now.count }
         ensures small { result ≤ 2 ^ 31 }
     {
@@ -55,14 +55,14 @@ impl<A: Allocator + Copy> Database<A> {
     }
 
     // How many clauses there are.
-    pub fn len(&self) -> usize
+    pub(crate) fn len(&self) -> usize
         ensures { result ≡ length self.now.clauses }
     {
         self.clauses.len()
     }
 
     // The clause at a place.
-    pub fn clause(&self, place: usize) -> &[Literal]
+    pub(crate) fn clause(&self, place: usize) -> &[Literal]
         requires { place < length self.now.clauses }
         ensures at { slice_get self.now.clauses place ≡ Some result.now }
         ensures implied { Implies self.now.formula result.now }
@@ -72,7 +72,7 @@ impl<A: Allocator + Copy> Database<A> {
     }
 
     // Whether the clause at a place is one of the formula's.
-    pub fn is_given(&self, place: usize) -> bool {
+    pub(crate) fn is_given(&self, place: usize) -> bool {
         match self.given.get(place) {
             Some(given) => *given,
             None => false,
@@ -80,7 +80,7 @@ impl<A: Allocator + Copy> Database<A> {
     }
 
     // The place of a clause of the formula that has no true literal. None if there is none.
-    pub fn open_clause(&self, trail: &Trail<A>) -> Option<usize>
+    pub(crate) fn open_clause(&self, trail: &Trail<A>) -> Option<usize>
         ensures some { IfSome result (λ i. i < length self.now.clauses) }
         ensures none_true { IfSome result (IsOpenAt self.now.clauses trail.now.values.items) }
         ensures none { IfNone result (IsModelOf self.now.formula trail.now.values.items) }
@@ -94,7 +94,7 @@ impl<A: Allocator + Copy> Database<A> {
     }
 
     // Adds a clause to the formula. Nothing changes where memory is refused.
-    pub fn give(&mut self, clause: &[Literal]) -> Result<(), AllocError>
+    pub(crate) fn give(&mut self, clause: &[Literal]) -> Result<(), AllocError>
         ensures formula { OnOk result (self.new.formula ≡ self.old.formula ++ clause.now ∷ []) }
         ensures count { self.old.count ≤ self.new.count }
         ensures clauses { OnOk result (self.new.clauses ≡ self.old.clauses ++ clause.now ∷ []) }
@@ -108,7 +108,7 @@ impl<A: Allocator + Copy> Database<A> {
     }
 
     // Adds a clause that follows. Nothing changes where memory is refused.
-    pub fn learn(&mut self, clause: &[Literal]) -> Result<(), AllocError>
+    pub(crate) fn learn(&mut self, clause: &[Literal]) -> Result<(), AllocError>
         requires implied { Implies self.old.formula clause.now }
         requires below { AreBelow self.old.count clause.now }
         ensures formula { self.new.formula ≡ self.old.formula }

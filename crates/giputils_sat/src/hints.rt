@@ -19,24 +19,27 @@ pub struct Stats {
     pub restarts: u64,
     /// Learned clauses that are not looked at any more.
     pub forgotten: u64,
+    /// How often a clause with no true literal was left where no variable waited to be decided.
+    pub left_open: u64,
 }
 
 impl Stats {
     // Nothing was done.
-    pub fn new() -> Self {
+    pub(crate) fn new() -> Self {
         Stats {
             conflicts: 0,
             decisions: 0,
             propagations: 0,
             restarts: 0,
             forgotten: 0,
+            left_open: 0,
         }
     }
 }
 
 // The order of decisions, the index of clauses, the pace of restarts, and what was counted.
 #[derive(Drop)]
-pub struct Hints<A: Allocator = Global> {
+pub(crate) struct Hints<A: Allocator = Global> {
     pub activity: Activity<A>,
     pub watches: Watches<A>,
     pub pace: Pace,
@@ -45,7 +48,7 @@ pub struct Hints<A: Allocator = Global> {
 
 impl<A: Allocator + Copy> Hints<A> {
     // Of no variable and no clause. It takes no memory.
-    pub fn new(alloc: A, stats: Stats) -> Self {
+    pub(crate) fn new(alloc: A, stats: Stats) -> Self {
         Hints {
             activity: Activity::new(alloc),
             watches: Watches::new(alloc),
@@ -55,7 +58,7 @@ impl<A: Allocator + Copy> Hints<A> {
     }
 
     // The same with room for so many variables.
-    pub fn grown(self, alloc: A, count: usize) -> Result<Self, AllocError>
+    pub(crate) fn grown(self, alloc: A, count: usize) -> Result<Self, AllocError>
         requires { count < 2 ^ 40 }
     {
         let Hints {
@@ -74,19 +77,24 @@ impl<A: Allocator + Copy> Hints<A> {
     }
 
     // A conflict was met.
-    pub fn count_conflict(&mut self) {
+    pub(crate) fn count_conflict(&mut self) {
         self.stats.conflicts = self.stats.conflicts.saturating_add(1);
         self.activity.decay();
         self.watches.decay();
     }
 
     // A variable was decided.
-    pub fn count_decision(&mut self) {
+    pub(crate) fn count_decision(&mut self) {
         self.stats.decisions = self.stats.decisions.saturating_add(1);
     }
 
+    // A clause was left with no true literal.
+    pub(crate) fn count_open(&mut self) {
+        self.stats.left_open = self.stats.left_open.saturating_add(1);
+    }
+
     // A literal is propagated.
-    pub fn count_propagation(&mut self) {
+    pub(crate) fn count_propagation(&mut self) {
         self.stats.propagations = self.stats.propagations.saturating_add(1);
     }
 }

@@ -338,7 +338,7 @@ fn follow<A: Allocator + Copy>(
 // Learns from a conflict: adds a clause that follows, goes back and makes a literal of it true. `true` where the empty
 // clause follows.
 #[tactic(auto, using(crate::proofs::Following::kept_same, crate::proofs::Following::kept_pushed))]
-pub fn learn<A: Allocator + Copy>(
+pub(crate) fn learn<A: Allocator + Copy>(
     alloc: A,
     database: &mut Database<A>,
     trail: &mut Trail<A>,
@@ -397,7 +397,7 @@ fn attach<A: Allocator + Copy>(
 
 // Watches the known clauses that are not watched yet, and makes true the literals that stand alone in one. The place of
 // a clause all of whose literals are false, if one is met.
-pub fn attach_all<A: Allocator + Copy>(
+pub(crate) fn attach_all<A: Allocator + Copy>(
     database: &Database<A>,
     trail: &mut Trail<A>,
     watches: &mut Watches<A>,

@@ -5,7 +5,7 @@ mod activity;
 mod changes;
 mod clauses;
 mod database;
-pub mod hints;
+mod hints;
 mod learn;
 pub mod literal;
 mod marks;

@@ -9,7 +9,7 @@ use std::marker::Model;
 
 // Marks on literals, by their codes.
 #[derive(Drop)]
-pub struct Marks<A: Allocator = Global> {
+pub(crate) struct Marks<A: Allocator = Global> {
     marks: Vec<bool, A>,
     // Each marked literal is one of these.
     noted: Vec<Literal, A>,
@@ -28,7 +28,7 @@ impl<A: Allocator> Model for Marks<A> {
 
 impl<A: Allocator + Copy> Marks<A> {
     // Nothing is marked, among the literals of so many variables.
-    pub fn new(alloc: A, count: usize) -> Result<Self, AllocError>
+    pub(crate) fn new(alloc: A, count: usize) -> Result<Self, AllocError>
         requires { count < 2 ^ 40 }
         ensures len { IfOk result (λ m. length m ≡ 2 * count) }
         ensures clear { IfOk result (λ m. NoneMarked m) }
@@ -39,7 +39,7 @@ impl<A: Allocator + Copy> Marks<A> {
     }
 
     // Whether the literal is marked.
-    pub fn has(&self, l: Literal) -> bool
+    pub(crate) fn has(&self, l: Literal) -> bool
         ensures { result ≡ is_marked self.now l }
     {
         match self.marks.get(l.code()) {
@@ -49,12 +49,12 @@ impl<A: Allocator + Copy> Marks<A> {
     }
 
     // The literals that were marked since all were taken, also those whose marks were taken away.
-    pub fn noted(&self) -> &[Literal] {
+    pub(crate) fn noted(&self) -> &[Literal] {
         &self.noted
     }
 
     // Marks a literal.
-    pub fn add(&mut self, l: Literal) -> Result<(), AllocError>
+    pub(crate) fn add(&mut self, l: Literal) -> Result<(), AllocError>
         requires { code l < length self.old }
         ensures len { length self.new ≡ length self.old }
         ensures grows { OnOk result (Grows self.old self.new) }
@@ -67,7 +67,7 @@ impl<A: Allocator + Copy> Marks<A> {
     }
 
     // Takes a mark away.
-    pub fn remove(&mut self, l: Literal)
+    pub(crate) fn remove(&mut self, l: Literal)
         ensures len { length self.new ≡ length self.old }
         ensures others { KeepsBut l self.old self.new }
         ensures only { LosesAtLeast l self.old self.new }
@@ -79,7 +79,7 @@ impl<A: Allocator + Copy> Marks<A> {
     }
 
     // The marked literals. None is marked afterwards.
-    pub fn take(&mut self, alloc: A) -> Result<Vec<Literal, A>, AllocError>
+    pub(crate) fn take(&mut self, alloc: A) -> Result<Vec<Literal, A>, AllocError>
         ensures len { length self.new ≡ length self.old }
         ensures all { IfOk result (λ c. AreAmong self.old c.items) }
         ensures only { IfOk result (λ c. AreMarked c.items self.old) }

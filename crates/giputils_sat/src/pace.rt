@@ -9,7 +9,7 @@ const LEAST_ROOM: usize = 500;
 // How many conflicts are left until all decisions are taken back. The runs between follow Luby's sequence,
 // 1, 1, 2, 1, 1, 2, 4, .., whose pairs Knuth's rule makes: each is a counter and the value that it has now.
 #[derive(Clone, Copy)]
-pub struct Pace {
+pub(crate) struct Pace {
     left: usize,
     counter: u64,
     run: usize,
@@ -22,7 +22,7 @@ pub struct Pace {
 
 impl Pace {
     // The first run.
-    pub fn new() -> Self {
+    pub(crate) fn new() -> Self {
         Pace {
             left: UNIT,
             counter: 1,
@@ -34,7 +34,7 @@ impl Pace {
     }
 
     // One conflict more. Whether it is time to take all decisions back.
-    pub fn step(&mut self) -> bool {
+    pub(crate) fn step(&mut self) -> bool {
         self.learned = self.learned.saturating_add(1);
         if self.left > 1 {
             self.left -= 1;
@@ -45,7 +45,7 @@ impl Pace {
     }
 
     // Whether some learned clauses are to be forgotten, when so many clauses are known and so many conflicts were met.
-    pub fn is_full(&mut self, known: usize, conflicts: u64) -> bool {
+    pub(crate) fn is_full(&mut self, known: usize, conflicts: u64) -> bool {
         if self.room == 0 {
             self.room = (known / 3).max(LEAST_ROOM);
         }

@@ -8,7 +8,7 @@ use crate::watches::{Watches, Worth};
 use std::alloc::{AllocError, Allocator};
 
 // Forgets learned clauses, once so many are watched. To be called where no decision stands.
-pub fn reduce<A: Allocator + Copy>(
+pub(crate) fn reduce<A: Allocator + Copy>(
     alloc: A,
     database: &Database<A>,
     trail: &Trail<A>,

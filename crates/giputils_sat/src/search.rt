@@ -37,7 +37,7 @@ fn seen(clause: usize, blocker: Literal, stays: bool) -> Look
 }
 
 // The first place but one whose literal isn't false.
-pub fn free_place<A: Allocator + Copy>(
+pub(crate) fn free_place<A: Allocator + Copy>(
     trail: &Trail<A>,
     clause: &[Literal],
     but: usize,
@@ -161,7 +161,7 @@ fn visit<A: Allocator + Copy>(
 }
 
 // Propagates what has become true. The place of a clause all of whose literals are false, if one is met.
-pub fn propagate<A: Allocator + Copy>(
+pub(crate) fn propagate<A: Allocator + Copy>(
     alloc: A,
     database: &Database<A>,
     trail: &mut Trail<A>,
@@ -186,7 +186,7 @@ pub fn propagate<A: Allocator + Copy>(
 
 // What the solver does next: a decision was made, each clause of the formula is satisfied, or one has no literal that
 // isn't false.
-pub enum Choice {
+pub(crate) enum Choice {
     Decided,
     Model,
     Conflict(usize),
@@ -242,6 +242,7 @@ fn choose<A: Allocator + Copy>(
     let Some(place) = database.open_clause(trail) else {
         return Ok(Choice::Model);
     };
+    hints.count_open();
     let Some(l) = free_literal(trail, database.clause(place)) else {
         return Ok(Choice::Conflict(place));
     };
@@ -251,7 +252,7 @@ fn choose<A: Allocator + Copy>(
 
 // Decides and propagates until a clause has no literal that isn't false, whose place it is, or until the formula is
 // satisfied.
-pub fn search<A: Allocator + Copy>(
+pub(crate) fn search<A: Allocator + Copy>(
     alloc: A,
     database: &Database<A>,
     trail: &mut Trail<A>,

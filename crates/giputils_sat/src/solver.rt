@@ -6,9 +6,6 @@ ghost use Rattle.giputils_sat.specs.Stores.{KeepsKnown};
 ghost use Rattle.giputils_sat.specs.Trailed.{IsReady, StandsOn};
 ghost use Rattle.giputils_sat.specs.Values.{model_in};
 
-#[cfg(test)]
-mod tests;
-
 use crate::database::Database;
 use crate::hints::{Hints, Stats};
 use crate::learn::learn;

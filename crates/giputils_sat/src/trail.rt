@@ -6,21 +6,21 @@ use std::alloc::{Allocator, Global};
 
 // A literal that became true, with the place of the clause that made it so, or None where it was decided.
 #[derive(Clone, Copy)]
-pub struct Step {
+pub(crate) struct Step {
     pub literal: Literal,
     pub reason: Option<usize>,
 }
 
 // Where a variable got its value: at which level, and at which place of the trail.
 #[derive(Clone, Copy)]
-pub struct Stand {
+pub(crate) struct Stand {
     pub level: usize,
     pub place: usize,
 }
 
 // The true literals in order, with the values of all variables.
 #[derive(Drop)]
-pub struct Trail<A: Allocator = Global> {
+pub(crate) struct Trail<A: Allocator = Global> {
     pub values: Vec<Option<bool>, A>,
     // Where each variable got the value that it had last.
     pub stands: Vec<Stand, A>,

@@ -13,6 +13,8 @@ pub(crate) enum Said {
     Unknown,
     // It was said to have a model that does not satisfy it.
     WrongModel,
+    // A clause was found open where all variables had been decided: a search that is right does not leave one.
+    LeftOpen,
 }
 
 // The literal of a number.
@@ -60,7 +62,11 @@ pub(crate) fn say<A: Allocator + Copy>(
     formula: &[i32],
     limit: usize,
 ) -> Result<Said, AllocError> {
-    Ok(match solver.solve(limit)? {
+    let answer = solver.solve(limit)?;
+    if solver.stats().left_open > 0 {
+        return Ok(Said::LeftOpen);
+    }
+    Ok(match answer {
         Answer::Sat(model) if satisfies(&model, formula) => Said::Sat,
         Answer::Sat(_) => Said::WrongModel,
         Answer::Unsat => Said::Unsat,

@@ -269,3 +269,44 @@ fn clauses_after_an_answer(rt: HostRuntime) {
     let wanted = [Said::Sat, Said::Sat, Said::Unknown, Said::Unsat];
     assert_eq!(rt; said_as_clauses_come(rt.alloc()), Ok(wanted));
 }
+
+// What a solver says that is given clauses over new variables after each answer.
+fn said_as_variables_come(alloc: Global) -> Result<[Said; 3], AllocError> {
+    let formula = [1, 2, 0, -1, 7, 0, -2, -7, 0, 7, 9, 0, -9, 0, -7, 0];
+    let mut solver = Solver::new(alloc);
+    add_all(alloc, &mut solver, &formula[..3])?;
+    let one = say(&mut solver, &formula[..3], 100)?;
+    add_all(alloc, &mut solver, &formula[3..12])?;
+    let four = say(&mut solver, &formula[..12], 100)?;
+    add_all(alloc, &mut solver, &formula[12..])?;
+    Ok([one, four, say(&mut solver, &formula, 100)?])
+}
+
+#[test]
+fn variables_after_an_answer(rt: HostRuntime) {
+    let wanted = [Said::Sat, Said::Sat, Said::Unsat];
+    assert_eq!(rt; said_as_variables_come(rt.alloc()), Ok(wanted));
+}
+
+// What is said of pigeons in the end where each call may meet 20 conflicts, and how many were met.
+fn said_in_slices(alloc: Global) -> Result<(Said, u64), AllocError> {
+    let formula = pigeons(alloc, 5)?;
+    let mut solver = Solver::new(alloc);
+    add_all(alloc, &mut solver, &formula)?;
+    let mut said = Said::Unknown;
+    for _ in 0..1000 {
+        if said == Said::Unknown {
+            said = say(&mut solver, &formula, 20)?;
+        }
+    }
+    Ok((said, solver.stats().conflicts))
+}
+
+#[test]
+fn a_further_call_goes_on(rt: HostRuntime) {
+    let outcome = said_in_slices(rt.alloc());
+    assert!(rt;
+        outcome.is_ok_and(|(said, conflicts)| said == Said::Unsat && conflicts > 20),
+        "{outcome:?}"
+    );
+}

@@ -1,6 +1,7 @@
 //! The values of the unmarked slots, with their indexes.
-ghost use Rattle.std.specs.Prelude.{◌≡◌, ◌<◌, ◌^◌, ⊤, length};
-ghost use Rattle.std.specs.Iterator.{YieldsFirstBy, item_count};
+ghost use Rattle.std.specs.Prelude.{◌≡◌, ◌<◌, ◌^◌, ⊤, IfSome, Some, length};
+ghost use Rattle.std.specs.Iterator.{YieldsFirstBy, UpTo, at_most, item_count};
+ghost use Rattle.std.specs.Iterator.SizeHint.{IsWithinCount};
 ghost use Rattle.giputils_base.specs.Allocator.{live_slots, live_count};
 
 use super::{GallocElem, Gallocator};
@@ -30,7 +31,9 @@ impl<'a, T> Model for Live<'a, T> {
 
     ghost view = { λ s. live_slots s.index s.slots.now };
 
-    ghost invariant = { λ s. (s.left ≡ length (live_slots s.index s.slots.now)) × (s.index + length s.slots.now < 2 ^ 64) };
+    ghost invariant = { λ s.
+        (s.left ≡ length (live_slots s.index s.slots.now))
+        × (s.index + length s.slots.now < 2 ^ 64) };
 }
 
 impl<T, A: Allocator> Gallocator<T, A> {
@@ -71,7 +74,11 @@ impl<'a, T> Iterator for Live<'a, T> {
     }
 
     #[inline]
-    fn size_hint(&self) -> (usize, Option<usize>) {
+    fn size_hint(&self) -> (usize, Option<usize>)
+        ensures lower { IsWithinCount result.0 (at_most (length self.now)) }
+        ensures upper { IfSome result.1 (UpTo (at_most (length self.now))) }
+        ensures exact { (result.0 ≡ length self.now) × (result.1 ≡ Some (length self.now)) }
+    {
         (self.left, Some(self.left))
     }
 }

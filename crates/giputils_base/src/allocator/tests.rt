@@ -1,6 +1,6 @@
 //! What callers learn through the clauses, and the calls once each.
 ghost use Rattle.std.specs.Prelude.{◌≡◌, ◌<◌, [], ◌∷◌, ◌++◌, false, Some, length, IfOk, map};
-ghost use Rattle.giputils_base.specs.Allocator.{value_at, mark_at, write, live_slots};
+ghost use Rattle.giputils_base.specs.Allocator.{value_at, write, live_slots};
 
 use super::{GallocCall, GallocElem, Gallocator, galloc_run, rename};
 use std::alloc::{AllocError, Global};
@@ -64,6 +64,15 @@ fn live_at(allocator: &Gallocator<u32>) -> [Option<u32>; 3] {
     [first, second, allocator.get(3).copied()]
 }
 
+// How many slots a collection leaves, and whether the first of them is marked.
+fn collected(mut allocator: Gallocator<u32>) -> Result<(usize, Option<bool>), AllocError> {
+    allocator.gc_table()?;
+    if allocator.len() == 0 {
+        return Ok((0, None));
+    }
+    Ok((allocator.len(), Some(allocator.is_removed(0))))
+}
+
 #[test]
 fn a_marked_value_is_still_read(rt: HostRuntime) -> Result<(), Fail> {
     let allocator = three_values(rt.alloc())?;
@@ -76,6 +85,7 @@ fn a_marked_value_is_still_read(rt: HostRuntime) -> Result<(), Fail> {
             Some(([true, false], [20, 30]))
         )
     );
+    assert_eq!(rt; collected(allocator)?, (2, Some(false)));
     Ok(())
 }
 
@@ -156,7 +166,7 @@ fn both_put(
 }
 
 #[test]
-fn a_value_is_taken_out_of_its_slot(rt: HostRuntime) {
+fn a_value_is_taken_out_of_its_slot(rt: HostRuntime) -> Result<(), Fail> {
     let mut allocator = Gallocator::new(rt.alloc());
     let index = allocator.alloc(7u32).unwrap_or(1);
     if index < allocator.len() {
@@ -164,6 +174,8 @@ fn a_value_is_taken_out_of_its_slot(rt: HostRuntime) {
         assert!(rt; allocator.get(index).is_none());
     }
     assert_eq!(rt; (allocator.len(), allocator.live_len()), (1, 0));
+    assert_eq!(rt; collected(allocator)?, (0, None));
+    Ok(())
 }
 
 #[test]

@@ -4,8 +4,9 @@ ghost use Rattle.giputils_bits.specs.Error.{IsMemory};
 ghost use Rattle.giputils_bits.specs.Logic.{and_of, negated_if, or_of, xor_of, not_of, DeMorgan, DoubleNot, XorWithItself};
 
 use super::BitVec;
+use super::blocks::makes_zeros;
 use super::error::BitVecError;
-use super::words::{And, AndNot, Or, Xor, filled_word, low_mask, makes_zeros};
+use super::words::{And, AndNot, Or, Xor, filled_word, low_mask};
 use std::alloc::Allocator;
 use std::ops::{BitAnd, BitAndAssign, BitOr, BitOrAssign, BitXor, BitXorAssign, Not};
 

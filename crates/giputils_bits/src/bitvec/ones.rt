@@ -4,7 +4,6 @@ ghost use Rattle.std.specs.Iterator.{YieldsFirst, item_count};
 ghost use Rattle.giputils_bits.specs.Ones.{true_places, HasNoneFrom, IsNextOne};
 
 use super::BitVec;
-use super::words::with_bit;
 use std::alloc::{AllocError, Allocator};
 use std::iter::FusedIterator;
 use std::marker::Model;
@@ -94,7 +93,8 @@ impl<'a> Iterator for Ones<'a> {
         }
         let digit = word.trailing_zeros() as usize;
         self.k = k;
-        self.word = with_bit(word, digit, false);
+        // Without its lowest digit that is 1.
+        self.word = word & (word - 1);
         Some(BitVec::WORD_SIZE * k + digit)
     }
 }

@@ -49,6 +49,44 @@ pub enum BitCall<'a, A: Allocator = Global> {
     Bool,
     /// [`BitVec::try_bool`].
     TryBool,
+    /// [`BitVec::put`] of the bit at this index.
+    Put(usize, bool),
+    /// [`BitVec::flip`] of the bit at this index.
+    Flip(usize),
+    /// [`BitVec::set_word`] of the word with this number.
+    SetWord(usize, u64),
+    /// [`BitVec::fill`] with this bit.
+    Fill(bool),
+    /// [`BitVec::copy_from`] this vector.
+    CopyFrom(&'a BitVec<A>),
+    /// [`BitVec::negate`].
+    Negate,
+    /// [`BitVec::difference_with`] this vector.
+    DifferenceWith(&'a BitVec<A>),
+    /// [`BitVec::assign_and`] of these two vectors, each negated where that is told.
+    AssignAnd(&'a BitVec<A>, bool, &'a BitVec<A>, bool),
+    /// [`BitVec::append`] of this vector.
+    Append(&'a BitVec<A>),
+    /// [`BitVec::resize`] to this length by this bit.
+    Resize(usize, bool),
+    /// [`BitVec::truncate`] to this length.
+    Truncate(usize),
+    /// [`BitVec::pop`].
+    Pop,
+    /// [`BitVec::count_ones`].
+    CountOnes,
+    /// [`BitVec::any`].
+    Any,
+    /// [`BitVec::all`].
+    All,
+    /// [`BitVec::none`].
+    None,
+    /// [`BitVec::next_one`] from this index on.
+    NextOne(usize),
+    /// [`BitVec::is_subset`] of this vector.
+    IsSubset(&'a BitVec<A>),
+    /// [`BitVec::is_disjoint`] with this vector.
+    IsDisjoint(&'a BitVec<A>),
 }
 
 /// What a call on a bit vector answered.
@@ -56,18 +94,21 @@ pub enum BitCall<'a, A: Allocator = Global> {
 pub enum BitReply {
     /// The call was made, and answers nothing.
     Done,
-    /// `Push`, `PushWord`, `Extend` or `Invert` was refused: why, and how many of its items `Extend` has kept. The
-    /// others keep none, and leave the vector as it was.
+    /// `Push`, `PushWord`, `Extend`, `Invert`, `Append` or `Resize` was refused: why, and how many of its items `Extend`
+    /// has kept. The others keep none, and leave the vector as it was.
     Refused(BitVecError, usize),
-    /// The call was not made: its index is not below the length, its vector has another length, the vector is empty
-    /// where `IsZero`, `IsOne` or `IsOnes` asks for a bit, or has not one bit where `Bool` asks for it.
+    /// The call was not made: its index is not below the length (at `SetWord` not below the number of words), a vector
+    /// that it borrows has another length, the vector is empty where `IsZero`, `IsOne` or `IsOnes` asks for a bit, or
+    /// has not one bit where `Bool` asks for it.
     Skipped,
     /// The bit, or what is true of the vector.
     Bit(bool),
-    /// What `TryBool` answered.
+    /// What `TryBool` or `Pop` answered.
     MaybeBit(Option<bool>),
-    /// What `Len`, `WordLen` or `ToUsize` answered.
+    /// What `Len`, `WordLen`, `ToUsize` or `CountOnes` answered.
     Number(usize),
+    /// What `NextOne` answered.
+    Place(Option<usize>),
 }
 
 /// Makes the calls in order, from the empty vector on, and answers what they leave, and one reply for each.
@@ -168,6 +209,79 @@ fn make_call<A: Allocator + Copy, B: Allocator>(
             None => BitReply::Skipped,
         },
         BitCall::TryBool => BitReply::MaybeBit(bits.try_bool()),
+        BitCall::Put(index, val) => {
+            if index >= len {
+                return BitReply::Skipped;
+            }
+            BitReply::Bit(bits.put(index, val))
+        }
+        BitCall::Flip(index) => {
+            if index >= len {
+                return BitReply::Skipped;
+            }
+            bits.flip(index);
+            BitReply::Done
+        }
+        BitCall::SetWord(k, word) => {
+            if k >= bits.word_len() {
+                return BitReply::Skipped;
+            }
+            bits.set_word(k, word);
+            BitReply::Done
+        }
+        BitCall::Fill(val) => {
+            bits.fill(val);
+            BitReply::Done
+        }
+        BitCall::CopyFrom(other) => {
+            if len != other.len() {
+                return BitReply::Skipped;
+            }
+            bits.copy_from(other);
+            BitReply::Done
+        }
+        BitCall::Negate => {
+            bits.negate();
+            BitReply::Done
+        }
+        BitCall::DifferenceWith(other) => {
+            if len != other.len() {
+                return BitReply::Skipped;
+            }
+            bits.difference_with(other);
+            BitReply::Done
+        }
+        BitCall::AssignAnd(a, not_a, b, not_b) => {
+            if len != a.len() || len != b.len() {
+                return BitReply::Skipped;
+            }
+            bits.assign_and(a, not_a, b, not_b);
+            BitReply::Done
+        }
+        BitCall::Append(other) => reply_to(bits.append(other)),
+        BitCall::Resize(new_len, val) => reply_to(bits.resize(new_len, val)),
+        BitCall::Truncate(new_len) => {
+            bits.truncate(new_len);
+            BitReply::Done
+        }
+        BitCall::Pop => BitReply::MaybeBit(bits.pop()),
+        BitCall::CountOnes => BitReply::Number(bits.count_ones()),
+        BitCall::Any => BitReply::Bit(bits.any()),
+        BitCall::All => BitReply::Bit(bits.all()),
+        BitCall::None => BitReply::Bit(bits.none()),
+        BitCall::NextOne(start) => BitReply::Place(bits.next_one(start)),
+        BitCall::IsSubset(other) => {
+            if len != other.len() {
+                return BitReply::Skipped;
+            }
+            BitReply::Bit(bits.is_subset(other))
+        }
+        BitCall::IsDisjoint(other) => {
+            if len != other.len() {
+                return BitReply::Skipped;
+            }
+            BitReply::Bit(bits.is_disjoint(other))
+        }
     }
 }
 

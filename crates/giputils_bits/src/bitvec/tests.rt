@@ -383,6 +383,47 @@ fn a_run_of_logic(rt: HostRuntime) -> Result<(), Fail> {
     runs(&rt, &logic_calls(&operands), &replies, "0x1a")
 }
 
+fn set_calls(operands: &Operands) -> [BitCall<'_>; 12] {
+    [
+        BitCall::Extend(&operands.items),
+        BitCall::Put(1, true),
+        BitCall::Flip(0),
+        BitCall::CountOnes,
+        BitCall::NextOne(2),
+        BitCall::IsSubset(&operands.mask),
+        BitCall::DifferenceWith(&operands.mask),
+        BitCall::IsDisjoint(&operands.mask),
+        BitCall::Append(&operands.four),
+        BitCall::Resize(70, true),
+        BitCall::Truncate(6),
+        BitCall::Pop,
+    ]
+}
+
+#[test]
+fn a_run_of_a_set(rt: HostRuntime) -> Result<(), Fail> {
+    let operands = Operands {
+        items: [true, false, true, true, false],
+        mask: BitVec::from(rt.alloc(), [true, true, true, false, false])?,
+        four: BitVec::zero(rt.alloc(), 4)?,
+    };
+    let replies = [
+        BitReply::Done,
+        BitReply::Bit(false),
+        BitReply::Done,
+        BitReply::Number(3),
+        BitReply::Place(Some(2)),
+        BitReply::Bit(false),
+        BitReply::Done,
+        BitReply::Bit(true),
+        BitReply::Done,
+        BitReply::Done,
+        BitReply::Done,
+        BitReply::MaybeBit(Some(false)),
+    ];
+    runs(&rt, &set_calls(&operands), &replies, "0x8")
+}
+
 #[test]
 fn a_run_appends_a_word_anywhere(rt: HostRuntime) -> Result<(), Fail> {
     runs(

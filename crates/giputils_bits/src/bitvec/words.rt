@@ -2,7 +2,7 @@
 ghost use Rattle.std.specs.Prelude.{◌≡◌, ◌↔◌, ◌<◌, ◌≤◌, ◌+◌, ◌-◌, ◌*◌, ◌/◌, ◌^◌, ℕ, IsTrue, not, length, replicate, slice_index, bit_and, bit_or, bit_xor};
 ghost use Rattle.std.specs.Int.{bit_not, w64};
 ghost use Rattle.giputils_bits.specs.Bits.{has_digit, value_of};
-ghost use Rattle.giputils_bits.specs.Places.{place, common_digits, without_digits, MakesZeros, Overlays, Rewrites, SetsDigit};
+ghost use Rattle.giputils_bits.specs.Places.{place, common_digits, without_digits, Overlays, Rewrites, SetsDigit};
 
 use super::BitVec;
 
@@ -105,20 +105,6 @@ impl WordOp for AndNot {
     fn apply(word: u64, other: u64) -> u64 {
         word ^ (word & other)
     }
-}
-
-// Whether the operation makes 0 of each word and the other at its place.
-#[inline]
-pub(crate) fn makes_zeros<O: WordOp>(words: &[u64], others: &[u64]) -> bool
-    requires { length words.now ≡ length others.now }
-    ensures { IsTrue result ↔ MakesZeros O.made words.now others.now }
-{
-    for k in 0..words.len() {
-        if O::apply(words[k], others[k]) != 0 {
-            return false;
-        }
-    }
-    true
 }
 
 // Joins each word with the other at its place.

@@ -10,18 +10,18 @@ const SLICE: usize = 2_000;
 
 /// What is told how far a search is.
 pub trait Progress<A: Allocator> {
-    /// So many conflicts were met, and this is known now. The search goes on.
-    fn note(&mut self, solver: &Solver<A>, conflicts: usize);
+    /// This is known now, and the search goes on.
+    fn note(&mut self, solver: &Solver<A>);
 
-    /// The search has ended, and so many clauses were learned by it.
-    fn end(&mut self, solver: &Solver<A>, learned: usize);
+    /// This is known at the end of the search.
+    fn end(&mut self, solver: &Solver<A>);
 }
 
 /// Nobody is told.
 impl<A: Allocator> Progress<A> for () {
-    fn note(&mut self, _solver: &Solver<A>, _conflicts: usize) {}
+    fn note(&mut self, _solver: &Solver<A>) {}
 
-    fn end(&mut self, _solver: &Solver<A>, _learned: usize) {}
+    fn end(&mut self, _solver: &Solver<A>) {}
 }
 
 /// Finds out whether anything satisfies the solver's formula, as [`Solver::solve`] does, and tells `progress` now and
@@ -37,9 +37,8 @@ pub fn solve_in_slices<A: Allocator + Copy, P: Progress<A>>(
     ensures right { IfOk result (IsRight solver.old solver.new limit) }
     ensures formula { solver.new.formula ≡ solver.old.formula }
 {
-    let known = solver.len();
     let answer = solve_on(solver, limit, progress)?;
-    progress.end(solver, solver.len().saturating_sub(known));
+    progress.end(solver);
     Ok(answer)
 }
 
@@ -58,7 +57,7 @@ fn solve_on<A: Allocator + Copy, P: Progress<A>>(
             Answer::Unknown => left -= SLICE,
             answer => return Ok(answer),
         }
-        progress.note(solver, limit - left);
+        progress.note(solver);
     }
     solver.solve(left)
 }

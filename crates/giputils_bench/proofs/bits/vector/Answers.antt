@@ -1,5 +1,5 @@
 use Rattle.std.proofs.Common.{◌∙◌, length, ap}
-use Rattle.giputils_bench.proofs.Lengths.{length-with_word}
+use Rattle.giputils_bits.proofs.Words.{length-with_word}
 use Rattle.giputils_bench.proofs.bits.vector.Goals as goal
 
 pub loop-k-preserved : goal.loop-k-preserved

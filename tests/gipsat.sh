@@ -1,0 +1,80 @@
+#!/usr/bin/env bash
+# Runs the solver's program over formulas and into its faults: tests/gipsat.sh GIPSAT
+# GIPSAT is the built program: crates/gipsat/out/gipsat, which both `rt ci` and `rt run` leave. It prints a line for each
+# case. The last line is 'N passed, M failed', and the status is 1 where a case failed.
+set -u
+gipsat=${1:?usage: tests/gipsat.sh GIPSAT}
+if [ ! -x "$gipsat" ]; then
+    echo "no program $gipsat"
+    echo "0 passed, 1 failed"
+    exit 1
+fi
+stored=$(cd "$(dirname "$0")/../crates/gipsat" && pwd) || exit 2
+work=$(mktemp -d) || exit 2
+trap 'rm -rf "$work"' EXIT
+passed=0
+failed=0
+
+# NAME STATUS ERROR OUTPUT INPUT [ARGUMENT..]: runs the program on this text, and expects this of it.
+try() {
+    local name=$1 wanted=$2 error=$3 output=$4 input=$5 status
+    shift 5
+    printf '%b' "$input" | "$gipsat" "$@" > "$work/out" 2> "$work/err"
+    status=$?
+    if [ "$status" = "$wanted" ] && [ "$(cat "$work/err")" = "$error" ] && [ "$(cat "$work/out")" = "$output" ]; then
+        echo "ok: $name"
+        passed=$((passed + 1))
+    else
+        echo "FAILED: $name (status $status, $(head -c 200 "$work/err"), $(head -c 200 "$work/out"))"
+        failed=$((failed + 1))
+    fi
+}
+
+usage='usage: gipsat [--conflicts N] [--stats] [FILE]'
+clash='p cnf 1 2\n1 0\n-1 0\n'
+
+try "a formula in a file" 10 "" "$(cat "$stored/stdout")" "" "$stored/stdin"
+try "no clause" 10 "" "$(printf 's SATISFIABLE\nv -1 -2 0')" 'p cnf 2 0\n'
+try "units that clash" 20 "" "s UNSATISFIABLE" "$clash"
+try "a clause of no literal" 20 "" "s UNSATISFIABLE" 'p cnf 1 1\n0\n'
+try "no conflict is allowed" 0 "" "s UNKNOWN" "$clash" --conflicts 0
+try "lines with carriage returns, comments, a clause over two lines" 10 "" "$(printf 's SATISFIABLE\nv 1 2 0')" \
+    'c one\r\np cnf 2 2\r\n1\r\nc two\r\n0 -1\t2 0\r\n'
+try "an empty input" 1 'line 1: no header `p cnf VARIABLES CLAUSES`' "" ""
+try "a second header" 1 "line 2: a second header" "" 'p cnf 1 1\np cnf 1 1\n'
+try "a word that is no number" 1 "line 2: not a number" "" 'p cnf 1 1\n1 x 0\n'
+try "a variable past the header's" 1 "line 2: a variable that the header does not have" "" 'p cnf 1 1\n2 0\n'
+try "a number that is too great" 1 "line 2: a number past 2147483647" "" 'p cnf 1 1\n1 2147483648 0\n'
+try "a clause too many" 1 "line 3: more clauses than the header says" "" 'p cnf 1 1\n1 0\n1 0\n'
+try "a clause too few" 1 "line 3: fewer clauses than the header says" "" 'p cnf 1 2\n1 0\n'
+try "a clause without its end" 1 "line 3: a clause without its 0" "" 'p cnf 1 1\n1\n'
+try "a file that is not there" 1 "input: cannot be read" "" "" "$work/none"
+try "a folder" 1 "input: cannot be read" "" "" "$work"
+for words in "--other" "a b" "--conflicts" "--conflicts x"; do
+    # shellcheck disable=SC2086
+    try "arguments $words" 2 "$usage" "" "$clash" $words
+done
+
+# An output that takes nothing.
+"$gipsat" "$stored/stdin" > /dev/full 2> "$work/err"
+status=$?
+if [ "$status" = 1 ] && [ "$(cat "$work/err")" = "output: cannot be written" ]; then
+    echo "ok: a full device"
+    passed=$((passed + 1))
+else
+    echo "FAILED: a full device (status $status, $(head -c 200 "$work/err"))"
+    failed=$((failed + 1))
+fi
+
+# What is told at the end, on standard error.
+printf '%b' "$clash" | "$gipsat" --stats > "$work/out" 2> "$work/err"
+if [ "$(cat "$work/out")" = "s UNSATISFIABLE" ] && grep -q '^c .*conflicts' "$work/err"; then
+    echo "ok: a summary"
+    passed=$((passed + 1))
+else
+    echo "FAILED: a summary ($(head -c 200 "$work/err"))"
+    failed=$((failed + 1))
+fi
+
+echo "$passed passed, $failed failed"
+[ "$failed" -eq 0 ]
