@@ -42,6 +42,8 @@ pub use Rattle.giputils.proofs.Falling.{FallsTo}
 pub use Rattle.giputils.proofs.LiveValues.{IsSome-live_at}
 pub use Rattle.giputils.proofs.Members.{contains-put, contains-taken}
 pub use Rattle.giputils.proofs.Repairs.{IsInOrder-changed, IsInOrder-risen, IsInOrder-fallen}
+pub use Rattle.giputils.proofs.Sets.{true_count-set}
+pub use Rattle.giputils.proofs.TruePlaces.{IsStrictlyIncreasing-true_places}
 
 survives : survivors {T = ℕ} ((7, true) ∷ (8, false) ∷ []) ≡ 8 ∷ []
 survives = refl

@@ -7,4 +7,3 @@ mod Picked
 mod Reaching
 mod Searches
 mod SmallSets
-mod TruePlaces
