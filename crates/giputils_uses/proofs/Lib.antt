@@ -7,3 +7,4 @@ mod Picked
 mod Reaching
 mod Searches
 mod SmallSets
+mod Worklists
