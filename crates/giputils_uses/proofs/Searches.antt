@@ -11,7 +11,7 @@ use Rattle.std.proofs.lemmas.Option.{slice_get_within, slice_get-get_or, get_or_
 use Rattle.giputils.specs.Keys.{is_held, IsHeld, HoldAlike}
 use Rattle.giputils_uses.specs.Paths.{Edge, Graph, edges_from, IsEdge, ends_at_nodes, IsPath, HasPath, cost, farthest, AreCosts, AreLeast, Relaxes}
 use Rattle.giputils_uses.specs.Worklist.{AreDone}
-use Rattle.giputils_uses.proofs.Worklists.{done-kept, done-next, done-taken, done-all}
+use Rattle.giputils_uses.proofs.Worklists.{done-kept, done-next, done-taken, done-all, walk-more}
 
 -- what passes for all items passes for one
 passes_at : {X : Type 0} (p : X → Bool) (xs : List X) (k : ℕ) (d : X) → list_all p xs ≡ true → k < length xs → p (get_or xs k d) ≡ true
@@ -28,10 +28,6 @@ module _ (graph : Graph) where
   cost-append : (path : List Edge) (e : Edge) → cost (path ++ e ∷ []) ≡ cost path + e.1
   cost-append [] e = omega arith
   cost-append (f ∷ path) e = let rest = cost-append path e in omega (arith, rest)
-
-  IsPath-append : (u v : ℕ) (path : List Edge) (e : Edge) → IsPath graph u path v → IsEdge graph v e → IsPath graph u (path ++ e ∷ []) e.0
-  IsPath-append u v [] e same is = (rw same is, refl)
-  IsPath-append u v (f ∷ path) e (f_is, rest) is = (f_is, IsPath-append f.0 v path e rest is)
 
   -- an edge begins and ends at a node
   edge_nodes : ends_at_nodes graph ≡ true → (u k : ℕ) (e : Edge) → slice_get (edges_from graph u) k ≡ Some e → (u < length graph) × (e.0 < length graph)
@@ -114,7 +110,7 @@ module _ (graph : Graph) where
         path_by_it : min (slice_index far node + e.1) farthest < farthest → HasPath graph source e.0 (min (slice_index far node + e.1) farthest)
         path_by_it near =
             let (path, goes, costs) = reached node (edge_nodes ends node i e at).0 (omega (arith, near)) in
-            (path ++ e ∷ [], IsPath-append source node path e goes (i, at), cost-append path e ∙ omega (arith, costs, near))
+            (path ++ e ∷ [], walk-more (IsEdge graph) (λ f. f.0) source path node e goes (i, at), cost-append path e ∙ omega (arith, costs, near))
 
     -- where no node waits, each distance is least
     module _ (far : List ℕ) (was : ℕ) (so_far : IsSearch far [] was (length (edges_from graph was))) where

@@ -3,6 +3,7 @@
 use Rattle.std.specs.Prelude.{◌≡◌, ℕ, ◌+◌, ◌<◌, ◌≤◌, ◌⊎◌, nat_lt, min, Bool, List, [], ◌∷◌, length, slice_get, slice_index, slice_index_or, set, Some}
 use Rattle.std.specs.List.{list_all}
 use Rattle.giputils.specs.Keys.{HoldAlike}
+use Rattle.giputils_uses.specs.Worklist.{IsWalk}
 
 abbrev pub Edge : Type 0
 Edge = ℕ × ℕ
@@ -24,8 +25,7 @@ ends_at_nodes graph = list_all (list_all (λ e. nat_lt e.0 (length graph))) grap
 
 -- the path goes along edges of the graph from u to v, each from where the one before it ends
 abbrev pub IsPath : Graph → ℕ → List Edge → ℕ → Type 0
-IsPath graph u [] v = u ≡ v
-IsPath graph u (e ∷ path) v = IsEdge graph u e × IsPath graph e.0 path v
+IsPath graph = IsWalk (IsEdge graph) (λ e. e.0)
 
 -- the sum of the weights
 abbrev pub cost : List Edge → ℕ
