@@ -76,8 +76,11 @@ module _ (graph : Graph) where
     -- a node is taken that waits
     pub IsSearch-taken : (far waiting left : List ℕ) (was node : ℕ) → HoldAlike (λ k. k) waiting (node ∷ left)
         → IsSearch far waiting was (length (edges_from graph was)) → IsSearch far left node 0
-    IsSearch-taken far waiting left was node alike (found, done) = (found, done-taken _ _ _ _ was _ done (IsHeld (λ k. k) left) node (slice_get_within (edges_from graph was))
-        (λ u held. ⊎_elim (λ is. inr (eqb-true u node is)) inl (or_cases (eqb u node) (is_held (λ q. q) left u) (sym (alike u) ∙ held))))
+    IsSearch-taken far waiting left was node alike (found, done) = (
+      found,
+      done-taken _ _ _ _ was _ done (IsHeld (λ k. k) left) node (slice_get_within (edges_from graph was))
+          (λ u held. ⊎_elim (λ is. inr (eqb-true u node is)) inl (or_cases (eqb u node) (is_held (λ q. q) left u) (sym (alike u) ∙ held))),
+    )
 
     -- the edge at place i of the node is relaxed
     pub IsSearch-next : (far waiting new waits : List ℕ) (node i : ℕ) (e : Edge) → ends_at_nodes graph ≡ true → slice_get (edges_from graph node) i ≡ Some e

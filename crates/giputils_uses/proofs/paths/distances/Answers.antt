@@ -13,40 +13,41 @@ loop-node-init g c =
     let source = c.args.source in
     let filled : c.in_ok-far.far.items ≡ replicate (length c.args.graph.now) 4294967295 = search rules in
     let pushed = c.in_ok-push.ensures in
-    rw (c.from.ensures, filled) (source, IsSearch-start c.args.graph.now source c.push.new.self source _ c.requires.ends c.requires.source
-    (rw c.new-waiting.ensures.empty at (HoldAlike-pushed (λ k. k) source _ _ pushed.held_stays pushed.added)))
+    rw (c.from.ensures, filled) (
+      source,
+      IsSearch-start c.args.graph.now source c.push.new.self source _ c.requires.ends c.requires.source
+          (rw c.new-waiting.ensures.empty at (HoldAlike-pushed (λ k. k) source _ _ pushed.held_stays pushed.added)),
+    )
 
 pub loop-edge-init : goal.loop-edge-init
-loop-edge-init g c = let (was, so_far) = c.loop-node.invariant in record {
-  search = IsSearch-taken c.args.graph.now c.args.source c.loop-node.far.items c.loop-node.waiting c.pop.new.self was c.in-Some.node
-      (HoldAlike-IsPermutation (λ k. k) _ _ c.in-Some.ensures.taken) so_far;
-  smaller = omega arith;
-}
+loop-edge-init g c = let (was, so_far) = c.loop-node.invariant in (
+  IsSearch-taken c.args.graph.now c.args.source _ c.loop-node.waiting _ was _
+      (HoldAlike-IsPermutation (λ k. k) _ _ c.in-Some.ensures.taken) so_far,
+  omega arith,
+)
 
 pub loop-node-preserved : goal.loop-node-preserved
 loop-node-preserved g c =
     let all : c.loop-edge.edge-index ≡ length c.from_node-edge-items.result.now = grind (arith, common_steps) in
-    (c.in-Some.node, rw (all, c.from_node-edge-items.ensures) at c.loop-edge.invariant.search)
+    (c.in-Some.node, rw (all, c.from_node-edge-items.ensures) at c.loop-edge.invariant.0)
 
 pub relax-requires-clause-begin : goal.relax-requires-clause-begin
 relax-requires-clause-begin g c =
-    (edge_inside c.args.graph.now c.requires.ends _ _ _ c.from_node-edge-items.ensures c.loop-edge-test.true _ c.loop-edge.invariant.search.0.0).0
+    (edge_inside c.args.graph.now c.requires.ends _ _ _ c.from_node-edge-items.ensures c.loop-edge-test.true _ c.loop-edge.invariant.0.0.0).0
 
 pub relax-requires-clause-end : goal.relax-requires-clause-end
 relax-requires-clause-end g c =
-    (edge_inside c.args.graph.now c.requires.ends _ _ _ c.from_node-edge-items.ensures c.loop-edge-test.true _ c.loop-edge.invariant.search.0.0).1
+    (edge_inside c.args.graph.now c.requires.ends _ _ _ c.from_node-edge-items.ensures c.loop-edge-test.true _ c.loop-edge.invariant.0.0.0).1
 
 pub loop-edge-preserved : goal.loop-edge-preserved
 loop-edge-preserved g c =
+    let (search, smaller) = c.loop-edge.invariant in
     let graph = c.args.graph.now in
-    let so_far = c.loop-edge.invariant in
-    let now = c.in_ok-relax.ensures in
-    let inside = edge_inside graph c.requires.ends _ _ _ c.from_node-edge-items.ensures c.loop-edge-test.true _ so_far.search.0.0 in
-    record {
-      search = IsSearch-next graph c.args.source c.loop-edge.far.items c.loop-edge.waiting c.relax.new.far.items c.relax.new.waiting c.in-Some.node
-          c.loop-edge.edge-index _ c.requires.ends (edge_at graph c.in-Some.node c.loop-edge.edge-index _ c.from_node-edge-items.ensures c.loop-edge-test.true) now so_far.search;
-      smaller = omega (arith, Relaxes-smaller c.in-Some.node _ c.loop-edge.far.items c.loop-edge.waiting c.relax.new.far.items c.relax.new.waiting inside.1 now, so_far.smaller);
-    }
+    let inside = edge_inside graph c.requires.ends _ _ _ c.from_node-edge-items.ensures c.loop-edge-test.true _ search.0.0 in
+    let at = edge_at graph c.in-Some.node c.loop-edge.edge-index _ c.from_node-edge-items.ensures c.loop-edge-test.true in (
+      IsSearch-next graph c.args.source _ c.loop-edge.waiting _ _ _ _ _ c.requires.ends at c.in_ok-relax.ensures search,
+      omega (arith, Relaxes-smaller _ _ _ c.loop-edge.waiting _ c.relax.new.waiting inside.1 c.in_ok-relax.ensures, smaller),
+    )
 
 pub returns-clause-least : goal.returns-clause-least
 returns-clause-least g c =

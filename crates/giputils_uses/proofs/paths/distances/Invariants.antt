@@ -10,7 +10,6 @@ abbrev pub decreases-loop-node : goal.decreases-loop-node
 decreases-loop-node g l = 2 * sum_by (λ x. x) l.far.items + length l.waiting
 
 abbrev pub invariant-loop-edge : goal.invariant-loop-edge
-invariant-loop-edge g l = record {
-  search : IsSearch l.graph l.source l.far.items l.waiting l.node l.edge-index;
-  smaller : 2 * sum_by (λ x. x) l.far.items + length l.waiting ≤ 2 * sum_by (λ x. x) l.initial.far.items + length l.initial.waiting;
-}
+invariant-loop-edge g l =
+    IsSearch l.graph l.source l.far.items l.waiting l.node l.edge-index
+    × (2 * sum_by (λ x. x) l.far.items + length l.waiting ≤ 2 * sum_by (λ x. x) l.initial.far.items + length l.initial.waiting)
