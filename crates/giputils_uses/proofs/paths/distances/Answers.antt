@@ -12,19 +12,13 @@ pub loop-node-init : goal.loop-node-init
 loop-node-init g c =
     let source = c.args.source in
     let filled : c.in_ok-far.far.items ≡ replicate (length c.args.graph.now) 4294967295 = search rules in
-    let pushed = c.in_ok-push.ensures in
-    rw (c.from.ensures, filled) (
-      source,
-      IsSearch-start c.args.graph.now source c.push.new.self source _ c.requires.ends c.requires.source
-          (rw c.new-waiting.ensures.empty at (HoldAlike-pushed (λ k. k) source _ _ pushed.held_stays pushed.added)),
-    )
+    let alike = rw c.new-waiting.ensures.empty at (HoldAlike-pushed (λ k. k) source _ _ c.in_ok-push.ensures.held_stays c.in_ok-push.ensures.added) in
+    rw (c.from.ensures, filled) (source, IsSearch-start c.args.graph.now source c.push.new.self source _ c.requires.ends c.requires.source alike)
 
 pub loop-edge-init : goal.loop-edge-init
-loop-edge-init g c = let (was, so_far) = c.loop-node.invariant in (
-  IsSearch-taken c.args.graph.now c.args.source _ c.loop-node.waiting _ was _
-      (HoldAlike-IsPermutation (λ k. k) _ _ c.in-Some.ensures.taken) so_far,
-  omega arith,
-)
+loop-edge-init g c =
+    let alike = HoldAlike-IsPermutation (λ k. k) _ _ c.in-Some.ensures.taken in
+    let (was, so_far) = c.loop-node.invariant in (IsSearch-taken c.args.graph.now c.args.source _ c.loop-node.waiting _ was _ alike so_far, omega arith)
 
 pub loop-node-preserved : goal.loop-node-preserved
 loop-node-preserved g c =
