@@ -17,11 +17,14 @@ use Rattle.giputils.specs.Relations.{is_lawful}
 use Rattle.giputils.specs.Text.{binary_text}
 pub use Rattle.giputils.specs.AllocatorRun.{slots_after}
 pub use Rattle.giputils.specs.BitRun.{bits_after}
+pub use Rattle.giputils.specs.Bounded.{Bounded}
 pub use Rattle.giputils.specs.Buffer.{buffer, keep_last}
+pub use Rattle.giputils.specs.Calls.{Peeks, Pops, Pushes, PushesOrUpdates, Builds, Drains}
 pub use Rattle.giputils.specs.Counted.{Counted}
 pub use Rattle.giputils.specs.Due.{is_due}
 pub use Rattle.giputils.specs.Error.{IsMemory}
 pub use Rattle.giputils.specs.Extended.{StopsBefore}
+pub use Rattle.giputils.specs.Falls.{FallsFromOrder}
 pub use Rattle.giputils.specs.Hashed.{hash_input_of}
 pub use Rattle.giputils.specs.InOrder.{IsInOrder}
 pub use Rattle.giputils.specs.Laws.{PopsListDownward, OneOrderIsSteady}
@@ -29,9 +32,18 @@ pub use Rattle.giputils.specs.Lends.{lends_item}
 pub use Rattle.giputils.specs.LendsHashed.{lends_map, lends_set}
 pub use Rattle.giputils.specs.LendsValue.{lends_value}
 pub use Rattle.giputils.specs.Ones.{IsNextOne, true_count, true_places}
+pub use Rattle.giputils.specs.Ordered.{booleans_tie}
 pub use Rattle.giputils.specs.Record.{Answers, KeepsCounts, record_of}
+pub use Rattle.giputils.specs.Room.{Room, room_code}
 pub use Rattle.giputils.specs.Tally.{CanCount, with_term}
 pub use Rattle.giputils.specs.Texts.{average_text}
+pub use Rattle.giputils.proofs.BinaryTexts.{digits_are_text, no_text}
+pub use Rattle.giputils.proofs.Falling.{FallsTo}
+pub use Rattle.giputils.proofs.LiveValues.{IsSome-live_at}
+pub use Rattle.giputils.proofs.Members.{contains-put, contains-taken}
+pub use Rattle.giputils.proofs.Repairs.{IsInOrder-changed, IsInOrder-risen, IsInOrder-fallen}
+pub use Rattle.giputils.proofs.Sets.{true_count-set}
+pub use Rattle.giputils.proofs.TruePlaces.{IsStrictlyIncreasing-true_places}
 
 survives : survivors {T = ℕ} ((7, true) ∷ (8, false) ∷ []) ≡ 8 ∷ []
 survives = refl

@@ -1,11 +1,10 @@
 mod Examples
 mod Gathered
 mod Held
-mod Members
 mod Multiples
 mod Outcomes
 mod Picked
 mod Reaching
 mod Searches
 mod SmallSets
-mod TruePlaces
+mod Worklists

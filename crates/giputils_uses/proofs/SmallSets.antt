@@ -1,12 +1,13 @@
 -- Sets as lists of truth values, place by place.
-use Rattle.std.proofs.Common.{◌≡◌, ◌↔◌, ℕ, zero, suc, ◌+◌, ◌<◌, ◌||◌, ◌&&◌, Bool, true, false, List, [], ◌∷◌, length, get_or, set, cond, arith, refl, sym, ap, ◌∙◌, ⊎_elim}
+use Rattle.std.proofs.Common.{◌≡◌, ◌↔◌, ℕ, suc, ◌<◌, ◌||◌, ◌&&◌, Bool, true, false, List, [], ◌∷◌, length, get_or, set, arith, refl, sym, ap, ◌∙◌, ⊎_elim}
 use Rattle.std.proofs.lemmas.Bool.{false≢true}
 use Rattle.std.proofs.lemmas.Bool.Decides.{eqb_tells}
 use Rattle.std.proofs.lemmas.List.{get_or-set_same, get_or-set_other}
-use Rattle.std.proofs.lemmas.List.Sums.{sum_by-append}
 use Rattle.giputils.specs.Logic.{zip_with, and_of, or_of, not_of}
 use Rattle.giputils.specs.Ones.{true_count, true_places}
-use Rattle.giputils.proofs.Logic.{length-zip_with, length-not_of, get_or-zip_with_all}
+use Rattle.giputils.proofs.Logic.{length-zip_with, get_or-zip_with_all}
+use Rattle.giputils.proofs.Sets.{get_or-without, length-without}
+use Rattle.giputils.proofs.TruePlaces.{length-true_places}
 use Rattle.giputils_uses.specs.SmallSet.{Inserts, Removes, IsUnion, IsIntersection, IsDifference, IsWithin}
 
 pub inserted : (n : ℕ) (bs : List Bool) → n < length bs → Inserts n bs (set bs n true)
@@ -25,14 +26,10 @@ pub as_long : (f : Bool → Bool → Bool) (xs ys : List Bool) → length xs ≡
 as_long f xs ys long = length-zip_with f xs ys long
 
 pub as_long_without : (xs ys : List Bool) → length xs ≡ length ys → length (and_of xs (not_of ys)) ≡ length xs
-as_long_without xs ys long = length-zip_with ◌&&◌ xs (not_of ys) (long ∙ sym (length-not_of ys))
+as_long_without = length-without
 
 pub taken : (xs ys : List Bool) → length xs ≡ length ys → IsDifference xs ys (and_of xs (not_of ys))
-taken [] [] long q = refl
-taken [] (y ∷ ys) long q = absurd (omega (arith, long))
-taken (x ∷ xs) [] long q = absurd (omega (arith, long))
-taken (x ∷ xs) (y ∷ ys) long zero = refl
-taken (x ∷ xs) (y ∷ ys) long (suc q) = taken xs ys (omega (arith, long)) q
+taken xs ys long q = get_or-without xs ys q long
 
 pub within : (xs ys : List Bool) → length xs ≡ length ys → (and_of xs ys ≡ xs) ↔ IsWithin xs ys
 within xs ys long = (λ same q holds. both (get_or xs q false) (get_or ys q false) (sym (met xs ys long q) ∙ ap (λ zs. get_or zs q false) same ∙ holds), all xs ys long)
@@ -47,13 +44,5 @@ within xs ys long = (λ same q holds. both (get_or xs q false) (get_or ys q fals
     all (true ∷ xs) (y ∷ ys) long holds = rw (holds 0 refl) (ap (λ zs. true ∷ zs) (all xs ys (omega (arith, long)) (λ q. holds (suc q))))
     all (false ∷ xs) (y ∷ ys) long holds = ap (λ zs. false ∷ zs) (all xs ys (omega (arith, long)) (λ q. holds (suc q)))
 
-counted_true : (bs : List Bool) → true_count (true ∷ bs) ≡ 1 + true_count bs
-counted_true bs = sum_by-append (λ b. cond b 1 0) (true ∷ []) bs
-
-counted_false : (bs : List Bool) → true_count (false ∷ bs) ≡ true_count bs
-counted_false bs = refl
-
-pub counted : (start : ℕ) (bs : List Bool) → true_count bs ≡ length (true_places start bs)
-counted start [] = refl
-counted start (true ∷ bs) = omega (arith, counted_true bs, counted (start + 1) bs)
-counted start (false ∷ bs) = omega (arith, counted_false bs, counted (start + 1) bs)
+pub counted : (bs : List Bool) → true_count bs ≡ length (true_places 0 bs)
+counted bs = sym (length-true_places 0 bs)

@@ -9,3 +9,4 @@ pub mod Ranked
 pub mod Reachable
 pub mod Rows
 pub mod SmallSet
+pub mod Worklist

@@ -1,8 +1,9 @@
 -- Paths in a directed graph, which lists for each node the edges that begin there. An edge is where it ends, and its
 -- weight.
-use Rattle.std.specs.Prelude.{◌≡◌, ℕ, ◌+◌, ◌*◌, ◌<◌, ◌≤◌, ◌⊎◌, nat_lt, min, Bool, List, [], ◌∷◌, length, slice_get, slice_index, slice_index_or, Some}
-use Rattle.std.specs.List.{list_all, sum_by}
-use Rattle.giputils.specs.Keys.{IsHeld}
+use Rattle.std.specs.Prelude.{◌≡◌, ℕ, ◌+◌, ◌<◌, ◌≤◌, ◌⊎◌, nat_lt, min, Bool, List, [], ◌∷◌, length, slice_get, slice_index, slice_index_or, set, Some}
+use Rattle.std.specs.List.{list_all}
+use Rattle.giputils.specs.Keys.{HoldAlike}
+use Rattle.giputils_uses.specs.Worklist.{IsWalk}
 
 abbrev pub Edge : Type 0
 Edge = ℕ × ℕ
@@ -24,8 +25,7 @@ ends_at_nodes graph = list_all (list_all (λ e. nat_lt e.0 (length graph))) grap
 
 -- the path goes along edges of the graph from u to v, each from where the one before it ends
 abbrev pub IsPath : Graph → ℕ → List Edge → ℕ → Type 0
-IsPath graph u [] v = u ≡ v
-IsPath graph u (e ∷ path) v = IsEdge graph u e × IsPath graph e.0 path v
+IsPath graph = IsWalk (IsEdge graph) (λ e. e.0)
 
 -- the sum of the weights
 abbrev pub cost : List Edge → ℕ
@@ -49,13 +49,17 @@ AreCosts graph source far =
 abbrev pub AreLeast : Graph → ℕ → List ℕ → Type 0
 AreLeast graph source far = (v : ℕ) (path : List Edge) → IsPath graph source path v → slice_index far v ≤ cost path
 
--- the end of an edge from u is no farther than along it; where it has come nearer, it waits. The others are as before.
-pub record Relaxes (u : ℕ) (e : Edge) (far waiting new waits : List ℕ) : Type 0 where
-  pub len : length new ≡ length far
-  pub falls : (v : ℕ) → slice_index new v ≤ slice_index far v
-  pub along : slice_index new e.0 ≤ slice_index new u + e.1
-  pub nearer : (v : ℕ) → (slice_index new v ≡ slice_index far v)
-      ⊎ ((v ≡ e.0) × IsHeld (λ k. k) waits v × (slice_index new v ≡ min (slice_index far u + e.1) farthest))
-  pub stay : (v : ℕ) → IsHeld (λ k. k) waiting v → IsHeld (λ k. k) waits v
-  pub others : (v : ℕ) → IsHeld (λ k. k) waits v → IsHeld (λ k. k) waiting v ⊎ (v ≡ e.0)
-  pub smaller : 2 * sum_by (λ x. x) new + length waits ≤ 2 * sum_by (λ x. x) far + length waiting
+-- v waits beside those that did
+abbrev pub HasWait : ℕ → List ℕ → List ℕ → Type 0
+HasWait v waiting waits = HoldAlike (λ k. k) waits (v ∷ waiting) × (length waits ≤ length waiting + 1)
+
+-- the end of an edge from u has come nearer, along it, and waits
+pub record ComesNearer (u : ℕ) (e : Edge) (far waiting new waits : List ℕ) : Type 0 where
+  pub nearer : min (slice_index far u + e.1) farthest < slice_index far e.0
+  pub now : new ≡ set far e.0 (min (slice_index far u + e.1) farthest)
+  pub queued : HasWait e.0 waiting waits
+
+-- the end of an edge from u was no farther than along it, or has come nearer
+abbrev pub Relaxes : ℕ → Edge → List ℕ → List ℕ → List ℕ → List ℕ → Type 0
+Relaxes u e far waiting new waits =
+    ((new ≡ far) × (waits ≡ waiting) × (slice_index far e.0 ≤ slice_index far u + e.1)) ⊎ ComesNearer u e far waiting new waits

@@ -1,7 +1,7 @@
 //! Shortest distances over a graph that is given by the edges that begin at each node.
 ghost use Rattle.std.specs.Prelude.{◌≡◌, ◌<◌, length, nat_lt, IfOk, OnOk, IsTrue};
 ghost use Rattle.std.specs.List.{list_all};
-ghost use Rattle.giputils_uses.specs.Paths.{edges_from, ends_at_nodes, AreCosts, AreLeast, Relaxes};
+ghost use Rattle.giputils_uses.specs.Paths.{edges_from, ends_at_nodes, AreCosts, AreLeast, HasWait, Relaxes};
 
 #[cfg(test)]
 mod tests;
@@ -69,12 +69,14 @@ fn ends_below(edges: &[(u16, u32)], count: usize) -> bool
     edges.iter().all(|edge| usize::from(edge.0) < count)
 }
 
-// The edges that begin at a node.
+// The edges that begin at a node. None begins at a number that is no node.
 fn from_node<A: Allocator>(graph: &[Gvec<(u16, u32), A>], node: u16) -> &[(u16, u32)]
-    requires { node < length graph.now }
     ensures { result.now ≡ edges_from graph.now node }
 {
-    &graph[usize::from(node)]
+    match graph.get(usize::from(node)) {
+        Some(edges) => edges,
+        None => &[],
+    }
 }
 
 // Goes along an edge that begins at a node. Its end waits, where it has come nearer.
@@ -94,5 +96,16 @@ fn relax<A: Allocator + Copy>(
         return Ok(());
     }
     far[usize::from(end)] = through;
-    waiting.push_or_update(end, &Reverse(ByRank(far)))
+    wait(waiting, end, far)
+}
+
+// Has a node wait, at its place by the distances.
+fn wait<A: Allocator + Copy>(
+    waiting: &mut BinaryHeap<u16, A>,
+    node: u16,
+    far: &Vec<u32, A>,
+) -> Result<(), AllocError>
+    ensures { OnOk result (HasWait node waiting.old waiting.new) }
+{
+    waiting.push_or_update(node, &Reverse(ByRank(far)))
 }

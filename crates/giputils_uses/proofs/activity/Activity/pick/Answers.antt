@@ -1,8 +1,7 @@
 -- The heap is in order by the scores, so what it gives up is most active.
 use Rattle.std.proofs.Common.{sym}
-use Rattle.std.proofs.lemmas.Option.{IfSome_then}
 use Rattle.giputils.proofs.Ranks.{kept-by_rank}
-use Rattle.giputils_uses.proofs.Picked.{HasGreatestRank-taken}
+use Rattle.giputils_uses.proofs.Picked.{HasGreatestRank-picked}
 use Rattle.giputils_uses.proofs.activity.Activity.pick.Goals as goal
 
 pub invariant_of-self : goal.invariant_of-self
@@ -10,5 +9,4 @@ invariant_of-self g c = kept-by_rank (λ k. k) _ _ c.deref.ensures.value _ _ c.p
 
 pub returns-clause-picked : goal.returns-clause-picked
 returns-clause-picked g c =
-    let taken = IfSome_then c.pop.result c.pop.ensures.greatest (λ v takes. HasGreatestRank-taken _ _ c.deref.ensures.value _ v takes c.self.invariant) in
-    rw (sym c.self.view_is) taken
+    rw (sym c.self.view_is) (HasGreatestRank-picked _ _ c.deref.ensures.value _ c.pop.result c.pop.ensures.greatest c.self.invariant)

@@ -10,5 +10,4 @@ invariant_of-self g c = pushed-by_rank (λ k. k) _ _ c.deref.ensures.value _ _ c
 
 pub returns-clause-queued : goal.returns-clause-queued
 returns-clause-queued g c =
-    rw (sym c.self.view_is)
-    (on_ok_weaker c.push.result (λ added. HoldAlike-pushed (λ k. k) c.args.variable _ _ c.push.ensures.held_stays added) c.push.ensures.added)
+    rw (sym c.self.view_is) (on_ok_weaker c.push.result (HoldAlike-pushed (λ k. k) _ _ _ c.push.ensures.held_stays) c.push.ensures.added)

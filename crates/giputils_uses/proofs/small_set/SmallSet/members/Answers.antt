@@ -1,6 +1,6 @@
 -- The true places are the members.
 use Rattle.std.proofs.lemmas.Result.{IfOk-weaker}
-use Rattle.giputils_uses.proofs.TruePlaces.{Contains-true_places, IsStrictlyIncreasing-true_places}
+use Rattle.giputils.proofs.TruePlaces.{Contains-true_places, IsStrictlyIncreasing-true_places}
 use Rattle.giputils_uses.proofs.small_set.SmallSet.members.Goals as goal
 
 pub returns : goal.returns
