@@ -88,7 +88,8 @@ module _ (Z : Al) {M : Type 1} {𝓤 : Ura M} (𝓛 : Logic 𝓤) (at_mem : Memo
     opened : (o : Option (Bor Z.row.Denot)) (v : Val) → ent 𝓤 (sem 𝓛 ((Shown Z κ).own_val o (v ∷ []))) (guard 𝓤 (v ≡ shown_val o) (sem 𝓛 (seen_if Z κ o)))
     opened None v = qed 𝓛 (‵ ((Shown Z κ).own_val None (v ∷ [])) ∷ []) ∵ fpick ! (λ us. fsplit ! $ feq_l ! (λ e. fpick ! (λ vss. fsplit ! $ feq_l ! (λ e'.
         check ! (ap only e ∙ ap (λ (ws : List Val). live 0 (of_list ws)) e') $ done !))))
-    opened (Some b) v = qed 𝓛 (‵ ((Shown Z κ).own_val (Some b) (v ∷ [])) ∷ []) ∵ fpick ! (λ us. fsplit ! $ feq_l ! (λ e. fpick ! (λ vss. fsplit ! $ feq_l ! (λ e'. fsplit ! $ fsplit ! $ feq_l ! (λ e''.
+    opened (Some b) v = qed 𝓛 (‵ ((Shown Z κ).own_val (Some b) (v ∷ [])) ∷ []) ∵ fpick ! (λ us. fsplit ! $ feq_l ! (λ e. fpick ! (λ vss. fsplit ! $
+        feq_l ! (λ e'. fsplit ! $ fsplit ! $ feq_l ! (λ e''.
         check ! (ap only e ∙ ap (λ (ws : List Val). live 1 (of_list ws)) (e' ∙ ap (λ (ws : List Val). ws ++ []) e'')) $ keep ! (0 ∷ []) $ done !)))))
 
     abbrev pub Found : Val → Option (Bor Z.row.Denot) → SProp 𝓤
