@@ -1,5 +1,5 @@
 -- Clauses that lie one after another in one list of literals, and which of them were given.
-use Rattle.std.specs.Prelude.{◌≡◌, ℕ, ◌+◌, ◌^◌, ◌≤◌, Bool, true, false, List, [], ◌∷◌, length, map, take, slice_range, slice_get, Some}
+use Rattle.std.specs.Prelude.{◌≡◌, ℕ, ◌+◌, ◌^◌, ◌≤◌, ◌⊎◌, ◌++◌, Bool, true, false, List, [], ◌∷◌, length, map, take, slice_range, slice_get, Some}
 use Rattle.giputils_sat.specs.Literals.{Lit}
 use Rattle.giputils_sat.specs.declared.clauses.Span.{Span}
 use Rattle.giputils_sat.specs.Formulas.{Clause, Formula, Implies, AreBelow}
@@ -31,6 +31,35 @@ pub record IsKnown (flags : List Bool) (count : ℕ) (clauses : List Clause) : T
   pub small : count ≤ 2 ^ 31
   pub below : (k : ℕ) (c : Clause) → slice_get clauses k ≡ Some c → AreBelow count c
   pub implied : (k : ℕ) (c : Clause) → slice_get clauses k ≡ Some c → Implies (given_among flags clauses) c
+
+-- the clause is one of these
+abbrev pub IsAmong : List Clause → Clause → Type 0
+IsAmong clauses c = (k : ℕ) × (slice_get clauses k ≡ Some c)
+
+-- each of the new clauses is one of the old
+abbrev pub AreAmong : List Clause → List Clause → Type 0
+AreAmong old new = (k : ℕ) (c : Clause) → slice_get new k ≡ Some c → IsAmong old c
+
+-- a clause was copied with its flag, or was left out and was not given
+abbrev pub IsCopied : Bool → Clause → List Bool → List Clause → List Bool → List Clause → Type 0
+IsCopied given c flags clauses new_flags new_clauses =
+    ((new_flags ≡ flags ++ given ∷ []) × (new_clauses ≡ clauses ++ c ∷ []))
+    ⊎ ((given ≡ false) × (new_flags ≡ flags) × (new_clauses ≡ clauses))
+
+-- what was copied of the clauses before place k
+pub record IsCopying (flags : List Bool) (clauses : List Clause) (k : ℕ) (new_flags : List Bool) (new_clauses : List Clause) : Type 0 where
+  pub as_many : length new_flags ≡ length new_clauses
+  pub formula : given_among new_flags new_clauses ≡ given_among (take k flags) (take k clauses)
+  pub only : AreAmong clauses new_clauses
+
+-- each known clause follows from the formula
+abbrev pub AllFollow : Known → Type 0
+AllFollow known = (k : ℕ) (c : Clause) → slice_get known.clauses k ≡ Some c → Implies known.formula c
+
+-- what is known was known before, or is one literal
+abbrev pub AddsUnits : Known → Known → Type 0
+AddsUnits old new =
+    (k : ℕ) (c : Clause) → slice_get new.clauses k ≡ Some c → IsAmong old.clauses c ⊎ (length c ≡ 1)
 
 -- so many clauses more are known
 abbrev pub HasMore : ℕ → Known → Known → Type 0

@@ -1,7 +1,8 @@
 //! The clauses that are known: those of a formula, and those that were learned of it.
-ghost use Rattle.std.specs.Prelude.{◌≡◌, ◌++◌, ◌∷◌, ◌^◌, ◌<◌, ◌≤◌, [], Some, length, slice_get, IsTrue, IfSome, IfNone, OnOk, OnErr};
+ghost use Rattle.std.specs.Prelude.{◌≡◌, ◌++◌, ◌∷◌, ◌^◌, ◌<◌, ◌≤◌, [], Some, length, slice_get, IsTrue, IfOk, IfSome, IfNone, OnOk, OnErr};
 ghost use Rattle.std.specs.Bool.{OnFalse, OnTrue};
 ghost use Rattle.giputils_sat.specs.Formulas.{AreBelow, Implies};
+ghost use Rattle.giputils_sat.specs.Stores.{AllFollow, AreAmong, IsCopied};
 ghost use Rattle.giputils_sat.specs.Values.{HasNoTrue, IsModelOf, IsOpenAt, IsSatisfiedBy};
 
 use crate::clauses::Clauses;
@@ -73,10 +74,7 @@ impl<A: Allocator + Copy> Database<A> {
 
     // Whether the clause at a place is one of the formula's.
     pub(crate) fn is_given(&self, place: usize) -> bool {
-        match self.given.get(place) {
-            Some(given) => *given,
-            None => false,
-        }
+        is_set(&self.given, place)
     }
 
     // The place of a clause of the formula that has no true literal. None if there is none.
@@ -107,6 +105,34 @@ impl<A: Allocator + Copy> Database<A> {
         Ok(())
     }
 
+    // The clauses that stay, and all that were given, in a store of their own.
+    pub(crate) fn closed_up(&self, alloc: A, stays: &[bool]) -> Result<Self, AllocError>
+        ensures formula { IfOk result (λ d. d.formula ≡ self.now.formula) }
+        ensures count { IfOk result (λ d. d.count ≡ self.now.count) }
+        ensures only { IfOk result (λ d. AreAmong self.now.clauses d.clauses) }
+    {
+        let mut clauses = Clauses::new(alloc);
+        let mut given = Vec::new(alloc);
+        let len = self.clauses.len();
+        for place in 0..len {
+            let clause = self.clauses.clause(place);
+            let stays = is_set(stays, place);
+            copy(&mut clauses, &mut given, clause, self.given[place], stays)?;
+        }
+        Ok(Database {
+            clauses,
+            given,
+            count: self.count,
+        })
+    }
+
+    // Each clause follows from those that were given.
+    pub(crate) fn all_follow(&self)
+        ensures { AllFollow self.now }
+    {
+        let _ = &self.clauses;
+    }
+
     // Adds a clause that follows. Nothing changes where memory is refused.
     pub(crate) fn learn(&mut self, clause: &[Literal]) -> Result<(), AllocError>
         requires implied { Implies self.old.formula clause.now }
@@ -121,6 +147,32 @@ impl<A: Allocator + Copy> Database<A> {
         self.given.push_reserved(false);
         Ok(())
     }
+}
+
+// The flag at a place; false past the end.
+fn is_set(flags: &[bool], place: usize) -> bool {
+    match flags.get(place) {
+        Some(flag) => *flag,
+        None => false,
+    }
+}
+
+// Adds a clause to others where it was given or stays, and notes whether it was given.
+fn copy<A: Allocator + Copy>(
+    clauses: &mut Clauses<A>,
+    given: &mut Vec<bool, A>,
+    clause: &[Literal],
+    is_given: bool,
+    stays: bool,
+) -> Result<(), AllocError>
+    ensures { OnOk result (IsCopied is_given clause.now given.old.items clauses.old given.new.items clauses.new) }
+{
+    if !is_given && !stays {
+        return Ok(());
+    }
+    clauses.push(clause)?;
+    given.push(is_given)?;
+    Ok(())
 }
 
 // Whether a clause is given and none of its literals is true.

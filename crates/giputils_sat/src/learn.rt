@@ -372,7 +372,7 @@ pub(crate) fn learn<A: Allocator + Copy>(
     database.learn(&learned)?;
     let pair = highest(trail, &learned);
     let level = level_at(trail, &learned, pair.second);
-    trail.backtrack(level, &mut hints.activity)?;
+    trail.backtrack(level, &mut hints.activity);
     attach(&mut hints.watches, &learned, place, pair, false)?;
     follow(database, trail, place, pair.first)?;
     Ok(false)
@@ -392,6 +392,9 @@ fn attach<A: Allocator + Copy>(
         Worth::Learned(watches.step())
     };
     watches.push_pair(pair, worth)?;
+    if watches.is_forgotten(place) {
+        return Ok(());
+    }
     watches.watch(clause, place)
 }
 
