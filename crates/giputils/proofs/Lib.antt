@@ -11,6 +11,7 @@ pub use Rattle.giputils_bits.proofs.Logic
 pub use Rattle.giputils_bits.proofs.Ones
 pub use Rattle.giputils_bits.proofs.Runs as BitRuns
 pub use Rattle.giputils_bits.proofs.Sets
+pub use Rattle.giputils_bits.proofs.Tables
 pub use Rattle.giputils_bits.proofs.TruePlaces
 pub use Rattle.giputils_bits.proofs.Words
 pub use Rattle.giputils_heap.proofs.CallBounds

@@ -17,6 +17,7 @@ pub use Rattle.giputils_bits.specs.Hashed
 pub use Rattle.giputils_bits.specs.Logic
 pub use Rattle.giputils_bits.specs.Ones
 pub use Rattle.giputils_bits.specs.Ordered
+pub use Rattle.giputils_bits.specs.Tables
 pub use Rattle.giputils_bits.specs.Text
 pub use Rattle.giputils_heap.specs.Bounded
 pub use Rattle.giputils_heap.specs.Bounds

@@ -19,6 +19,7 @@ mod Rewritten
 mod Replies
 pub mod Runs
 mod SameWords
+pub mod Tables
 mod Taken
 mod Text
 pub mod Sets

@@ -8,4 +8,5 @@ pub mod Ones
 pub mod Ordered
 pub mod Places
 pub mod Spelt
+pub mod Tables
 pub mod Text

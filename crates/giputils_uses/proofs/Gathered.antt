@@ -35,6 +35,7 @@ pub use Rattle.giputils.specs.Ones.{IsNextOne, true_count, true_places}
 pub use Rattle.giputils.specs.Ordered.{booleans_tie}
 pub use Rattle.giputils.specs.Record.{Answers, KeepsCounts, record_of}
 pub use Rattle.giputils.specs.Room.{Room, room_code}
+pub use Rattle.giputils.specs.Tables.{Tells, Lists}
 pub use Rattle.giputils.specs.Tally.{CanCount, with_term}
 pub use Rattle.giputils.specs.Texts.{average_text}
 pub use Rattle.giputils.proofs.BinaryTexts.{digits_are_text, no_text}
@@ -43,6 +44,7 @@ pub use Rattle.giputils.proofs.LiveValues.{IsSome-live_at}
 pub use Rattle.giputils.proofs.Members.{contains-put, contains-taken}
 pub use Rattle.giputils.proofs.Repairs.{IsInOrder-changed, IsInOrder-risen, IsInOrder-fallen}
 pub use Rattle.giputils.proofs.Sets.{true_count-set}
+pub use Rattle.giputils.proofs.Tables.{Lists-told}
 pub use Rattle.giputils.proofs.TruePlaces.{IsStrictlyIncreasing-true_places}
 
 survives : survivors {T = ℕ} ((7, true) ∷ (8, false) ∷ []) ≡ 8 ∷ []

@@ -17,13 +17,17 @@ module _ {T : Type 0} (number : T → ℕ) (v : T) (old new : List T) (moved : I
       (λ absent. sym (HoldAlike-IsPermutation number (v ∷ old) new (added absent) q)) (cases_Bool (is_held number old v))
 
   -- one more at most
-  pub length-renewed : length new ≤ length old + 1
+  length-renewed : length new ≤ length old + 1
   length-renewed =
       ⊎_elim (λ held. omega (arith, length_permutation old new (moved held))) (λ absent. omega (arith, length_permutation (v ∷ old) new (added absent)))
       (cases_Bool (is_held number old v))
+
+  pub renewed : HoldAlike number new (v ∷ old) × (length new ≤ length old + 1)
+  renewed = (HoldAlike-renewed, length-renewed)
 
 -- numbers of 16 bits may be
 pub AreBelow-16_bits : (keys : List ℕ) → ((i : ℕ) → Fits w16 (get_or keys i 0)) → AreBelow (λ k. k) key_limit keys
 AreBelow-16_bits [] fits = refl
 AreBelow-16_bits (k ∷ keys) fits =
-    let below : k < 65536 = Fits-lt-pow {w = w16} {n = k} (fits 0) in rw (lt-ltb k 4294967295 (omega (arith, below))) (AreBelow-16_bits keys (λ i. fits (suc i)))
+    let below : k < 65536 = Fits-lt-pow {w = w16} {n = k} (fits 0) in
+    rw (lt-ltb k 4294967295 (omega (arith, below))) (AreBelow-16_bits keys (λ i. fits (suc i)))

@@ -8,3 +8,4 @@ mod Reaching
 mod Searches
 mod SmallSets
 mod Worklists
+mod Written

@@ -1,20 +1,19 @@
 -- Sets as lists of truth values, place by place.
 use Rattle.std.proofs.Common.{◌≡◌, ◌↔◌, ℕ, suc, ◌<◌, ◌||◌, ◌&&◌, Bool, true, false, List, [], ◌∷◌, length, get_or, set, arith, refl, sym, ap, ◌∙◌, ⊎_elim}
 use Rattle.std.proofs.lemmas.Bool.{false≢true}
-use Rattle.std.proofs.lemmas.Bool.Decides.{eqb_tells}
-use Rattle.std.proofs.lemmas.List.{get_or-set_same, get_or-set_other}
 use Rattle.giputils.specs.Logic.{zip_with, and_of, or_of, not_of}
 use Rattle.giputils.specs.Ones.{true_count, true_places}
 use Rattle.giputils.proofs.Logic.{length-zip_with, get_or-zip_with_all}
 use Rattle.giputils.proofs.Sets.{get_or-without, length-without}
 use Rattle.giputils.proofs.TruePlaces.{length-true_places}
+use Rattle.giputils_uses.proofs.Written.{get_or-set_cases}
 use Rattle.giputils_uses.specs.SmallSet.{Inserts, Removes, IsUnion, IsIntersection, IsDifference, IsWithin}
 
 pub inserted : (n : ℕ) (bs : List Bool) → n < length bs → Inserts n bs (set bs n true)
-inserted n bs inside q = ⊎_elim (λ is. rw (is.0, is.1) (get_or-set_same bs n true false inside)) (λ is_not. rw is_not.0 (get_or-set_other bs n q true false is_not.1)) (eqb_tells q n)
+inserted n bs inside q = ⊎_elim (λ is. rw is.0 is.2) (λ is_not. rw is_not.0 is_not.2) (get_or-set_cases bs n true false inside q)
 
 pub removed : (n : ℕ) (bs : List Bool) → n < length bs → Removes n bs (set bs n false)
-removed n bs inside q = ⊎_elim (λ is. rw (is.0, is.1) (get_or-set_same bs n false false inside)) (λ is_not. rw is_not.0 (get_or-set_other bs n q false false is_not.1)) (eqb_tells q n)
+removed n bs inside q = ⊎_elim (λ is. rw is.0 is.2) (λ is_not. rw is_not.0 is_not.2) (get_or-set_cases bs n false false inside q)
 
 pub joined : (xs ys : List Bool) → length xs ≡ length ys → IsUnion xs ys (or_of xs ys)
 joined xs ys long q = get_or-zip_with_all ◌||◌ xs ys q refl long
@@ -32,7 +31,10 @@ pub taken : (xs ys : List Bool) → length xs ≡ length ys → IsDifference xs 
 taken xs ys long q = get_or-without xs ys q long
 
 pub within : (xs ys : List Bool) → length xs ≡ length ys → (and_of xs ys ≡ xs) ↔ IsWithin xs ys
-within xs ys long = (λ same q holds. both (get_or xs q false) (get_or ys q false) (sym (met xs ys long q) ∙ ap (λ zs. get_or zs q false) same ∙ holds), all xs ys long)
+within xs ys long = (
+  λ same q holds. both (get_or xs q false) (get_or ys q false) (sym (met xs ys long q) ∙ ap (λ zs. get_or zs q false) same ∙ holds),
+  all xs ys long,
+)
   where
     both : (x y : Bool) → (x && y) ≡ true → y ≡ true
     both true y holds = holds

@@ -53,13 +53,14 @@ AreLeast graph source far = (v : ℕ) (path : List Edge) → IsPath graph source
 abbrev pub HasWait : ℕ → List ℕ → List ℕ → Type 0
 HasWait v waiting waits = HoldAlike (λ k. k) waits (v ∷ waiting) × (length waits ≤ length waiting + 1)
 
--- the end of an edge from u has come nearer, along it, and waits
-pub record ComesNearer (u : ℕ) (e : Edge) (far waiting new waits : List ℕ) : Type 0 where
-  pub nearer : min (slice_index far u + e.1) farthest < slice_index far e.0
-  pub now : new ≡ set far e.0 (min (slice_index far u + e.1) farthest)
-  pub queued : HasWait e.0 waiting waits
+-- the node v has come nearer, to the distance t, and waits
+pub record ComesNearer (v t : ℕ) (far waiting new waits : List ℕ) : Type 0 where
+  pub nearer : t < slice_index far v
+  pub now : new ≡ set far v t
+  pub queued : HasWait v waiting waits
 
--- the end of an edge from u was no farther than along it, or has come nearer
+-- the end of an edge from u is no farther than along it from now on: it was not, or it has come as near
 abbrev pub Relaxes : ℕ → Edge → List ℕ → List ℕ → List ℕ → List ℕ → Type 0
 Relaxes u e far waiting new waits =
-    ((new ≡ far) × (waits ≡ waiting) × (slice_index far e.0 ≤ slice_index far u + e.1)) ⊎ ComesNearer u e far waiting new waits
+    (slice_index new e.0 ≤ slice_index new u + e.1)
+    × (((new ≡ far) × (waits ≡ waiting)) ⊎ ComesNearer e.0 (min (slice_index far u + e.1) farthest) far waiting new waits)

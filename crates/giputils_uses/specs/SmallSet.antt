@@ -1,7 +1,6 @@
 -- A set of numbers below a bound as a list of truth values: place n tells whether n is a member.
-use Rattle.std.specs.Prelude.{◌≡◌, ◌↔◌, ℕ, ◌==◌, ◌||◌, ◌&&◌, Bool, not, false, List, slice_index_or, IsTrue}
-use Rattle.std.specs.List.{Contains}
-use Rattle.std.specs.List.Sorted.{IsStrictlyIncreasing}
+use Rattle.std.specs.Prelude.{◌≡◌, ℕ, ◌==◌, ◌||◌, ◌&&◌, Bool, not, false, List, slice_index_or, IsTrue}
+use Rattle.giputils.specs.Tables.{Lists}
 
 -- whether n is a member
 abbrev pub has : List Bool → ℕ → Bool
@@ -34,6 +33,5 @@ abbrev pub IsWithin : List Bool → List Bool → Type 0
 IsWithin a b = (q : ℕ) → IsTrue (has a q) → IsTrue (has b q)
 
 -- the list has exactly the members, rising
-pub record ListsMembers (set : List Bool) (members : List ℕ) : Type 0 where
-  pub each : (n : ℕ) → Contains members n ↔ IsTrue (has set n)
-  pub rising : IsStrictlyIncreasing members
+abbrev pub ListsMembers : List Bool → List ℕ → Type 0
+ListsMembers set = Lists (λ n. IsTrue (has set n))

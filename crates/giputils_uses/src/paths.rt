@@ -1,7 +1,7 @@
 //! Shortest distances over a graph that is given by the edges that begin at each node.
-ghost use Rattle.std.specs.Prelude.{◌≡◌, ◌<◌, length, nat_lt, IfOk, OnOk, IsTrue};
+ghost use Rattle.std.specs.Prelude.{◌≡◌, ◌<◌, length, nat_lt, slice_index, IfOk, OnOk, IsTrue};
 ghost use Rattle.std.specs.List.{list_all};
-ghost use Rattle.giputils_uses.specs.Paths.{edges_from, ends_at_nodes, AreCosts, AreLeast, HasWait, Relaxes};
+ghost use Rattle.giputils_uses.specs.Paths.{edges_from, ends_at_nodes, AreCosts, AreLeast, HasWait, ComesNearer, Relaxes};
 
 #[cfg(test)]
 mod tests;
@@ -37,9 +37,8 @@ pub fn distances<A: Allocator + Copy>(
     ensures least { IfOk result (λ far. AreLeast graph.now source far.items) }
 {
     let mut far = vec![in alloc; u32::MAX; graph.len()]?;
-    far[usize::from(source)] = 0;
     let mut waiting = BinaryHeap::new(alloc);
-    waiting.push(source, &Reverse(ByRank(&far)))?;
+    come_nearer(&mut far, &mut waiting, source, 0)?;
     while let Some(node) = waiting.pop(&Reverse(ByRank(&far))) {
         for edge in from_node(graph, node) {
             relax(&mut far, &mut waiting, node, *edge)?;
@@ -95,8 +94,22 @@ fn relax<A: Allocator + Copy>(
     if through >= far[usize::from(end)] {
         return Ok(());
     }
-    far[usize::from(end)] = through;
-    wait(waiting, end, far)
+    come_nearer(far, waiting, end, through)
+}
+
+// Gives a node a lesser distance, and has it wait.
+fn come_nearer<A: Allocator + Copy>(
+    far: &mut Vec<u32, A>,
+    waiting: &mut BinaryHeap<u16, A>,
+    node: u16,
+    distance: u32,
+) -> Result<(), AllocError>
+    requires inside { node < length far.old.items }
+    requires nearer { distance < slice_index far.old.items node }
+    ensures { OnOk result (ComesNearer node distance far.old.items waiting.old far.new.items waiting.new) }
+{
+    far[usize::from(node)] = distance;
+    wait(waiting, node, far)
 }
 
 // Has a node wait, at its place by the distances.

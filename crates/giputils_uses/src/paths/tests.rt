@@ -1,4 +1,4 @@
-use super::distances;
+use super::{distances, ends_at_nodes};
 use giputils::gvec::Gvec;
 use std::test::Fail;
 
@@ -12,5 +12,15 @@ fn the_way_round_is_shorter(rt: HostRuntime) -> Result<(), Fail> {
     graph.push(Gvec::from_array(rt.alloc(), [(0, 1)])?)?;
     let far = distances(rt.alloc(), &graph, 0)?;
     assert_eq!(rt; far.as_slice(), [0, 7, 3, 9, u32::MAX].as_slice());
+    Ok(())
+}
+
+#[test]
+fn an_edge_that_ends_at_no_node(rt: HostRuntime) -> Result<(), Fail> {
+    let mut graph = Vec::with_capacity(rt.alloc(), 2)?;
+    graph.push(Gvec::from_array(rt.alloc(), [(0, 1), (1, 1)])?)?;
+    assert!(rt; !ends_at_nodes(&graph));
+    graph.push(Gvec::new(rt.alloc()))?;
+    assert!(rt; ends_at_nodes(&graph));
     Ok(())
 }

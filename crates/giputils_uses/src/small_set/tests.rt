@@ -27,3 +27,29 @@ fn sets_of_small_numbers(rt: HostRuntime) -> Result<(), Fail> {
     assert_eq!(rt; set.len(), 4);
     Ok(())
 }
+
+#[test]
+fn what_two_sets_share_and_do_not(rt: HostRuntime) -> Result<(), Fail> {
+    let mut both = set_of(rt.alloc(), [3, 70, 5].as_slice())?;
+    let mut one = set_of(rt.alloc(), [3, 70, 5].as_slice())?;
+    let other = set_of(rt.alloc(), [5, 64, 70].as_slice())?;
+    assert!(rt; both.bound() == other.bound());
+    assert!(rt; one.bound() == other.bound());
+    both.intersect_with(&other);
+    one.subtract(&other);
+    assert_eq!(rt; both.members(rt.alloc())?.as_slice(), [5, 70].as_slice());
+    assert_eq!(rt; one.members(rt.alloc())?.as_slice(), [3].as_slice());
+    Ok(())
+}
+
+#[test]
+fn members_that_are_taken_out(rt: HostRuntime) -> Result<(), Fail> {
+    let mut set = set_of(rt.alloc(), [3, 70, 5].as_slice())?;
+    assert!(rt; set.bound() > 4);
+    let was_member = (set.remove(3), set.remove(4));
+    assert_eq!(rt; was_member, (true, false));
+    assert_eq!(rt; set.least(), Some(5));
+    set.clear();
+    assert_eq!(rt; set.least(), None);
+    Ok(())
+}
