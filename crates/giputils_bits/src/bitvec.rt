@@ -13,8 +13,6 @@ mod parsed;
 mod queries;
 mod run;
 mod storage;
-#[cfg(test)]
-mod tests;
 mod text;
 mod words;
 mod writes;

@@ -1,31 +1,38 @@
 //! How many requests a vector of more than 64 bits makes.
 
 use giputils_bits::bitvec::BitVec;
-use giputils_refusing::{Refusing, refuse_each, refuse_from_each};
+use giputils_refusing::{Refusing, TurnFault, refuse_each, refuse_from_each};
 use rand_core::Rng;
 use rand_pcg::Pcg32;
+use std::alloc::Global;
 
 // What a new generator of these tests draws first.
 const FIRST_DRAWN: u32 = 0xa15c_02b7;
 
-fn is_filled(memory: &Refusing) -> bool {
-    BitVec::from_elem(memory, 129, true).is_ok()
+// The calls that make a vector.
+#[derive(Clone, Copy)]
+enum Making {
+    FromElem,
+    Zero,
+    Ones,
+    One,
+    FromUsize,
+    NewRand,
+    From,
+    FromBinaryText,
 }
 
-fn is_zero_made(memory: &Refusing) -> bool {
-    BitVec::zero(memory, 65).is_ok()
-}
-
-fn is_ones_made(memory: &Refusing) -> bool {
-    BitVec::ones(memory, 65).is_ok()
-}
-
-fn is_one_made(memory: &Refusing) -> bool {
-    BitVec::one(memory, 65).is_ok()
-}
-
-fn is_numbered(memory: &Refusing) -> bool {
-    BitVec::from_usize(memory, 70, 5).is_ok()
+fn is_made(memory: &Refusing, making: Making) -> bool {
+    match making {
+        Making::FromElem => BitVec::from_elem(memory, 129, true).is_ok(),
+        Making::Zero => BitVec::zero(memory, 65).is_ok(),
+        Making::Ones => BitVec::ones(memory, 65).is_ok(),
+        Making::One => BitVec::one(memory, 65).is_ok(),
+        Making::FromUsize => BitVec::from_usize(memory, 70, 5).is_ok(),
+        Making::NewRand => is_drawn(memory),
+        Making::From => BitVec::from(memory, [true; 300]).is_ok(),
+        Making::FromBinaryText => BitVec::from_binary_text(memory, &[b'1'; 300]).is_ok(),
+    }
 }
 
 // Where memory is refused, tells so only if nothing was drawn.
@@ -34,13 +41,30 @@ fn is_drawn(memory: &Refusing) -> bool {
     BitVec::new_rand(memory, 2, &mut rng).is_ok() || rng.next_u32() != FIRST_DRAWN
 }
 
-// An iterator that tells its length is one request. Where that is refused, another is made for a word.
-fn is_collected(memory: &Refusing) -> bool {
-    BitVec::from(memory, [true; 300]).is_ok()
+// How many requests such a call makes, each of which was refused in turn.
+fn requests(alloc: Global, making: Making) -> Result<u64, TurnFault> {
+    let run = |memory: &Refusing| is_made(memory, making);
+    match making {
+        // An iterator that tells its length is one request. Where that is refused, another is made for a word.
+        Making::From => refuse_from_each(alloc, run),
+        _ => refuse_each(alloc, run),
+    }
 }
 
-fn is_read(memory: &Refusing) -> bool {
-    BitVec::from_binary_text(memory, &[b'1'; 300]).is_ok()
+#[test]
+fn a_call_that_makes_a_vector_makes_one_request(rt: HostRuntime) {
+    for (call, making) in [
+        ("from_elem", Making::FromElem),
+        ("zero", Making::Zero),
+        ("ones", Making::Ones),
+        ("one", Making::One),
+        ("from_usize", Making::FromUsize),
+        ("new_rand", Making::NewRand),
+        ("from", Making::From),
+        ("from_binary_text", Making::FromBinaryText),
+    ] {
+        assert_eq!(rt; requests(rt.alloc(), making), Ok(1), "{call}");
+    }
 }
 
 fn is_cloned(memory: &Refusing) -> bool {
@@ -106,17 +130,9 @@ fn is_word_pushed(memory: &Refusing) -> bool {
 }
 
 #[test]
-fn each_request_of_a_bit_vector_is_refused_in_turn(rt: HostRuntime) {
+fn each_request_of_a_growing_vector_is_refused_in_turn(rt: HostRuntime) {
     let alloc = rt.alloc();
     let outcomes = [
-        ("from_elem", refuse_each(alloc, is_filled), 1),
-        ("zero", refuse_each(alloc, is_zero_made), 1),
-        ("ones", refuse_each(alloc, is_ones_made), 1),
-        ("one", refuse_each(alloc, is_one_made), 1),
-        ("from_usize", refuse_each(alloc, is_numbered), 1),
-        ("new_rand", refuse_each(alloc, is_drawn), 1),
-        ("from", refuse_from_each(alloc, is_collected), 1),
-        ("from_binary_text", refuse_each(alloc, is_read), 1),
         ("clone", refuse_each(alloc, is_cloned), 2),
         ("not", refuse_each(alloc, is_negated), 2),
         ("resize", refuse_each(alloc, is_resized), 1),
@@ -132,10 +148,18 @@ fn each_request_of_a_bit_vector_is_refused_in_turn(rt: HostRuntime) {
     }
 }
 
+fn is_filled(memory: &Refusing, len: usize) -> bool {
+    BitVec::from_elem(memory, len, true).is_ok()
+}
+
+fn is_rand(memory: &Refusing, num_word: usize, rng: &mut Pcg32) -> bool {
+    BitVec::new_rand(memory, num_word, rng).is_ok()
+}
+
 #[test]
 fn the_greatest_length_is_one_request(rt: HostRuntime) {
     let memory = Refusing::from(rt.alloc(), 1);
-    let is_made = BitVec::from_elem(&memory, usize::MAX, true).is_ok();
+    let is_made = is_filled(&memory, usize::MAX);
     assert_eq!(rt;
         (is_made, memory.requests(), memory.largest()),
         (false, 1, 1 << 61)
@@ -146,7 +170,7 @@ fn the_greatest_length_is_one_request(rt: HostRuntime) {
 fn the_most_words_are_one_request_before_anything_is_drawn(rt: HostRuntime) {
     let memory = Refusing::from(rt.alloc(), 1);
     let mut rng = Pcg32::new(42, 54);
-    let is_made = BitVec::new_rand(&memory, (1 << 58) - 1, &mut rng).is_ok();
+    let is_made = is_rand(&memory, (1 << 58) - 1, &mut rng);
     assert_eq!(rt;
         (is_made, memory.requests(), memory.largest(), rng.next_u32()),
         (false, 1, (1 << 61) - 8, FIRST_DRAWN)
@@ -156,6 +180,6 @@ fn the_most_words_are_one_request_before_anything_is_drawn(rt: HostRuntime) {
 #[test]
 fn a_length_that_no_usize_is_asks_for_nothing(rt: HostRuntime) {
     let memory = Refusing::from(rt.alloc(), 1);
-    let is_made = BitVec::new_rand(&memory, 1 << 58, &mut Pcg32::new(42, 54)).is_ok();
+    let is_made = is_rand(&memory, 1 << 58, &mut Pcg32::new(42, 54));
     assert_eq!(rt; (is_made, memory.requests()), (false, 0));
 }

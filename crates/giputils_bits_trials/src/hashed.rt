@@ -1,6 +1,7 @@
-// What a vector feeds a hasher, byte by byte.
+//! What a vector feeds a hasher, byte by byte, and vectors in a set.
 ghost use Rattle.std.specs.Prelude.{◌-◌, length, slice_get, is_some, if◌then◌else◌};
 
+use giputils_base::hash::GHashSet;
 use giputils_bits::bitvec::{BitVec, BitVecError};
 use std::alloc::Global;
 use std::hash::{Hash, Hasher};
@@ -63,14 +64,32 @@ fn feeds(alloc: Global, len: usize, words: &[u64]) -> Result<bool, BitVecError> 
 
 #[test]
 fn a_hasher_is_fed_the_words_and_then_the_length(rt: HostRuntime) -> Result<(), Fail> {
+    let alloc = rt.alloc();
     let full = u64::MAX;
-    assert!(rt; feeds(rt.alloc(), 0, &[])?);
-    assert!(rt; feeds(rt.alloc(), 1, &[1])?);
-    assert!(rt; feeds(rt.alloc(), 63, &[full >> 1])?);
-    assert!(rt; feeds(rt.alloc(), 64, &[full])?);
-    assert!(rt; feeds(rt.alloc(), 65, &[full, 1])?);
-    assert!(rt; feeds(rt.alloc(), 128, &[full, full])?);
-    assert!(rt; feeds(rt.alloc(), 130, &[full, full, 3])?);
-    assert!(rt; !feeds(rt.alloc(), 130, &[full, 3, full])?);
+    let outcomes = [
+        feeds(alloc, 0, &[])?,
+        feeds(alloc, 1, &[1])?,
+        feeds(alloc, 63, &[full >> 1])?,
+        feeds(alloc, 64, &[full])?,
+        feeds(alloc, 65, &[full, 1])?,
+        feeds(alloc, 128, &[full, full])?,
+        feeds(alloc, 130, &[full, full, 3])?,
+        feeds(alloc, 130, &[full, 3, full])?,
+    ];
+    assert_eq!(rt; outcomes, [true, true, true, true, true, true, true, false]);
+    Ok(())
+}
+
+// How many members a set has of two vectors, made in two ways, that are equal.
+fn members(alloc: Global) -> Result<usize, BitVecError> {
+    let mut word = BitVec::new(alloc);
+    word.push_word(u64::MAX)?;
+    let set = GHashSet::from_iter(alloc, [BitVec::ones(alloc, 64)?, word])?;
+    Ok(set.len())
+}
+
+#[test]
+fn equal_vectors_are_one_member_of_a_set(rt: HostRuntime) -> Result<(), Fail> {
+    assert_eq!(rt; members(rt.alloc())?, 1);
     Ok(())
 }

@@ -1,6 +1,6 @@
 //! Calls that ask for no memory.
 
-use giputils_bits::bitvec::BitVec;
+use giputils_bits::bitvec::{BitVec, BitVecError};
 use giputils_refusing::Refusing;
 use rand_pcg::Pcg32;
 use std::hash::{DefaultHasher, Hash};
@@ -25,17 +25,23 @@ fn up_to_64_bits_are_made_without_memory(rt: HostRuntime) {
     assert_eq!(rt; memory.requests(), 0);
 }
 
-#[test]
-fn up_to_64_bits_are_pushed_without_memory(rt: HostRuntime) -> Result<(), Fail> {
-    let memory = Refusing::from(rt.alloc(), 1);
-    let mut bits = BitVec::new(&memory);
+// How many bits there are where some are pushed, by a word or one by one, up to 64.
+fn pushed(memory: &Refusing) -> Result<usize, BitVecError> {
+    let mut bits = BitVec::new(memory);
     bits.push_word(7)?;
     bits.clear();
     for _ in 0..63 {
         bits.push(true)?;
     }
     bits.extend([false])?;
-    assert_eq!(rt; (bits.len(), memory.requests()), (64, 0));
+    Ok(bits.len())
+}
+
+#[test]
+fn up_to_64_bits_are_pushed_without_memory(rt: HostRuntime) -> Result<(), Fail> {
+    let memory = Refusing::from(rt.alloc(), 1);
+    let len = pushed(&memory)?;
+    assert_eq!(rt; (len, memory.requests()), (64, 0));
     Ok(())
 }
 
@@ -76,25 +82,44 @@ fn a_vector_is_used_in_place(rt: HostRuntime) {
     }
 }
 
-// Joins vectors of `len` times true in each way. Tells whether the answers were right.
+fn is_anded<'m>(bits: &mut BitVec<&'m Refusing>, other: &BitVec<&'m Refusing>) -> bool {
+    if bits.len() != other.len() {
+        return false;
+    }
+    *bits &= other;
+    *bits == *other
+}
+
+fn is_ored<'m>(bits: &mut BitVec<&'m Refusing>, other: &BitVec<&'m Refusing>) -> bool {
+    if bits.len() != other.len() {
+        return false;
+    }
+    *bits |= other;
+    *bits == *other
+}
+
+fn is_xored<'m>(bits: &mut BitVec<&'m Refusing>, other: &BitVec<&'m Refusing>) -> bool {
+    if bits.len() != other.len() {
+        return false;
+    }
+    *bits ^= other;
+    bits.none()
+}
+
+// Joins a vector of `len` times true with another in each way. Tells whether the answers were right.
 fn is_joined(memory: &Refusing, len: usize) -> bool {
-    let (Ok(mut and), Ok(mut or), Ok(mut xor), Ok(other)) = (
-        BitVec::from_elem(memory, len, true),
-        BitVec::from_elem(memory, len, true),
+    let (Ok(mut bits), Ok(other)) = (
         BitVec::from_elem(memory, len, true),
         BitVec::from_elem(memory, len, true),
     ) else {
         return false;
     };
-    and &= &other;
-    or |= &other;
-    xor ^= &other;
-    and == other && or == other && xor.words().iter().all(|word| *word == 0)
+    is_anded(&mut bits, &other) && is_ored(&mut bits, &other) && is_xored(&mut bits, &other)
 }
 
 #[test]
 fn vectors_are_joined_in_place(rt: HostRuntime) {
-    for (len, requests) in [(0, 0), (1, 0), (64, 0), (65, 4)] {
+    for (len, requests) in [(0, 0), (1, 0), (64, 0), (65, 2)] {
         let memory = Refusing::from(rt.alloc(), requests + 1);
         let outcome = (is_joined(&memory, len), memory.requests());
         assert_eq!(rt; outcome, (true, requests), "{len} bits");

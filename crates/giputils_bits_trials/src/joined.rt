@@ -67,6 +67,57 @@ fn a_node_negates_its_inputs_as_told(rt: HostRuntime) -> Result<(), Fail> {
     Ok(())
 }
 
+// Two vectors of one length.
+fn five_places(alloc: Global) -> Result<(BitVec, BitVec), BitVecError> {
+    let bits = BitVec::from(alloc, [true, false, true, true, false])?;
+    let mask = BitVec::from(alloc, [true, true, true, false, false])?;
+    Ok((bits, mask))
+}
+
+fn in_both(alloc: Global) -> Result<BitVec, BitVecError> {
+    let (bits, mask) = five_places(alloc)?;
+    if bits.len() != mask.len() {
+        return Ok(bits);
+    }
+    Ok(bits & mask)
+}
+
+fn in_one(alloc: Global) -> Result<BitVec, BitVecError> {
+    let (bits, mask) = five_places(alloc)?;
+    if bits.len() != mask.len() {
+        return Ok(bits);
+    }
+    Ok(bits | mask)
+}
+
+fn in_one_alone(alloc: Global) -> Result<BitVec, BitVecError> {
+    let (bits, mask) = five_places(alloc)?;
+    if bits.len() != mask.len() {
+        return Ok(bits);
+    }
+    Ok(bits ^ mask)
+}
+
+fn not_in_the_first(alloc: Global) -> Result<BitVec, BitVecError> {
+    let (bits, _) = five_places(alloc)?;
+    bits.not()
+}
+
+// The text of a vector.
+fn text(alloc: Global, bits: BitVec) -> Result<String, BitVecError> {
+    Ok(format!(in alloc; "{bits}")?)
+}
+
+#[test]
+fn logic_goes_place_by_place(rt: HostRuntime) -> Result<(), Fail> {
+    let alloc = rt.alloc();
+    assert_eq!(rt; text(alloc, in_both(alloc)?)?.as_str(), "00101");
+    assert_eq!(rt; text(alloc, in_one(alloc)?)?.as_str(), "01111");
+    assert_eq!(rt; text(alloc, in_one_alone(alloc)?)?.as_str(), "01010");
+    assert_eq!(rt; text(alloc, not_in_the_first(alloc)?)?.as_str(), "10010");
+    Ok(())
+}
+
 #[test]
 fn a_vector_is_negated_by_value(rt: HostRuntime) -> Result<(), Fail> {
     let bits = BitVec::from_usize(rt.alloc(), 66, 0b01101)?;

@@ -1,7 +1,7 @@
-//! Tests in which the vectors of `giputils_bits` are refused memory, request by request, and tests of which calls ask
-//! for none.
+//! All tests of the vectors of `giputils_bits`: worked examples of the calls, and tests in which they are refused
+//! memory, request by request.
 //!
-//! They hold what no clause can say: that a call answers want of memory only where a request was refused, how many
+//! The latter hold what no clause can say: that a call answers want of memory only where a request was refused, how many
 //! requests it makes, and that some calls make none. What a refused call leaves is proved; it is read back here all the
 //! same, at each request of a growing vector; and what a vector feeds a hasher is recorded. They stand apart from the
 //! library, so that it is not proved twice for them.
@@ -14,10 +14,18 @@ mod hashed;
 #[cfg(test)]
 mod in_place;
 #[cfg(test)]
+mod iterators;
+#[cfg(test)]
 mod joined;
 #[cfg(test)]
 mod left;
 #[cfg(test)]
+mod replies;
+#[cfg(test)]
 mod runs;
 #[cfg(test)]
 mod sets;
+#[cfg(test)]
+mod texts;
+#[cfg(test)]
+mod words;

@@ -3,26 +3,34 @@
 use giputils_bits::bitvec::{BitCall, BitReply, BitVecError, bit_run};
 use giputils_refusing::{Refusing, refuse_from_each};
 
-// A run that grows and negates a vector.
-fn is_run(memory: &Refusing) -> bool {
-    let items = [true; 70];
-    let calls: [BitCall; 6] = [
+fn growing_calls(items: &[bool]) -> [BitCall<'_>; 6] {
+    [
         BitCall::PushWord(5),
-        BitCall::Extend(&items),
+        BitCall::Extend(items),
         BitCall::Invert,
         BitCall::PushWord(7),
         BitCall::Push(true),
         BitCall::Len,
-    ];
-    let Ok((_, replies)) = bit_run(memory, &calls) else {
-        return false;
-    };
-    for reply in &replies {
+    ]
+}
+
+// Whether a call was refused.
+fn has_refusal(replies: &[BitReply]) -> bool {
+    for reply in replies {
         if matches!(reply, BitReply::Refused(..)) {
-            return false;
+            return true;
         }
     }
-    true
+    false
+}
+
+// A run that grows and negates a vector.
+fn is_run(memory: &Refusing) -> bool {
+    let items = [true; 70];
+    match bit_run(memory, &growing_calls(&items)) {
+        Ok((_, replies)) => !has_refusal(&replies),
+        Err(_) => false,
+    }
 }
 
 // How many requests a growing vector makes is open: the replies, a second word and a negation make one each.
@@ -32,16 +40,19 @@ fn each_request_of_a_run_is_refused_in_turn(rt: HostRuntime) {
     assert!(rt; outcome.is_ok_and(|requests| requests >= 3), "{outcome:?}");
 }
 
-// Runs three calls, the second of which asks for memory. Tells whether that one alone was refused, and the others were
-// made.
+// Three calls, the second of which asks for memory.
+fn extending_calls(items: &[bool]) -> [BitCall<'_>; 3] {
+    [
+        BitCall::PushWord(1),
+        BitCall::Extend(items),
+        BitCall::Invert,
+    ]
+}
+
+// Runs the three. Tells whether the second alone was refused, and the others were made.
 fn goes_on(memory: &Refusing) -> bool {
     let items = [true, true, true];
-    let calls: [BitCall; 3] = [
-        BitCall::PushWord(1),
-        BitCall::Extend(&items),
-        BitCall::Invert,
-    ];
-    let Ok((bits, replies)) = bit_run(memory, &calls) else {
+    let Ok((bits, replies)) = bit_run(memory, &extending_calls(&items)) else {
         return false;
     };
     let refused = BitReply::Refused(BitVecError::Memory, 0);

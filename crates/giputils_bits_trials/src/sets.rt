@@ -5,15 +5,21 @@ use giputils_refusing::Refusing;
 use std::alloc::Global;
 use std::test::Fail;
 
+// How many places are true; and whether one is, each is, and none is.
+fn counted(bits: &BitVec) -> (usize, [bool; 3]) {
+    (bits.count_ones(), [bits.any(), bits.all(), bits.none()])
+}
+
+// The first true place, and the first from `start` and from `later` on.
+fn found(bits: &BitVec, start: usize, later: usize) -> [Option<usize>; 3] {
+    [bits.first_one(), bits.next_one(start), bits.next_one(later)]
+}
+
 #[test]
 fn true_places_are_counted_and_found(rt: HostRuntime) -> Result<(), Fail> {
     let bits = BitVec::from(rt.alloc(), [true, false, true, true, false])?;
-    assert_eq!(rt; bits.count_ones(), 3);
-    assert_eq!(rt; (bits.any(), bits.all(), bits.none()), (true, false, false));
-    assert_eq!(rt;
-        (bits.first_one(), bits.next_one(1), bits.next_one(4)),
-        (Some(0), Some(2), None)
-    );
+    assert_eq!(rt; counted(&bits), (3, [true, false, false]));
+    assert_eq!(rt; found(&bits, 1, 4), [Some(0), Some(2), None]);
     assert!(rt; bits.iter_ones().eq([0, 2, 3]));
     Ok(())
 }
@@ -23,24 +29,17 @@ fn words_without_a_true_place_are_stepped_over(rt: HostRuntime) -> Result<(), Fa
     let mut bits = BitVec::zero(rt.alloc(), 200)?;
     bits.set(64, true);
     bits.set(199, true);
-    assert_eq!(rt;
-        (
-            bits.first_one(),
-            bits.next_one(65),
-            bits.next_one(usize::MAX)
-        ),
-        (Some(64), Some(199), None)
-    );
+    assert_eq!(rt; found(&bits, 65, usize::MAX), [Some(64), Some(199), None]);
+    assert_eq!(rt; counted(&bits), (2, [true, false, false]));
     assert!(rt; bits.iter_ones().eq([64, 199]));
-    assert_eq!(rt; bits.count_ones(), 2);
     Ok(())
 }
 
 #[test]
 fn a_vector_without_a_place_has_none_and_all(rt: HostRuntime) {
     let bits = BitVec::new(rt.alloc());
-    assert_eq!(rt; (bits.any(), bits.all(), bits.none()), (false, true, true));
-    assert_eq!(rt; (bits.count_ones(), bits.first_one()), (0, None));
+    assert_eq!(rt; counted(&bits), (0, [false, true, true]));
+    assert_eq!(rt; bits.first_one(), None);
 }
 
 // Two vectors of one length.
@@ -50,68 +49,116 @@ fn five_places(alloc: Global) -> Result<(BitVec, BitVec), BitVecError> {
     Ok((bits, mask))
 }
 
+// Whether the first is within the second, and whether they have nothing in common.
+fn relations(bits: &BitVec, mask: &BitVec) -> (bool, bool) {
+    if bits.len() != mask.len() {
+        return (false, false);
+    }
+    (bits.is_subset(mask), bits.is_disjoint(mask))
+}
+
+fn take_away(bits: &mut BitVec, mask: &BitVec) {
+    if bits.len() == mask.len() {
+        bits.difference_with(mask);
+    }
+}
+
 #[test]
 fn one_set_is_within_another(rt: HostRuntime) -> Result<(), Fail> {
     let (mut bits, mask) = five_places(rt.alloc())?;
-    assert_eq!(rt; bits.len(), mask.len());
-    assert_eq!(rt;
-        (bits.is_subset(&mask), bits.is_disjoint(&mask)),
-        (false, false)
-    );
-    bits.difference_with(&mask);
+    let before = relations(&bits, &mask);
+    take_away(&mut bits, &mask);
+    let after = relations(&bits, &mask);
+    assert_eq!(rt; (before, after), ((false, false), (false, true)));
     assert_eq!(rt; bits.to_usize(), 0b01000);
-    assert_eq!(rt; bits.len(), mask.len());
-    assert_eq!(rt;
-        (bits.is_subset(&mask), bits.is_disjoint(&mask)),
-        (false, true)
-    );
     Ok(())
+}
+
+// A copy of the words of a vector that has two.
+fn two_words(bits: &BitVec<&Refusing>) -> Option<(u64, u64)> {
+    match bits.words() {
+        [first, second] => Some((*first, *second)),
+        _ => None,
+    }
+}
+
+// The words after each of the writes, the last of which copies zeros.
+fn written(memory: &Refusing) -> Result<[Option<(u64, u64)>; 5], BitVecError> {
+    let mut bits = BitVec::zero(memory, 66)?;
+    bits.flip(65);
+    let was = bits.put(0, true);
+    let put = if was { None } else { two_words(&bits) };
+    bits.negate();
+    let negated = two_words(&bits);
+    bits.set_word(1, 6);
+    let set = two_words(&bits);
+    bits.fill(true);
+    let filled = two_words(&bits);
+    let zeros = BitVec::zero(memory, 66)?;
+    if bits.len() == zeros.len() {
+        bits.copy_from(&zeros);
+    }
+    Ok([put, negated, set, filled, two_words(&bits)])
 }
 
 #[test]
 fn a_vector_is_written_in_place(rt: HostRuntime) -> Result<(), Fail> {
     let memory = Refusing::none(rt.alloc());
-    let mut bits = BitVec::zero(&memory, 66)?;
-    bits.flip(65);
-    assert!(rt; !bits.put(0, true));
-    assert_eq!(rt; bits.words(), [1, 2].as_slice());
-    bits.negate();
-    assert_eq!(rt; bits.words(), [u64::MAX - 1, 1].as_slice());
-    bits.set_word(1, 6);
-    assert_eq!(rt; bits.words(), [u64::MAX - 1, 2].as_slice());
-    bits.fill(true);
-    assert_eq!(rt; bits.words(), [u64::MAX, 3].as_slice());
-    let zeros = BitVec::zero(rt.alloc(), 66)?;
-    assert_eq!(rt; bits.len(), zeros.len());
-    bits.copy_from(&zeros);
-    assert!(rt; bits.none());
-    assert_eq!(rt; memory.requests(), 1);
+    let wanted = [
+        Some((1, 2)),
+        Some((u64::MAX - 1, 1)),
+        Some((u64::MAX - 1, 2)),
+        Some((u64::MAX, 3)),
+        Some((0, 0)),
+    ];
+    assert_eq!(rt; written(&memory)?, wanted);
+    assert_eq!(rt; memory.requests(), 2);
     Ok(())
+}
+
+// What `shortened` tells: the words, what the last bit was, the words with another in its place, and what is taken from
+// no bits.
+type Left = (
+    Option<(u64, u64)>,
+    Option<bool>,
+    Option<(u64, u64)>,
+    Option<bool>,
+);
+
+// Takes away the last of 130 true places.
+fn shortened(memory: &Refusing) -> Result<Left, BitVecError> {
+    let mut bits = BitVec::ones(memory, 130)?;
+    bits.truncate(65);
+    let truncated = two_words(&bits);
+    let last = bits.pop();
+    bits.push(false)?;
+    let pushed = two_words(&bits);
+    bits.truncate(0);
+    Ok((truncated, last, pushed, bits.pop()))
 }
 
 #[test]
 fn the_last_bits_are_taken_away(rt: HostRuntime) -> Result<(), Fail> {
     let memory = Refusing::none(rt.alloc());
-    let mut bits = BitVec::ones(&memory, 130)?;
-    bits.truncate(65);
-    assert_eq!(rt; bits.words(), [u64::MAX, 1].as_slice());
-    assert_eq!(rt; (bits.pop(), bits.len()), (Some(true), 64));
-    bits.push(false)?;
-    assert_eq!(rt; bits.words(), [u64::MAX, 0].as_slice());
-    bits.truncate(0);
-    assert_eq!(rt; bits.pop(), None);
+    let left = (Some((u64::MAX, 1)), Some(true), Some((u64::MAX, 0)), None);
+    assert_eq!(rt; shortened(&memory)?, left);
     assert_eq!(rt; memory.requests(), 1);
     Ok(())
+}
+
+// Makes a vector longer or shorter, and tells whether it has these words then.
+fn is_resized(bits: &mut BitVec, len: usize, val: bool, words: &[u64]) -> bool {
+    bits.resize(len, val).is_ok() && bits.words() == words
 }
 
 #[test]
 fn a_vector_is_made_longer_and_shorter(rt: HostRuntime) -> Result<(), Fail> {
     let mut bits = BitVec::from(rt.alloc(), [true, false])?;
-    bits.resize(66, true)?;
-    assert_eq!(rt; bits.words(), [u64::MAX - 2, 3].as_slice());
-    bits.resize(130, false)?;
-    assert_eq!(rt; bits.words(), [u64::MAX - 2, 3, 0].as_slice());
-    bits.resize(3, true)?;
-    assert_eq!(rt; bits.words(), [5].as_slice());
+    let outcomes = [
+        is_resized(&mut bits, 66, true, &[u64::MAX - 2, 3]),
+        is_resized(&mut bits, 130, false, &[u64::MAX - 2, 3, 0]),
+        is_resized(&mut bits, 3, true, &[5]),
+    ];
+    assert_eq!(rt; outcomes, [true; 3]);
     Ok(())
 }

@@ -197,7 +197,7 @@ impl<A: Allocator> BitVec<A> {
     ///
     /// # Errors
     /// As those of [`BitVec::extend`] on the empty vector: `Memory` alone where the iterator's bound on its items is at
-    /// most `usize::MAX`.
+    /// most `usize::MAX`. Where the bound is above, or there is none, `TooLong` comes at the item past that length.
     pub fn from<U: IntoIterator<Item = bool>>(alloc: A, iter: U) -> Result<Self, BitVecError>
         requires { CanDrain U.into_iter_gives U.IntoIter.can_next U.IntoIter.remaining iter }
         ensures ran { IfOk result (λ bits. CollectsItems U.into_iter_gives U.IntoIter.next_gives iter bits) }

@@ -1,5 +1,5 @@
 //! A list of calls, made on a bit vector one after another.
-ghost use Rattle.std.specs.Prelude.{◌≡◌, ◌<◌, ◌⊎◌, [], length, IfOk, MatchResult, vec_len};
+ghost use Rattle.std.specs.Prelude.{◌≡◌, ◌<◌, ◌⊎◌, ⊤, [], length, IfOk, MatchResult, vec_len};
 ghost use Rattle.giputils_bits.specs.BitRun.{ExtendsBy, bits_after_extend, if_done, IsAnswer, bits_after, Answers};
 ghost use Rattle.giputils_bits.specs.Logic.{not_of};
 ghost use Rattle.giputils_bits.specs.declared.bitvec.error.BitVecError.TheVariants.{Memory};
@@ -9,7 +9,7 @@ use super::{BitVec, BitVecError};
 use std::alloc::{AllocError, Allocator, Global};
 
 /// A call on a bit vector, with its arguments. What it borrows may be of another allocator.
-#[derive_where(Clone, Copy, Debug)]
+#[derive_where(Debug)]
 pub enum BitCall<'a, A: Allocator = Global> {
     /// [`BitVec::push`] of this bit.
     Push(bool),
@@ -87,6 +87,19 @@ pub enum BitCall<'a, A: Allocator = Global> {
     IsSubset(&'a BitVec<A>),
     /// [`BitVec::is_disjoint`] with this vector.
     IsDisjoint(&'a BitVec<A>),
+}
+
+impl<'a, A: Allocator> Copy for BitCall<'a, A> {}
+
+impl<'a, A: Allocator> Clone for BitCall<'a, A> {
+    ghost is_clone = { λ call copy. copy ≡ call };
+
+    ghost is_infallible = { λ _. ⊤ };
+
+    #[inline]
+    fn clone(&self) -> Result<Self, AllocError> {
+        Ok(*self)
+    }
 }
 
 /// What a call on a bit vector answered.
