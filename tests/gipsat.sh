@@ -50,10 +50,11 @@ try "a clause too few" 1 "line 3: fewer clauses than the header says" "" 'p cnf 
 try "a clause without its end" 1 "line 3: a clause without its 0" "" 'p cnf 1 1\n1\n'
 try "a file that is not there" 1 "input: cannot be read" "" "" "$work/none"
 try "a folder" 1 "input: cannot be read" "" "" "$work"
-for words in "--other" "a b" "--conflicts" "--conflicts x"; do
+for words in "--other" "a b" "--conflicts" "--conflicts x" "--conflicts 18446744073709551616"; do
     # shellcheck disable=SC2086
     try "arguments $words" 2 "$usage" "" "$clash" $words
 done
+try "an argument that is no text" 1 "arguments: invalid data" "" "$clash" $'\xff'
 
 # An output that takes nothing.
 "$gipsat" "$stored/stdin" > /dev/full 2> "$work/err"
@@ -66,9 +67,10 @@ else
     failed=$((failed + 1))
 fi
 
-# What is told at the end, on standard error.
-printf '%b' "$clash" | "$gipsat" --stats > "$work/out" 2> "$work/err"
-if [ "$(cat "$work/out")" = "s UNSATISFIABLE" ] && grep -q '^c .*conflicts' "$work/err"; then
+# What is told at the end, on standard error. One clause is learned, of one literal.
+told='c 2 conflicts, 0 restarts, 5 clauses kept, 0 forgotten, 1.000000 literals in each of the last learned'
+printf 'p cnf 2 4\n1 2 0\n-1 2 0\n1 -2 0\n-1 -2 0\n' | "$gipsat" --stats > "$work/out" 2> "$work/err"
+if [ "$(cat "$work/out")" = "s UNSATISFIABLE" ] && [ "$(head -n 1 "$work/err")" = "$told" ]; then
     echo "ok: a summary"
     passed=$((passed + 1))
 else

@@ -5,14 +5,20 @@
 //! more at the end.
 #![tactic(auto)]
 
+ghost use Rattle.std.specs.Prelude.{◌≡◌, ◌≢◌, IfOk, IfErr, OnOk, IfSome};
+ghost use Rattle.std.specs.Io.KnownBytes.{IsAtEnd};
+ghost use Rattle.giputils_dimacs.specs.Dimacs.Texts.{problem_of};
+ghost use Rattle.giputils_dimacs.specs.Dimacs.Answers.{WritesAnswer};
+
 mod options;
 mod watch;
 
-use giputils_dimacs::dimacs::{DimacsError, Verdict, solve_text};
+use giputils_dimacs::dimacs::{DimacsError, Solved, Verdict, solve_text};
 use options::Options;
 use std::env;
+use std::fmt::Display;
 use std::fs::File;
-use std::io::Read;
+use std::io::{self, Read, Write};
 use std::process::ExitCode;
 use watch::Watch;
 
@@ -22,48 +28,55 @@ const REFUSED: u8 = 1;
 const USAGE: u8 = 2;
 
 fn main(rt: HostRuntime) -> ExitCode {
-    let Some(options) = options_of(&rt) else {
+    let words = match words_of(&rt) {
+        Ok(words) => words,
+        Err(error) => return refuse(&rt, &format_args!("arguments: {error}")),
+    };
+    let Some(options) = Options::parse(&words) else {
         let _ = eprintln!(rt; "usage: gipsat [--conflicts N] [--stats] [FILE]");
         return ExitCode::from(USAGE);
     };
     match run(&rt, &options) {
         Ok(verdict) => ExitCode::from(verdict.status()),
-        Err(error) => {
-            let _ = eprintln!(rt; "{error}");
-            ExitCode::from(REFUSED)
-        }
+        Err(error) => refuse(&rt, &error),
     }
 }
 
-// What the arguments ask for, if they have a meaning.
-fn options_of(rt: &HostRuntime) -> Option<Options> {
-    let alloc = rt.alloc();
-    let args: Vec<String> = env::args(rt).ok()?.skip(1).collect(alloc).ok()?;
-    Options::parse(alloc, &args)
+// The arguments behind the program's name.
+fn words_of(rt: &HostRuntime) -> io::Result<Vec<String>> {
+    Ok(env::args(rt)?.skip(1).collect(rt.alloc())?)
+}
+
+// Writes why nothing is answered.
+fn refuse<E: Display>(rt: &HostRuntime, error: &E) -> ExitCode {
+    let _ = eprintln!(rt; "{error}");
+    ExitCode::from(REFUSED)
 }
 
 fn run(rt: &HostRuntime, options: &Options) -> Result<Verdict, DimacsError> {
-    match &options.file {
-        None => solve(rt, options, &mut rt.stdin()),
-        Some(path) => match File::open(rt, path.as_str()) {
-            Ok(mut file) => solve(rt, options, &mut file),
-            Err(_) => Err(DimacsError::Input),
+    let mut writer = rt.stdout();
+    let solved = match options.file {
+        None => solve(rt, options, &mut rt.stdin(), &mut writer)?,
+        Some(path) => match File::open(rt, path) {
+            Ok(mut file) => solve(rt, options, &mut file, &mut writer)?,
+            Err(_) => return Err(DimacsError::Input),
         },
-    }
+    };
+    Ok(solved.verdict)
 }
 
-fn solve<R: Read>(
+// Solves as `solve_text` does, within as many conflicts as the options allow.
+fn solve<R: Read, W: Write>(
     rt: &HostRuntime,
     options: &Options,
     reader: &mut R,
-) -> Result<Verdict, DimacsError> {
+    writer: &mut W,
+) -> Result<Solved, DimacsError>
+    ensures read_to_end { OnOk result (IsAtEnd (R.remaining reader.new)) }
+    ensures written { IfOk result (λ solved. IfSome (R.remaining reader.old) (λ text. IfSome (problem_of text)
+        (λ p. WritesAnswer p options.now.conflicts solved (W.contents writer.old) (W.contents writer.new)))) }
+    ensures unwritten { IfErr result (λ error. error ≢ DimacsError.Output → writer.new ≡ writer.old) }
+{
     let mut watch = Watch::new(rt, options.stats)?;
-    let mut writer = rt.stdout();
-    solve_text(
-        rt.alloc(),
-        reader,
-        &mut writer,
-        options.conflicts,
-        &mut watch,
-    )
+    solve_text(rt.alloc(), reader, writer, options.conflicts, &mut watch)
 }

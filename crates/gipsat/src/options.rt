@@ -1,35 +1,69 @@
 //! The command line.
-
-use std::alloc::Global;
+ghost use Rattle.std.specs.Prelude.{◌≡◌, ◌≤◌, ◌∷◌, length, map, string_bytes, None, IfSome, IfNone};
+ghost use Rattle.std.specs.Option.{option_map};
+ghost use Rattle.gipsat.specs.Options.{no_request, asked, request_of, with_file};
 
 /// What the arguments ask for.
-#[derive(Drop)]
-pub struct Options {
+#[derive(Clone, Copy)]
+pub struct Options<'a> {
     /// After how many conflicts to give up.
     pub conflicts: usize,
     /// Whether to write a summary.
     pub stats: bool,
     /// The file to read, if not standard input.
-    pub file: Option<String>,
+    pub file: Option<&'a str>,
 }
 
-impl Options {
+impl<'a> Options<'a> {
     /// What some words ask for, if they have a meaning.
-    pub fn parse(alloc: Global, words: &[String]) -> Option<Options> {
+    pub fn parse(mut words: &'a [String]) -> Option<Self>
+        ensures { option_map request_of result ≡ asked no_request (map string_bytes words.now) }
+    {
         let mut options = Options {
             conflicts: usize::MAX,
             stats: false,
             file: None,
         };
-        let mut words = words.iter();
-        while let Some(word) = words.next() {
-            match word.as_str() {
-                "--conflicts" => options.conflicts = words.next()?.parse().ok()?,
-                "--stats" => options.stats = true,
-                path if path.starts_with('-') || options.file.is_some() => return None,
-                path => options.file = Some(String::from_str(alloc, path).ok()?),
-            }
+        while let [word, rest @ ..] = words {
+            (options, words) = options.with(word.as_str(), rest)?;
         }
         Some(options)
+    }
+
+    // The options with what a word asks for, and the words behind it that are left. None if it has no meaning.
+    fn with(self, word: &'a str, rest: &'a [String]) -> Option<(Self, &'a [String])>
+        ensures some { IfSome result (λ after. asked (request_of self.entry) (word.now ∷ map string_bytes rest.now)
+            ≡ asked (request_of after.0) (map string_bytes after.1.now)) }
+        ensures fewer { IfSome result (λ after. length after.1.now ≤ length rest.now) }
+        ensures none { IfNone result (asked (request_of self.entry) (word.now ∷ map string_bytes rest.now) ≡ None) }
+    {
+        match word {
+            "--conflicts" => {
+                let (number, rest) = rest.split_first()?;
+                let conflicts = number.parse().ok()?;
+                Some((Options { conflicts, ..self }, rest))
+            }
+            "--stats" => Some((
+                Options {
+                    stats: true,
+                    ..self
+                },
+                rest,
+            )),
+            name => Some((self.with_file(name)?, rest)),
+        }
+    }
+
+    // The options with the file of this name. None if there is one already, or it begins with a minus.
+    fn with_file(self, name: &'a str) -> Option<Self>
+        ensures { option_map request_of result ≡ with_file (request_of self.entry) name.now }
+    {
+        if name.starts_with('-') || self.file.is_some() {
+            return None;
+        }
+        Some(Options {
+            file: Some(name),
+            ..self
+        })
     }
 }

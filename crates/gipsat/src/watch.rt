@@ -26,12 +26,26 @@ struct Known<'a> {
     lengths: &'a MovingAverage,
 }
 
+impl<'a> Known<'a> {
+    fn of(solver: &Solver, lengths: &'a MovingAverage) -> Self {
+        Known {
+            stats: solver.stats(),
+            clauses: solver.len(),
+            lengths,
+        }
+    }
+}
+
 impl Display for Known<'_> {
     fn fmt<W: fmt::Write>(&self, f: &mut fmt::Formatter<W>) -> fmt::Result {
         write!(
             f,
-            "{} conflicts, {} clauses, {} forgotten, {:?} literals in each of the last",
-            self.stats.conflicts, self.clauses, self.stats.forgotten, self.lengths
+            "{} conflicts, {} restarts, {} clauses kept, {} forgotten, {:?} literals in each of the last learned",
+            self.stats.conflicts,
+            self.stats.restarts,
+            self.clauses,
+            self.stats.forgotten,
+            self.lengths
         )
     }
 }
@@ -64,8 +78,9 @@ pub struct Watch<'a> {
     rt: &'a HostRuntime,
     started: Option<Instant>,
     logger: IntervalLogger,
+    // Of the last learned clauses.
     lengths: MovingAverage,
-    // How many clauses were counted.
+    // How many of the known clauses need not be counted.
     seen: usize,
     stats: bool,
 }
@@ -94,7 +109,7 @@ impl<'a> Watch<'a> {
         }
     }
 
-    // Counts the last clauses that came since.
+    // Counts the last of the clauses that were learned since.
     fn count(&mut self, solver: &Solver) {
         let len = solver.len();
         for place in self.seen.max(len.saturating_sub(LAST))..len {
@@ -105,14 +120,14 @@ impl<'a> Watch<'a> {
 }
 
 impl Progress<Global> for Watch<'_> {
+    fn begin(&mut self, solver: &Solver) {
+        self.seen = solver.len();
+    }
+
     fn note(&mut self, solver: &Solver) {
         self.count(solver);
         let now = self.now();
-        let known = Known {
-            stats: solver.stats(),
-            clauses: solver.len(),
-            lengths: &self.lengths,
-        };
+        let known = Known::of(solver, &self.lengths);
         self.logger
             .log(&Comments { rt: self.rt }, now, Level::Info, &known);
     }
@@ -121,15 +136,10 @@ impl Progress<Global> for Watch<'_> {
         if self.stats {
             self.count(solver);
             let stats = solver.stats();
-            let known = Known {
-                stats,
-                clauses: solver.len(),
-                lengths: &self.lengths,
-            };
-            let _ = eprintln!(self.rt; "c {known}");
+            let _ = eprintln!(self.rt; "c {}", Known::of(solver, &self.lengths));
             let _ = eprintln!(self.rt;
-                "c {} decisions, {} propagations, {} restarts",
-                stats.decisions, stats.propagations, stats.restarts
+                "c {} decisions, {} propagations",
+                stats.decisions, stats.propagations
             );
         }
     }

@@ -8,11 +8,9 @@ pub mod progress;
 pub mod reader;
 mod stage;
 mod task;
-#[cfg(test)]
-mod tests;
 mod words;
 
-pub use answers::Verdict;
+pub use answers::{Solved, Verdict};
 pub use error::{DimacsError, Reason};
 pub use instance::Instance;
 pub use reader::read_instance;

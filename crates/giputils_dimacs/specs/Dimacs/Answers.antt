@@ -2,10 +2,11 @@
 use Rattle.std.specs.Prelude.{◌≡◌, ℕ, zero, suc, ◌+◌, Bool, List, [], ◌∷◌, ◌++◌, length, nat_le, if◌then◌else◌, codes, decimal, IsTrue, Option}
 use Rattle.std.specs.Io.KnownBytes.{Appends}
 use Rattle.giputils_sat.specs.Formulas.{Assignment, satisfies, IsSatisfiable}
-use Rattle.giputils_sat.specs.Stores.{Known}
+use Rattle.giputils_sat.specs.Stores.{Known, HasMore}
 use Rattle.giputils_sat.specs.Answers.{IsRight}
 use Rattle.giputils_sat.specs.declared.solver.Answer.{Answer}
 use Rattle.giputils_dimacs.specs.Dimacs.Texts.{Problem, Word}
+use Rattle.giputils_dimacs.specs.declared.dimacs.answers.Solved.{Solved}
 use Rattle.giputils_dimacs.specs.declared.dimacs.answers.Verdict.{Verdict}
 use Rattle.giputils_dimacs.specs.declared.dimacs.answers.Verdict.TheVariants.{Satisfiable, Unsatisfiable, Unknown}
 
@@ -43,14 +44,24 @@ laid_out column (word ∷ words) = separator column word ++ word ++ laid_out (co
 abbrev pub values_text : Assignment → ℕ → List ℕ
 values_text a variables = codes "v" ++ laid_out 1 (value_words a 0 variables)
 
--- the text of a right answer: values that satisfy the problem's clauses, or that nothing does, or that it is open
-abbrev pub IsRightText : Problem → Verdict → List ℕ → Type 0
-IsRightText problem Satisfiable text =
+-- all that a solver knows was given to it
+abbrev pub KnowsGiven : Known → Type 0
+KnowsGiven known = known.clauses ≡ known.formula
+
+-- a solver that was given the problem's clauses, and knew no others, has learned so many more
+abbrev pub HasLearned : ℕ → Problem → Known → Type 0
+HasLearned n problem known =
+    (given : Known) × (given.formula ≡ problem.clauses) × KnowsGiven given × HasMore n given known
+
+-- the text of a right answer: values that satisfy the problem's clauses, or that nothing does, or that it is open, where
+-- as many clauses were learned as the limit says
+abbrev pub IsRightText : Problem → ℕ → Known → Verdict → List ℕ → Type 0
+IsRightText problem limit known Satisfiable text =
     (a : Assignment) × IsTrue (satisfies a problem.clauses)
     × (text ≡ codes "s SATISFIABLE\n" ++ values_text a problem.variables)
-IsRightText problem Unsatisfiable text =
+IsRightText problem limit known Unsatisfiable text =
     ¬ (IsSatisfiable problem.clauses) × (text ≡ codes "s UNSATISFIABLE\n")
-IsRightText problem Unknown text = text ≡ codes "s UNKNOWN\n"
+IsRightText problem limit known Unknown text = HasLearned limit problem known × (text ≡ codes "s UNKNOWN\n")
 
 -- the exit status of an answer
 abbrev pub verdict_status : Verdict → ℕ
@@ -61,9 +72,10 @@ verdict_status Unknown = 0
 -- the verdict and the text are right for each formula for which the answer is
 abbrev pub TellsRight : {A : Type 0} → ℕ → Answer A → Verdict → List ℕ → Type 0
 TellsRight variables answer verdict text =
-    (old new : Known) (limit : ℕ) → IsRight old new limit answer
-    → IsRightText (record { variables = variables; clauses = old.formula }) verdict text
+    (old new : Known) (limit : ℕ) → KnowsGiven old → IsRight old new limit answer
+    → IsRightText (record { variables = variables; clauses = old.formula }) limit new verdict text
 
 -- a writer that held the one holds the other after the text of a right answer
-abbrev pub WritesAnswer : Problem → Verdict → Option (List ℕ) → Option (List ℕ) → Type 0
-WritesAnswer problem verdict old new = (text : List ℕ) × IsRightText problem verdict text × Appends old new text
+abbrev pub WritesAnswer : {A : Type 0} → Problem → ℕ → Solved A → Option (List ℕ) → Option (List ℕ) → Type 0
+WritesAnswer problem limit solved old new =
+    (text : List ℕ) × IsRightText problem limit solved.solver solved.verdict text × Appends old new text

@@ -4,8 +4,8 @@ ghost use Rattle.giputils_sat.specs.Values.{assignment_in};
 ghost use Rattle.giputils_dimacs.specs.Dimacs.Answers.{laid_out, literal_word, values_text, verdict_status, TellsRight};
 ghost use Rattle.giputils_dimacs.specs.Dimacs.Texts.{Word};
 
-use giputils_sat::Answer;
-use std::alloc::{AllocError, Allocator};
+use giputils_sat::{Answer, Solver};
+use std::alloc::{AllocError, Allocator, Global};
 use std::io::Write;
 
 /// What was found out about a formula.
@@ -30,6 +30,15 @@ impl Verdict {
             Verdict::Unknown => 0,
         }
     }
+}
+
+/// What was found out about a formula, and by what.
+#[derive(Drop)]
+pub struct Solved<A: Allocator = Global> {
+    /// What was found out.
+    pub verdict: Verdict,
+    /// The solver that was given the formula, with all that it has learned.
+    pub solver: Solver<A>,
 }
 
 // The most bytes of a line.

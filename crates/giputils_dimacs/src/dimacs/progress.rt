@@ -8,9 +8,12 @@ use std::alloc::{AllocError, Allocator};
 // How many conflicts are met between two notes.
 const SLICE: usize = 2_000;
 
-/// What is told how far a search is.
+/// What is told how far a search is, which goes in parts.
 pub trait Progress<A: Allocator> {
-    /// This is known now, and the search goes on.
+    /// This is known now, and a part of the search begins.
+    fn begin(&mut self, solver: &Solver<A>);
+
+    /// This is known at the end of the part, and the search goes on.
     fn note(&mut self, solver: &Solver<A>);
 
     /// This is known at the end of the search.
@@ -19,6 +22,8 @@ pub trait Progress<A: Allocator> {
 
 /// Nobody is told.
 impl<A: Allocator> Progress<A> for () {
+    fn begin(&mut self, _solver: &Solver<A>) {}
+
     fn note(&mut self, _solver: &Solver<A>) {}
 
     fn end(&mut self, _solver: &Solver<A>) {}
@@ -53,11 +58,13 @@ fn solve_on<A: Allocator + Copy, P: Progress<A>>(
 {
     let mut left = limit;
     while left > SLICE {
+        progress.begin(solver);
         match solver.solve(SLICE)? {
             Answer::Unknown => left -= SLICE,
             answer => return Ok(answer),
         }
         progress.note(solver);
     }
+    progress.begin(solver);
     solver.solve(left)
 }

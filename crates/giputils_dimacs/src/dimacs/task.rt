@@ -4,7 +4,7 @@ ghost use Rattle.std.specs.Io.KnownBytes.{IsAtEnd};
 ghost use Rattle.giputils_dimacs.specs.Dimacs.Texts.{problem_of};
 ghost use Rattle.giputils_dimacs.specs.Dimacs.Answers.{WritesAnswer};
 
-use crate::dimacs::answers::{Verdict, answer_text};
+use crate::dimacs::answers::{Solved, answer_text};
 use crate::dimacs::error::{DimacsError, Reason};
 use crate::dimacs::progress::{Progress, solve_in_slices};
 use crate::dimacs::reader::read_instance;
@@ -13,7 +13,8 @@ use std::io::{Read, Write};
 
 /// Reads a formula in the DIMACS form, finds out whether anything satisfies it, and writes the answer.
 ///
-/// It gives up after `limit` conflicts. Now and then it tells `progress` how far it is.
+/// It gives up after `limit` conflicts, of each of which the solver that it answers has learned a clause. Now and then it
+/// tells `progress` how far it is.
 ///
 /// # Errors
 /// - [`DimacsError::Input`] where a read fails.
@@ -28,12 +29,14 @@ pub fn solve_text<A: Allocator + Copy, R: Read, W: Write, P: Progress<A>>(
     writer: &mut W,
     limit: usize,
     progress: &mut P,
-) -> Result<Verdict, DimacsError>
+) -> Result<Solved<A>, DimacsError>
     // Success means that all of a text of the form was read, and that a right answer and nothing else was written.
     ensures read_to_end { OnOk result (IsAtEnd (R.remaining reader.new)) }
     ensures has_form { OnOk result (IfSome (R.remaining reader.old) (λ text. IsTrue (is_some (problem_of text)))) }
-    ensures written { IfOk result (λ verdict. IfSome (R.remaining reader.old) (λ text. IfSome (problem_of text)
-        (λ problem. WritesAnswer problem verdict (W.contents writer.old) (W.contents writer.new)))) }
+    ensures written { IfOk result (λ solved. IfSome (R.remaining reader.old) (λ text. IfSome (problem_of text)
+        (λ problem. WritesAnswer problem limit solved (W.contents writer.old) (W.contents writer.new)))) }
+    ensures formula { IfOk result (λ solved. IfSome (R.remaining reader.old) (λ text. IfSome (problem_of text)
+        (λ problem. solved.solver.formula ≡ problem.clauses))) }
 
     // When the text is refused, and what was written then.
     ensures line { (line : ℕ) (reason : Reason) → IsErrOf result (DimacsError.Line line reason) →
@@ -44,7 +47,10 @@ pub fn solve_text<A: Allocator + Copy, R: Read, W: Write, P: Progress<A>>(
     let answer = solve_in_slices(&mut instance.solver, limit, progress)?;
     let (verdict, text) = answer_text(alloc, instance.variables, &answer)?;
     match writer.write_all(&text) {
-        Ok(()) => Ok(verdict),
+        Ok(()) => Ok(Solved {
+            verdict,
+            solver: instance.solver,
+        }),
         Err(_) => Err(DimacsError::Output),
     }
 }

@@ -52,6 +52,7 @@ loop-preserved g c =
     let taken : Consumes now new (take c.in-Ok.n c.deref.result.now) = rw bytes c.in-Ok.ensures.bytes.0 in
     record {
       reading = c.in_ok-feed.ensures.reading;
+      given = c.in_ok-feed.ensures.given;
       room = c.loop.invariant.room;
       says = says_more old now new c.loop.parser c.feed.new.self _ c.loop.invariant.says taken c.in_ok-feed.ensures.ok;
     }

@@ -1,0 +1,30 @@
+-- Worked examples of command lines.
+use Rattle.std.proofs.Common.{◌≡◌, [], ◌∷◌, refl, codes, Some, None, true, false}
+use Rattle.gipsat.specs.Options.{no_request, asked}
+
+nothing : asked no_request [] ≡ Some no_request
+nothing = refl
+
+all : asked no_request (codes "--conflicts" ∷ codes "7" ∷ codes "--stats" ∷ codes "a" ∷ [])
+    ≡ Some (record { conflicts = 7; stats = true; file = Some (codes "a") })
+all = refl
+
+-- the last limit counts
+twice : asked no_request (codes "--conflicts" ∷ codes "7" ∷ codes "--conflicts" ∷ codes "0" ∷ [])
+    ≡ Some (record { conflicts = 0; stats = false; file = None })
+twice = refl
+
+refused-no_number : asked no_request (codes "--conflicts" ∷ []) ≡ None
+refused-no_number = refl
+
+refused-other_number : asked no_request (codes "--conflicts" ∷ codes "7x" ∷ []) ≡ None
+refused-other_number = refl
+
+refused-large_number : asked no_request (codes "--conflicts" ∷ codes "18446744073709551616" ∷ []) ≡ None
+refused-large_number = refl
+
+refused-two_files : asked no_request (codes "a" ∷ codes "b" ∷ []) ≡ None
+refused-two_files = refl
+
+refused-other_flag : asked no_request (codes "--stat" ∷ []) ≡ None
+refused-other_flag = refl
