@@ -19,11 +19,13 @@ given_among (flag ∷ flags) [] = []
 given_among (true ∷ flags) (c ∷ clauses) = c ∷ given_among flags clauses
 given_among (false ∷ flags) (c ∷ clauses) = given_among flags clauses
 
--- the formula, all clauses that are known (given or learned) in the order they came, and a number above each variable
+-- the formula, all clauses that are known (given or learned) in the order they came, a number above each variable, and
+-- how many clauses were learned of conflicts so far
 pub record Known : Type 0 where
   pub formula : Formula
   pub clauses : List Clause
   pub count : ℕ
+  pub learned : ℕ
 
 -- each clause has a flag, has variables below the count, and is implied by those that were given
 pub record IsKnown (flags : List Bool) (count : ℕ) (clauses : List Clause) : Type 0 where
@@ -61,9 +63,13 @@ abbrev pub AddsUnits : Known → Known → Type 0
 AddsUnits old new =
     (k : ℕ) (c : Clause) → slice_get new.clauses k ≡ Some c → IsAmong old.clauses c ⊎ (length c ≡ 1)
 
--- so many clauses more are known
+-- so many clauses more were learned
 abbrev pub HasMore : ℕ → Known → Known → Type 0
-HasMore n old new = length new.clauses ≡ length old.clauses + n
+HasMore n old new = new.learned ≡ old.learned + n
+
+-- as many clauses more are known as were learned
+abbrev pub AddsLearned : Known → Known → Type 0
+AddsLearned old new = length new.clauses + old.learned ≡ length old.clauses + new.learned
 
 -- the clauses that were known are known still, at their places
 abbrev pub KeepsKnown : Known → Known → Type 0

@@ -22,6 +22,7 @@ pub(crate) fn compact<A: Allocator + Copy>(
     ensures trail { StandsBy database.new.clauses trail.new }
     ensures formula { database.new.formula ≡ database.old.formula }
     ensures count { database.new.count ≡ database.old.count }
+    ensures learned { database.new.learned ≡ database.old.learned }
     ensures units { AddsUnits database.old database.new }
     ensures refused { OnErr result (KeepsKnown database.old database.new) }
 {
@@ -45,6 +46,7 @@ pub(crate) fn learn_units<A: Allocator + Copy>(
     ensures trail { StandsBy database.new.clauses trail.now }
     ensures formula { database.new.formula ≡ database.old.formula }
     ensures count { database.new.count ≡ database.old.count }
+    ensures learned { database.new.learned ≡ database.old.learned }
     ensures kept { KeepsKnown database.old database.new }
     ensures units { AddsUnits database.old database.new }
 {
@@ -66,6 +68,7 @@ fn learn_unit<A: Allocator + Copy>(
     ensures trail { StandsBy database.new.clauses trail.now }
     ensures formula { database.new.formula ≡ database.old.formula }
     ensures count { database.new.count ≡ database.old.count }
+    ensures learned { database.new.learned ≡ database.old.learned }
     ensures kept { KeepsKnown database.old database.new }
     ensures units { AddsUnits database.old database.new }
 {
@@ -74,7 +77,7 @@ fn learn_unit<A: Allocator + Copy>(
         return Ok(());
     }
     database.all_follow();
-    database.learn(&[step.literal])
+    database.imply(&[step.literal])
 }
 
 // Whether the clause at a place has one literal.

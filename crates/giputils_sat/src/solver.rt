@@ -2,7 +2,7 @@
 ghost use Rattle.std.specs.Prelude.{◌≡◌, ◌++◌, ◌∷◌, ◌<◌, [], Some, length, slice_get, IfOk, OnOk, OnErr};
 ghost use Rattle.giputils_sat.specs.Answers.{IsRight, IsRightTurn};
 ghost use Rattle.giputils_sat.specs.Formulas.{Implies};
-ghost use Rattle.giputils_sat.specs.Stores.{AddsUnits, KeepsKnown};
+ghost use Rattle.giputils_sat.specs.Stores.{AddsLearned, AddsUnits, KeepsKnown};
 ghost use Rattle.giputils_sat.specs.Trailed.{IsReady, StandsOn};
 ghost use Rattle.giputils_sat.specs.Values.{model_in};
 
@@ -60,6 +60,7 @@ impl<A: Allocator + Copy> Solver<A> {
     pub fn new(alloc: A) -> Self
         ensures formula { result.formula ≡ [] }
         ensures clauses { result.clauses ≡ [] }
+        ensures learned { result.learned ≡ 0 }
     {
         Solver {
             alloc,
@@ -77,6 +78,7 @@ impl<A: Allocator + Copy> Solver<A> {
     pub fn add_clause(&mut self, clause: &[Literal]) -> Result<(), AllocError>
         ensures formula { OnOk result (self.new.formula ≡ self.old.formula ++ clause.now ∷ []) }
         ensures clauses { OnOk result (self.new.clauses ≡ self.old.clauses ++ clause.now ∷ []) }
+        ensures learned { self.new.learned ≡ self.old.learned }
         ensures refused { OnErr result (self.new ≡ self.old) }
     {
         self.database.give(clause)
@@ -116,6 +118,7 @@ impl<A: Allocator + Copy> Solver<A> {
         ensures right { IfOk result (IsRight self.old self.new limit) }
         ensures formula { self.new.formula ≡ self.old.formula }
         ensures kept { KeepsKnown self.old self.new }
+        ensures adds { AddsLearned self.old self.new }
     {
         let alloc = self.alloc;
         let count = self.database.count();
@@ -147,6 +150,7 @@ impl<A: Allocator + Copy> Solver<A> {
     /// `AllocError` where memory is refused. Some clauses may have been learned.
     pub fn learn_units(&mut self) -> Result<(), AllocError>
         ensures formula { self.new.formula ≡ self.old.formula }
+        ensures learned { self.new.learned ≡ self.old.learned }
         ensures kept { KeepsKnown self.old self.new }
         ensures units { AddsUnits self.old self.new }
     {
@@ -177,6 +181,7 @@ impl<A: Allocator + Copy> Solver<A> {
     /// `AllocError` where memory is refused. Some units may have been learned; no clause was dropped.
     pub fn compact(&mut self) -> Result<(), AllocError>
         ensures formula { self.new.formula ≡ self.old.formula }
+        ensures learned { self.new.learned ≡ self.old.learned }
         ensures units { AddsUnits self.old self.new }
         ensures refused { OnErr result (KeepsKnown self.old self.new) }
     {
@@ -230,6 +235,7 @@ fn turn<A: Allocator + Copy>(
     ensures right { IfOk result (IsRightTurn database.old database.new) }
     ensures formula { database.new.formula ≡ database.old.formula }
     ensures kept { KeepsKnown database.old database.new }
+    ensures adds { AddsLearned database.old database.new }
 {
     let Some(conflict) = search(alloc, database, trail, hints)? else {
         return Ok(Some(Answer::Sat(model_of(alloc, trail)?)));
@@ -256,6 +262,7 @@ fn run<A: Allocator + Copy>(
     ensures right { IfOk result (IsRight database.old database.new limit) }
     ensures formula { database.new.formula ≡ database.old.formula }
     ensures kept { KeepsKnown database.old database.new }
+    ensures adds { AddsLearned database.old database.new }
 {
     for _ in 0..limit {
         if let Some(answer) = turn(alloc, database, trail, hints, marks)? {

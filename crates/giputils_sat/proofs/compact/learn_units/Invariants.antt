@@ -8,6 +8,7 @@ invariant-loop-place g l = record {
   trail : IsTrail l.database.clauses l.trail.values.items l.trail.steps.items l.trail.starts.items;
   formula : l.database.formula ≡ l.fn.database.formula;
   count : l.database.count ≡ l.fn.database.count;
+  learned : l.database.learned ≡ l.fn.database.learned;
   kept : KeepsKnown l.fn.database l.database;
   units : AddsUnits l.fn.database l.database;
 }
