@@ -5,15 +5,15 @@
 //! more at the end.
 #![tactic(auto)]
 
-ghost use Rattle.std.specs.Prelude.{◌≡◌, ◌≢◌, IfOk, IfErr, OnOk, IfSome};
+ghost use Rattle.std.specs.Prelude.{◌≡◌, ◌≢◌, ℕ, IfOk, IfErr, OnOk, IfSome, IsErrOf};
 ghost use Rattle.std.specs.Io.KnownBytes.{IsAtEnd};
-ghost use Rattle.giputils_dimacs.specs.Dimacs.Texts.{problem_of};
+ghost use Rattle.giputils_dimacs.specs.Dimacs.Texts.{problem_of, IsRefusedIn};
 ghost use Rattle.giputils_dimacs.specs.Dimacs.Answers.{WritesAnswer};
 
 mod options;
 mod watch;
 
-use giputils_dimacs::dimacs::{DimacsError, Solved, Verdict, solve_text};
+use giputils_dimacs::dimacs::{DimacsError, Reason, Solved, Verdict, solve_text};
 use options::Options;
 use std::env;
 use std::fmt::Display;
@@ -75,6 +75,8 @@ fn solve<R: Read, W: Write>(
     ensures read_to_end { OnOk result (IsAtEnd (R.remaining reader.new)) }
     ensures written { IfOk result (λ solved. IfSome (R.remaining reader.old) (λ text. IfSome (problem_of text)
         (λ p. WritesAnswer p options.now.conflicts solved (W.contents writer.old) (W.contents writer.new)))) }
+    ensures in_line { (line : ℕ) (reason : Reason) → IsErrOf result (DimacsError.Line line reason) →
+        IfSome (R.remaining reader.old) (λ text. IsRefusedIn text line) }
     ensures unwritten { IfErr result (λ error. error ≢ DimacsError.Output → writer.new ≡ writer.old) }
 {
     let mut watch = Watch::new(rt, options.stats)?;

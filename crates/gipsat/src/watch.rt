@@ -1,6 +1,5 @@
 //! How far the search is, in lines on standard error.
 
-use giputils_dimacs::dimacs::DimacsError;
 use giputils_dimacs::dimacs::progress::Progress;
 use giputils_sat::{Solver, Stats};
 use giputils_stat::logger::IntervalLogger;
@@ -8,7 +7,7 @@ use giputils_stat::statistic::MovingAverage;
 use log::kv::Source;
 use log::span::Spans;
 use log::{Level, Log, Metadata, Record};
-use std::alloc::Global;
+use std::alloc::{AllocError, Global};
 use std::fmt::{self, Display};
 use std::time::{Duration, Instant};
 
@@ -87,7 +86,7 @@ pub struct Watch<'a> {
 
 impl<'a> Watch<'a> {
     /// Before the search.
-    pub fn new(rt: &'a HostRuntime, stats: bool) -> Result<Self, DimacsError> {
+    pub fn new(rt: &'a HostRuntime, stats: bool) -> Result<Self, AllocError> {
         Ok(Watch {
             rt,
             started: Instant::now(rt).ok(),

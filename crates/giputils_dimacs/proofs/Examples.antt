@@ -2,7 +2,7 @@
 use Rattle.std.proofs.Common.{◌≡◌, ℕ, [], ◌∷◌, ◌==◌, refl, codes, Some, None, true, false}
 use Rattle.std.specs.Fmt.{digits}
 use Rattle.giputils_sat.specs.Literals.{Lit}
-use Rattle.giputils_dimacs.specs.Dimacs.Texts.{Problem, problem_of, number_of}
+use Rattle.giputils_dimacs.specs.Dimacs.Texts.{Problem, problem_of, number_of, line_on}
 use Rattle.giputils_dimacs.specs.Dimacs.Answers.{values_text, laid_out}
 
 -- a variable of a formula and its negation
@@ -93,3 +93,7 @@ full_line = refl
 
 next_line : laid_out 76 (codes "-1" ∷ codes "0" ∷ []) ≡ codes "\nv -1 0\n"
 next_line = refl
+
+-- the byte behind these stands in the second line
+second_line : line_on 1 (codes "p cnf 1 1\n1 x") ≡ 2
+second_line = refl

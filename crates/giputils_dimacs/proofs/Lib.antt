@@ -1,4 +1,5 @@
 mod Examples
+mod Lines
 mod Numbers
 mod Outcomes
 mod Splits

@@ -25,11 +25,11 @@ pub passed_on : {T : Type 0} (P Q : Type 0) (r : Result T Stop) (stop : Stop) �
 passed_on P Q (Ok x) stop f e h = tt
 passed_on P Q (Err s) stop f e h = on_refusal P Q s f (subst (OnRefusal P) (sym e.1) h)
 
--- an error at a line is a refusal
+-- an error at a line is a refusal there
 pub refused_at : {T : Type 0} (P : Type 0) (r : Result T DimacsError) (stop : Stop) (n line : ℕ) (reason : Reason)
-    → r ≡ Err (error_at n stop) → IsErrOf r (Line line reason) → OnRefusal P stop → P
+    → r ≡ Err (error_at n stop) → IsErrOf r (Line line reason) → OnRefusal P stop → (line ≡ n) × P
 refused_at P r Memory n line reason e is h = absurd (let f = e in cc)
-refused_at P r (Refused why) n line reason e is h = h
+refused_at P r (Refused why) n line reason e is h = (let f = e in let g = is in cc, h)
 
 -- two facts of what did not fail
 pub on_ok_both : {T E : Type 0} (P Q R : Type 0) (r : Result T E) → OnOk r P → OnOk r Q → (P → Q → R) → OnOk r R

@@ -1,10 +1,11 @@
 -- What a reader has left, and what its text says.
-use Rattle.std.proofs.Common.{◌≡◌, ℕ, List, [], ◌++◌, sym, ap, ◌∙◌, subst, arith, take, take_all, length, Option, Some, None, IfSome}
+use Rattle.std.proofs.Common.{◌≡◌, ℕ, List, [], ◌∷◌, ◌++◌, refl, sym, ap, ◌∙◌, subst, arith, append_assoc, append-nil, take, take_all, length, Option, Some, None, IfSome}
 use lib.Seq.{take-append-le}
 use Rattle.std.specs.Io.KnownBytes.{Consumes, IsAtEnd}
-use Rattle.giputils_dimacs.specs.Dimacs.Texts.{Problem, problem_of}
-use Rattle.giputils_dimacs.specs.Dimacs.Reading.{problem_from, SaysFrom, SaysOn, SaysNothing}
-use Rattle.giputils_dimacs.specs.declared.dimacs.parser.Parser.{Parser}
+use Rattle.giputils_dimacs.specs.Dimacs.Texts.{Problem, problem_of, line_on, IsRefusedIn}
+use Rattle.giputils_dimacs.specs.Dimacs.Reading.{problem_from, HasRead, IsStopped, SaysOn}
+use Rattle.giputils_dimacs.specs.declared.dimacs.lines.Numbered.{Numbered}
+use Rattle.giputils_dimacs.proofs.Lines.{line_on-append, refused-none}
 
 -- a buffer that was written as a whole
 pub written_whole : (new old : List ℕ) (n : ℕ) → length new ≡ n → take n (new ++ old) ≡ new
@@ -16,32 +17,66 @@ pub of_problem : (text : Option (List ℕ)) (problem : Problem) (P : Problem →
 of_problem None problem P e h = tt
 of_problem (Some text) problem P e h = subst (λ found. IfSome found P) (sym e) h
 
+-- a refused text has not the form
+pub refused-says_none : (text : Option (List ℕ)) (line : ℕ) → IfSome text (λ text. IsRefusedIn text line)
+    → IfSome text (λ text. problem_of text ≡ None)
+refused-says_none None line refused = tt
+refused-says_none (Some text) line refused = refused-none text line refused
+
 module _ {A : Type 0} where
   -- at first
-  pub says_first : (text : Option (List ℕ)) (p : Parser A) → ((text : List ℕ) → problem_from p text ≡ problem_of text) → SaysFrom text text p
-  says_first None p all = tt
-  says_first (Some text) p all = sym (all text)
+  pub read_first : (text : Option (List ℕ)) (p : Numbered A) → p.line ≡ 1
+      → ((text : List ℕ) → problem_from p.parser text ≡ problem_of text) → HasRead text text p
+  read_first None p first all = tt
+  read_first (Some text) p first all = ([], refl, first, λ more. sym (all more))
 
   -- some bytes on
-  pub says_more : (old now new : Option (List ℕ)) (p q : Parser A) (bytes : List ℕ) → SaysFrom old now p → Consumes now new bytes
-      → SaysOn p bytes q → SaysFrom old new q
-  says_more None now new p q bytes says taken on = tt
-  says_more (Some text) None new p q bytes says taken on = absurd says
-  says_more (Some text) (Some now) None p q bytes says taken on = absurd taken
-  says_more (Some text) (Some now) (Some new) p q bytes says taken on = says ∙ ap (problem_from p) taken ∙ on new
+  pub read_more : (old now new : Option (List ℕ)) (p q : Numbered A) (bytes : List ℕ) → HasRead old now p → Consumes now new bytes
+      → SaysOn p.parser bytes q.parser → q.line ≡ line_on p.line bytes → HasRead old new q
+  read_more None now new p q bytes has taken on line = tt
+  read_more (Some text) None new p q bytes has taken on line = absurd has
+  read_more (Some text) (Some now) None p q bytes has taken on line = absurd taken
+  read_more (Some text) (Some now) (Some new) p q bytes (front, is, number, says) taken on line = (
+    front ++ bytes,
+    is ∙ ap (λ rest. front ++ rest) taken ∙ sym (append_assoc front bytes new),
+    line ∙ ap (λ n. line_on n bytes) number ∙ sym (line_on-append 1 front bytes),
+    λ more. ap problem_of (append_assoc front bytes more) ∙ says (bytes ++ more) ∙ on more,
+  )
 
-  -- bytes with which nothing is said
-  pub says_none : (old now new : Option (List ℕ)) (p : Parser A) (bytes : List ℕ) → SaysFrom old now p → Consumes now new bytes
-      → SaysNothing p bytes → IfSome old (λ text. problem_of text ≡ None)
-  says_none None now new p bytes says taken none = tt
-  says_none (Some text) None new p bytes says taken none = absurd says
-  says_none (Some text) (Some now) None p bytes says taken none = absurd taken
-  says_none (Some text) (Some now) (Some new) p bytes says taken none = says ∙ ap (problem_from p) taken ∙ none new
+  -- bytes that are refused
+  pub read_refused : (old now new : Option (List ℕ)) (p : Numbered A) (bytes : List ℕ) (line : ℕ) → HasRead old now p
+      → Consumes now new bytes → IsStopped p bytes line → IfSome old (λ text. IsRefusedIn text line)
+  read_refused None now new p bytes line has taken s = tt
+  read_refused (Some text) None new p bytes line has taken s = absurd has
+  read_refused (Some text) (Some now) None p bytes line has taken s = absurd taken
+  read_refused (Some text) (Some now) (Some new) p bytes line (front, is, number, says) taken s = (
+    front ++ s.front,
+    s.byte ∷ (s.rest ++ new),
+    is ∙ ap (λ rest. front ++ rest) (taken ∙ ap (λ b. b ++ new) s.all ∙ append_assoc s.front (s.byte ∷ s.rest) new)
+        ∙ sym (append_assoc front s.front (s.byte ∷ (s.rest ++ new))),
+    s.number ∙ ap (λ n. line_on n s.front) number ∙ sym (line_on-append 1 front s.front),
+    λ more. ap problem_of (append_assoc front s.front (s.byte ∷ more)) ∙ says (s.front ++ s.byte ∷ more)
+        ∙ ap (problem_from p.parser) (sym (append_assoc s.front (s.byte ∷ []) more)) ∙ s.nothing more,
+  )
 
   -- the end
-  pub says_all : (old now new : Option (List ℕ)) (p : Parser A) (problem : Option Problem) → SaysFrom old now p → Consumes now new []
-      → IsAtEnd new → problem_from p [] ≡ problem → IfSome old (λ text. problem_of text ≡ problem)
-  says_all None now new p problem says taken end e = tt
-  says_all (Some text) None new p problem says taken end e = absurd says
-  says_all (Some text) (Some now) None p problem says taken end e = absurd taken
-  says_all (Some text) (Some now) (Some new) p problem says taken end e = says ∙ ap (problem_from p) (taken ∙ end) ∙ e
+  pub read_all : (old now new : Option (List ℕ)) (p : Numbered A) (problem : Option Problem) → HasRead old now p → Consumes now new []
+      → IsAtEnd new → problem_from p.parser [] ≡ problem → IfSome old (λ text. problem_of text ≡ problem)
+  read_all None now new p problem has taken end e = tt
+  read_all (Some text) None new p problem has taken end e = absurd has
+  read_all (Some text) (Some now) None p problem has taken end e = absurd taken
+  read_all (Some text) (Some now) (Some new) p problem (front, is, number, says) taken end e =
+      ap problem_of (is ∙ ap (λ rest. front ++ rest) (taken ∙ end)) ∙ says [] ∙ e
+
+  pub read_all-refused : (old now new : Option (List ℕ)) (p : Numbered A) (line : ℕ) → HasRead old now p → Consumes now new []
+      → IsAtEnd new → (line ≡ p.line) × (problem_from p.parser [] ≡ None) → IfSome old (λ text. IsRefusedIn text line)
+  read_all-refused None now new p line has taken end e = tt
+  read_all-refused (Some text) None new p line has taken end e = absurd has
+  read_all-refused (Some text) (Some now) None p line has taken end e = absurd taken
+  read_all-refused (Some text) (Some now) (Some new) p line (front, is, number, says) taken end (same, none) = (
+    front,
+    [],
+    is ∙ ap (λ rest. front ++ rest) (taken ∙ end),
+    same ∙ number,
+    ap problem_of (sym (append-nil front)) ∙ says [] ∙ none,
+  )

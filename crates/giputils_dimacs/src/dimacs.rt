@@ -3,6 +3,7 @@
 pub mod answers;
 pub mod error;
 mod instance;
+mod lines;
 mod parser;
 pub mod progress;
 pub mod reader;

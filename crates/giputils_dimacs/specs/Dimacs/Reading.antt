@@ -3,10 +3,11 @@ use Rattle.std.specs.Prelude.{◌≡◌, ℕ, ◌==◌, ◌&&◌, Bool, true, fa
 use Rattle.std.specs.List.{flat_map, AllPass}
 use Rattle.std.specs.Option.{option_map, option_and_then}
 use Rattle.giputils_sat.specs.Formulas.{Clause, Formula}
-use Rattle.giputils_dimacs.specs.Dimacs.Texts.{Word, Problem, ends_line, is_blank, says, word_lines, number_of, item_of, clauses_after, header_of, problem_of}
+use Rattle.giputils_dimacs.specs.Dimacs.Texts.{Word, Problem, ends_line, is_blank, says, word_lines, number_of, item_of, clauses_after, header_of, problem_of, line_on}
 use Rattle.giputils_dimacs.specs.declared.dimacs.stage.Header.{Header}
 use Rattle.giputils_dimacs.specs.declared.dimacs.stage.Stage.{Stage}
 use Rattle.giputils_dimacs.specs.declared.dimacs.stage.Stage.TheVariants as stage
+use Rattle.giputils_dimacs.specs.declared.dimacs.lines.Numbered.{Numbered}
 use Rattle.giputils_dimacs.specs.declared.dimacs.parser.Parser.{Parser}
 use Rattle.giputils_dimacs.specs.declared.dimacs.error.Stop.{Stop}
 use Rattle.giputils_dimacs.specs.declared.dimacs.error.Stop.TheVariants.{Memory, Refused}
@@ -151,8 +152,19 @@ abbrev pub OnRefusal : Type 0 → Stop → Type 0
 OnRefusal P Memory = ⊤
 OnRefusal P (Refused reason) = P
 
--- a reader that had a text has left what the parser leaves to say, where its bytes are known
-abbrev pub SaysFrom : {A : Type 0} → Option (List ℕ) → Option (List ℕ) → Parser A → Type 0
-SaysFrom None now p = ⊤
-SaysFrom (Some text) None p = ⊥
-SaysFrom (Some text) (Some rest) p = problem_of text ≡ problem_from p rest
+-- some of the bytes lead to this line, and with the next one nothing is said
+pub record IsStopped {A : Type 0} (old : Numbered A) (bytes : List ℕ) (line : ℕ) : Type 0 where
+  pub front : List ℕ
+  pub byte : ℕ
+  pub rest : List ℕ
+  pub all : bytes ≡ front ++ byte ∷ rest
+  pub number : line ≡ line_on old.line front
+  pub nothing : SaysNothing old.parser (front ++ byte ∷ [])
+
+-- where a reader that had a text has this rest, the parser has read what stood before it, and counted its lines
+abbrev pub HasRead : {A : Type 0} → Option (List ℕ) → Option (List ℕ) → Numbered A → Type 0
+HasRead None now p = ⊤
+HasRead (Some text) None p = ⊥
+HasRead (Some text) (Some rest) p =
+    (front : List ℕ) × (text ≡ front ++ rest) × (p.line ≡ line_on 1 front)
+    × ((more : List ℕ) → problem_of (front ++ more) ≡ problem_from p.parser more)

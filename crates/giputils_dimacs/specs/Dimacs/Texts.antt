@@ -1,5 +1,5 @@
 -- What a text in the DIMACS form says.
-use Rattle.std.specs.Prelude.{ℕ, ◌-◌, ◌==◌, ◌&&◌, ◌||◌, Bool, true, false, not, List, [], ◌∷◌, ◌++◌, length, drop, filter, map, nat_lt, nat_le, slice_index, if◌then◌else◌, codes, Option, Some, None}
+use Rattle.std.specs.Prelude.{◌≡◌, ℕ, ◌+◌, ◌-◌, ◌^◌, min, ◌==◌, ◌&&◌, ◌||◌, Bool, true, false, not, List, [], ◌∷◌, ◌++◌, length, drop, filter, map, nat_lt, nat_le, slice_index, if◌then◌else◌, codes, Option, Some, None}
 use Rattle.std.specs.List.{slice_split, flat_map}
 use Rattle.std.specs.Option.{option_map, option_and_then}
 use Rattle.std.specs.Str.{all_ascii_digits, bytes_eq}
@@ -103,3 +103,22 @@ problem_in (header ∷ lines) = problem_after (flat_map (λ words. words) lines)
 -- the problem that a text writes, if it has the form; blank lines and comments say nothing
 abbrev pub problem_of : List ℕ → Option Problem
 problem_of text = problem_in (filter says (word_lines text))
+
+-- the number of the line after a byte: a line end leads to the next one, as far as numbers go
+abbrev pub line_after : ℕ → ℕ → ℕ
+line_after line byte = if ends_line byte then min (line + 1) (2 ^ 64 - 1) else line
+
+-- the number of the line after some bytes
+abbrev pub line_on : ℕ → List ℕ → ℕ
+line_on line [] = line
+line_on line (byte ∷ bytes) = line_on (line_after line byte) bytes
+
+-- no text that goes on with the same byte after `front` has the form; or `front` is the whole text, and has not the form
+abbrev pub IsRefusedAfter : List ℕ → List ℕ → Type 0
+IsRefusedAfter front [] = problem_of front ≡ None
+IsRefusedAfter front (byte ∷ rest) = (more : List ℕ) → problem_of (front ++ byte ∷ more) ≡ None
+
+-- a text is refused after some of its bytes, which lead to the line of this number; lines count from 1
+abbrev pub IsRefusedIn : List ℕ → ℕ → Type 0
+IsRefusedIn text line =
+    (front : List ℕ) × (rest : List ℕ) × (text ≡ front ++ rest) × (line ≡ line_on 1 front) × IsRefusedAfter front rest

@@ -1,11 +1,11 @@
 //! A parser that is given a text in parts.
-ghost use Rattle.std.specs.Prelude.{◌≡◌, ◌<◌, ◌++◌, ◌∷◌, [], ℕ, Bool, true, false, List, length, slice_index, ◌==◌, Some, None, IfOk, IfErr, OnOk, OnErr, IsErrOf};
+ghost use Rattle.std.specs.Prelude.{◌≡◌, ◌<◌, ◌++◌, ◌∷◌, [], ℕ, Bool, true, false, List, length, slice_index, ◌==◌, Some, None, IfOk, IfErr, OnOk, OnErr};
 ghost use Rattle.giputils_dimacs.specs.Dimacs.Answers.{KnowsGiven};
 ghost use Rattle.giputils_dimacs.specs.Dimacs.Texts.{problem_of};
 ghost use Rattle.giputils_dimacs.specs.Dimacs.Reading.{IsReading, OnRefusal, SaysOn, SaysNothing, begins_comment, begins_line, problem_from, problem_next, EndsWord, EndsNoWord, TakesWord, TakesNoWord};
 ghost use Rattle.giputils_dimacs.specs.declared.dimacs.stage.Stage.TheVariants.{Words};
 
-use crate::dimacs::error::{DimacsError, Reason, Stop};
+use crate::dimacs::error::{Reason, Stop};
 use crate::dimacs::instance::Instance;
 use crate::dimacs::stage::{Header, Stage, expect, next_line};
 use crate::dimacs::words::{Item, is_blank, item_in, number};
@@ -23,8 +23,6 @@ pub struct Parser<A: Allocator = Global> {
     pub word: Vec<u8, A>,
     pub stage: Stage,
     pub in_comment: bool,
-    // The number of the line.
-    pub line: usize,
 }
 
 impl<A: Allocator + Copy> Parser<A> {
@@ -40,30 +38,11 @@ impl<A: Allocator + Copy> Parser<A> {
             word: Vec::new(alloc),
             stage: Stage::Start,
             in_comment: false,
-            line: 1,
         }
-    }
-
-    // Reads some bytes more.
-    pub fn feed(&mut self, bytes: &[u8]) -> Result<(), DimacsError>
-        requires reading { IsReading self.old }
-        requires given { KnowsGiven self.old.solver }
-        ensures reading { OnOk result (IsReading self.new) }
-        ensures given { OnOk result (KnowsGiven self.new.solver) }
-        ensures ok { OnOk result (SaysOn self.old bytes.now self.new) }
-        ensures line { (line : ℕ) (reason : Reason) → IsErrOf result (DimacsError.Line line reason) →
-            SaysNothing self.old bytes.now }
-    {
-        for byte in bytes {
-            if let Err(stop) = self.byte(*byte) {
-                return Err(stop.at(self.line));
-            }
-        }
-        Ok(())
     }
 
     // Reads a byte more.
-    fn byte(&mut self, byte: u8) -> Result<(), Stop>
+    pub fn byte(&mut self, byte: u8) -> Result<(), Stop>
         requires reading { IsReading self.old }
         requires given { KnowsGiven self.old.solver }
         ensures reading { OnOk result (IsReading self.new) }
@@ -107,7 +86,6 @@ impl<A: Allocator + Copy> Parser<A> {
         self.in_comment = false;
         self.end_word()?;
         self.stage = next_line(self.stage)?;
-        self.line = self.line.saturating_add(1);
         Ok(())
     }
 
@@ -182,38 +160,32 @@ impl<A: Allocator + Copy> Parser<A> {
     }
 
     // The number of variables and the clauses, where the text has ended.
-    pub fn finish(mut self) -> Result<Instance<A>, DimacsError>
+    pub fn finish(mut self) -> Result<Instance<A>, Stop>
         requires reading { IsReading self }
         requires given { KnowsGiven self.solver }
         ensures given { IfOk result (λ f. KnowsGiven f.solver) }
         ensures ok { IfOk result (λ f. problem_from self [] ≡
             Some (record { variables = f.variables; clauses = f.solver.formula })) }
-        ensures line { (line : ℕ) (reason : Reason) → IsErrOf result (DimacsError.Line line reason) →
-            problem_from self [] ≡ None }
+        ensures err { IfErr result (OnRefusal (problem_from self [] ≡ None)) }
     {
         self.in_comment = false;
-        match self.end_word() {
-            Ok(()) => self.close(),
-            Err(stop) => Err(stop.at(self.line)),
-        }
+        self.end_word()?;
+        Ok(self.close()?)
     }
 
     // The formula, where the text may end.
-    fn close(self) -> Result<Instance<A>, DimacsError>
+    fn close(self) -> Result<Instance<A>, Reason>
         requires given { KnowsGiven self.solver }
         ensures given { IfOk result (λ f. KnowsGiven f.solver) }
         ensures ok { IfOk result (λ f. problem_next self [] [] ≡
             Some (record { variables = f.variables; clauses = f.solver.formula })) }
-        ensures line { (line : ℕ) (reason : Reason) → IsErrOf result (DimacsError.Line line reason) →
-            problem_next self [] [] ≡ None }
+        ensures err { OnErr result (problem_next self [] [] ≡ None) }
     {
-        match self.ended() {
-            Ok(variables) => Ok(Instance {
-                variables,
-                solver: self.solver,
-            }),
-            Err(reason) => Err(DimacsError::Line(self.line, reason)),
-        }
+        let variables = self.ended()?;
+        Ok(Instance {
+            variables,
+            solver: self.solver,
+        })
     }
 
     // The number of variables, where the text may end.

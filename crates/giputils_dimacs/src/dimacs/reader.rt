@@ -2,11 +2,11 @@
 ghost use Rattle.std.specs.Prelude.{◌≡◌, Some, None, ℕ, vec_len, IfOk, OnOk, IfSome, IsErrOf};
 ghost use Rattle.std.specs.Io.KnownBytes.{IsAtEnd};
 ghost use Rattle.giputils_dimacs.specs.Dimacs.Answers.{KnowsGiven};
-ghost use Rattle.giputils_dimacs.specs.Dimacs.Texts.{problem_of};
+ghost use Rattle.giputils_dimacs.specs.Dimacs.Texts.{problem_of, IsRefusedIn};
 
 use crate::dimacs::error::{DimacsError, Reason};
 use crate::dimacs::instance::Instance;
-use crate::dimacs::parser::Parser;
+use crate::dimacs::lines::Numbered;
 use std::alloc::{AllocError, Allocator};
 use std::io::Read;
 
@@ -31,9 +31,11 @@ pub fn read_instance<R: Read, A: Allocator + Copy>(
     ensures given { IfOk result (λ f. KnowsGiven f.solver) }
     ensures line { (line : ℕ) (reason : Reason) → IsErrOf result (DimacsError.Line line reason) →
         IfSome (R.remaining reader.old) (λ text. problem_of text ≡ None) }
+    ensures in_line { (line : ℕ) (reason : Reason) → IsErrOf result (DimacsError.Line line reason) →
+        IfSome (R.remaining reader.old) (λ text. IsRefusedIn text line) }
 {
     let mut buf = zeros(alloc, BUFFER_SIZE)?;
-    let mut parser = Parser::new(alloc);
+    let mut parser = Numbered::new(alloc);
     for _ in 0..u64::MAX {
         let Ok(n) = reader.read(&mut buf) else {
             return Err(DimacsError::Input);

@@ -1,7 +1,7 @@
 //! The whole task: from the bytes of a text to those of an answer.
 ghost use Rattle.std.specs.Prelude.{◌≡◌, ◌≢◌, ℕ, IfOk, IfErr, OnOk, IfSome, IsErrOf, IsTrue, is_some};
 ghost use Rattle.std.specs.Io.KnownBytes.{IsAtEnd};
-ghost use Rattle.giputils_dimacs.specs.Dimacs.Texts.{problem_of};
+ghost use Rattle.giputils_dimacs.specs.Dimacs.Texts.{problem_of, IsRefusedIn};
 ghost use Rattle.giputils_dimacs.specs.Dimacs.Answers.{WritesAnswer};
 
 use crate::dimacs::answers::{Solved, answer_text};
@@ -38,9 +38,11 @@ pub fn solve_text<A: Allocator + Copy, R: Read, W: Write, P: Progress<A>>(
     ensures formula { IfOk result (λ solved. IfSome (R.remaining reader.old) (λ text. IfSome (problem_of text)
         (λ problem. solved.solver.formula ≡ problem.clauses))) }
 
-    // When the text is refused, and what was written then.
+    // When the text is refused, in which line, and what was written then.
     ensures line { (line : ℕ) (reason : Reason) → IsErrOf result (DimacsError.Line line reason) →
         IfSome (R.remaining reader.old) (λ text. problem_of text ≡ None) }
+    ensures in_line { (line : ℕ) (reason : Reason) → IsErrOf result (DimacsError.Line line reason) →
+        IfSome (R.remaining reader.old) (λ text. IsRefusedIn text line) }
     ensures unwritten { IfErr result (λ error. error ≢ DimacsError.Output → writer.new ≡ writer.old) }
 {
     let mut instance = read_instance(alloc, reader)?;

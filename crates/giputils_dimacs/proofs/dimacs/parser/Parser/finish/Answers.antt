@@ -1,29 +1,31 @@
 -- The word ends, and then the text.
-use Rattle.std.proofs.Common.{◌≡◌, List, [], ◌∙◌, ap, None, Err}
-use Rattle.std.proofs.lemmas.Result.{IfOk-weaker}
+use Rattle.std.proofs.Common.{◌≡◌, List, [], ◌∙◌, None}
 use Rattle.giputils_dimacs.specs.Dimacs.Texts.{Word}
-use Rattle.giputils_dimacs.specs.Dimacs.Reading.{problem_next, with_word}
+use Rattle.giputils_dimacs.specs.Dimacs.Reading.{problem_from, problem_next, with_word}
+use Rattle.giputils_dimacs.specs.declared.dimacs.error.Stop.TheVariants.{Refused}
 use Rattle.giputils_dimacs.proofs.Stages.{ended_all}
-use Rattle.giputils_dimacs.proofs.Outcomes.{refused_at}
+use Rattle.giputils_dimacs.proofs.Outcomes.{passed_on}
 use Rattle.giputils_dimacs.proofs.dimacs.parser.Parser.finish.Goals as goal
 
-pub returns-in-Ok-clause-ok : goal.returns-in-Ok-clause-ok
-returns-in-Ok-clause-ok g c =
+pub returns-in_err-end_word-clause-err : goal.returns-in_err-end_word-clause-err
+returns-in_err-end_word-clause-err g c =
     let p = c.args.self in
-    let all = ended_all p.solver.formula p.clause.items p.in_comment p.stage p.word.items c.requires.reading in
-    let said = c.in-Ok.ensures.ok [] [] in
-    IfOk-weaker c.close.result _ _ (λ f h. all ∙ said ∙ h) c.close.ensures.ok
+    passed_on ((words : List Word) (lines : List (List Word)) → problem_next p (with_word p.word.items words) lines ≡ None)
+    (problem_from p [] ≡ None) c.from_residual.result _
+    (λ h. ended_all p.solver.formula p.clause.items p.in_comment p.stage p.word.items c.requires.reading ∙ h [] [])
+    c.from_residual.ensures c.in_err-end_word.ensures.err
 
-pub returns-in-Ok-clause-line : goal.returns-in-Ok-clause-line
-returns-in-Ok-clause-line g c line reason is =
+pub returns-in_err-close-clause-err : goal.returns-in_err-close-clause-err
+returns-in_err-close-clause-err g c =
     let p = c.args.self in
-    ended_all p.solver.formula p.clause.items p.in_comment p.stage p.word.items c.requires.reading ∙ c.in-Ok.ensures.ok [] []
-    ∙ c.close.ensures.line line reason is
+    let nothing : problem_from p [] ≡ None =
+    ended_all p.solver.formula p.clause.items p.in_comment p.stage p.word.items c.requires.reading
+    ∙ c.in_ok-end_word.ensures.ok [] [] ∙ c.in_err-close.ensures.err in
+    passed_on (problem_from p [] ≡ None) (problem_from p [] ≡ None) c.from_residual-in_err-close.result (Refused c.in_err-close.field-0.0) (λ h. h)
+    c.from_residual-in_err-close.ensures nothing
 
-pub returns-in-Err-clause-line : goal.returns-in-Err-clause-line
-returns-in-Err-clause-line g c line reason is =
+pub returns-clause-ok : goal.returns-clause-ok
+returns-clause-ok g c =
     let p = c.args.self in
-    let refused =
-    refused_at ((words : List Word) (lines : List (List Word)) → problem_next p (with_word p.word.items words) lines ≡ None) _
-    c.in-Err.stop c.end_word.new.self.line line reason (ap (λ e. Err e) c.at.ensures) is c.in-Err.ensures.err in
-    ended_all p.solver.formula p.clause.items p.in_comment p.stage p.word.items c.requires.reading ∙ refused [] []
+    ended_all p.solver.formula p.clause.items p.in_comment p.stage p.word.items c.requires.reading
+    ∙ c.in_ok-end_word.ensures.ok [] [] ∙ c.in_ok-close.ensures.ok

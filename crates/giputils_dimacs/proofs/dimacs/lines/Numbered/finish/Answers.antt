@@ -1,0 +1,10 @@
+-- The line of the end.
+use Rattle.std.proofs.Common.{◌≡◌, [], ap, Err, None}
+use Rattle.giputils_dimacs.specs.Dimacs.Reading.{problem_from}
+use Rattle.giputils_dimacs.proofs.Outcomes.{refused_at}
+use Rattle.giputils_dimacs.proofs.dimacs.lines.Numbered.finish.Goals as goal
+
+pub returns-in-Err-clause-stopped : goal.returns-in-Err-clause-stopped
+returns-in-Err-clause-stopped g c line reason is =
+    refused_at (problem_from c.args.self.parser [] ≡ None) _ c.in-Err.stop c.args.self.line line reason (ap (λ e. Err e) c.at.ensures) is
+    c.in-Err.ensures.err

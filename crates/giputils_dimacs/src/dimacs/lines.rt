@@ -1,0 +1,80 @@
+//! A parser that knows in which line it is.
+ghost use Rattle.std.specs.Prelude.{◌≡◌, [], ℕ, List, Some, None, IfOk, OnOk, IsErrOf};
+ghost use Rattle.giputils_dimacs.specs.Dimacs.Answers.{KnowsGiven};
+ghost use Rattle.giputils_dimacs.specs.Dimacs.Texts.{problem_of, line_after, line_on};
+ghost use Rattle.giputils_dimacs.specs.Dimacs.Reading.{IsReading, IsStopped, SaysOn, problem_from};
+
+use crate::dimacs::error::{DimacsError, Reason};
+use crate::dimacs::instance::Instance;
+use crate::dimacs::parser::Parser;
+use std::alloc::{Allocator, Global};
+
+// A parser, and the number of the line that it reads.
+#[derive(Drop)]
+pub struct Numbered<A: Allocator = Global> {
+    pub parser: Parser<A>,
+    pub line: usize,
+}
+
+impl<A: Allocator + Copy> Numbered<A> {
+    // Before a text.
+    pub fn new(alloc: A) -> Self
+        ensures reading { IsReading result.parser }
+        ensures given { KnowsGiven result.parser.solver }
+        ensures line { result.line ≡ 1 }
+        ensures all { (text : List ℕ) → problem_from result.parser text ≡ problem_of text }
+    {
+        Numbered {
+            parser: Parser::new(alloc),
+            line: 1,
+        }
+    }
+
+    // Reads some bytes more.
+    pub fn feed(&mut self, bytes: &[u8]) -> Result<(), DimacsError>
+        requires reading { IsReading self.old.parser }
+        requires given { KnowsGiven self.old.parser.solver }
+        ensures reading { OnOk result (IsReading self.new.parser) }
+        ensures given { OnOk result (KnowsGiven self.new.parser.solver) }
+        ensures ok { OnOk result (SaysOn self.old.parser bytes.now self.new.parser) }
+        ensures line { OnOk result (self.new.line ≡ line_on self.old.line bytes.now) }
+        ensures stopped { (line : ℕ) (reason : Reason) → IsErrOf result (DimacsError.Line line reason) →
+            IsStopped self.old bytes.now line }
+    {
+        for byte in bytes {
+            if let Err(stop) = self.parser.byte(*byte) {
+                return Err(stop.at(self.line));
+            }
+            self.line = line_after(self.line, *byte);
+        }
+        Ok(())
+    }
+
+    // The number of variables and the clauses, where the text has ended.
+    pub fn finish(self) -> Result<Instance<A>, DimacsError>
+        requires reading { IsReading self.parser }
+        requires given { KnowsGiven self.parser.solver }
+        ensures given { IfOk result (λ f. KnowsGiven f.solver) }
+        ensures ok { IfOk result (λ f. problem_from self.parser [] ≡
+            Some (record { variables = f.variables; clauses = f.solver.formula })) }
+        ensures stopped { (line : ℕ) (reason : Reason) → IsErrOf result (DimacsError.Line line reason) →
+            (line ≡ self.line) × (problem_from self.parser [] ≡ None) }
+    {
+        let line = self.line;
+        match self.parser.finish() {
+            Ok(instance) => Ok(instance),
+            Err(stop) => Err(stop.at(line)),
+        }
+    }
+}
+
+// The number of the line after a byte.
+fn line_after(line: usize, byte: u8) -> usize
+    ensures { result ≡ line_after line byte }
+{
+    if byte == b'\n' {
+        line.saturating_add(1)
+    } else {
+        line
+    }
+}
