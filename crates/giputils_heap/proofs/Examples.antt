@@ -4,12 +4,17 @@ use Rattle.std.proofs.Common.{◌≡◌, ℕ, ◌+◌, Bool, true, false, ◌||�
 use Rattle.std.specs.Prelude.{◌%◌, ◌==◌}
 use Rattle.std.specs.List.{IsDistinct}
 use Rattle.std.proofs.lemmas.Bool.{false≢true}
+use Rattle.std.proofs.lemmas.List.Sorted.{IsPermutation-refl, IsPermutation-to_front, length_permutation}
 use Rattle.std.specs.Ordering.{nat_cmp}
 use Rattle.giputils_heap.specs.Comparers.{by_number, reverse_of, by_rank, by_ord}
 use Rattle.giputils_heap.specs.Bounds.{floor_log2, drain_bound}
+use Rattle.giputils_heap.specs.Calls.{Builds, Drains, PushesOrUpdates}
+use Rattle.giputils_heap.specs.Keys.{HoldsAllBut, HoldsWithin}
 use Rattle.giputils_heap.specs.Record.{Entry, start, answers_from, is_steady, keeps_counts_from, record_of, held_before, KeepsSteps}
 use Rattle.giputils_heap.specs.Laws.{is_descending, PopUntilNone, ListsDownward}
 use Rattle.giputils_heap.specs.Relations.{is_total, is_transitive, is_lawful, agrees_except, has_no_ties, HasRisen, HasFallen, CanRepair}
+use Rattle.giputils_heap.proofs.HoldAlike.{HoldsAllBut-taken, HoldsWithin-cons}
+use Rattle.giputils_heap.proofs.OrderLaws.{IsInOrder-empty}
 use Rattle.giputils_heap.specs.declared.run.HeapCall.{HeapCall}
 use Rattle.giputils_heap.specs.declared.run.HeapCall.TheVariants.{Push, Pop, Up, Down, Update, Rebuild, Clear, Len, IsEmpty}
 use Rattle.giputils_heap.specs.declared.run.HeapReply.{HeapReply}
@@ -601,3 +606,48 @@ two_changed_ranks can = false≢true can.agrees
 of_eight_keys : drain_bound 8 ≡ 48
 unfolding floor_log2
 of_eight_keys = refl
+
+-- ---- keys as sets
+
+held_within : HoldsWithin number (2 ∷ []) (1 ∷ 2 ∷ [])
+held_within = HoldsWithin-cons number 1 (2 ∷ []) (2 ∷ []) (λ q here. here)
+
+one_is_not_within : HoldsWithin number (1 ∷ 2 ∷ []) (2 ∷ []) → ⊥
+one_is_not_within within = false≢true (within 1 refl)
+
+held_but_for_two : HoldsAllBut number 2 (2 ∷ 1 ∷ []) (1 ∷ [])
+held_but_for_two = HoldsAllBut-taken number 2 (2 ∷ 1 ∷ []) (1 ∷ []) (IsPermutation-refl (2 ∷ 1 ∷ [])) refl
+
+two_is_held_still : HoldsAllBut number 2 (2 ∷ 1 ∷ []) (2 ∷ 1 ∷ []) → ⊥
+two_is_held_still but = false≢true (sym (but 2))
+
+one_is_lost_too : HoldsAllBut number 2 (2 ∷ 1 ∷ []) [] → ⊥
+one_is_lost_too but = false≢true (but 1)
+
+-- ---- what calls come to
+
+pushes_nothing : PushesOrUpdates number (by_number number) 3 [] [] → ⊥
+pushes_nothing p = false≢true p.holds
+
+pushes_another_key_too : PushesOrUpdates number (by_number number) 3 [] (3 ∷ 2 ∷ []) → ⊥
+pushes_another_key_too p = false≢true (p.within 2 refl)
+
+drained : Drains number (by_number number) (2 ∷ 3 ∷ []) (3 ∷ 2 ∷ [])
+unfolding IsDistinct
+drained = record {
+  keys = IsPermutation-to_front (2 ∷ []) 3;
+  each_once = ((refl, tt), (tt, tt));
+  falling = λ ordered lawful. refl;
+}
+
+drains_a_key_less : Drains number (by_number number) (2 ∷ 3 ∷ []) (3 ∷ []) → ⊥
+drains_a_key_less d = let same = length_permutation (2 ∷ 3 ∷ []) (3 ∷ []) d.keys in omega (arith, same)
+
+built_of_nothing : Builds number (by_number number) [] []
+built_of_nothing = record { alike = λ q. refl; in_order = λ lawful. IsInOrder-empty (by_number number) }
+
+builds_a_key_less : Builds number (by_number number) (2 ∷ 3 ∷ []) (3 ∷ []) → ⊥
+builds_a_key_less b = false≢true (b.alike 2)
+
+builds_another_key_too : Builds number (by_number number) (3 ∷ []) (3 ∷ 2 ∷ []) → ⊥
+builds_another_key_too b = false≢true (sym (b.alike 2))

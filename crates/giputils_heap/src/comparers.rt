@@ -2,9 +2,6 @@
 ghost use Rattle.std.specs.Prelude.{◌≡◌};
 ghost use Rattle.giputils_heap.specs.Comparers.{by_number, reverse_of, rank_of, by_rank, by_ord};
 
-#[cfg(test)]
-mod tests;
-
 use crate::key::{BinaryHeapCmp, HeapKey};
 use std::cmp::Reverse;
 

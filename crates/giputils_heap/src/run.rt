@@ -5,9 +5,6 @@ ghost use Rattle.giputils_heap.specs.Bounds.{count_limit};
 ghost use Rattle.giputils_heap.specs.Laws.{AnswersAtEachStep, KeepsCountsAtEachStep, PopsListDownward, OneOrderIsSteady};
 ghost use Rattle.giputils_heap.specs.Stands.{Stands};
 
-#[cfg(test)]
-mod tests;
-
 use crate::counting::Counting;
 use crate::heap::BinaryHeap;
 use crate::key::{BinaryHeapCmp, HeapKey};

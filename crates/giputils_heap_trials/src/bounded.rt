@@ -1,8 +1,10 @@
-//! Bounded heaps, which ask for memory where they are made and nowhere else, and lists of all keys.
+//! Bounded heaps: their calls at concrete types, and that they ask for memory where they are made and nowhere else; and
+//! lists of all keys.
 
-use giputils_heap::{BinaryHeap, BoundedHeap, ByNumber, Counting};
+use giputils_heap::{BinaryHeap, BoundedHeap, ByNumber, ByRank, Counting};
 use giputils_refusing::{Refusing, refuse_each};
-use std::alloc::AllocError;
+use std::alloc::{AllocError, Global};
+use std::cmp::Reverse;
 use std::test::Fail;
 
 fn is_made(memory: &Refusing) -> bool {
@@ -104,5 +106,94 @@ fn a_bounded_heap_takes_no_memory_once_it_is_made(rt: HostRuntime) -> Result<(),
     let built = build_of_two(&mut heap);
     heap.clear();
     assert_eq!(rt; (left, built, heap.len(), memory.requests()), (60, 2, 0, 2));
+    Ok(())
+}
+
+// Pushes the keys of a list that are below the bound.
+fn filled(alloc: Global, bound: u32, keys: &[u8]) -> Result<BoundedHeap<u8>, AllocError> {
+    let mut heap = BoundedHeap::with_bound(alloc, bound)?;
+    for key in keys {
+        if u32::from(*key) < heap.bound() {
+            heap.push(*key, &ByNumber);
+        }
+    }
+    Ok(heap)
+}
+
+// What a look and then a pop answer, four times.
+fn popped(heap: &mut BoundedHeap<u8>) -> [(Option<u8>, Option<u8>); 4] {
+    let mut answers = [(None, None); 4];
+    for answer in &mut answers {
+        *answer = (heap.peek(), heap.pop(&ByNumber));
+    }
+    answers
+}
+
+#[test]
+fn a_bounded_heap_holds_every_key_below_its_bound(rt: HostRuntime) -> Result<(), Fail> {
+    let mut heap = filled(rt.alloc(), 3, &[2, 3, 0, 1, 2])?;
+    let held = heap.len();
+    let answers = popped(&mut heap);
+    let wanted = [
+        (Some(2), Some(2)),
+        (Some(1), Some(1)),
+        (Some(0), Some(0)),
+        (None, None),
+    ];
+    assert_eq!(rt; (held, answers), (3, wanted));
+    Ok(())
+}
+
+// The keys of a heap whose bound was raised for one of them, and whether none is left.
+fn raised(alloc: Global) -> Result<(Vec<u8>, bool), AllocError> {
+    let mut heap = filled(alloc, 2, &[0, 1])?;
+    heap.raise_bound(5)?;
+    if 4 < heap.bound() {
+        heap.push(4, &ByNumber);
+    }
+    Ok((heap.drain_sorted(alloc, &ByNumber)?, heap.is_empty()))
+}
+
+#[test]
+fn a_raised_bound_leaves_the_keys(rt: HostRuntime) -> Result<(), Fail> {
+    let (keys, is_empty) = raised(rt.alloc())?;
+    assert_eq!(rt; (keys.as_slice(), is_empty), ([4, 1, 0].as_slice(), true));
+    Ok(())
+}
+
+// The ranks of 0 and 1 have changed places.
+fn repaired(alloc: Global) -> Result<Vec<u8>, AllocError> {
+    let mut heap = filled(alloc, 4, &[0, 1, 2, 3])?;
+    let changed = ByRank(&[8, 7, 2, 3]);
+    heap.up(0, &changed);
+    heap.up(1, &changed);
+    if heap.remove(3, &changed) && heap.bound() == 4 {
+        heap.push_or_update(0, &changed);
+        heap.push_or_update(3, &changed);
+    }
+    heap.drain_sorted(alloc, &changed)
+}
+
+#[test]
+fn a_bounded_heap_repairs_changed_ranks(rt: HostRuntime) -> Result<(), Fail> {
+    let keys = repaired(rt.alloc())?;
+    assert_eq!(rt; keys.as_slice(), [0, 1, 3, 2].as_slice());
+    Ok(())
+}
+
+// Built anew by number, and rebuilt the other way round.
+fn rebuilt(alloc: Global) -> Result<Vec<u8>, AllocError> {
+    let mut heap = filled(alloc, 4, &[0, 1, 2, 3])?;
+    if heap.bound() == 4 {
+        heap.build(&[1, 3, 1, 2, 0], &ByNumber);
+    }
+    heap.rebuild(&Reverse(ByNumber));
+    heap.drain_sorted(alloc, &Reverse(ByNumber))
+}
+
+#[test]
+fn any_state_of_a_bounded_heap_can_be_rebuilt(rt: HostRuntime) -> Result<(), Fail> {
+    let keys = rebuilt(rt.alloc())?;
+    assert_eq!(rt; keys.as_slice(), [0, 1, 2, 3].as_slice());
     Ok(())
 }

@@ -1,16 +1,16 @@
 //! Comparers without laws.
 ghost use Rattle.std.specs.Prelude.{◌+◌, ◌-◌, ◌%◌, nat_le};
 
-use giputils_heap::BinaryHeapCmp;
+use giputils_heap::{BinaryHeapCmp, HeapKey};
 
 /// One answer to all questions. No order: either every key is at least every other, or no key is even at least itself.
 #[derive(Clone, Copy)]
 pub(crate) struct Constant(pub(crate) bool);
 
-impl BinaryHeapCmp<u32> for Constant {
+impl<T: HeapKey> BinaryHeapCmp<T> for Constant {
     ghost at_least = { λ constant _ _. constant.0 };
 
-    fn gte(&self, _: u32, _: u32) -> bool {
+    fn gte(&self, _: T, _: T) -> bool {
         self.0
     }
 }
@@ -19,10 +19,10 @@ impl BinaryHeapCmp<u32> for Constant {
 /// transitive.
 pub(crate) struct Circle;
 
-impl BinaryHeapCmp<u32> for Circle {
-    ghost at_least = { λ _ s o. nat_le ((s % 3 + 3 - o % 3) % 3) 1 };
+impl<T: HeapKey> BinaryHeapCmp<T> for Circle {
+    ghost at_least = { λ _ s o. nat_le ((T.number s % 3 + 3 - T.number o % 3) % 3) 1 };
 
-    fn gte(&self, s: u32, o: u32) -> bool {
-        (s % 3 + 3 - o % 3) % 3 <= 1
+    fn gte(&self, s: T, o: T) -> bool {
+        (s.key() % 3 + 3 - o.key() % 3) % 3 <= 1
     }
 }

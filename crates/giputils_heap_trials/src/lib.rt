@@ -1,12 +1,15 @@
-//! A plain heap over a list, and tests of the heap: against the plain one, through every order of some calls, and where
-//! memory is refused.
+//! A plain heap over a list, and all tests of the heap: its calls at concrete types, against the plain one, through
+//! every order of some calls, and where memory is refused.
 //!
-//! The tests hold what no clause can say: that a call answers want of memory only where a request was refused, and that
-//! some calls make no request. They stand apart from the library, so that it is not proved twice for them.
+//! The tests hold what no clause can say: that a call answers want of memory only where a request was refused, that
+//! some calls make no request, and that the plain calls ask no oftener than the counted ones. They stand apart from the
+//! library, so that it is not proved twice for them.
 #![tactic(auto)]
 
 #[cfg(test)]
 mod bounded;
+#[cfg(test)]
+mod calls;
 #[cfg(test)]
 mod comparers;
 #[cfg(test)]
@@ -16,5 +19,9 @@ pub mod list_heap;
 mod orders;
 #[cfg(test)]
 mod refusals;
+#[cfg(test)]
+mod runs;
+#[cfg(test)]
+mod shipped;
 
 pub use list_heap::ListHeap;

@@ -153,38 +153,56 @@ fn a_key_that_was_refused_memory_is_not_held(rt: HostRuntime) -> Result<(), Fail
     Ok(())
 }
 
+// Makes each call that repairs the place of a key.
+fn repair(heap: &mut BinaryHeap<u32, &Refusing>, key: u32) {
+    heap.up(key, &ByNumber);
+    heap.down(key, &ByNumber);
+    heap.update(key, &ByNumber);
+    heap.up_counted(key, &mut Counting::new(&ByNumber));
+    heap.down_counted(key, &mut Counting::new(&ByNumber));
+    heap.update_counted(key, &mut Counting::new(&ByNumber));
+}
+
+fn rebuild(heap: &mut BinaryHeap<u32, &Refusing>) {
+    heap.rebuild(&ByNumber);
+    heap.rebuild_counted(&mut Counting::new(&ByNumber));
+}
+
+fn push_held(heap: &mut BinaryHeap<u32, &Refusing>) -> Result<(), AllocError> {
+    heap.push(6, &ByNumber)?;
+    heap.push_counted(9, &mut Counting::new(&ByNumber))
+}
+
+fn found(heap: &BinaryHeap<u32, &Refusing>) -> ([bool; 3], Option<u32>, [usize; 2]) {
+    let held = [heap.contains(9), heap.contains(u32::MAX), heap.is_empty()];
+    (held, heap.peek(), [heap.len(), heap.elements().len()])
+}
+
+fn popped(heap: &mut BinaryHeap<u32, &Refusing>) -> [Option<u32>; 2] {
+    let first = heap.pop(&ByNumber);
+    [first, heap.pop_counted(&mut Counting::new(&ByNumber))]
+}
+
+fn removed(heap: &mut BinaryHeap<u32, &Refusing>) -> [bool; 2] {
+    let first = heap.remove(6, &ByNumber);
+    [first, heap.remove_counted(3, &mut Counting::new(&ByNumber))]
+}
+
 #[test]
 fn a_heap_pops_repairs_and_pushes_held_keys_in_place(rt: HostRuntime) -> Result<(), Fail> {
     let counted = Refusing::none(rt.alloc());
     drop(three_keys(&counted)?);
     let memory = Refusing::from(rt.alloc(), counted.requests().saturating_add(1));
     let mut heap = three_keys(&memory)?;
-    heap.push(6, &ByNumber)?;
-    heap.push_counted(9, &mut Counting::new(&ByNumber))?;
+    push_held(&mut heap)?;
     for key in [3, 6, 9, 10, 4_000_000_000, u32::MAX] {
-        heap.up(key, &ByNumber);
-        heap.down(key, &ByNumber);
-        heap.update(key, &ByNumber);
-        heap.up_counted(key, &mut Counting::new(&ByNumber));
-        heap.down_counted(key, &mut Counting::new(&ByNumber));
-        heap.update_counted(key, &mut Counting::new(&ByNumber));
+        repair(&mut heap, key);
     }
-    heap.rebuild(&ByNumber);
-    heap.rebuild_counted(&mut Counting::new(&ByNumber));
-    let found = (heap.contains(9), heap.contains(u32::MAX), heap.peek());
-    assert_eq!(rt; found, (true, false, Some(9)));
-    let lengths = (heap.len(), heap.is_empty(), heap.elements().len());
-    let popped = (
-        heap.pop(&ByNumber),
-        heap.pop_counted(&mut Counting::new(&ByNumber)),
-    );
-    let removed = (
-        heap.remove(6, &ByNumber),
-        heap.remove_counted(3, &mut Counting::new(&ByNumber)),
-    );
-    assert_eq!(rt; removed, (false, true));
+    rebuild(&mut heap);
+    assert_eq!(rt; found(&heap), ([true, false, false], Some(9), [3, 3]));
+    assert_eq!(rt; popped(&mut heap), [Some(9), Some(6)]);
+    assert_eq!(rt; removed(&mut heap), [false, true]);
     heap.clear();
-    assert_eq!(rt; (lengths, popped), ((3, false, 3), (Some(9), Some(6))));
     assert_eq!(rt; BinaryHeap::<u32, &Refusing>::new(&memory).len(), 0);
     assert_eq!(rt; memory.requests(), counted.requests());
     Ok(())

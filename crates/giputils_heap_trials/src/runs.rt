@@ -1,9 +1,7 @@
 //! Runs at concrete types.
 ghost use Rattle.std.specs.Prelude.{◌&&◌, nat_le};
 
-use super::{HeapCall, HeapReply, HeapStep, heap_run};
-use crate::comparers::{ByNumber, RankTable};
-use crate::key::BinaryHeapCmp;
+use giputils_heap::{BinaryHeapCmp, ByNumber, HeapCall, HeapReply, HeapStep, RankTable, heap_run};
 use std::alloc::{AllocError, Global};
 use std::test::Fail;
 

@@ -1,7 +1,6 @@
-//! The comparers at concrete types.
+//! The comparers of the library at concrete types.
 
-use super::{ByNumber, ByOrd, ByRank, RankTable};
-use crate::key::BinaryHeapCmp;
+use giputils_heap::{BinaryHeapCmp, ByNumber, ByOrd, ByRank, RankTable};
 use std::cmp::Reverse;
 
 #[test]
