@@ -26,7 +26,7 @@ fn outcome(alloc: Global, formula: &[u8], proof: &[u8]) -> Result<(Outcome, Vec<
 // Whether the proof is verified, and that is written.
 fn is_verified(alloc: Global, formula: &[u8], proof: &[u8]) -> bool {
     match outcome(alloc, formula, proof) {
-        Ok((Outcome::Verified, written)) => written.as_slice() == b"s VERIFIED\n",
+        Ok((Outcome::Verified, written)) => written.as_slice() == b"s VERIFIED\n".as_slice(),
         _ => false,
     }
 }
@@ -57,7 +57,7 @@ fn verifies_proofs(rt: HostRuntime) {
 fn refusal(alloc: Global, formula: &[u8], proof: &[u8]) -> Option<(usize, Flaw)> {
     match outcome(alloc, formula, proof) {
         Ok((Outcome::Refused(Refusal { line, flaw }), written)) => {
-            if written.as_slice() == b"s NOT VERIFIED\n" {
+            if written.as_slice() == b"s NOT VERIFIED\n".as_slice() {
                 Some((line, flaw))
             } else {
                 None
