@@ -1,3 +1,4 @@
+mod Examples
 mod Places
 mod Literals
 mod Forced
