@@ -1,0 +1,6 @@
+mod Examples
+mod Places
+mod Literals
+mod Forced
+mod Holding
+mod Failing
