@@ -17,13 +17,10 @@ module _ {T : Type 0} (number : T → ℕ) (v : T) (old new : List T) (moved : I
       (λ absent. sym (HoldAlike-IsPermutation number (v ∷ old) new (added absent) q)) (cases_Bool (is_held number old v))
 
   -- one more at most
-  length-renewed : length new ≤ length old + 1
+  pub length-renewed : length new ≤ length old + 1
   length-renewed =
       ⊎_elim (λ held. omega (arith, length_permutation old new (moved held))) (λ absent. omega (arith, length_permutation (v ∷ old) new (added absent)))
       (cases_Bool (is_held number old v))
-
-  pub renewed : HoldAlike number new (v ∷ old) × (length new ≤ length old + 1)
-  renewed = (HoldAlike-renewed, length-renewed)
 
 -- numbers of 16 bits may be
 pub AreBelow-16_bits : (keys : List ℕ) → ((i : ℕ) → Fits w16 (get_or keys i 0)) → AreBelow (λ k. k) key_limit keys

@@ -49,7 +49,7 @@ module _ (graph : Graph) where
     IsSearch far waiting node i = (slice_index far source ≡ 0) × IsFound far waiting node i
 
     -- a node comes nearer
-    module _ (v t : ℕ) (far waiting new waits : List ℕ) (node i : ℕ) (inside : v < length graph) (by : ComesNearer v t far waiting new waits)
+    module _ {v t : ℕ} {far waiting new waits : List ℕ} (node i : ℕ) (inside : v < length graph) (by : ComesNearer v t far waiting new waits)
         (found : IsFound far waiting node i) where
       reads : (u : ℕ) → ((eqb u v ≡ true) × (u ≡ v) × (slice_index new u ≡ t))
           ⊎ ((eqb u v ≡ false) × (u ≢ v) × (slice_index new u ≡ slice_index far u))
@@ -77,7 +77,7 @@ module _ (graph : Graph) where
         let costs : AreCosts graph source fresh = λ v below near. absurd (omega (arith, near, far v below)) in
         let found : IsFound fresh [] node i =
         ((length-replicate (length graph) farthest, costs), λ u k e at met. inl (omega (arith, edge_nodes ends u k e at, far e.0, far u))) in
-        let now = IsFound-nearer source 0 fresh [] new waits node i inside by found (λ near. ([], refl, refl)) in
+        let now = IsFound-nearer node i inside by found (λ near. ([], refl, refl)) in
         (rw by.now (get_or-set_same fresh source 0 0 (rw found.0.0 inside)), now)
 
     -- a node is taken that waits
@@ -93,18 +93,16 @@ module _ (graph : Graph) where
         → slice_get (edges_from graph node) i ≡ Some e → Relaxes node e far waiting new waits
         → IsSearch far waiting node i × (left_to_do far waiting ≤ most) → IsSearch new waits node (i + 1) × (left_to_do new waits ≤ most)
     IsSearch-next far waiting new waits node i most e ends at (along, inl (same, alike)) ((here, (found, done)), less) =
-        let kept = rw same at along in
-        rw (same, alike) ((here, (found, done-next _ _ _ _ node i done (λ f f_at. let is : e ≡ f = cc in rw (← is) kept))), less)
+        rw (same, alike) ((here, (found, done-next _ _ _ _ node i done (λ f f_at. let is : e ≡ f = cc in rw (← is) (rw same at along)))), less)
     IsSearch-next far waiting new waits node i most e ends at (along, inr by) ((here, found), less) =
         let t = min (slice_index far node + e.1) farthest in
         let nodes = edge_nodes ends node i e at in
-        let now = IsFound-nearer e.0 t far waiting new waits node i nodes.1 by found (λ near.
+        let now = IsFound-nearer node i nodes.1 by found (λ near.
         let (path, goes, sum) = found.0.1 node nodes.0 (omega (arith, near)) in
         (path ++ e ∷ [], walk-more (IsEdge graph) (λ f. f.0) source path node e goes (i, at), cost-append path e ∙ omega (arith, sum, near))) in
-        let fallen = falls e.0 t far waiting new waits node i nodes.1 by found source in
         let done = done-next _ _ _ _ node i now.1 (λ f f_at. let is : e ≡ f = cc in rw (← is) along) in
         let moved = sum_by-set (λ x. x) far e.0 t 0 (rw found.0.0 nodes.1) in
-        ((omega (arith, fallen, here), (now.0, done)), rw by.now (omega (arith, moved, by.nearer, by.queued.1, less)))
+        ((omega (arith, falls node i nodes.1 by found source, here), (now.0, done)), rw by.now (omega (arith, moved, by.nearer, by.queued.1, less)))
 
     -- where no node waits, each distance is least
     pub IsSearch-least : (far waiting : List ℕ) (was : ℕ) → length waiting ≡ 0
