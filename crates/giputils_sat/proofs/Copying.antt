@@ -1,5 +1,5 @@
 -- Some of the known clauses, copied.
-use Rattle.std.proofs.Common.{◌≡◌, ℕ, ◌+◌, ◌<◌, ◌≤◌, List, [], ◌∷◌, ◌++◌, length, take, Some, suc, zero, refl, sym, ap, subst, ◌∙◌, arith, ⊎_elim, Bool, true, false}
+use Rattle.std.proofs.Common.{◌≡◌, ℕ, ◌+◌, ◌≤◌, List, [], ◌∷◌, ◌++◌, length, take, Some, suc, zero, refl, sym, ap, subst, ◌∙◌, arith, ⊎_elim, Bool, true, false}
 use Rattle.std.specs.Prelude.{slice_get}
 use Rattle.std.proofs.lemmas.List.{length_push, length-take, take_all}
 use Rattle.giputils_sat.specs.Formulas.{Clause, Formula, Implies}

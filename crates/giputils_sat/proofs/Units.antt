@@ -1,5 +1,5 @@
 -- What no decision made true follows from the formula.
-use Rattle.std.proofs.Common.{◌≡◌, ◌≢◌, ℕ, ◌<◌, List, [], ◌∷◌, ◌++◌, length, Option, Some, None, suc, zero, refl, sym, ap, subst, ◌∙◌, arith, ⊎_elim, inl, inr, Bool, true}
+use Rattle.std.proofs.Common.{◌≡◌, ◌≢◌, ℕ, ◌<◌, List, [], ◌∷◌, ◌++◌, length, Option, Some, None, suc, zero, refl, sym, ap, subst, arith, ⊎_elim, inl, inr, Bool, true}
 use Rattle.std.specs.Prelude.{slice_get, Result, Ok, Err, OnOk, OnErr}
 use Rattle.std.proofs.lemmas.Bool.{cases_lt}
 use Rattle.std.proofs.lemmas.Option.{slice_get_within}
@@ -8,7 +8,7 @@ use Rattle.giputils_sat.specs.Literals.{Lit}
 use Rattle.giputils_sat.specs.Formulas.{Clause, Formula, Assignment, is_true, satisfies, Implies}
 use Rattle.giputils_sat.specs.Stores.{Known, AddsUnits, AreAmong}
 use Rattle.giputils_sat.specs.Trails.{IsTrail}
-use Rattle.giputils_sat.proofs.Places.{before_or_last, same_at}
+use Rattle.giputils_sat.proofs.Places.{before_or_last}
 use Rattle.giputils_sat.proofs.Following.{true_literal, satisfied_by}
 use Rattle.giputils_sat.proofs.Marking.{cases_literal, not_both}
 
