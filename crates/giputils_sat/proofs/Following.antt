@@ -1,11 +1,11 @@
 -- What follows from a formula.
-use Rattle.std.proofs.Common.{◌≡◌, ◌^◌, ℕ, ◌<◌, ◌≤◌, List, [], ◌∷◌, ◌++◌, length, take, Some, unwrap_or, suc, zero, refl, sym, ap, subst, ◌∙◌, arith, ⊎_elim, Bool, true, false}
+use Rattle.std.proofs.Common.{◌≡◌, ◌^◌, ◌+◌, ℕ, ◌<◌, ◌≤◌, List, [], ◌∷◌, ◌++◌, length, take, Some, unwrap_or, suc, zero, refl, sym, ap, subst, ◌∙◌, arith, ⊎_elim, Bool, true, false}
 use Rattle.giputils_sat.specs.Literals.{Lit}
 use Rattle.std.specs.Prelude.{slice_get}
 use Rattle.std.proofs.lemmas.List.{take-append-le, take_all, length_push}
 use Rattle.std.proofs.lemmas.Bool.{false≢true, and_parts, and_from, or_cases, or_left, or_right}
 use Rattle.giputils_sat.specs.Formulas.{Clause, Formula, Assignment, is_true, satisfies, satisfies_clause, Implies, AreBelow, Has}
-use Rattle.giputils_sat.specs.Stores.{given_among, IsKnown, KeepsKnown, Known}
+use Rattle.giputils_sat.specs.Stores.{given_among, AddsLearned, IsKnown, KeepsKnown, Known}
 use Rattle.giputils_sat.proofs.Places.{none_some, each_push, stands_last}
 
 -- a clause of the formula follows
@@ -138,3 +138,11 @@ kept_pushed old new c same = ap (take (length old.clauses)) same ∙ KeepsKnown-
 
 pub kept_both : (u v w : Known) → KeepsKnown u v → KeepsKnown v w → KeepsKnown u w
 kept_both u v w first then = KeepsKnown-both u.clauses v.clauses w.clauses first then
+
+-- as many more are known as were learned
+pub adds_same : (old new : Known) → new ≡ old → AddsLearned old new
+adds_same old new same = ap (λ (k : Known). length k.clauses + old.learned) same ∙ ap (λ (k : Known). length old.clauses + k.learned) (sym same)
+
+pub adds_pushed : (old new : Known) (c : Clause) → new.clauses ≡ old.clauses ++ c ∷ [] → new.learned ≡ old.learned + 1
+    → AddsLearned old new
+adds_pushed old new c same more = omega (arith, ap length same ∙ length_push old.clauses c, more)

@@ -1,4 +1,5 @@
 mod Answering
+mod Copying
 mod Examples
 mod Following
 mod Marking
@@ -6,4 +7,5 @@ mod Places
 mod Ready
 mod Stored
 mod Trailing
+mod Units
 mod Valued

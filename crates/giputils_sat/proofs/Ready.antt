@@ -21,3 +21,10 @@ IsBelow-given (Err e) old new c t ok err more is = subst (λ (k : Known). IsBelo
 pub StandsBy-none : {A : Type 0} (clauses : List Clause) (t : Trail A) → t.values.items ≡ [] → t.steps.items ≡ []
     → t.starts.items ≡ [] → StandsBy clauses t
 StandsBy-none clauses t values steps starts = rw (values, steps, starts) (IsTrail-new clauses 0)
+
+-- a clause more is known, or memory was refused, and the trail stands
+pub StandsBy-learned : {A T E : Type 0} (r : Result T E) (old new : Known) (c : Clause) (t : Trail A)
+    → OnOk r (new.clauses ≡ old.clauses ++ c ∷ []) → OnErr r (new ≡ old) → StandsBy old.clauses t → StandsBy new.clauses t
+StandsBy-learned (Ok x) old new c t ok err is =
+    subst (λ cs. StandsBy cs t) (sym ok) (IsTrail-learned old.clauses c t.values.items t.steps.items t.starts.items is)
+StandsBy-learned (Err e) old new c t ok err is = subst (λ (k : Known). StandsBy k.clauses t) (sym err) is

@@ -170,8 +170,8 @@ IsTrail-implied clauses values steps starts l r within reason is =
       implied = λ k t at less.
           ⊎_elim
           (λ before.
-              ⊎_elim (λ early. is.implied k t before early) (λ late. absurd (omega (arith, slice_get_within steps k t before, late)))
-              (start_stays starts k (length steps) _ longer less))
+          ⊎_elim (λ early. is.implied k t before early) (λ late. absurd (omega (arith, slice_get_within steps k t before, late)))
+          (start_stays starts k (length steps) _ longer less))
           (λ e. subst (λ (x : Step). x.reason ≢ None) e.1 (λ none. none_some r (sym none))) (before_or_last steps s k t at);
       low = omega (arith, longer, is.low);
       rising = is.rising;
@@ -231,9 +231,9 @@ popped_value : (values : List (Option Bool)) (v : ℕ) (m : Lit) → value_of (s
 popped_value values v m is =
     ⊎_elim (λ same. ⊎_elim (λ within. none_some true (sym (value_at values m v None same within) ∙ is))
     (λ past.
-        let here : Option Bool = get_or (set values v None) m.variable None in
-        let none : here ≡ None = get_or_past (set values v None) m.variable None (omega (arith, past, same, length-set values v None)) in
-        absurd (some_value here m.positive true is none)) (cases_lt v (length values)))
+    let here : Option Bool = get_or (set values v None) m.variable None in
+    let none : here ≡ None = get_or_past (set values v None) m.variable None (omega (arith, past, same, length-set values v None)) in
+    absurd (some_value here m.positive true is none)) (cases_lt v (length values)))
     (λ other. (other, sym (value_other values m v None other) ∙ is)) (cases_eq m.variable v)
 
 starts_less : (starts : List ℕ) (k m n : ℕ) → m ≤ n → k < get_or starts 0 m → k < get_or starts 0 n

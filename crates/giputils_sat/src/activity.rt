@@ -1,7 +1,7 @@
 //! The order in which variables are decided: the most active first.
-ghost use Rattle.std.specs.Prelude.{◌≡◌, ◌+◌, [], length, IfSome, IfNone};
+ghost use Rattle.std.specs.Prelude.{◌≡◌, ◌+◌, [], length, IfOk, IfSome, IfNone};
 
-use giputils_heap::{BinaryHeap, ByRank};
+use giputils_heap::{BoundedHeap, ByRank};
 use std::alloc::{AllocError, Allocator, Global};
 use std::marker::Model;
 
@@ -14,7 +14,7 @@ const SHIFT: u32 = 14;
 // The variables that wait to be decided, in a heap by their scores. It is seen as their list.
 #[derive(Drop)]
 pub(crate) struct Activity<A: Allocator = Global> {
-    queue: BinaryHeap<u32, A>,
+    queue: BoundedHeap<u32, A>,
     scores: Vec<u32, A>,
     // What a bump adds. It grows, so that what was bumped lately counts more.
     step: u32,
@@ -27,24 +27,24 @@ impl<A: Allocator> Model for Activity<A> {
 
     ghost Value = { List ℕ };
 
-    ghost view = { λ a. a.queue };
+    ghost view = { λ a. a.queue.keys };
 
-    ghost invariant = { λ a. IsInOrder (by_rank (λ k. k) a.scores.items) a.queue };
+    ghost invariant = { λ a. IsInOrder (by_rank (λ k. k) a.scores.items) a.queue.keys };
 }
 
 impl<A: Allocator + Copy> Activity<A> {
-    // No variable. It takes no memory.
-    pub(crate) fn new(alloc: A) -> Self
-        ensures { result ≡ [] }
+    // No variable.
+    pub(crate) fn new(alloc: A) -> Result<Self, AllocError>
+        ensures { IfOk result (λ a. a ≡ []) }
     {
-        Activity {
-            queue: BinaryHeap::new(alloc),
+        Ok(Activity {
+            queue: BoundedHeap::with_bound(alloc, 0)?,
             scores: Vec::new(alloc),
             step: LEAST_STEP,
-        }
+        })
     }
 
-    // The same with so many variables at least. Those that are new wait.
+    // The same with so many variables at least. Those that are new wait. Only this takes memory.
     pub(crate) fn grown(self, count: usize) -> Result<Self, AllocError> {
         let Activity {
             mut queue,
@@ -53,6 +53,7 @@ impl<A: Allocator + Copy> Activity<A> {
         } = self;
         let old = scores.len();
         scores.resize(old.max(count), 0)?;
+        queue.raise_bound(u32::try_from(count).unwrap_or(u32::MAX))?;
         queue.rebuild(&ByRank(&scores));
         let mut activity = Activity {
             queue,
@@ -61,18 +62,24 @@ impl<A: Allocator + Copy> Activity<A> {
         };
         for variable in old..count {
             if let Ok(variable) = u32::try_from(variable) {
-                activity.put_back(variable)?;
+                activity.put_back(variable);
             }
         }
         Ok(activity)
     }
 
     // Lets a variable wait.
-    pub(crate) fn put_back(&mut self, variable: u32) -> Result<(), AllocError> {
-        if variable < u32::MAX {
-            self.queue.push(variable, &ByRank(&self.scores))?;
+    pub(crate) fn put_back(&mut self, variable: u32) {
+        if variable < self.queue.bound() {
+            self.queue.push(variable, &ByRank(&self.scores));
         }
-        Ok(())
+    }
+
+    // Lets all variables wait.
+    pub(crate) fn put_all_back(&mut self) {
+        for variable in 0..self.queue.bound() {
+            self.put_back(variable);
+        }
     }
 
     // Raises the score of a variable.

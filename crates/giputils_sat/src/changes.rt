@@ -1,5 +1,5 @@
 //! The calls of a trail: a literal more, a literal less.
-ghost use Rattle.std.specs.Prelude.{◌≡◌, ◌++◌, ◌∷◌, ◌+◌, ◌^◌, ◌<◌, ◌≤◌, [], None, length, IfOk, IfSome, OnOk};
+ghost use Rattle.std.specs.Prelude.{◌≡◌, ◌++◌, ◌∷◌, ◌+◌, ◌^◌, ◌<◌, ◌≤◌, [], None, length, replicate, IfOk, IfSome, OnOk};
 ghost use Rattle.giputils_sat.specs.Trailed.{StandsOn, starts_after};
 ghost use Rattle.giputils_sat.specs.Trails.{steps_with};
 ghost use Rattle.giputils_sat.specs.Values.{unset, value_of, values_with, values_without};
@@ -181,24 +181,32 @@ impl<A: Allocator + Copy> Trail<A> {
     }
 
     // Goes back to a level. What is not true any more may be decided again.
-    pub(crate) fn backtrack(
-        &mut self,
-        level: usize,
-        activity: &mut Activity<A>,
-    ) -> Result<(), AllocError>
+    pub(crate) fn backtrack(&mut self, level: usize, activity: &mut Activity<A>)
         ensures len { length self.new.values.items ≡ length self.old.values.items }
-        ensures trail { OnOk result (StandsOn self.old self.new) }
+        ensures trail { StandsOn self.old self.new }
+        ensures root { level ≡ 0 → self.new.starts.items ≡ [] }
     {
         if level >= self.starts.len() {
-            return Ok(());
+            return;
         }
         let start = self.starts[level];
         self.head = self.head.min(start);
         while self.steps.len() > start {
             let step = self.pop();
-            activity.put_back(step.literal.variable())?;
+            activity.put_back(step.literal.variable());
         }
         self.starts.truncate(level);
-        Ok(())
+    }
+
+    // Takes all values away. Each variable's last one is still known as its phase.
+    pub(crate) fn clear(&mut self)
+        ensures values { self.new.values.items ≡ replicate (length self.old.values.items) None }
+        ensures steps { self.new.steps.items ≡ [] }
+        ensures starts { self.new.starts.items ≡ [] }
+    {
+        self.values.fill(None);
+        self.steps.clear();
+        self.starts.clear();
+        self.head = 0;
     }
 }

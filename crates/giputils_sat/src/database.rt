@@ -1,7 +1,8 @@
 //! The clauses that are known: those of a formula, and those that were learned of it.
-ghost use Rattle.std.specs.Prelude.{◌≡◌, ◌++◌, ◌∷◌, ◌^◌, ◌<◌, ◌≤◌, [], Some, length, slice_get, IsTrue, IfSome, IfNone, OnOk, OnErr};
+ghost use Rattle.std.specs.Prelude.{◌≡◌, ◌++◌, ◌∷◌, ◌+◌, ◌^◌, ◌<◌, ◌≤◌, [], Some, length, slice_get, IsTrue, IfOk, IfSome, IfNone, OnOk, OnErr};
 ghost use Rattle.std.specs.Bool.{OnFalse, OnTrue};
 ghost use Rattle.giputils_sat.specs.Formulas.{AreBelow, Implies};
+ghost use Rattle.giputils_sat.specs.Stores.{AllFollow, AreAmong, IsCopied};
 ghost use Rattle.giputils_sat.specs.Values.{HasNoTrue, IsModelOf, IsOpenAt, IsSatisfiedBy};
 
 use crate::clauses::Clauses;
@@ -17,6 +18,8 @@ pub(crate) struct Database<A: Allocator = Global> {
     // Whether the clause at a place was given, and not learned.
     given: Vec<bool, A>,
     count: usize,
+    // How many clauses were learned of conflicts.
+    learned: usize,
 }
 
 impl<A: Allocator> Model for Database<A> {
@@ -28,6 +31,7 @@ impl<A: Allocator> Model for Database<A> {
       formula = given_among d.given.items d.clauses;
       clauses = d.clauses;
       count = d.count;
+      learned = d.learned;
     } };
 
     ghost invariant = { λ d. IsKnown d.given.items d.count d.clauses };
@@ -38,11 +42,13 @@ impl<A: Allocator + Copy> Database<A> {
     pub(crate) fn new(alloc: A) -> Self
         ensures formula { result.formula ≡ [] }
         ensures clauses { result.clauses ≡ [] }
+        ensures learned { result.learned ≡ 0 }
     {
         Database {
             clauses: Clauses::new(alloc),
             given: Vec::new(alloc),
             count: 0,
+            learned: 0,
         }
     }
 
@@ -73,10 +79,7 @@ impl<A: Allocator + Copy> Database<A> {
 
     // Whether the clause at a place is one of the formula's.
     pub(crate) fn is_given(&self, place: usize) -> bool {
-        match self.given.get(place) {
-            Some(given) => *given,
-            None => false,
-        }
+        is_set(&self.given, place)
     }
 
     // The place of a clause of the formula that has no true literal. None if there is none.
@@ -98,6 +101,7 @@ impl<A: Allocator + Copy> Database<A> {
         ensures formula { OnOk result (self.new.formula ≡ self.old.formula ++ clause.now ∷ []) }
         ensures count { self.old.count ≤ self.new.count }
         ensures clauses { OnOk result (self.new.clauses ≡ self.old.clauses ++ clause.now ∷ []) }
+        ensures learned { self.new.learned ≡ self.old.learned }
         ensures err { OnErr result (self.new ≡ self.old) }
     {
         self.given.reserve(1)?;
@@ -107,20 +111,107 @@ impl<A: Allocator + Copy> Database<A> {
         Ok(())
     }
 
-    // Adds a clause that follows. Nothing changes where memory is refused.
+    // The clauses that stay, and all that were given, in a store of their own.
+    pub(crate) fn closed_up(&self, alloc: A, stays: &[bool]) -> Result<Self, AllocError>
+        ensures formula { IfOk result (λ d. d.formula ≡ self.now.formula) }
+        ensures count { IfOk result (λ d. d.count ≡ self.now.count) }
+        ensures learned { IfOk result (λ d. d.learned ≡ self.now.learned) }
+        ensures only { IfOk result (λ d. AreAmong self.now.clauses d.clauses) }
+    {
+        let mut clauses = Clauses::new(alloc);
+        let mut given = Vec::new(alloc);
+        let len = self.clauses.len();
+        for place in 0..len {
+            let clause = self.clauses.clause(place);
+            let stays = is_set(stays, place);
+            copy(&mut clauses, &mut given, clause, self.given[place], stays)?;
+        }
+        Ok(Database {
+            clauses,
+            given,
+            count: self.count,
+            learned: self.learned,
+        })
+    }
+
+    // Each clause follows from those that were given.
+    pub(crate) fn all_follow(&self)
+        ensures { AllFollow self.now }
+    {
+        let _ = &self.clauses;
+    }
+
+    // Adds a clause that was learned of a conflict. Nothing changes where memory is refused, or none is left to count.
     pub(crate) fn learn(&mut self, clause: &[Literal]) -> Result<(), AllocError>
         requires implied { Implies self.old.formula clause.now }
         requires below { AreBelow self.old.count clause.now }
         ensures formula { self.new.formula ≡ self.old.formula }
         ensures count { self.new.count ≡ self.old.count }
+        ensures learned { OnOk result (self.new.learned ≡ self.old.learned + 1) }
+        ensures ok { OnOk result (self.new.clauses ≡ self.old.clauses ++ clause.now ∷ []) }
+        ensures err { OnErr result (self.new ≡ self.old) }
+    {
+        match self.learned.checked_add(1) {
+            Some(learned) => self.add(clause, learned),
+            None => Err(AllocError),
+        }
+    }
+
+    // Adds a clause that follows. Nothing changes where memory is refused.
+    pub(crate) fn imply(&mut self, clause: &[Literal]) -> Result<(), AllocError>
+        requires implied { Implies self.old.formula clause.now }
+        requires below { AreBelow self.old.count clause.now }
+        ensures formula { self.new.formula ≡ self.old.formula }
+        ensures count { self.new.count ≡ self.old.count }
+        ensures learned { self.new.learned ≡ self.old.learned }
+        ensures ok { OnOk result (self.new.clauses ≡ self.old.clauses ++ clause.now ∷ []) }
+        ensures err { OnErr result (self.new ≡ self.old) }
+    {
+        self.add(clause, self.learned)
+    }
+
+    // Adds a clause that follows, after which so many were learned. Nothing changes where memory is refused.
+    fn add(&mut self, clause: &[Literal], learned: usize) -> Result<(), AllocError>
+        requires implied { Implies self.old.formula clause.now }
+        requires below { AreBelow self.old.count clause.now }
+        ensures formula { self.new.formula ≡ self.old.formula }
+        ensures count { self.new.count ≡ self.old.count }
+        ensures learned { OnOk result (self.new.learned ≡ learned) }
         ensures ok { OnOk result (self.new.clauses ≡ self.old.clauses ++ clause.now ∷ []) }
         ensures err { OnErr result (self.new ≡ self.old) }
     {
         self.given.reserve(1)?;
         self.clauses.push(clause)?;
         self.given.push_reserved(false);
+        self.learned = learned;
         Ok(())
     }
+}
+
+// The flag at a place; false past the end.
+fn is_set(flags: &[bool], place: usize) -> bool {
+    match flags.get(place) {
+        Some(flag) => *flag,
+        None => false,
+    }
+}
+
+// Adds a clause to others where it was given or stays, and notes whether it was given.
+fn copy<A: Allocator + Copy>(
+    clauses: &mut Clauses<A>,
+    given: &mut Vec<bool, A>,
+    clause: &[Literal],
+    is_given: bool,
+    stays: bool,
+) -> Result<(), AllocError>
+    ensures { OnOk result (IsCopied is_given clause.now given.old.items clauses.old given.new.items clauses.new) }
+{
+    if !is_given && !stays {
+        return Ok(());
+    }
+    clauses.push(clause)?;
+    given.push(is_given)?;
+    Ok(())
 }
 
 // Whether a clause is given and none of its literals is true.

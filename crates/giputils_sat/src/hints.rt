@@ -47,13 +47,25 @@ pub(crate) struct Hints<A: Allocator = Global> {
 }
 
 impl<A: Allocator + Copy> Hints<A> {
-    // Of no variable and no clause. It takes no memory.
-    pub(crate) fn new(alloc: A, stats: Stats) -> Self {
-        Hints {
-            activity: Activity::new(alloc),
+    // Of no variable and no clause.
+    pub(crate) fn new(alloc: A, stats: Stats) -> Result<Self, AllocError> {
+        Ok(Hints {
+            activity: Activity::new(alloc)?,
             watches: Watches::new(alloc),
             pace: Pace::new(),
             stats,
+        })
+    }
+
+    // Those that were kept, or new ones.
+    pub(crate) fn kept_or_new(
+        kept: Option<Self>,
+        alloc: A,
+        stats: Stats,
+    ) -> Result<Self, AllocError> {
+        match kept {
+            Some(hints) => Ok(hints),
+            None => Hints::new(alloc, stats),
         }
     }
 

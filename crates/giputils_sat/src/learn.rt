@@ -4,7 +4,7 @@ ghost use Rattle.std.specs.Bool.{IsFalse};
 ghost use Rattle.giputils_sat.specs.Formulas.{Has, Implies};
 ghost use Rattle.giputils_sat.specs.Literals.{code};
 ghost use Rattle.giputils_sat.specs.Marked.{AddsAtMost, AreMarked, AreMarkedBut, Grows, HaveMarks, ImpliesMarked, NoneMarked, is_marked};
-ghost use Rattle.giputils_sat.specs.Stores.{HasMore, KeepsKnown};
+ghost use Rattle.giputils_sat.specs.Stores.{AddsLearned, HasMore, KeepsKnown};
 ghost use Rattle.giputils_sat.specs.Trailed.{IsConflictOf, MeetsConflict, StandsBy, UndoesAtRoot};
 
 use crate::activity::Activity;
@@ -337,7 +337,7 @@ fn follow<A: Allocator + Copy>(
 
 // Learns from a conflict: adds a clause that follows, goes back and makes a literal of it true. `true` where the empty
 // clause follows.
-#[tactic(auto, using(crate::proofs::Following::kept_same, crate::proofs::Following::kept_pushed))]
+#[tactic(auto, using(crate::proofs::Following::kept_same, crate::proofs::Following::kept_pushed, crate::proofs::Following::adds_same, crate::proofs::Following::adds_pushed,))]
 pub(crate) fn learn<A: Allocator + Copy>(
     alloc: A,
     database: &mut Database<A>,
@@ -359,6 +359,7 @@ pub(crate) fn learn<A: Allocator + Copy>(
     ensures formula { database.new.formula ≡ database.old.formula }
     ensures count { database.new.count ≡ database.old.count }
     ensures kept { KeepsKnown database.old database.new }
+    ensures adds { AddsLearned database.old database.new }
     ensures empty { IfOk result (λ is_empty. IsTrue is_empty → Implies database.old.formula []) }
     ensures more { IfOk result (λ is_empty. IsFalse is_empty → HasMore 1 database.old database.new) }
 {
@@ -372,7 +373,7 @@ pub(crate) fn learn<A: Allocator + Copy>(
     database.learn(&learned)?;
     let pair = highest(trail, &learned);
     let level = level_at(trail, &learned, pair.second);
-    trail.backtrack(level, &mut hints.activity)?;
+    trail.backtrack(level, &mut hints.activity);
     attach(&mut hints.watches, &learned, place, pair, false)?;
     follow(database, trail, place, pair.first)?;
     Ok(false)
@@ -392,6 +393,9 @@ fn attach<A: Allocator + Copy>(
         Worth::Learned(watches.step())
     };
     watches.push_pair(pair, worth)?;
+    if watches.is_forgotten(place) {
+        return Ok(());
+    }
     watches.watch(clause, place)
 }
 

@@ -4,6 +4,7 @@
 mod activity;
 mod changes;
 mod clauses;
+mod compact;
 mod database;
 mod hints;
 mod learn;

@@ -2,10 +2,11 @@
 ghost use Rattle.std.specs.Prelude.{◌≡◌, ◌++◌, ◌∷◌, ◌<◌, [], Some, length, slice_get, IfOk, OnOk, OnErr};
 ghost use Rattle.giputils_sat.specs.Answers.{IsRight, IsRightTurn};
 ghost use Rattle.giputils_sat.specs.Formulas.{Implies};
-ghost use Rattle.giputils_sat.specs.Stores.{KeepsKnown};
+ghost use Rattle.giputils_sat.specs.Stores.{AddsLearned, AddsUnits, KeepsKnown};
 ghost use Rattle.giputils_sat.specs.Trailed.{IsReady, StandsOn};
 ghost use Rattle.giputils_sat.specs.Values.{model_in};
 
+use crate::compact::{compact, is_forgotten, learn_units};
 use crate::database::Database;
 use crate::hints::{Hints, Stats};
 use crate::learn::learn;
@@ -38,7 +39,9 @@ pub struct Solver<A: Allocator = Global> {
     alloc: A,
     database: Database<A>,
     trail: Trail<A>,
-    hints: Hints<A>,
+    // What the last search left, if it was not refused memory.
+    hints: Option<Hints<A>>,
+    stats: Stats,
 }
 
 impl<A: Allocator> Model for Solver<A> {
@@ -57,12 +60,14 @@ impl<A: Allocator + Copy> Solver<A> {
     pub fn new(alloc: A) -> Self
         ensures formula { result.formula ≡ [] }
         ensures clauses { result.clauses ≡ [] }
+        ensures learned { result.learned ≡ 0 }
     {
         Solver {
             alloc,
             database: Database::new(alloc),
             trail: Trail::new(alloc),
-            hints: Hints::new(alloc, Stats::new()),
+            hints: None,
+            stats: Stats::new(),
         }
     }
 
@@ -73,6 +78,7 @@ impl<A: Allocator + Copy> Solver<A> {
     pub fn add_clause(&mut self, clause: &[Literal]) -> Result<(), AllocError>
         ensures formula { OnOk result (self.new.formula ≡ self.old.formula ++ clause.now ∷ []) }
         ensures clauses { OnOk result (self.new.clauses ≡ self.old.clauses ++ clause.now ∷ []) }
+        ensures learned { self.new.learned ≡ self.old.learned }
         ensures refused { OnErr result (self.new ≡ self.old) }
     {
         self.database.give(clause)
@@ -98,7 +104,7 @@ impl<A: Allocator + Copy> Solver<A> {
 
     /// How much was done so far. Nothing is proved of it.
     pub fn stats(&self) -> Stats {
-        self.hints.stats
+        self.stats
     }
 
     /// Finds out whether anything satisfies the formula, and gives up after `limit` conflicts, of each of which a clause
@@ -112,17 +118,17 @@ impl<A: Allocator + Copy> Solver<A> {
         ensures right { IfOk result (IsRight self.old self.new limit) }
         ensures formula { self.new.formula ≡ self.old.formula }
         ensures kept { KeepsKnown self.old self.new }
+        ensures adds { AddsLearned self.old self.new }
     {
         let alloc = self.alloc;
         let count = self.database.count();
         let mut marks = Marks::new(alloc, count)?;
         // Where memory is refused, the search begins anew at the next call.
         let trail = mem::replace(&mut self.trail, Trail::new(alloc));
-        let stats = self.hints.stats;
-        let hints = mem::replace(&mut self.hints, Hints::new(alloc, stats));
+        let hints = Hints::kept_or_new(self.hints.take(), alloc, self.stats)?;
         let mut trail = trail.grown(count)?;
         let mut hints = hints.grown(alloc, count)?;
-        trail.backtrack(0, &mut hints.activity)?;
+        trail.backtrack(0, &mut hints.activity);
         trail.rewind();
         let answer = run(
             alloc,
@@ -133,8 +139,56 @@ impl<A: Allocator + Copy> Solver<A> {
             limit,
         )?;
         self.trail = trail;
-        self.hints = hints;
+        self.stats = hints.stats;
+        self.hints = Some(hints);
         Ok(answer)
+    }
+
+    /// Learns each literal that has to be true, as far as that is known, as a clause of its own.
+    ///
+    /// # Errors
+    /// `AllocError` where memory is refused. Some clauses may have been learned.
+    pub fn learn_units(&mut self) -> Result<(), AllocError>
+        ensures formula { self.new.formula ≡ self.old.formula }
+        ensures learned { self.new.learned ≡ self.old.learned }
+        ensures kept { KeepsKnown self.old self.new }
+        ensures units { AddsUnits self.old self.new }
+    {
+        let Some(hints) = &mut self.hints else {
+            return Ok(());
+        };
+        self.trail.backtrack(0, &mut hints.activity);
+        learn_units(&mut self.database, &self.trail)
+    }
+
+    /// Whether [`Solver::compact`] would drop the known clause at a place: it was learned, and the search does not look
+    /// at it any more, or never will, since a literal of it has to be true.
+    ///
+    /// The place must be below [`Solver::len`].
+    pub fn is_forgotten(&self, place: usize) -> bool
+        requires { place < length self.now.clauses }
+    {
+        match &self.hints {
+            Some(hints) => is_forgotten(&self.database, &self.trail, &hints.watches, place),
+            None => false,
+        }
+    }
+
+    /// Learns units, as [`Solver::learn_units`], and drops the clauses that are forgotten: the others move together, in
+    /// their order. It takes memory for those that stay, and then gives the old ones' back.
+    ///
+    /// # Errors
+    /// `AllocError` where memory is refused. Some units may have been learned; no clause was dropped.
+    pub fn compact(&mut self) -> Result<(), AllocError>
+        ensures formula { self.new.formula ≡ self.old.formula }
+        ensures learned { self.new.learned ≡ self.old.learned }
+        ensures units { AddsUnits self.old self.new }
+        ensures refused { OnErr result (KeepsKnown self.old self.new) }
+    {
+        let Some(hints) = &mut self.hints else {
+            return Ok(());
+        };
+        compact(self.alloc, &mut self.database, &mut self.trail, hints)
     }
 }
 
@@ -157,13 +211,13 @@ fn restart<A: Allocator + Copy>(
     hints: &mut Hints<A>,
 ) -> Result<(), AllocError>
     ensures len { length trail.new.values.items ≡ length trail.old.values.items }
-    ensures trail { OnOk result (StandsOn trail.old trail.new) }
+    ensures trail { StandsOn trail.old trail.new }
 {
     if !hints.pace.step() {
         return Ok(());
     }
     hints.stats.restarts = hints.stats.restarts.saturating_add(1);
-    trail.backtrack(0, &mut hints.activity)?;
+    trail.backtrack(0, &mut hints.activity);
     reduce(alloc, database, trail, hints)
 }
 
@@ -181,6 +235,7 @@ fn turn<A: Allocator + Copy>(
     ensures right { IfOk result (IsRightTurn database.old database.new) }
     ensures formula { database.new.formula ≡ database.old.formula }
     ensures kept { KeepsKnown database.old database.new }
+    ensures adds { AddsLearned database.old database.new }
 {
     let Some(conflict) = search(alloc, database, trail, hints)? else {
         return Ok(Some(Answer::Sat(model_of(alloc, trail)?)));
@@ -207,6 +262,7 @@ fn run<A: Allocator + Copy>(
     ensures right { IfOk result (IsRight database.old database.new limit) }
     ensures formula { database.new.formula ≡ database.old.formula }
     ensures kept { KeepsKnown database.old database.new }
+    ensures adds { AddsLearned database.old database.new }
 {
     for _ in 0..limit {
         if let Some(answer) = turn(alloc, database, trail, hints, marks)? {

@@ -1,8 +1,9 @@
 //! Solvers that are refused memory.
 
-use crate::formulas::{Said, said_of};
+use crate::formulas::{Said, add_all, said_of, say};
 use giputils_refusing::{Refusing, refuse_each, refuse_from_each};
 use giputils_sat::{Answer, Literal, Solver};
+use std::alloc::AllocError;
 
 // Four clauses over two variables: no model, which is seen after a conflict alone.
 fn clashing() -> [[Literal; 2]; 4] {
@@ -51,6 +52,20 @@ fn is_found_unsatisfied(memory: &Refusing) -> bool {
     said_of(memory, &[1, 2, 0, -1, 2, 0, 1, -2, 0, -1, -2, 0], 100) == Ok(Said::Unsat)
 }
 
+// What is said of no model where the store is closed up after the first conflict.
+fn said_when_closed_up(memory: &Refusing) -> Result<Said, AllocError> {
+    let formula = [1, 2, 3, 0, 1, 2, -3, 0, -1, 2, 0, 1, -2, 0, -1, -2, 0];
+    let mut solver = Solver::new(memory);
+    add_all(memory, &mut solver, &formula)?;
+    say(&mut solver, &formula, 1)?;
+    solver.compact()?;
+    say(&mut solver, &formula, 100)
+}
+
+fn is_answered_when_closed_up(memory: &Refusing) -> bool {
+    said_when_closed_up(memory) == Ok(Said::Unsat)
+}
+
 // How many requests an answer takes is open. A model is collected, and `collect` asks again.
 #[test]
 fn each_request_of_a_solver_is_refused_in_turn(rt: HostRuntime) {
@@ -59,6 +74,7 @@ fn each_request_of_a_solver_is_refused_in_turn(rt: HostRuntime) {
         ("asked once more", refuse_each(alloc, is_answered_at_last)),
         ("sat", refuse_from_each(alloc, is_found_satisfied)),
         ("unsat", refuse_from_each(alloc, is_found_unsatisfied)),
+        ("closed up", refuse_from_each(alloc, is_answered_when_closed_up)),
     ];
     for (call, outcome) in outcomes {
         assert!(rt;

@@ -310,3 +310,53 @@ fn a_further_call_goes_on(rt: HostRuntime) {
         "{outcome:?}"
     );
 }
+
+// What is said of pigeons in the end where the store is closed up after every 100 conflicts, how many clauses were known
+// then at the most, and how many conflicts were met.
+fn said_with_a_small_store(alloc: Global) -> Result<(Said, usize, u64), AllocError> {
+    let formula = pigeons(alloc, 7)?;
+    let mut solver = Solver::new(alloc);
+    add_all(alloc, &mut solver, &formula)?;
+    let mut said = Said::Unknown;
+    let mut most = 0;
+    for _ in 0..1000 {
+        if said == Said::Unknown {
+            said = say(&mut solver, &formula, 100)?;
+            solver.compact()?;
+            most = solver.len().max(most);
+        }
+    }
+    Ok((said, most, solver.stats().conflicts))
+}
+
+// The formula has 204 clauses, and some 500 learned ones are watched before half of them are forgotten.
+#[test]
+fn a_store_stays_small(rt: HostRuntime) {
+    let outcome = said_with_a_small_store(rt.alloc());
+    assert!(rt;
+        outcome.is_ok_and(|(said, most, conflicts)| {
+            said == Said::Unsat && most < 1500 && conflicts > 2000
+        }),
+        "{outcome:?}"
+    );
+}
+
+// What a solver says that is given clauses after each answer, and whose store is closed up before.
+fn said_as_clauses_come_later(alloc: Global) -> Result<[Said; 3], AllocError> {
+    let formula = [1, 2, 0, -1, 7, 0, -2, -7, 0, 7, 9, 0, -9, 0, -7, 0];
+    let mut solver = Solver::new(alloc);
+    add_all(alloc, &mut solver, &formula[..3])?;
+    let one = say(&mut solver, &formula[..3], 100)?;
+    solver.compact()?;
+    add_all(alloc, &mut solver, &formula[3..12])?;
+    let four = say(&mut solver, &formula[..12], 100)?;
+    solver.compact()?;
+    add_all(alloc, &mut solver, &formula[12..])?;
+    Ok([one, four, say(&mut solver, &formula, 100)?])
+}
+
+#[test]
+fn clauses_for_a_closed_up_store(rt: HostRuntime) {
+    let wanted = [Said::Sat, Said::Sat, Said::Unsat];
+    assert_eq!(rt; said_as_clauses_come_later(rt.alloc()), Ok(wanted));
+}

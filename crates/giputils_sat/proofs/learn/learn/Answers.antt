@@ -23,7 +23,7 @@ learn-requires-clause-below g c = λ k l at.
 pub follow-requires-clause-trail : goal.follow-requires-clause-trail
 follow-requires-clause-trail g c =
     let trail = c.args.trail.now in
-    c.in_ok-backtrack.ensures.trail c.learn.new.self.clauses
+    c.backtrack.ensures.trail c.learn.new.self.clauses
     (rw c.in_ok-learn.ensures.ok (IsTrail-learned c.args.database.now.clauses c.deref.result.now trail.values.items trail.steps.items trail.starts.items c.requires.trail))
 
 pub returns-clause-root : goal.returns-clause-root

@@ -1,5 +1,5 @@
 use Rattle.std.proofs.Common.{◌≡◌}
-use Rattle.giputils_sat.specs.Stores.{HasMore, KeepsKnown}
+use Rattle.giputils_sat.specs.Stores.{AddsLearned, HasMore, KeepsKnown}
 use Rattle.giputils_sat.specs.Trailed.{IsReady}
 use Rattle.giputils_sat.proofs.solver.run.Given as goal
 
@@ -9,4 +9,5 @@ invariant-loop g l = record {
   formula : l.database.formula ≡ l.fn.database.formula;
   more : HasMore l.counter l.fn.database l.database;
   kept : KeepsKnown l.fn.database l.database;
+  adds : AddsLearned l.fn.database l.database;
 }

@@ -13,7 +13,7 @@ returns-in_default-clause-right g c = λ limit.
 pub returns-clause-ready : goal.returns-clause-ready
 returns-clause-ready g c = record {
   len = omega (arith, c.restart.ensures.len, c.learn.ensures.len, c.search.ensures.len, c.requires.ready.len, c.learn.ensures.count);
-  trail = c.in_ok-restart.ensures.trail c.learn.new.database.clauses c.in_ok-learn.ensures.trail;
+  trail = c.restart.ensures.trail c.learn.new.database.clauses c.in_ok-learn.ensures.trail;
   room = omega (arith, c.learn.ensures.marks, c.requires.ready.room, c.learn.ensures.count);
   clear = c.in_ok-learn.ensures.clear;
 }

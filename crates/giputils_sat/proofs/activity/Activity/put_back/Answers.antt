@@ -6,4 +6,4 @@ use Rattle.giputils_sat.proofs.activity.Activity.put_back.Goals as goal
 pub invariant_of-self : goal.invariant_of-self
 invariant_of-self g c =
     rw (sym c.deref.ensures.value)
-    (c.push.ensures.stays_in_order (rw c.deref.ensures.value c.self.invariant) (IsLawful-by_rank (λ k. k) c.deref.result.now (c.args.variable ∷ c.self.inside.queue)))
+    (c.push.ensures.pushes.in_order (rw c.deref.ensures.value c.self.invariant) (IsLawful-by_rank (λ k. k) c.deref.result.now (c.args.variable ∷ c.self.inside.queue.keys)))

@@ -14,7 +14,7 @@ run-requires g c =
     record {
       ready = record {
         len = omega (arith, rewound, c.backtrack.ensures.len, c.in_ok-trail.ensures.len, c.count-count.ensures.value);
-        trail = c.rewind.ensures.trail clauses (c.in_ok-backtrack.ensures.trail clauses (c.in_ok-trail.ensures.trail clauses taken));
+        trail = c.rewind.ensures.trail clauses (c.backtrack.ensures.trail clauses (c.in_ok-trail.ensures.trail clauses taken));
         room = omega (arith, c.in_ok-marks.ensures.len, c.count-count.ensures.value);
         clear = c.in_ok-marks.ensures.clear;
       };

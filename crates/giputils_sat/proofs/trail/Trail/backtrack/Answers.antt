@@ -19,7 +19,7 @@ loop-self-preserved g c =
     in
     let over : c.index-start.result.now < length c.loop-self.self.steps.items = grind (arith, common_steps) in
     let longer : length c.loop-self.self.steps.items ≡ length c.pop-step.new.self.steps.items + 1 =
-        ap length c.pop-step.ensures.steps ∙ length_push c.pop-step.new.self.steps.items c.pop-step.result
+    ap length c.pop-step.ensures.steps ∙ length_push c.pop-step.new.self.steps.items c.pop-step.result
     in
     record {
       len = c.pop-step.ensures.len ∙ c.loop-self.invariant.len;
@@ -46,4 +46,4 @@ returns-clause-trail g c = λ clauses was.
     let short : length c.loop-self.self.steps.items ≤ c.index-start.result.now = grind (arith, common_steps) in
     rw c.truncate.ensures.items
     (IsTrail-truncated clauses c.loop-self.self.values.items c.loop-self.self.steps.items c.loop-self.self.starts.items c.args.level
-        c.index-start.result.now at short (c.loop-self.invariant.trail clauses was))
+    c.index-start.result.now at short (c.loop-self.invariant.trail clauses was))

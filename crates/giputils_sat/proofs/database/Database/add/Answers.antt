@@ -2,7 +2,7 @@ use Rattle.std.proofs.Common.{◌∙◌, ap}
 use Rattle.giputils_sat.specs.Formulas.{Implies, AreBelow}
 use Rattle.giputils_sat.specs.Stores.{given_among}
 use Rattle.giputils_sat.proofs.Following.{IsKnown-learned, given_among-learned}
-use Rattle.giputils_sat.proofs.database.Database.learn.Goals as goal
+use Rattle.giputils_sat.proofs.database.Database.add.Goals as goal
 
 pub invariant_of-self-2 : goal.invariant_of-self-2
 invariant_of-self-2 g c =

@@ -1,0 +1,72 @@
+-- What no decision made true follows from the formula.
+use Rattle.std.proofs.Common.{◌≡◌, ◌≢◌, ℕ, ◌<◌, List, [], ◌∷◌, ◌++◌, length, Option, Some, None, suc, zero, refl, sym, ap, subst, ◌∙◌, arith, ⊎_elim, inl, inr, Bool, true}
+use Rattle.std.specs.Prelude.{slice_get, Result, Ok, Err, OnOk, OnErr}
+use Rattle.std.proofs.lemmas.Bool.{cases_lt}
+use Rattle.std.proofs.lemmas.Option.{slice_get_within}
+use Rattle.giputils_sat.specs.declared.trail.Step.{Step}
+use Rattle.giputils_sat.specs.Literals.{Lit}
+use Rattle.giputils_sat.specs.Formulas.{Clause, Formula, Assignment, is_true, satisfies, Implies}
+use Rattle.giputils_sat.specs.Stores.{Known, AddsUnits, AreAmong}
+use Rattle.giputils_sat.specs.Trails.{IsTrail}
+use Rattle.giputils_sat.proofs.Places.{before_or_last, same_at}
+use Rattle.giputils_sat.proofs.Following.{true_literal, satisfied_by}
+use Rattle.giputils_sat.proofs.Marking.{cases_literal, not_both}
+
+some_reason : (o : Option ℕ) → o ≢ None → (r : ℕ) × (o ≡ Some r)
+some_reason None not_none = absurd (not_none refl)
+some_reason (Some r) not_none = (r, refl)
+
+module _ (f : Formula) (clauses : List Clause) (values : List (Option Bool)) (steps : List Step)
+    (is : IsTrail clauses values steps []) (follow : (k : ℕ) (c : Clause) → slice_get clauses k ≡ Some c → Implies f c)
+    (a : Assignment) (all : satisfies a f ≡ true) where
+  -- each literal before place n is true where the formula is satisfied
+  true_before : (n k : ℕ) (s : Step) → k < n → slice_get steps k ≡ Some s → is_true a s.literal ≡ true
+  true_before zero k s less at = absurd (omega (arith, less))
+  true_before (suc n) k s less at =
+      ⊎_elim (λ earlier. true_before n k s earlier at)
+      (λ later.
+      let found = some_reason s.reason (is.implied k s at (slice_get_within steps k s at)) in
+      let reason = is.reasons k s found.0 at found.1 in
+      let one = true_literal a reason.0 ((follow found.0 reason.0 reason.1).follows a all) in
+      ⊎_elim (λ same. subst (λ x. is_true a x ≡ true) same one.2)
+      (λ other.
+      let stands = reason.2 one.0 one.1 other in
+      let before : is_true a stands.1.literal ≡ true = true_before n stands.0 stands.1 (omega (arith, less, stands.2)) stands.3 in
+      absurd (not_both a one.0 one.2 (subst (λ x. is_true a x ≡ true) stands.4 before)))
+      (cases_literal one.0 s.literal))
+      (cases_lt k n)
+
+-- a literal of a trail with no decision follows
+pub Implies-fixed : (f : Formula) (clauses : List Clause) (values : List (Option Bool)) (steps : List Step) (starts : List ℕ)
+    (k : ℕ) (s : Step) → IsTrail clauses values steps starts → starts ≡ []
+    → ((k : ℕ) (c : Clause) → slice_get clauses k ≡ Some c → Implies f c) → slice_get steps k ≡ Some s
+    → Implies f (s.literal ∷ [])
+Implies-fixed f clauses values steps starts k s is none follow at = record {
+  follows = λ a all.
+      satisfied_by a (s.literal ∷ []) zero s.literal refl
+      (true_before f clauses values steps (subst (IsTrail clauses values steps) none is) follow a all (suc k) k s (omega arith) at);
+}
+
+-- nothing is new
+pub AddsUnits-same : (old new : Known) → new ≡ old → AddsUnits old new
+AddsUnits-same old new same = λ k c at. inl (k, subst (λ (known : Known). slice_get known.clauses k ≡ Some c) same at)
+
+-- a clause of one literal is new
+pub AddsUnits-pushed : (old new : Known) (l : Lit) → new.clauses ≡ old.clauses ++ (l ∷ []) ∷ [] → AddsUnits old new
+AddsUnits-pushed old new l same = λ k c at.
+    ⊎_elim (λ before. inl (k, before)) (λ last. inr (ap length (sym last.1)))
+    (before_or_last old.clauses (l ∷ []) k c (subst (λ cs. slice_get cs k ≡ Some c) same at))
+
+pub AddsUnits-both : (u v w : Known) → AddsUnits u v → AddsUnits v w → AddsUnits u w
+AddsUnits-both u v w first then = λ k c at.
+    ⊎_elim (λ was. first was.0 c was.1) (λ unit. inr unit) (then k c at)
+
+-- some of what is known
+pub AddsUnits-among : (u v w : Known) → AddsUnits u v → AreAmong v.clauses w.clauses → AddsUnits u w
+AddsUnits-among u v w first then = λ k c at. let was = then k c at in first was.0 c was.1
+
+-- a clause of one literal is new, or memory was refused
+pub AddsUnits-learned : {T E : Type 0} (r : Result T E) (old new : Known) (l : Lit)
+    → OnOk r (new.clauses ≡ old.clauses ++ (l ∷ []) ∷ []) → OnErr r (new ≡ old) → AddsUnits old new
+AddsUnits-learned (Ok x) old new l ok err = AddsUnits-pushed old new l ok
+AddsUnits-learned (Err e) old new l ok err = AddsUnits-same old new err
