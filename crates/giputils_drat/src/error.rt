@@ -1,7 +1,8 @@
 //! What becomes of a proof, and why.
 ghost use Rattle.std.specs.Prelude.{◌≡◌, Some, IfOk};
 ghost use Rattle.giputils_sat.specs.Formulas.{Formula};
-ghost use Rattle.giputils_drat.specs.Outcomes.{IsRight, error_text, failure_error, flaw_text, outcome_text, refusal_text};
+ghost use Rattle.giputils_drat.specs.Outcomes.{IsRight, error_text, failure_error, flaw_text};
+ghost use Rattle.giputils_drat.specs.Outcomes.{outcome_text, refusal_text};
 ghost use Rattle.giputils_drat.specs.declared.error.DratError.TheVariants as error;
 ghost use Rattle.giputils_drat.specs.declared.error.Failure.TheVariants as failure;
 ghost use Rattle.giputils_drat.specs.declared.error.Stop.TheVariants as stop;

@@ -16,7 +16,7 @@ use std::io::{Read, Write};
 // How many bytes are asked for at a time.
 const BUFFER_SIZE: usize = 65_536;
 
-/// Reads a formula in the DIMACS form and a proof in the DRAT form, as text, that nothing satisfies it; checks the proof
+/// Reads a formula in the DIMACS form, and as text in the DRAT form a proof that nothing satisfies it; checks that,
 /// and writes `s VERIFIED` or `s NOT VERIFIED`.
 ///
 /// Each clause that the proof adds has to be shown by unit propagation. The proof is read as far as the empty clause is
