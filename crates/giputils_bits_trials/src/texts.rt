@@ -53,6 +53,14 @@ fn texts_of_numbers(rt: HostRuntime) -> Result<(), Fail> {
     Ok(())
 }
 
+#[test]
+fn a_number_has_no_digits_past_a_word(rt: HostRuntime) -> Result<(), Fail> {
+    let bits = BitVec::from_usize(rt.alloc(), 70, usize::MAX)?;
+    let text = format!(in rt.alloc(); "{}", bits.lower_hex())?;
+    assert_eq!(rt; text.as_str(), "0x0ffffffffffffffff");
+    Ok(())
+}
+
 // Both texts in base 16 of a word of ones and the `len` bits of a number behind it.
 fn hex_texts(alloc: Global, len: usize, number: usize) -> Result<String, BitVecError> {
     let mut bits = BitVec::ones(alloc, 64)?;

@@ -3,7 +3,7 @@
 use std::alloc::Global;
 use std::io::{self, Error, ErrorKind, Read, Write};
 
-// A reader of bytes in memory that fails at one call.
+// A reader of bytes in memory that fails at one call, in a way that one who tries again would not notice.
 #[derive(Drop)]
 pub(crate) struct Source<'a> {
     rest: &'a [u8],
@@ -25,7 +25,7 @@ impl Read for Source<'_> {
     fn read(&mut self, buf: &mut [u8]) -> io::Result<usize> {
         self.calls = self.calls.wrapping_add(1);
         if self.calls == self.fails_at {
-            return Err(Error::from(ErrorKind::UnexpectedEof));
+            return Err(Error::from(ErrorKind::Interrupted));
         }
         let room = buf.len().min(1);
         self.rest.read(&mut buf[..room])

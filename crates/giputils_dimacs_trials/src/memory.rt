@@ -10,7 +10,7 @@ const SATISFIABLE: &[u8] = b"p cnf 2 2\n-1 0\n1 2 0\n";
 // No model, which is seen after a conflict alone.
 const UNSATISFIABLE: &[u8] = b"p cnf 2 4\n1 2 0\n-1 2 0\n1 -2 0\n-1 -2 0\n";
 
-// Whether a text is answered. It is not only where memory was refused and nothing was written.
+// Whether a text is answered, which it is unless memory was refused and nothing was written.
 fn is_answered(memory: &Refusing, text: &[u8]) -> bool {
     let mut reader = text;
     let mut writer = Count { bytes: 0 };

@@ -5,7 +5,7 @@ use Rattle.std.specs.Prelude.{slice_get}
 use Rattle.std.proofs.lemmas.List.{take-append-le, take_all, length_push}
 use Rattle.std.proofs.lemmas.Bool.{false≢true, and_parts, and_from, or_cases, or_left, or_right}
 use Rattle.giputils_sat.specs.Formulas.{Clause, Formula, Assignment, is_true, satisfies, satisfies_clause, Implies, AreBelow, Has}
-use Rattle.giputils_sat.specs.Stores.{given_among, AddsLearned, IsKnown, KeepsKnown, Known}
+use Rattle.giputils_sat.specs.Stores.{given_among, AddsLearned, IsAmong, IsKnown, KeepsKnown, Known}
 use Rattle.giputils_sat.proofs.Places.{none_some, each_push, stands_last}
 
 -- a clause of the formula follows
@@ -62,6 +62,14 @@ given_among-learned (true ∷ flags) (d ∷ cs) c same = ap (λ f. d ∷ f) (giv
 given_among-learned (false ∷ flags) (d ∷ cs) c same = given_among-learned flags cs c (omega (arith, same))
 given_among-learned [] (d ∷ cs) c same = absurd (omega (arith, same))
 given_among-learned (flag ∷ flags) [] c same = absurd (omega (arith, same))
+
+-- each clause that was given is one of all
+pub each_given : (flags : List Bool) (cs : List Clause) (k : ℕ) (c : Clause) → slice_get (given_among flags cs) k ≡ Some c → IsAmong cs c
+each_given [] cs k c at = none_some c at
+each_given (flag ∷ flags) [] k c at = none_some c at
+each_given (true ∷ flags) (d ∷ cs) zero c at = (zero, at)
+each_given (true ∷ flags) (d ∷ cs) (suc k) c at = let (j, there) = each_given flags cs k c at in (suc j, there)
+each_given (false ∷ flags) (d ∷ cs) k c at = let (j, there) = each_given flags cs k c at in (suc j, there)
 
 -- where each given clause is satisfied, the formula is
 pub satisfies-given : (a : Assignment) (flags : List Bool) (cs : List Clause)

@@ -10,7 +10,7 @@ use crate::trail::Trail;
 use crate::watches::Watches;
 use std::alloc::{AllocError, Allocator};
 
-// Learns the literals that no decision made true, each as a clause of its own, and drops the clauses that are forgotten.
+// Learns the literals that no decision made true, each as a clause of its own, and drops what is forgotten.
 pub(crate) fn compact<A: Allocator + Copy>(
     alloc: A,
     database: &mut Database<A>,
@@ -27,19 +27,22 @@ pub(crate) fn compact<A: Allocator + Copy>(
     ensures refused { OnErr result (KeepsKnown database.old database.new) }
 {
     trail.backtrack(0, &mut hints.activity);
-    learn_units(database, trail)?;
+    learn_units(database, trail, &mut hints.units)?;
     let stays = staying(alloc, database, trail, &hints.watches)?;
     *database = database.closed_up(alloc, &stays)?;
     trail.clear();
+    hints.units = 0;
     hints.activity.put_all_back();
     hints.watches.close_up(&stays);
     Ok(())
 }
 
-// Learns the literals of a trail with no decision, each as a clause of its own.
+// Learns the literals of a trail with no decision, each as a clause of its own, but for the first ones: so many were
+// learned already.
 pub(crate) fn learn_units<A: Allocator + Copy>(
     database: &mut Database<A>,
     trail: &Trail<A>,
+    units: &mut usize,
 ) -> Result<(), AllocError>
     requires trail { StandsBy database.old.clauses trail.now }
     requires root { trail.now.starts.items ≡ [] }
@@ -50,9 +53,10 @@ pub(crate) fn learn_units<A: Allocator + Copy>(
     ensures kept { KeepsKnown database.old database.new }
     ensures units { AddsUnits database.old database.new }
 {
-    for place in 0..trail.steps.len() {
+    for place in *units..trail.steps.len() {
         learn_unit(database, trail, place)?;
     }
+    *units = trail.steps.len();
     Ok(())
 }
 

@@ -134,6 +134,20 @@ impl<A: Allocator + Copy> Database<A> {
         })
     }
 
+    // How many clauses were learned of conflicts.
+    pub(crate) fn learned(&self) -> usize
+        ensures { result ≡ self.now.learned }
+    {
+        self.learned
+    }
+
+    // Each clause that was given is there.
+    pub(crate) fn all_given(&self)
+        ensures { AreAmong self.now.clauses self.now.formula }
+    {
+        let _ = &self.clauses;
+    }
+
     // Each clause follows from those that were given.
     pub(crate) fn all_follow(&self)
         ensures { AllFollow self.now }

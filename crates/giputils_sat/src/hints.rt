@@ -43,6 +43,8 @@ pub(crate) struct Hints<A: Allocator = Global> {
     pub activity: Activity<A>,
     pub watches: Watches<A>,
     pub pace: Pace,
+    // How many of the root's literals were learned as clauses of their own, or need not be.
+    pub units: usize,
     pub stats: Stats,
 }
 
@@ -53,6 +55,7 @@ impl<A: Allocator + Copy> Hints<A> {
             activity: Activity::new(alloc)?,
             watches: Watches::new(alloc),
             pace: Pace::new(),
+            units: 0,
             stats,
         })
     }
@@ -77,6 +80,7 @@ impl<A: Allocator + Copy> Hints<A> {
             activity,
             mut watches,
             pace,
+            units,
             stats,
         } = self;
         watches.grow(alloc, count)?;
@@ -84,6 +88,7 @@ impl<A: Allocator + Copy> Hints<A> {
             activity: activity.grown(count)?,
             watches,
             pace,
+            units,
             stats,
         })
     }

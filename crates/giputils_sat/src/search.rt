@@ -18,14 +18,14 @@ use std::alloc::{AllocError, Allocator, Global};
 // What became of a watch: its clause and its literal now, whether it stays, and the clause if all its literals are false.
 #[derive(Clone, Copy)]
 struct Look {
-    clause: usize,
+    clause: u32,
     blocker: Literal,
     stays: bool,
     conflict: Option<usize>,
 }
 
 // A watch with no conflict.
-fn seen(clause: usize, blocker: Literal, stays: bool) -> Look
+fn seen(clause: u32, blocker: Literal, stays: bool) -> Look
     ensures { result.conflict ≡ None }
 {
     Look {
@@ -74,13 +74,14 @@ fn turn<A: Allocator + Copy>(
     ensures total { OnOk result (total trail.new ≡ total trail.old) }
     ensures conflict { IfOk result (λ look. MeetsConflict database.now.clauses trail.new look.conflict) }
 {
-    let home = watch.clause;
+    let short = watch.clause;
+    let home = short as usize;
     let blocker = watch.blocker;
     if let Some(true) = trail.value(blocker) {
-        return Ok(seen(home, blocker, true));
+        return Ok(seen(short, blocker, true));
     }
     if home >= database.len() {
-        return Ok(seen(home, blocker, false));
+        return Ok(seen(short, blocker, false));
     }
     let clause = database.clause(home);
     let pair = watches.pair(home);
@@ -89,11 +90,11 @@ fn turn<A: Allocator + Copy>(
         _ => pair.first,
     };
     if other >= clause.len() {
-        return Ok(seen(home, blocker, false));
+        return Ok(seen(short, blocker, false));
     }
     let unit = clause[other];
     if let Some(true) = trail.value(unit) {
-        return Ok(seen(home, unit, true));
+        return Ok(seen(short, unit, true));
     }
     if let Some(place) = free_place(trail, clause, other) {
         watches.set_pair(
@@ -104,23 +105,23 @@ fn turn<A: Allocator + Copy>(
             },
         );
         let watch = Watch {
-            clause: home,
+            clause: short,
             blocker: unit,
         };
         watches.add(clause[place], watch)?;
-        return Ok(seen(home, unit, false));
+        return Ok(seen(short, unit, false));
     }
     match trail.value(unit) {
         Some(false) => Ok(Look {
-            clause: home,
+            clause: short,
             blocker: unit,
             stays: true,
             conflict: Some(home),
         }),
-        Some(true) => Ok(seen(home, unit, true)),
+        Some(true) => Ok(seen(short, unit, true)),
         None => {
             trail.assign(unit, Some(home))?;
-            Ok(seen(home, unit, true))
+            Ok(seen(short, unit, true))
         }
     }
 }

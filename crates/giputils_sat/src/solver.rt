@@ -2,7 +2,7 @@
 ghost use Rattle.std.specs.Prelude.{◌≡◌, ◌++◌, ◌∷◌, ◌<◌, [], Some, length, slice_get, IfOk, OnOk, OnErr};
 ghost use Rattle.giputils_sat.specs.Answers.{IsRight, IsRightTurn};
 ghost use Rattle.giputils_sat.specs.Formulas.{Implies};
-ghost use Rattle.giputils_sat.specs.Stores.{AddsLearned, AddsUnits, KeepsKnown};
+ghost use Rattle.giputils_sat.specs.Stores.{AddsLearned, AddsUnits, AreAmong, KeepsKnown};
 ghost use Rattle.giputils_sat.specs.Trailed.{IsReady, StandsOn};
 ghost use Rattle.giputils_sat.specs.Values.{model_in};
 
@@ -91,6 +91,13 @@ impl<A: Allocator + Copy> Solver<A> {
         self.database.len()
     }
 
+    /// How many clauses were learned of conflicts so far.
+    pub fn learned(&self) -> usize
+        ensures { result ≡ self.now.learned }
+    {
+        self.database.learned()
+    }
+
     /// The known clause at a place, in the order in which they came.
     ///
     /// The place must be below [`Solver::len`].
@@ -158,11 +165,11 @@ impl<A: Allocator + Copy> Solver<A> {
             return Ok(());
         };
         self.trail.backtrack(0, &mut hints.activity);
-        learn_units(&mut self.database, &self.trail)
+        learn_units(&mut self.database, &self.trail, &mut hints.units)
     }
 
     /// Whether [`Solver::compact`] would drop the known clause at a place: it was learned, and the search does not look
-    /// at it any more, or never will, since a literal of it has to be true.
+    /// at it any more, or never will, since a literal of it has to be true. Nothing is proved of it.
     ///
     /// The place must be below [`Solver::len`].
     pub fn is_forgotten(&self, place: usize) -> bool
@@ -175,7 +182,8 @@ impl<A: Allocator + Copy> Solver<A> {
     }
 
     /// Learns units, as [`Solver::learn_units`], and drops the clauses that are forgotten: the others move together, in
-    /// their order. It takes memory for those that stay, and then gives the old ones' back.
+    /// their order. It takes memory for those that stay, and then gives the old ones' back. Before the first call of
+    /// [`Solver::solve`], and after one that was refused memory, it does nothing.
     ///
     /// # Errors
     /// `AllocError` where memory is refused. Some units may have been learned; no clause was dropped.
@@ -183,12 +191,14 @@ impl<A: Allocator + Copy> Solver<A> {
         ensures formula { self.new.formula ≡ self.old.formula }
         ensures learned { self.new.learned ≡ self.old.learned }
         ensures units { AddsUnits self.old self.new }
+        ensures given { OnOk result (AreAmong self.new.clauses self.new.formula) }
         ensures refused { OnErr result (KeepsKnown self.old self.new) }
     {
-        let Some(hints) = &mut self.hints else {
-            return Ok(());
-        };
-        compact(self.alloc, &mut self.database, &mut self.trail, hints)
+        if let Some(hints) = &mut self.hints {
+            compact(self.alloc, &mut self.database, &mut self.trail, hints)?;
+        }
+        self.database.all_given();
+        Ok(())
     }
 }
 

@@ -2,7 +2,7 @@
 use Rattle.std.specs.Prelude.{◌≡◌, ℕ, zero, suc, ◌+◌, Bool, List, [], ◌∷◌, ◌++◌, length, nat_le, if◌then◌else◌, codes, decimal, IsTrue, Option}
 use Rattle.std.specs.Io.KnownBytes.{Appends}
 use Rattle.giputils_sat.specs.Formulas.{Assignment, satisfies, IsSatisfiable}
-use Rattle.giputils_sat.specs.Stores.{Known, HasMore}
+use Rattle.giputils_sat.specs.Stores.{Known}
 use Rattle.giputils_sat.specs.Answers.{IsRight}
 use Rattle.giputils_sat.specs.declared.solver.Answer.{Answer}
 use Rattle.giputils_dimacs.specs.Dimacs.Texts.{Problem, Word}
@@ -44,14 +44,9 @@ laid_out column (word ∷ words) = separator column word ++ word ++ laid_out (co
 abbrev pub values_text : Assignment → ℕ → List ℕ
 values_text a variables = codes "v" ++ laid_out 1 (value_words a 0 variables)
 
--- a solver knows what was given to it, and has learned nothing
-abbrev pub KnowsGiven : Known → Type 0
-KnowsGiven known = known.learned ≡ 0
-
--- a solver that was given the problem's clauses, and had learned nothing, has learned so many clauses
-abbrev pub HasLearned : ℕ → Problem → Known → Type 0
-HasLearned n problem known =
-    (given : Known) × (given.formula ≡ problem.clauses) × KnowsGiven given × HasMore n given known
+-- no clause was learned so far
+abbrev pub HasLearnedNone : Known → Type 0
+HasLearnedNone known = known.learned ≡ 0
 
 -- the text of a right answer: values that satisfy the problem's clauses, or that nothing does, or that it is open, where
 -- as many clauses were learned as the limit says
@@ -61,7 +56,7 @@ IsRightText problem limit known Satisfiable text =
     × (text ≡ codes "s SATISFIABLE\n" ++ values_text a problem.variables)
 IsRightText problem limit known Unsatisfiable text =
     ¬ (IsSatisfiable problem.clauses) × (text ≡ codes "s UNSATISFIABLE\n")
-IsRightText problem limit known Unknown text = HasLearned limit problem known × (text ≡ codes "s UNKNOWN\n")
+IsRightText problem limit known Unknown text = (known.learned ≡ limit) × (text ≡ codes "s UNKNOWN\n")
 
 -- the exit status of an answer
 abbrev pub verdict_status : Verdict → ℕ
@@ -72,7 +67,7 @@ verdict_status Unknown = 0
 -- the verdict and the text are right for each formula for which the answer is
 abbrev pub TellsRight : {A : Type 0} → ℕ → Answer A → Verdict → List ℕ → Type 0
 TellsRight variables answer verdict text =
-    (old new : Known) (limit : ℕ) → KnowsGiven old → IsRight old new limit answer
+    (old new : Known) (limit : ℕ) → HasLearnedNone old → IsRight old new limit answer
     → IsRightText (record { variables = variables; clauses = old.formula }) limit new verdict text
 
 -- a writer that held the one holds the other after the text of a right answer

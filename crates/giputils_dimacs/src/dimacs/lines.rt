@@ -1,6 +1,6 @@
 //! A parser that knows in which line it is.
 ghost use Rattle.std.specs.Prelude.{◌≡◌, [], ℕ, List, Some, None, IfOk, OnOk, IsErrOf};
-ghost use Rattle.giputils_dimacs.specs.Dimacs.Answers.{KnowsGiven};
+ghost use Rattle.giputils_dimacs.specs.Dimacs.Answers.{HasLearnedNone};
 ghost use Rattle.giputils_dimacs.specs.Dimacs.Texts.{problem_of, line_after, line_on};
 ghost use Rattle.giputils_dimacs.specs.Dimacs.Reading.{IsReading, IsStopped, SaysOn, problem_from};
 
@@ -20,7 +20,7 @@ impl<A: Allocator + Copy> Numbered<A> {
     // Before a text.
     pub fn new(alloc: A) -> Self
         ensures reading { IsReading result.parser }
-        ensures given { KnowsGiven result.parser.solver }
+        ensures fresh { HasLearnedNone result.parser.solver }
         ensures line { result.line ≡ 1 }
         ensures all { (text : List ℕ) → problem_from result.parser text ≡ problem_of text }
     {
@@ -33,9 +33,9 @@ impl<A: Allocator + Copy> Numbered<A> {
     // Reads some bytes more.
     pub fn feed(&mut self, bytes: &[u8]) -> Result<(), DimacsError>
         requires reading { IsReading self.old.parser }
-        requires given { KnowsGiven self.old.parser.solver }
+        requires fresh { HasLearnedNone self.old.parser.solver }
         ensures reading { OnOk result (IsReading self.new.parser) }
-        ensures given { OnOk result (KnowsGiven self.new.parser.solver) }
+        ensures fresh { OnOk result (HasLearnedNone self.new.parser.solver) }
         ensures ok { OnOk result (SaysOn self.old.parser bytes.now self.new.parser) }
         ensures line { OnOk result (self.new.line ≡ line_on self.old.line bytes.now) }
         ensures stopped { (line : ℕ) (reason : Reason) → IsErrOf result (DimacsError.Line line reason) →
@@ -53,8 +53,8 @@ impl<A: Allocator + Copy> Numbered<A> {
     // The number of variables and the clauses, where the text has ended.
     pub fn finish(self) -> Result<Instance<A>, DimacsError>
         requires reading { IsReading self.parser }
-        requires given { KnowsGiven self.parser.solver }
-        ensures given { IfOk result (λ f. KnowsGiven f.solver) }
+        requires fresh { HasLearnedNone self.parser.solver }
+        ensures fresh { IfOk result (λ f. HasLearnedNone f.solver) }
         ensures ok { IfOk result (λ f. problem_from self.parser [] ≡
             Some (record { variables = f.variables; clauses = f.solver.formula })) }
         ensures stopped { (line : ℕ) (reason : Reason) → IsErrOf result (DimacsError.Line line reason) →

@@ -1,6 +1,6 @@
 //! A parser that is given a text in parts.
 ghost use Rattle.std.specs.Prelude.{◌≡◌, ◌<◌, ◌++◌, ◌∷◌, [], ℕ, Bool, true, false, List, length, slice_index, ◌==◌, Some, None, IfOk, IfErr, OnOk, OnErr};
-ghost use Rattle.giputils_dimacs.specs.Dimacs.Answers.{KnowsGiven};
+ghost use Rattle.giputils_dimacs.specs.Dimacs.Answers.{HasLearnedNone};
 ghost use Rattle.giputils_dimacs.specs.Dimacs.Texts.{problem_of};
 ghost use Rattle.giputils_dimacs.specs.Dimacs.Reading.{IsReading, OnRefusal, SaysOn, SaysNothing, begins_comment, begins_line, problem_from, problem_next, EndsWord, EndsNoWord, TakesWord, TakesNoWord};
 ghost use Rattle.giputils_dimacs.specs.declared.dimacs.stage.Stage.TheVariants.{Words};
@@ -29,7 +29,7 @@ impl<A: Allocator + Copy> Parser<A> {
     // Before a text.
     pub fn new(alloc: A) -> Self
         ensures reading { IsReading result }
-        ensures given { KnowsGiven result.solver }
+        ensures fresh { HasLearnedNone result.solver }
         ensures all { (text : List ℕ) → problem_from result text ≡ problem_of text }
     {
         Parser {
@@ -44,9 +44,9 @@ impl<A: Allocator + Copy> Parser<A> {
     // Reads a byte more.
     pub fn byte(&mut self, byte: u8) -> Result<(), Stop>
         requires reading { IsReading self.old }
-        requires given { KnowsGiven self.old.solver }
+        requires fresh { HasLearnedNone self.old.solver }
         ensures reading { OnOk result (IsReading self.new) }
-        ensures given { OnOk result (KnowsGiven self.new.solver) }
+        ensures fresh { OnOk result (HasLearnedNone self.new.solver) }
         ensures ok { OnOk result (SaysOn self.old (byte ∷ []) self.new) }
         ensures err { IfErr result (OnRefusal (SaysNothing self.old (byte ∷ []))) }
     {
@@ -77,9 +77,9 @@ impl<A: Allocator + Copy> Parser<A> {
     // Ends the line.
     fn end_line(&mut self) -> Result<(), Stop>
         requires reading { IsReading self.old }
-        requires given { KnowsGiven self.old.solver }
+        requires fresh { HasLearnedNone self.old.solver }
         ensures reading { OnOk result (IsReading self.new) }
-        ensures given { OnOk result (KnowsGiven self.new.solver) }
+        ensures fresh { OnOk result (HasLearnedNone self.new.solver) }
         ensures ok { OnOk result (SaysOn self.old (10 ∷ []) self.new) }
         ensures err { IfErr result (OnRefusal (SaysNothing self.old (10 ∷ []))) }
     {
@@ -92,8 +92,8 @@ impl<A: Allocator + Copy> Parser<A> {
     // Ends the word, if there is one.
     fn end_word(&mut self) -> Result<(), Stop>
         requires reading { IsReading self.old }
-        requires given { KnowsGiven self.old.solver }
-        ensures given { OnOk result (KnowsGiven self.new.solver) }
+        requires fresh { HasLearnedNone self.old.solver }
+        ensures fresh { OnOk result (HasLearnedNone self.new.solver) }
         ensures word { OnOk result (self.new.word.items ≡ []) }
         ensures comment { self.new.in_comment ≡ self.old.in_comment }
         ensures ok { OnOk result (EndsWord self.old self.new) }
@@ -110,9 +110,9 @@ impl<A: Allocator + Copy> Parser<A> {
     // The stage after the word.
     fn take_word(&mut self) -> Result<Stage, Stop>
         requires some { 0 < length self.old.word.items }
-        requires given { KnowsGiven self.old.solver }
+        requires fresh { HasLearnedNone self.old.solver }
         requires first { begins_line self.old.stage ≡ true → (slice_index self.old.word.items 0 == 99) ≡ false }
-        ensures given { OnOk result (KnowsGiven self.new.solver) }
+        ensures fresh { OnOk result (HasLearnedNone self.new.solver) }
         ensures comment { self.new.in_comment ≡ self.old.in_comment }
         ensures ok { IfOk result (λ stage. TakesWord self.old.stage self.old stage self.new) }
         ensures err { IfErr result (OnRefusal (TakesNoWord self.old.stage self.old)) }
@@ -133,8 +133,8 @@ impl<A: Allocator + Copy> Parser<A> {
 
     // The stage after the word, which is one of a clause.
     fn take_item(&mut self, header: Header) -> Result<Stage, Stop>
-        requires given { KnowsGiven self.old.solver }
-        ensures given { OnOk result (KnowsGiven self.new.solver) }
+        requires fresh { HasLearnedNone self.old.solver }
+        ensures fresh { OnOk result (HasLearnedNone self.new.solver) }
         ensures comment { self.new.in_comment ≡ self.old.in_comment }
         ensures ok { IfOk result (λ stage. TakesWord (Words header) self.old stage self.new) }
         ensures err { IfErr result (OnRefusal (TakesNoWord (Words header) self.old)) }
@@ -162,8 +162,8 @@ impl<A: Allocator + Copy> Parser<A> {
     // The number of variables and the clauses, where the text has ended.
     pub fn finish(mut self) -> Result<Instance<A>, Stop>
         requires reading { IsReading self }
-        requires given { KnowsGiven self.solver }
-        ensures given { IfOk result (λ f. KnowsGiven f.solver) }
+        requires fresh { HasLearnedNone self.solver }
+        ensures fresh { IfOk result (λ f. HasLearnedNone f.solver) }
         ensures ok { IfOk result (λ f. problem_from self [] ≡
             Some (record { variables = f.variables; clauses = f.solver.formula })) }
         ensures err { IfErr result (OnRefusal (problem_from self [] ≡ None)) }
@@ -175,8 +175,8 @@ impl<A: Allocator + Copy> Parser<A> {
 
     // The formula, where the text may end.
     fn close(self) -> Result<Instance<A>, Reason>
-        requires given { KnowsGiven self.solver }
-        ensures given { IfOk result (λ f. KnowsGiven f.solver) }
+        requires fresh { HasLearnedNone self.solver }
+        ensures fresh { IfOk result (λ f. HasLearnedNone f.solver) }
         ensures ok { IfOk result (λ f. problem_next self [] [] ≡
             Some (record { variables = f.variables; clauses = f.solver.formula })) }
         ensures err { OnErr result (problem_next self [] [] ≡ None) }

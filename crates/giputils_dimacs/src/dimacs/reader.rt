@@ -1,7 +1,7 @@
 //! A text from a reader to a formula.
 ghost use Rattle.std.specs.Prelude.{◌≡◌, Some, None, ℕ, vec_len, IfOk, OnOk, IfSome, IsErrOf};
 ghost use Rattle.std.specs.Io.KnownBytes.{IsAtEnd};
-ghost use Rattle.giputils_dimacs.specs.Dimacs.Answers.{KnowsGiven};
+ghost use Rattle.giputils_dimacs.specs.Dimacs.Answers.{HasLearnedNone};
 ghost use Rattle.giputils_dimacs.specs.Dimacs.Texts.{problem_of, IsRefusedIn};
 
 use crate::dimacs::error::{DimacsError, Reason};
@@ -28,7 +28,7 @@ pub fn read_instance<R: Read, A: Allocator + Copy>(
     ensures end { OnOk result (IsAtEnd (R.remaining reader.new)) }
     ensures ok { IfOk result (λ f. IfSome (R.remaining reader.old) (λ text.
         problem_of text ≡ Some (record { variables = f.variables; clauses = f.solver.formula }))) }
-    ensures given { IfOk result (λ f. KnowsGiven f.solver) }
+    ensures fresh { IfOk result (λ f. HasLearnedNone f.solver) }
     ensures line { (line : ℕ) (reason : Reason) → IsErrOf result (DimacsError.Line line reason) →
         IfSome (R.remaining reader.old) (λ text. problem_of text ≡ None) }
     ensures in_line { (line : ℕ) (reason : Reason) → IsErrOf result (DimacsError.Line line reason) →

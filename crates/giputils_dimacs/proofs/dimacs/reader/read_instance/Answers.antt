@@ -11,7 +11,7 @@ loop-init g c =
     let new = c.new-parser.ensures in
     record {
       reading = new.reading;
-      given = new.given;
+      fresh = new.fresh;
       room = c.in_ok-buf.ensures;
       has = read_first (g.R.Read.remaining c.args.reader.now) c.new-parser.result new.line new.all;
     }
@@ -70,7 +70,7 @@ loop-preserved g c =
     let taken : Consumes now new (take c.in-Ok.n c.deref.result.now) = rw bytes c.in-Ok.ensures.bytes.0 in
     record {
       reading = c.in_ok-feed.ensures.reading;
-      given = c.in_ok-feed.ensures.given;
+      fresh = c.in_ok-feed.ensures.fresh;
       room = c.loop.invariant.room;
       has = read_more old now new c.loop.parser c.feed.new.self _ c.loop.invariant.has taken c.in_ok-feed.ensures.ok c.in_ok-feed.ensures.line;
     }

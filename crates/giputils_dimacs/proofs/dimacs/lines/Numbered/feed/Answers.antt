@@ -28,7 +28,7 @@ loop-byte-preserved g c =
     let line = c.loop-byte.invariant.line in
     record {
       reading = read.reading;
-      given = read.given;
+      fresh = read.fresh;
       says = says_on-more old now.parser now.line bytes i byte within refl says line c.byte.new.self read.ok;
       line = c.line_after-self.ensures ∙ line_on-more old now.parser now.line bytes i byte within refl says line;
     }
