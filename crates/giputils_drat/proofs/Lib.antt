@@ -1,0 +1,5 @@
+mod Places
+mod Literals
+mod Forced
+mod Holding
+mod Failing

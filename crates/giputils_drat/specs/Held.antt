@@ -1,0 +1,33 @@
+-- What a checker holds.
+use Rattle.std.specs.Prelude.{◌≡◌, Bool, true, List, []}
+use Rattle.giputils_sat.specs.Literals.{Lit}
+use Rattle.giputils_sat.specs.Formulas.{Clause, Formula, Implies, IsSatisfiable}
+use Rattle.giputils_drat.specs.Forcing.{AreForced, AreImplied}
+
+-- some clauses, the literals that are true by them alone, and whether the empty clause was shown
+pub record Held : Type 0 where
+  pub clauses : List Clause
+  pub units : List Lit
+  pub refuted : Bool
+
+-- all that is held follows from the formula
+pub record Follow (formula : Formula) (held : Held) : Type 0 where
+  pub clauses : AreImplied formula held.clauses
+  pub units : AreForced formula [] held.units
+  pub empty : held.refuted ≡ true → Implies formula []
+
+-- what is held follows still from whatever it followed from
+abbrev pub Stays : Held → Held → Type 0
+Stays old new = (f : Formula) → Follow f old → Follow f new
+
+-- the clause follows from whatever all that is held follows from
+abbrev pub Entails : Held → Clause → Type 0
+Entails held clause = (f : Formula) → Follow f held → Implies f clause
+
+-- what is held follows from whatever it followed from and the clause does
+abbrev pub StaysWith : Clause → Held → Held → Type 0
+StaysWith clause old new = (f : Formula) → Follow f old → Implies f clause → Follow f new
+
+-- nothing satisfies a formula from which all that is held follows
+abbrev pub Refutes : Held → Type 0
+Refutes held = (f : Formula) → Follow f held → ¬ (IsSatisfiable f)

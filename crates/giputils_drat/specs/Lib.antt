@@ -1,0 +1,4 @@
+pub mod Forcing
+pub mod Trails
+pub mod Held
+pub mod Outcomes

@@ -1,0 +1,226 @@
+//! The checker.
+ghost use Rattle.std.specs.Prelude.{◌≡◌, IfOk, [], true};
+ghost use Rattle.std.specs.Bool.{OnTrue};
+ghost use Rattle.giputils_sat.specs.Formulas.{Clause, Formula, Implies};
+ghost use Rattle.giputils_drat.specs.Held.{Entails, Follow, Held, Refutes, Stays, StaysWith};
+ghost use Rattle.giputils_drat.specs.Trails.{IsTrail};
+ghost use Rattle.giputils_drat.specs.Forcing.{AreImplied};
+
+use crate::clauses::Clauses;
+use crate::index::Index;
+use crate::propagation::{attach, propagate};
+use crate::trail::Trail;
+use giputils_sat::Literal;
+use std::alloc::{AllocError, Allocator, Global};
+use std::marker::Model;
+use std::mem;
+
+/// Clauses that follow from a formula, to which others are added only where unit propagation shows that they follow.
+///
+/// It is seen as what it holds: its clauses, the literals that are true by them alone, and whether the empty clause was
+/// shown. It does not know the formula: what is said of it holds of each formula from which all that it holds follows.
+#[derive(Drop)]
+pub struct Checker<A: Allocator = Global> {
+    alloc: A,
+    variables: u32,
+    clauses: Clauses<A>,
+    trail: Trail<A>,
+    index: Index<A>,
+    refuted: bool,
+}
+
+impl<A: Allocator> Model for Checker<A> {
+    ghost use Rattle.std.specs.Prelude.{◌≡◌, length};
+    ghost use Rattle.giputils_drat.specs.Held.{Held};
+    ghost use Rattle.giputils_drat.specs.Trails.{IsSettled};
+
+    ghost Value = { Held };
+
+    ghost view = { λ c. record { clauses = c.clauses; units = c.trail.steps.items; refuted = c.refuted } };
+
+    ghost invariant = { λ c. IsSettled c.trail };
+}
+
+impl<A: Allocator + Copy> Checker<A> {
+    /// A checker that holds nothing, for clauses of so many variables.
+    ///
+    /// # Errors
+    /// `AllocError` where memory is refused.
+    pub fn new(alloc: A, variables: u32) -> Result<Self, AllocError>
+        ensures { IfOk result (λ c. (f : Formula) → Follow f c) }
+    {
+        Ok(Checker {
+            alloc,
+            variables,
+            clauses: Clauses::new(alloc),
+            trail: Trail::new(alloc, variables)?,
+            index: Index::new(alloc, variables)?,
+            refuted: false,
+        })
+    }
+
+    /// Whether the empty clause was shown.
+    pub fn is_refuted(&self) -> bool
+        ensures value { result ≡ self.now.refuted }
+        ensures refutes { OnTrue result (Refutes self.now) }
+    {
+        self.refuted
+    }
+
+    /// Holds a clause without a look at whether it follows.
+    ///
+    /// # Errors
+    /// `AllocError` where memory is refused.
+    pub fn give(&mut self, clause: &[Literal]) -> Result<(), AllocError>
+        ensures { StaysWith clause.now self.old self.new }
+    {
+        let mut copy = Vec::new(self.alloc);
+        copy.extend_from_slice(clause)?;
+        self.keep(copy)
+    }
+
+    /// Holds a clause, if unit propagation shows that it follows, and answers whether it does.
+    ///
+    /// # Errors
+    /// `AllocError` where memory is refused.
+    pub fn add(&mut self, clause: &[Literal]) -> Result<bool, AllocError>
+        ensures stays { Stays self.old self.new }
+        ensures entails { IfOk result (λ shown. OnTrue shown (Entails self.old clause.now)) }
+    {
+        if !self.shows(clause)? {
+            return Ok(false);
+        }
+        self.give(clause)?;
+        Ok(true)
+    }
+
+    /// Deletes a clause with these literals, in any order. False if there is none. What is true by the clauses held
+    /// before stays true.
+    ///
+    /// # Errors
+    /// `AllocError` where memory is refused. Some clauses may have been deleted then.
+    pub fn delete(&mut self, clause: &[Literal]) -> Result<bool, AllocError>
+        ensures { Stays self.old self.new }
+    {
+        let Some(place) = self.index.find(&self.clauses, clause) else {
+            return Ok(false);
+        };
+        self.index.delete(place);
+        if self.index.is_sparse() {
+            self.close_up()?;
+        }
+        Ok(true)
+    }
+
+    // Whether unit propagation shows that the clause follows.
+    fn shows(&mut self, clause: &[Literal]) -> Result<bool, AllocError>
+        ensures stays { Stays self.old self.new }
+        ensures entails { IfOk result (λ shown. OnTrue shown (Entails self.old clause.now)) }
+    {
+        if self.refuted {
+            return Ok(true);
+        }
+        let shown = refute(
+            self.alloc,
+            &self.clauses,
+            &mut self.trail,
+            &mut self.index,
+            clause,
+        );
+        self.trail.backtrack();
+        shown
+    }
+
+    // Holds a clause.
+    fn keep(&mut self, clause: Vec<Literal, A>) -> Result<(), AllocError>
+        ensures { StaysWith clause.items self.old self.new }
+    {
+        let place = self.clauses.len();
+        self.index.push(&clause)?;
+        self.clauses.push(clause)?;
+        let conflict = attach(
+            self.alloc,
+            &self.clauses,
+            &mut self.trail,
+            &mut self.index,
+            place,
+        );
+        self.trail.settle();
+        let conflict = conflict?;
+        if !conflict {
+            return Ok(());
+        }
+        self.refuted = true;
+        Ok(())
+    }
+
+    // Lets the clauses go that were deleted.
+    fn close_up(&mut self) -> Result<(), AllocError>
+        ensures { Stays self.old self.new }
+    {
+        let index = Index::new(self.alloc, self.variables)?;
+        let index = mem::replace(&mut self.index, index);
+        let clauses = mem::replace(&mut self.clauses, Clauses::new(self.alloc));
+        self.keep_alive(clauses, &index)
+    }
+
+    // Holds those of the clauses that were not deleted.
+    fn keep_alive(&mut self, mut clauses: Clauses<A>, index: &Index<A>) -> Result<(), AllocError>
+        ensures { (f : Formula) → Follow f self.old → AreImplied f clauses → Follow f self.new }
+    {
+        while let Some(clause) = clauses.pop() {
+            let is_dead = index.is_dead(clauses.len());
+            self.keep_unless(is_dead, clause)?;
+        }
+        Ok(())
+    }
+
+    // Holds a clause, if it was not deleted.
+    fn keep_unless(&mut self, is_dead: bool, clause: Vec<Literal, A>) -> Result<(), AllocError>
+        ensures { StaysWith clause.items self.old self.new }
+    {
+        if is_dead {
+            return Ok(());
+        }
+        self.keep(clause)
+    }
+}
+
+// Makes the literals of a clause false and propagates. Whether a clause is met whose literals are all false.
+fn refute<A: Allocator + Copy>(
+    alloc: A,
+    clauses: &Clauses<A>,
+    trail: &mut Trail<A>,
+    index: &mut Index<A>,
+    clause: &[Literal],
+) -> Result<bool, AllocError>
+    ensures stays { (f : Formula) → AreImplied f clauses.now → IsTrail f [] trail.old → IsTrail f clause.now trail.new }
+    ensures shown { IfOk result (λ shown. OnTrue shown ((f : Formula) →
+        AreImplied f clauses.now → IsTrail f [] trail.old → Implies f clause.now)) }
+{
+    let shown = falsify(trail, clause)?;
+    if shown {
+        return Ok(true);
+    }
+    propagate(alloc, clauses, trail, index)
+}
+
+// Makes the literals of a clause false. Whether one of them is true.
+fn falsify<A: Allocator + Copy>(
+    trail: &mut Trail<A>,
+    clause: &[Literal],
+) -> Result<bool, AllocError>
+    ensures stays { (f : Formula) → IsTrail f [] trail.old → IsTrail f clause.now trail.new }
+    ensures shown { IfOk result (λ shown. OnTrue shown ((f : Formula) →
+        IsTrail f [] trail.old → Implies f clause.now)) }
+{
+    for l in clause {
+        if trail.is_true(*l) {
+            return Ok(true);
+        }
+        if !trail.is_false(*l) {
+            trail.assign(l.negated())?;
+        }
+    }
+    Ok(false)
+}

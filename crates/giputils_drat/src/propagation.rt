@@ -1,0 +1,180 @@
+//! What becomes true by the clauses.
+ghost use Rattle.std.specs.Prelude.{◌≡◌, IfOk, IfNone, false};
+ghost use Rattle.std.specs.Bool.{OnTrue};
+ghost use Rattle.giputils_drat.specs.Trails.{AreFalse, AreFalseBut, Shows, StaysForced};
+
+use crate::clauses::Clauses;
+use crate::index::{Index, Pair, Watch};
+use crate::trail::Trail;
+use giputils_sat::Literal;
+use std::alloc::{AllocError, Allocator};
+
+// What became of a watch: what it is now, whether it stays, and whether all literals of its clause are false.
+#[derive(Clone, Copy)]
+struct Look {
+    watch: Watch,
+    stays: bool,
+    conflict: bool,
+}
+
+// A watch with no conflict.
+fn seen(place: usize, blocker: Literal, stays: bool) -> Look
+    ensures { result.conflict ≡ false }
+{
+    Look {
+        watch: Watch { place, blocker },
+        stays,
+        conflict: false,
+    }
+}
+
+// The first literal that isn't false.
+fn free<A: Allocator + Copy>(trail: &Trail<A>, clause: &[Literal]) -> Option<Literal>
+    ensures { IfNone result (AreFalse trail.now.truths.items clause.now) }
+{
+    for l in clause {
+        if !trail.is_false(*l) {
+            return Some(*l);
+        }
+    }
+    None
+}
+
+// The first literal but a certain one that isn't false.
+fn free_but<A: Allocator + Copy>(
+    trail: &Trail<A>,
+    clause: &[Literal],
+    but: Literal,
+) -> Option<Literal>
+    ensures { IfNone result (AreFalseBut but trail.now.truths.items clause.now) }
+{
+    for l in clause {
+        if l.code() != but.code() && !trail.is_false(*l) {
+            return Some(*l);
+        }
+    }
+    None
+}
+
+// Looks at a clause one of whose watched literals has become false.
+fn turn<A: Allocator + Copy>(
+    clauses: &Clauses<A>,
+    trail: &mut Trail<A>,
+    index: &mut Index<A>,
+    watch: Watch,
+    falsified: Literal,
+) -> Result<Look, AllocError>
+    ensures stays { StaysForced clauses.now trail.old trail.new }
+    ensures conflict { IfOk result (λ look. OnTrue look.conflict (Shows clauses.now trail.old)) }
+{
+    let Watch { place, blocker } = watch;
+    if trail.is_true(blocker) {
+        return Ok(seen(place, blocker, true));
+    }
+    let Some(unit) = index.other(place, falsified) else {
+        return Ok(seen(place, blocker, false));
+    };
+    if trail.is_true(unit) {
+        return Ok(seen(place, unit, true));
+    }
+    let Some(clause) = clauses.get(place) else {
+        return Ok(seen(place, blocker, false));
+    };
+    if let Some(free) = free_but(trail, clause, unit) {
+        let pair = Pair {
+            first: unit,
+            second: free,
+        };
+        index.exchange(place, pair)?;
+        return Ok(seen(place, unit, false));
+    }
+    if trail.is_false(unit) {
+        return Ok(Look {
+            watch: Watch {
+                place,
+                blocker: unit,
+            },
+            stays: true,
+            conflict: true,
+        });
+    }
+    trail.assign(unit)?;
+    Ok(seen(place, unit, true))
+}
+
+// Looks at each clause that watches a literal that has become false. Whether one is met whose literals are all false.
+fn visit<A: Allocator + Copy>(
+    alloc: A,
+    clauses: &Clauses<A>,
+    trail: &mut Trail<A>,
+    index: &mut Index<A>,
+    falsified: Literal,
+) -> Result<bool, AllocError>
+    ensures stays { StaysForced clauses.now trail.old trail.new }
+    ensures conflict { IfOk result (λ conflict. OnTrue conflict (Shows clauses.now trail.old)) }
+{
+    let mut list = index.take(alloc, falsified);
+    let mut kept = 0;
+    let mut conflict = false;
+    for place in 0..list.len() {
+        let look = turn(clauses, trail, index, list[place], falsified)?;
+        list[kept] = look.watch;
+        kept += usize::from(look.stays);
+        conflict = conflict || look.conflict;
+    }
+    list.truncate(kept);
+    index.put(falsified, list);
+    Ok(conflict)
+}
+
+// Propagates what has become true. Whether a clause is met whose literals are all false.
+pub(crate) fn propagate<A: Allocator + Copy>(
+    alloc: A,
+    clauses: &Clauses<A>,
+    trail: &mut Trail<A>,
+    index: &mut Index<A>,
+) -> Result<bool, AllocError>
+    ensures stays { StaysForced clauses.now trail.old trail.new }
+    ensures conflict { IfOk result (λ conflict. OnTrue conflict (Shows clauses.now trail.old)) }
+{
+    // Each literal becomes true once at most.
+    for _ in 0..trail.truths.len() {
+        let Some(l) = trail.next() else {
+            return Ok(false);
+        };
+        let conflict = visit(alloc, clauses, trail, index, l.negated())?;
+        if conflict {
+            return Ok(true);
+        }
+    }
+    Ok(false)
+}
+
+// Watches the clause at a place, or makes true what it leaves, and propagates that. Whether a clause is met whose
+// literals are all false.
+pub(crate) fn attach<A: Allocator + Copy>(
+    alloc: A,
+    clauses: &Clauses<A>,
+    trail: &mut Trail<A>,
+    index: &mut Index<A>,
+    place: usize,
+) -> Result<bool, AllocError>
+    ensures stays { StaysForced clauses.now trail.old trail.new }
+    ensures conflict { IfOk result (λ conflict. OnTrue conflict (Shows clauses.now trail.old)) }
+{
+    let Some(clause) = clauses.get(place) else {
+        return Ok(false);
+    };
+    let Some(first) = free(trail, clause) else {
+        return Ok(true);
+    };
+    if let Some(second) = free_but(trail, clause, first) {
+        index.watch(place, Pair { first, second })?;
+        return Ok(false);
+    }
+    if trail.is_true(first) {
+        return Ok(false);
+    }
+    trail.assign(first)?;
+    propagate(alloc, clauses, trail, index)
+}
