@@ -44,11 +44,11 @@ laid_out column (word ∷ words) = separator column word ++ word ++ laid_out (co
 abbrev pub values_text : Assignment → ℕ → List ℕ
 values_text a variables = codes "v" ++ laid_out 1 (value_words a 0 variables)
 
--- all that a solver knows was given to it
+-- a solver knows what was given to it, and has learned nothing
 abbrev pub KnowsGiven : Known → Type 0
-KnowsGiven known = known.clauses ≡ known.formula
+KnowsGiven known = known.learned ≡ 0
 
--- a solver that was given the problem's clauses, and knew no others, has learned so many more
+-- a solver that was given the problem's clauses, and had learned nothing, has learned so many clauses
 abbrev pub HasLearned : ℕ → Problem → Known → Type 0
 HasLearned n problem known =
     (given : Known) × (given.formula ≡ problem.clauses) × KnowsGiven given × HasMore n given known

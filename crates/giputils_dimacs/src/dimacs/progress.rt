@@ -64,6 +64,7 @@ fn solve_on<A: Allocator + Copy, P: Progress<A>>(
             answer => return Ok(answer),
         }
         progress.note(solver);
+        solver.compact()?;
     }
     progress.begin(solver);
     solver.solve(left)

@@ -1,11 +1,11 @@
 -- As many clauses were learned as conflicts are gone.
-use Rattle.std.proofs.Common.{◌≡◌, ◌≤◌, ◌+◌, length}
+use Rattle.std.proofs.Common.{◌≡◌, ◌≤◌, ◌+◌}
 use Rattle.giputils_dimacs.proofs.dimacs.progress.solve_on.Given as goal
 
 abbrev pub invariant-loop-left : goal.invariant-loop-left
 invariant-loop-left g l = record {
   formula : l.solver.formula ≡ l.fn.solver.formula;
-  learned : length l.solver.clauses + l.left ≡ length l.fn.solver.clauses + l.limit;
+  learned : l.solver.learned + l.left ≡ l.fn.solver.learned + l.limit;
   fewer : l.left ≤ l.limit;
 }
 
