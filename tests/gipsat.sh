@@ -30,7 +30,7 @@ try() {
     fi
 }
 
-usage='usage: gipsat [--conflicts N] [--stats] [FILE]'
+usage=$(printf '%s\n' 'usage: gipsat [--conflicts N] [--stats] [FILE]' '       gipsat --check FORMULA PROOF')
 clash='p cnf 1 2\n1 0\n-1 0\n'
 
 try "a formula in a file" 10 "" "$(cat "$stored/stdout")" "" "$stored/stdin"
@@ -50,7 +50,7 @@ try "a clause too few" 1 "line 3: fewer clauses than the header says" "" 'p cnf 
 try "a clause without its end" 1 "line 3: a clause without its 0" "" 'p cnf 1 1\n1\n'
 try "a file that is not there" 1 "input: cannot be read" "" "" "$work/none"
 try "a folder" 1 "input: cannot be read" "" "" "$work"
-for words in "--other" "a b" "--conflicts" "--conflicts x" "--conflicts 18446744073709551616"; do
+for words in "--other" "a b" "--check" "--check a" "--check a b c" "--stats --check a b" "--conflicts" "--conflicts x" "--conflicts 18446744073709551616"; do
     # shellcheck disable=SC2086
     try "arguments $words" 2 "$usage" "" "$clash" $words
 done
@@ -66,6 +66,33 @@ else
     echo "FAILED: a full device (status $status, $(head -c 200 "$work/err"))"
     failed=$((failed + 1))
 fi
+
+# Proofs, beside a formula that nothing satisfies: a square over 2 and 3 without 1, and one over 4 and 5 with it.
+squares='p cnf 5 8\n1 2 3 0\n1 2 -3 0\n1 -2 3 0\n1 -2 -3 0\n-1 4 5 0\n-1 4 -5 0\n-1 -4 5 0\n-1 -4 -5 0\n'
+# NAME STATUS ERROR OUTPUT FORMULA PROOF: checks this proof beside this formula, and expects this of it.
+try_check() {
+    printf '%b' "$5" > "$work/formula"
+    printf '%b' "$6" > "$work/proof"
+    try "$1" "$2" "$3" "$4" "" --check "$work/formula" "$work/proof"
+}
+# NAME LINE REASON FORMULA PROOF: expects that this proof is refused.
+try_refused() {
+    try_check "$1" 1 "proof line $2: $3" "s NOT VERIFIED" "$4" "$5"
+}
+not_shown='a clause that unit propagation does not show'
+try_check "a proof" 0 "" "s VERIFIED" "$squares" '1 2 0\n1 0\n4 0\n0\n'
+try_check "a proof with a comment and a deletion" 0 "" "s VERIFIED" "$squares" 'c one\n1 2 0\nd 2 3 1 0\n1 0\n4 0\n0\n'
+try_refused "a clause left out" 2 "$not_shown" "$squares" '1 2 0\n4 0\n0\n'
+try_refused "a literal turned" 1 "$not_shown" "$squares" '-1 2 0\n1 0\n4 0\n0\n'
+try_refused "another formula" 1 "$not_shown" 'p cnf 5 2\n1 2 3 0\n1 2 4 0\n' '1 2 0\n1 0\n4 0\n0\n'
+try_refused "a needed clause deleted" 2 "$not_shown" "$squares" 'd 1 2 3 0\n1 2 0\n1 0\n4 0\n0\n'
+try_refused "a deletion of what is not there" 1 "no such clause to delete" "$squares" 'd 1 2 0\n0\n'
+try_refused "a binary proof" 1 "not a number" "$squares" 'a\x02\x04\x00'
+try_refused "a proof that ends early" 2 "the end without the empty clause" "$squares" '1 2 0\n'
+try_check "a proof beside a broken formula" 1 "formula: line 2: not a number" "" 'p cnf 1 1\nx 0\n' '0\n'
+printf '%b' "$squares" > "$work/formula"
+try "no proof" 1 "proof: cannot be read" "" "" --check "$work/formula" "$work/none"
+try "a proof beside no formula" 1 "formula: input: cannot be read" "" "" --check "$work/none" "$work/proof"
 
 # What is told at the end, on standard error. One clause is learned, of one literal.
 told='c 2 conflicts, 0 restarts, 5 clauses kept, 0 forgotten, 1.000000 literals in each of the last learned'

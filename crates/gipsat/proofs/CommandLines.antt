@@ -28,6 +28,11 @@ module _ (r : Request) (word : List ℕ) where
   stats_more [] is = rw is refl
   stats_more (next ∷ words) is = rw is refl
 
+  -- the proof's file
+  pub proof_more : (next name : List ℕ) (words after : List (List ℕ)) → word ≡ codes "--proof" → after ≡ next ∷ words
+      → name ≡ next → asked r (word ∷ after) ≡ asked (record r { proof = Some name }) words
+  proof_more next name words after is e same = rw (e, is, same) refl
+
   not_same : (other : List ℕ) → ¬ (word ≡ other) → bytes_eq word other ≡ false
   not_same other differs =
       elim (cases_Bool (bytes_eq word other)) [ inl same ↦ absurd (differs ((bytes_eq-Decides word other).0 same)) | inr other_bytes ↦ other_bytes ]
@@ -38,11 +43,11 @@ module _ (r : Request) (word : List ℕ) where
 
   -- a file
   pub file_more : (s : Option Request) (words : List (List ℕ)) → ¬ (word ≡ codes "--conflicts") → ¬ (word ≡ codes "--stats")
-      → with_file r word ≡ s → asked r (word ∷ words) ≡ option_and_then (λ t. asked t words) s
-  file_more s [] limit stats file =
-      rw (not_same (codes "--conflicts") limit, not_same (codes "--stats") stats) (rw file (and_then-Some s))
-  file_more s (next ∷ words) limit stats file =
-      rw (not_same (codes "--conflicts") limit, not_same (codes "--stats") stats) (rw file refl)
+      → ¬ (word ≡ codes "--proof") → with_file r word ≡ s → asked r (word ∷ words) ≡ option_and_then (λ t. asked t words) s
+  file_more s [] limit stats proof file =
+      rw (not_same (codes "--conflicts") limit, not_same (codes "--stats") stats, not_same (codes "--proof") proof) (rw file (and_then-Some s))
+  file_more s (next ∷ words) limit stats proof file =
+      rw (not_same (codes "--conflicts") limit, not_same (codes "--stats") stats, not_same (codes "--proof") proof) (rw file refl)
 
 number-some : (ds : List ℕ) (n : ℕ) → 0 < length ds → all_ascii_digits ds ≡ true → digits_value 10 ds < 2 ^ 64
     → n ≡ digits_value 10 ds

@@ -1,6 +1,9 @@
 //! `gipsat [--conflicts N] [--stats] [FILE]` reads a formula in the DIMACS form, from standard input or the file, and
 //! writes whether anything satisfies it. It gives up after N conflicts.
 //!
+//! `gipsat --check FORMULA PROOF` reads a formula and a proof in the DRAT form, as text, that nothing satisfies it, and
+//! writes whether the proof is one.
+//!
 //! As it works it writes lines that begin with `c` to standard error, at most one in some seconds, and at `--stats` one
 //! more at the end.
 #![tactic(auto)]
@@ -9,12 +12,15 @@ ghost use Rattle.std.specs.Prelude.{◌≡◌, ◌≢◌, ℕ, IfOk, IfErr, OnOk
 ghost use Rattle.std.specs.Io.KnownBytes.{IsAtEnd};
 ghost use Rattle.giputils_dimacs.specs.Dimacs.Texts.{problem_of, IsRefusedIn};
 ghost use Rattle.giputils_dimacs.specs.Dimacs.Answers.{WritesAnswer};
+ghost use Rattle.giputils_drat.specs.Outcomes.{WritesOutcome};
 
 mod options;
 mod watch;
 
 use giputils_dimacs::dimacs::{DimacsError, Reason, Solved, Verdict, solve_text};
-use options::Options;
+use giputils_drat::error::{DratError, Outcome};
+use giputils_drat::task::check_text;
+use options::{Options, Task};
 use std::env;
 use std::fmt::Display;
 use std::fs::File;
@@ -22,23 +28,33 @@ use std::io::{self, Read, Write};
 use std::process::ExitCode;
 use watch::Watch;
 
-// The exit status where the input is refused, and after the usage line.
+// The exit status where the input or the proof is refused, and after the usage lines.
 const REFUSED: u8 = 1;
 
 const USAGE: u8 = 2;
+
+const USAGE_LINES: &str =
+    "usage: gipsat [--conflicts N] [--stats] [--proof FILE] [FILE]\n       gipsat --check FORMULA PROOF";
 
 fn main(rt: HostRuntime) -> ExitCode {
     let words = match words_of(&rt) {
         Ok(words) => words,
         Err(error) => return refuse(&rt, &format_args!("arguments: {error}")),
     };
-    let Some(options) = Options::parse(&words) else {
-        let _ = eprintln!(rt; "usage: gipsat [--conflicts N] [--stats] [FILE]");
-        return ExitCode::from(USAGE);
-    };
-    match run(&rt, &options) {
-        Ok(verdict) => ExitCode::from(verdict.status()),
-        Err(error) => refuse(&rt, &error),
+    match Task::parse(&words) {
+        Some(Task::Solve(options)) => match run(&rt, &options) {
+            Ok(verdict) => ExitCode::from(verdict.status()),
+            Err(error) => refuse(&rt, &error),
+        },
+        Some(Task::Check(formula, proof)) => match check_files(&rt, formula, proof) {
+            Ok(Outcome::Verified) => ExitCode::SUCCESS,
+            Ok(Outcome::Refused(refusal)) => refuse(&rt, &refusal),
+            Err(error) => refuse(&rt, &error),
+        },
+        None => {
+            let _ = eprintln!(rt; "{USAGE_LINES}");
+            ExitCode::from(USAGE)
+        }
     }
 }
 
@@ -81,4 +97,30 @@ fn solve<R: Read, W: Write>(
 {
     let mut watch = Watch::new(rt, options.stats)?;
     solve_text(rt.alloc(), reader, writer, options.conflicts, &mut watch)
+}
+
+// Checks the proof in a file beside the formula in another.
+fn check_files(rt: &HostRuntime, formula: &str, proof: &str) -> Result<Outcome, DratError> {
+    let Ok(mut formula) = File::open(rt, formula) else {
+        return Err(DratError::Formula(DimacsError::Input));
+    };
+    let Ok(mut proof) = File::open(rt, proof) else {
+        return Err(DratError::Proof);
+    };
+    check(rt, &mut formula, &mut proof, &mut rt.stdout())
+}
+
+// Checks as `check_text` does.
+fn check<F: Read, P: Read, W: Write>(
+    rt: &HostRuntime,
+    formula: &mut F,
+    proof: &mut P,
+    writer: &mut W,
+) -> Result<Outcome, DratError>
+    ensures read_to_end { OnOk result (IsAtEnd (F.remaining formula.new)) }
+    ensures written { IfOk result (λ outcome. IfSome (F.remaining formula.old) (λ text. IfSome (problem_of text)
+        (λ p. WritesOutcome p outcome (W.contents writer.old) (W.contents writer.new)))) }
+    ensures unwritten { IfErr result (λ error. error ≢ DratError.Output → writer.new ≡ writer.old) }
+{
+    check_text(rt.alloc(), formula, proof, writer)
 }

@@ -1,15 +1,48 @@
 //! The command line.
 ghost use Rattle.std.specs.Prelude.{◌≡◌, ◌≤◌, ◌∷◌, length, map, string_bytes, None, IfSome, IfNone};
 ghost use Rattle.std.specs.Option.{option_map};
-ghost use Rattle.gipsat.specs.Options.{no_request, asked, request_of, with_file};
+ghost use Rattle.gipsat.specs.Options.{no_request, asked, check_of, request_of, with_file, work_asked, work_of};
 
 /// What the arguments ask for.
+#[derive(Clone, Copy)]
+pub enum Task<'a> {
+    /// To solve a formula.
+    Solve(Options<'a>),
+    /// To check a proof that nothing satisfies a formula: the file of the formula, and that of the proof.
+    Check(&'a str, &'a str),
+}
+
+impl<'a> Task<'a> {
+    /// What some words ask for, if they have a meaning.
+    pub fn parse(words: &'a [String]) -> Option<Self>
+        ensures { option_map work_of result ≡ work_asked (map string_bytes words.now) }
+    {
+        match words {
+            [word, rest @ ..] if word.as_str() == "--check" => Task::check(rest),
+            _ => Some(Task::Solve(Options::parse(words)?)),
+        }
+    }
+
+    // The check of a proof, if these are the names of two files.
+    fn check(words: &'a [String]) -> Option<Self>
+        ensures { option_map work_of result ≡ check_of (map string_bytes words.now) }
+    {
+        match words {
+            [formula, proof] => Some(Task::Check(formula.as_str(), proof.as_str())),
+            _ => None,
+        }
+    }
+}
+
+/// How to solve a formula.
 #[derive(Clone, Copy)]
 pub struct Options<'a> {
     /// After how many conflicts to give up.
     pub conflicts: usize,
     /// Whether to write a summary.
     pub stats: bool,
+    /// Where to write a proof, if anywhere.
+    pub proof: Option<&'a str>,
     /// The file to read, if not standard input.
     pub file: Option<&'a str>,
 }
@@ -22,6 +55,7 @@ impl<'a> Options<'a> {
         let mut options = Options {
             conflicts: usize::MAX,
             stats: false,
+            proof: None,
             file: None,
         };
         while let [word, rest @ ..] = words {
@@ -50,6 +84,11 @@ impl<'a> Options<'a> {
                 },
                 rest,
             )),
+            "--proof" => {
+                let (name, rest) = rest.split_first()?;
+                let proof = Some(name.as_str());
+                Some((Options { proof, ..self }, rest))
+            }
             name => Some((self.with_file(name)?, rest)),
         }
     }
