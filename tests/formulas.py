@@ -5,6 +5,8 @@
                                                   stdout, in the place of the one that stands there; it needs minisat
     tests/formulas.py --write FOLDER              a DIMACS file for each formula of FILES, by name and seed
     tests/formulas.py --time FOLDER PROGRAM..     runs the programs by turns over the files of a folder
+    tests/formulas.py --check FOLDER GIPSAT       has each file that GIPSAT refutes checked with the proof that it writes
+    tests/formulas.py --check FOLDER GIPSAT CADICAL    has the proofs of this program checked by GIPSAT
 
 A line `cnf CLAUSE..` of the list has a word for each clause, and a letter for each literal: `A` is a variable, and `a`
 its negation. A digit tells which 26 variables the letters behind it are; without one they are those of 0, and `0` is
@@ -421,6 +423,36 @@ def measure(folder, programs):
     return faults
 
 
+def check(folder, gipsat, peer):
+    """Prints for each file that is refuted how long it took to refute it and to check the proof, and the proof's size;
+    tells how many proofs were refused."""
+    faults = 0
+    for path in sorted(folder.glob("*.cnf")):
+        with tempfile.NamedTemporaryFile() as proof:
+            words = [*peer, path, proof.name] if peer else [gipsat, "--proof", proof.name, path]
+            status, solving = timed(words)[1:]
+            if status != 20:
+                print(f"{path.stem}: status {status} in {solving:.2f} s", flush=True)
+                continue
+            size = Path(proof.name).stat().st_size
+            text, status, checking = timed([gipsat, "--check", path, proof.name])
+            faults += (text, status) != ("s VERIFIED\n", 0)
+            print(f"{path.stem}: {solving:.2f} s, {size} bytes, {checking:.2f} s, {text.strip()}", flush=True)
+    print(f"{faults} refused")
+    return faults
+
+
+def timed(words):
+    """The output of a program, its status, and its user time."""
+
+    def limit():
+        resource.setrlimit(resource.RLIMIT_CPU, (SECONDS, SECONDS))
+
+    before = resource.getrusage(resource.RUSAGE_CHILDREN).ru_utime
+    run = subprocess.run(words, stdout=subprocess.PIPE, stderr=subprocess.DEVNULL, text=True, preexec_fn=limit)
+    return run.stdout, run.returncode, resource.getrusage(resource.RUSAGE_CHILDREN).ru_utime - before
+
+
 def main():
     match sys.argv[1:]:
         case ["--list"]:
@@ -429,6 +461,8 @@ def main():
             write(Path(folder))
         case ["--time", folder, *programs] if programs:
             sys.exit(measure(Path(folder), programs) > 0)
+        case ["--check", folder, gipsat, *peer] if len(peer) < 2:
+            sys.exit(check(Path(folder), gipsat, shlex.split(*peer) if peer else []) > 0)
         case _:
             sys.exit(__doc__)
 

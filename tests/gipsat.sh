@@ -30,7 +30,7 @@ try() {
     fi
 }
 
-usage=$(printf '%s\n' 'usage: gipsat [--conflicts N] [--stats] [FILE]' '       gipsat --check FORMULA PROOF')
+usage=$(printf '%s\n' 'usage: gipsat [--conflicts N] [--stats] [--proof FILE] [FILE]' '       gipsat --check FORMULA PROOF')
 clash='p cnf 1 2\n1 0\n-1 0\n'
 
 try "a formula in a file" 10 "" "$(cat "$stored/stdout")" "" "$stored/stdin"
@@ -50,7 +50,7 @@ try "a clause too few" 1 "line 3: fewer clauses than the header says" "" 'p cnf 
 try "a clause without its end" 1 "line 3: a clause without its 0" "" 'p cnf 1 1\n1\n'
 try "a file that is not there" 1 "input: cannot be read" "" "" "$work/none"
 try "a folder" 1 "input: cannot be read" "" "" "$work"
-for words in "--other" "a b" "--check" "--check a" "--check a b c" "--stats --check a b" "--conflicts" "--conflicts x" "--conflicts 18446744073709551616"; do
+for words in "--other" "a b" "--check" "--check a" "--check a b c" "--stats --check a b" "--proof" "--conflicts" "--conflicts x" "--conflicts 18446744073709551616"; do
     # shellcheck disable=SC2086
     try "arguments $words" 2 "$usage" "" "$clash" $words
 done
@@ -93,6 +93,31 @@ try_check "a proof beside a broken formula" 1 "formula: line 2: not a number" ""
 printf '%b' "$squares" > "$work/formula"
 try "no proof" 1 "proof: cannot be read" "" "" --check "$work/formula" "$work/none"
 try "a proof beside no formula" 1 "formula: input: cannot be read" "" "" --check "$work/none" "$work/proof"
+
+# Proofs that the program writes: of the squares, and of six pigeons in five holes.
+pigeons() {
+    python3 - <<'END'
+import itertools
+holes = 5
+sits = lambda pigeon, hole: pigeon * holes + hole + 1
+clauses = [[sits(p, h) for h in range(holes)] for p in range(holes + 1)]
+clauses += [[-sits(a, h), -sits(b, h)] for h in range(holes) for a, b in itertools.combinations(range(holes + 1), 2)]
+print("p cnf", (holes + 1) * holes, len(clauses))
+for clause in clauses:
+    print(*clause, 0)
+END
+}
+pigeons > "$work/pigeons"
+for formula in formula pigeons; do
+    try "a proof of $formula is written" 20 "" "s UNSATISFIABLE" "" --proof "$work/written" "$work/$formula"
+    try "the proof of $formula is checked" 0 "" "s VERIFIED" "" --check "$work/$formula" "$work/written"
+done
+try "a proof of the pigeons beside another formula" 1 \
+    "proof line 1: a variable that the formula does not have" "s NOT VERIFIED" "" --check "$work/formula" "$work/written"
+try "a proof that can't be opened" 1 "output: cannot be written" "" "" --proof "$work/none/proof" "$work/formula"
+try "a proof to a full device" 1 "output: cannot be written" "" "" --proof /dev/full "$work/formula"
+try "a proof in the place of the formula" 1 "output: cannot be written" "" "" --proof "$work/formula" "$work/formula"
+try "the formula still stands" 20 "" "s UNSATISFIABLE" "" "$work/formula"
 
 # What is told at the end, on standard error. One clause is learned, of one literal.
 told='c 2 conflicts, 0 restarts, 5 clauses kept, 0 forgotten, 1.000000 literals in each of the last learned'

@@ -1,5 +1,7 @@
-//! `gipsat [--conflicts N] [--stats] [FILE]` reads a formula in the DIMACS form, from standard input or the file, and
-//! writes whether anything satisfies it. It gives up after N conflicts.
+//! `gipsat [--conflicts N] [--stats] [--proof PROOF] [FILE]` reads a formula in the DIMACS form, from standard input or
+//! the file, and writes whether anything satisfies it. It gives up after N conflicts. To the file PROOF it writes the
+//! clauses that it learns, and those that it forgets, in the DRAT form, as text: a proof where nothing satisfies the
+//! formula.
 //!
 //! `gipsat --check FORMULA PROOF` reads a formula and a proof in the DRAT form, as text, that nothing satisfies it, and
 //! writes whether the proof is one.
@@ -15,12 +17,16 @@ ghost use Rattle.giputils_dimacs.specs.Dimacs.Answers.{WritesAnswer};
 ghost use Rattle.giputils_drat.specs.Outcomes.{WritesOutcome};
 
 mod options;
+mod proof;
 mod watch;
 
+use giputils_dimacs::dimacs::progress::Progress;
 use giputils_dimacs::dimacs::{DimacsError, Reason, Solved, Verdict, solve_text};
 use giputils_drat::error::{DratError, Outcome};
 use giputils_drat::task::check_text;
 use options::{Options, Task};
+use proof::{Both, Proof};
+use std::alloc::Global;
 use std::env;
 use std::fmt::Display;
 use std::fs::File;
@@ -70,23 +76,77 @@ fn refuse<E: Display>(rt: &HostRuntime, error: &E) -> ExitCode {
 }
 
 fn run(rt: &HostRuntime, options: &Options) -> Result<Verdict, DimacsError> {
-    let mut writer = rt.stdout();
-    let solved = match options.file {
-        None => solve(rt, options, &mut rt.stdin(), &mut writer)?,
+    match options.file {
+        None => run_on(rt, options, &mut rt.stdin()),
         Some(path) => match File::open(rt, path) {
-            Ok(mut file) => solve(rt, options, &mut file, &mut writer)?,
-            Err(_) => return Err(DimacsError::Input),
+            Ok(mut file) => run_on(rt, options, &mut file),
+            Err(_) => Err(DimacsError::Input),
         },
+    }
+}
+
+// Solves what a reader has, and writes the answer to standard output.
+fn run_on<R: Read>(
+    rt: &HostRuntime,
+    options: &Options,
+    reader: &mut R,
+) -> Result<Verdict, DimacsError> {
+    let mut writer = rt.stdout();
+    match options.proof {
+        None => {
+            let mut watch = Watch::new(rt, options.stats)?;
+            let solved = solve(rt, options, reader, &mut writer, &mut watch)?;
+            Ok(solved.verdict)
+        }
+        Some(path) => prove(rt, options, path, reader, &mut writer),
+    }
+}
+
+// Solves, and writes a proof to the file of this name, which is not that of the formula. The answer is written where
+// the proof is whole.
+fn prove<R: Read, W: Write>(
+    rt: &HostRuntime,
+    options: &Options,
+    path: &str,
+    reader: &mut R,
+    writer: &mut W,
+) -> Result<Verdict, DimacsError> {
+    if is_read(options, path) {
+        return Err(DimacsError::Output);
+    }
+    let Ok(file) = File::create(rt, path) else {
+        return Err(DimacsError::Output);
     };
-    Ok(solved.verdict)
+    let mut both = Both {
+        first: Watch::new(rt, options.stats)?,
+        second: Proof::new(rt.alloc(), file),
+    };
+    let mut text = Vec::new(rt.alloc());
+    let solved = solve(rt, options, reader, &mut text, &mut both)?;
+    let verdict = solved.verdict;
+    both.second
+        .finish(matches!(verdict, Verdict::Unsatisfiable))?;
+    match writer.write_all(&text) {
+        Ok(()) => Ok(verdict),
+        Err(_) => Err(DimacsError::Output),
+    }
+}
+
+// Whether the file of this name is the one that is read.
+fn is_read(options: &Options, path: &str) -> bool {
+    match options.file {
+        Some(name) => name == path,
+        None => false,
+    }
 }
 
 // Solves as `solve_text` does, within as many conflicts as the options allow.
-fn solve<R: Read, W: Write>(
+fn solve<R: Read, W: Write, P: Progress<Global>>(
     rt: &HostRuntime,
     options: &Options,
     reader: &mut R,
     writer: &mut W,
+    progress: &mut P,
 ) -> Result<Solved, DimacsError>
     ensures read_to_end { OnOk result (IsAtEnd (R.remaining reader.new)) }
     ensures written { IfOk result (λ solved. IfSome (R.remaining reader.old) (λ text. IfSome (problem_of text)
@@ -95,8 +155,7 @@ fn solve<R: Read, W: Write>(
         IfSome (R.remaining reader.old) (λ text. IsRefusedIn text line) }
     ensures unwritten { IfErr result (λ error. error ≢ DimacsError.Output → writer.new ≡ writer.old) }
 {
-    let mut watch = Watch::new(rt, options.stats)?;
-    solve_text(rt.alloc(), reader, writer, options.conflicts, &mut watch)
+    solve_text(rt.alloc(), reader, writer, options.conflicts, progress)
 }
 
 // Checks the proof in a file beside the formula in another.

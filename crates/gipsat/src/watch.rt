@@ -131,6 +131,8 @@ impl Progress<Global> for Watch<'_> {
             .log(&Comments { rt: self.rt }, now, Level::Info, &known);
     }
 
+    fn forget(&mut self, _solver: &Solver) {}
+
     fn end(&mut self, solver: &Solver) {
         if self.stats {
             self.count(solver);

@@ -74,7 +74,10 @@ fn each_request_of_a_solver_is_refused_in_turn(rt: HostRuntime) {
         ("asked once more", refuse_each(alloc, is_answered_at_last)),
         ("sat", refuse_from_each(alloc, is_found_satisfied)),
         ("unsat", refuse_from_each(alloc, is_found_unsatisfied)),
-        ("closed up", refuse_from_each(alloc, is_answered_when_closed_up)),
+        (
+            "closed up",
+            refuse_from_each(alloc, is_answered_when_closed_up),
+        ),
     ];
     for (call, outcome) in outcomes {
         assert!(rt;

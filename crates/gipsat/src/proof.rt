@@ -1,0 +1,168 @@
+//! A proof that nothing satisfies a formula, as text in the DRAT form: a line for each clause that is learned, and one
+//! that begins with `d` for each that leaves the store.
+
+use giputils_dimacs::dimacs::DimacsError;
+use giputils_dimacs::dimacs::progress::Progress;
+use giputils_sat::{Literal, Solver};
+use std::alloc::{AllocError, Allocator, Global};
+use std::io::Write;
+
+// From how many bytes on the text is written.
+const BUFFER_SIZE: usize = 65_536;
+
+/// Writes a proof as the search goes on.
+#[derive(Drop)]
+pub struct Proof<W: Write> {
+    writer: W,
+    // What was not written yet.
+    text: Vec<u8>,
+    // How many of the known clauses need not be told.
+    seen: usize,
+    // Why the proof is not whole.
+    fault: Option<DimacsError>,
+}
+
+impl<W: Write> Proof<W> {
+    /// Before the search.
+    pub fn new(alloc: Global, writer: W) -> Self {
+        Proof {
+            writer,
+            text: Vec::new(alloc),
+            seen: 0,
+            fault: None,
+        }
+    }
+
+    /// Writes what is left, and the empty clause, if it was found that nothing satisfies the formula.
+    ///
+    /// # Errors
+    /// The first failure of all: `Output` where a write failed, `Memory` where memory was refused.
+    pub fn finish(&mut self, is_refuted: bool) -> Result<(), DimacsError> {
+        if let Some(fault) = self.fault {
+            return Err(fault);
+        }
+        if is_refuted {
+            self.text.extend_from_slice(b"0\n")?;
+        }
+        self.pass_on()
+    }
+
+    // Writes the clauses that were learned since.
+    fn learned(&mut self, solver: &Solver) -> Result<(), DimacsError> {
+        for place in self.seen..solver.len() {
+            self.line(b"", solver.clause(place))?;
+        }
+        self.seen = solver.len();
+        Ok(())
+    }
+
+    // Writes the clauses that are forgotten.
+    fn forgotten(&mut self, solver: &Solver) -> Result<(), DimacsError> {
+        for place in 0..solver.len() {
+            if solver.is_forgotten(place) {
+                self.line(b"d ", solver.clause(place))?;
+            }
+        }
+        Ok(())
+    }
+
+    // Writes a line.
+    fn line(&mut self, front: &[u8], clause: &[Literal]) -> Result<(), DimacsError> {
+        self.text.extend_from_slice(front)?;
+        write_clause(&mut self.text, clause)?;
+        if self.text.len() < BUFFER_SIZE {
+            return Ok(());
+        }
+        self.pass_on()
+    }
+
+    // Writes what was not written yet.
+    fn pass_on(&mut self) -> Result<(), DimacsError> {
+        let done = self.writer.write_all(&self.text);
+        self.text.clear();
+        match done {
+            Ok(()) => Ok(()),
+            Err(_) => Err(DimacsError::Output),
+        }
+    }
+
+    // Remembers the first failure.
+    fn keep(&mut self, done: Result<(), DimacsError>) {
+        if let Err(error) = done {
+            self.fault = Some(error);
+        }
+    }
+}
+
+impl<W: Write> Progress<Global> for Proof<W> {
+    fn begin(&mut self, solver: &Solver) {
+        self.seen = solver.len();
+    }
+
+    fn note(&mut self, solver: &Solver) {
+        if self.fault.is_none() {
+            let done = self.learned(solver);
+            self.keep(done);
+        }
+    }
+
+    fn forget(&mut self, solver: &Solver) {
+        if self.fault.is_none() {
+            let done = self.forgotten(solver);
+            self.keep(done);
+        }
+    }
+
+    fn end(&mut self, solver: &Solver) {
+        self.note(solver);
+    }
+}
+
+/// Two that are told.
+#[derive(Drop)]
+pub struct Both<P, Q> {
+    /// The one that is told first.
+    pub first: P,
+    /// The other.
+    pub second: Q,
+}
+
+impl<P: Progress<Global>, Q: Progress<Global>> Progress<Global> for Both<P, Q> {
+    fn begin(&mut self, solver: &Solver) {
+        self.first.begin(solver);
+        self.second.begin(solver);
+    }
+
+    fn note(&mut self, solver: &Solver) {
+        self.first.note(solver);
+        self.second.note(solver);
+    }
+
+    fn forget(&mut self, solver: &Solver) {
+        self.first.forget(solver);
+        self.second.forget(solver);
+    }
+
+    fn end(&mut self, solver: &Solver) {
+        self.first.end(solver);
+        self.second.end(solver);
+    }
+}
+
+// Writes the line of a clause.
+fn write_clause<A: Allocator>(text: &mut Vec<u8, A>, clause: &[Literal]) -> Result<(), AllocError> {
+    for l in clause {
+        write_literal(text, *l)?;
+    }
+    text.extend_from_slice(b"0\n")?;
+    Ok(())
+}
+
+// Writes a literal: variable k of a formula is k + 1 in a text.
+fn write_literal<A: Allocator>(text: &mut Vec<u8, A>, l: Literal) -> Result<(), AllocError> {
+    if !l.is_positive() {
+        text.push(b'-')?;
+    }
+    let number = l.variable() + 1;
+    write!(text, "{number} ").map_err(|_| AllocError)
+}
