@@ -2,6 +2,8 @@ mod Answering
 mod Copying
 mod Examples
 mod Following
+mod Heights
+mod Levels
 mod Marking
 mod Places
 mod Ready

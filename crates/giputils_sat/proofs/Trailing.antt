@@ -13,7 +13,7 @@ use Rattle.giputils_sat.specs.Trails.{Stands, HasReason, IsTrail, IsConflict, Ex
 use Rattle.giputils_sat.specs.Marked.{is_marked}
 use Rattle.giputils_sat.proofs.Places.{none_some, same_some, stays_before, stands_last, before_or_last, same_at}
 
-beq_same : (p : Bool) → beq p p ≡ true
+pub beq_same : (p : Bool) → beq p p ≡ true
 beq_same true = refl
 beq_same false = refl
 
@@ -39,21 +39,21 @@ pub true_negation : (values : List (Option Bool)) (m : Lit) → value_of values 
     → value_of values (negated m) ≡ Some true
 true_negation values m is = negated_value (get_or values m.variable None) m.positive is
 
-some_value : (o : Option Bool) (p b : Bool) → option_map (λ v. beq v p) o ≡ Some b → o ≡ None → ⊥
+pub some_value : (o : Option Bool) (p b : Bool) → option_map (λ v. beq v p) o ≡ Some b → o ≡ None → ⊥
 some_value o p b is none = none_some b (ap (option_map (λ v. beq v p)) (sym none) ∙ is)
 
-no_value : (o : Option Bool) (p : Bool) → option_map (λ v. beq v p) o ≡ None → o ≡ None
+pub no_value : (o : Option Bool) (p : Bool) → option_map (λ v. beq v p) o ≡ None → o ≡ None
 no_value None p e = refl
 no_value (Some v) p e = none_some (beq v p) (sym e)
 
 literal_equal : (m l : Lit) → m.variable ≡ l.variable → m.positive ≡ l.positive → m ≡ l
 literal_equal m l v p = ap (λ u. record { variable = u; positive = m.positive }) v ∙ ap (λ q. record { variable = l.variable; positive = q }) p
 
-value_at : (values : List (Option Bool)) (m : Lit) (v : ℕ) (o : Option Bool) → m.variable ≡ v → v < length values
+pub value_at : (values : List (Option Bool)) (m : Lit) (v : ℕ) (o : Option Bool) → m.variable ≡ v → v < length values
     → value_of (set values v o) m ≡ option_map (λ b. beq b m.positive) o
 value_at values m v o same within = ap (option_map (λ b. beq b m.positive)) (ap (λ u. get_or (set values v o) u None) same ∙ get_or-set_same values v o None within)
 
-value_other : (values : List (Option Bool)) (m : Lit) (v : ℕ) (o : Option Bool) → m.variable ≢ v
+pub value_other : (values : List (Option Bool)) (m : Lit) (v : ℕ) (o : Option Bool) → m.variable ≢ v
     → value_of (set values v o) m ≡ value_of values m
 value_other values m v o other = ap (option_map (λ b. beq b m.positive)) (get_or-set_other values v m.variable o None other)
 
@@ -112,19 +112,16 @@ reasons_more clauses steps s reasons last k t r at is =
     subst (λ (x : Step). HasReason clauses (steps ++ s ∷ []) k x.literal r) same (subst (λ i. HasReason clauses (steps ++ s ∷ []) i s.literal r) (sym e.0) here))
     (before_or_last steps s k t at)
 
-get_none : (n v : ℕ) → get_or {A = Option Bool} (replicate n None) v None ≡ None
+pub get_none : (n v : ℕ) → get_or {A = Option Bool} (replicate n None) v None ≡ None
 get_none zero v = refl
 get_none (suc n) zero = refl
 get_none (suc n) (suc v) = get_none n v
 
 -- no literal is true yet
-pub IsTrail-new : (clauses : List Clause) (n : ℕ) → IsTrail clauses (replicate n None) [] []
+pub IsTrail-new : (clauses : List Clause) (n : ℕ) → IsTrail clauses (replicate n None) []
 IsTrail-new clauses n = record {
   stand = λ l is. absurd (some_value (get_or (replicate n None) l.variable None) l.positive true is (get_none n l.variable));
   reasons = λ k s r at is. none_some s at;
-  implied = λ k s at less. none_some s at;
-  low = omega arith;
-  rising = λ i p at. none_some p at;
 }
 
 get_resized : (values : List (Option Bool)) (n k v : ℕ)
@@ -143,83 +140,34 @@ Extends-resized values n k m b is =
     (get_resized values n k m.variable)
 
 -- variables that have no value change nothing
-pub IsTrail-resized : (clauses : List Clause) (old new : List (Option Bool)) (steps : List Step) (starts : List ℕ)
-    → Extends new old → IsTrail clauses old steps starts → IsTrail clauses new steps starts
-IsTrail-resized clauses old new steps starts back is = record {
+pub IsTrail-resized : (clauses : List Clause) (old new : List (Option Bool)) (steps : List Step)
+    → Extends new old → IsTrail clauses old steps → IsTrail clauses new steps
+IsTrail-resized clauses old new steps back is = record {
   stand = λ l true_now. is.stand l (back l true true_now);
   reasons = is.reasons;
-  implied = is.implied;
-  low = is.low;
-  rising = is.rising;
 }
 
-start_stays : (starts : List ℕ) (k m n : ℕ) → n ≡ m + 1 → k < get_or starts 0 n → (k < get_or starts 0 m) ⊎ (m ≤ k)
-start_stays [] k m n more less = ⊎_elim (λ b. inl b) (λ f. inr f) (cases_lt k m)
-start_stays (p ∷ starts) k m n more less = inl less
-
 -- a literal with a reason
-pub IsTrail-implied : (clauses : List Clause) (values : List (Option Bool)) (steps : List Step) (starts : List ℕ) (l : Lit) (r : ℕ)
-    → l.variable < length values → HasReason clauses steps (length steps) l r → IsTrail clauses values steps starts
-    → IsTrail clauses (set values l.variable (Some l.positive)) (steps ++ record { literal = l; reason = Some r } ∷ []) starts
-IsTrail-implied clauses values steps starts l r within reason is =
+pub IsTrail-implied : (clauses : List Clause) (values : List (Option Bool)) (steps : List Step) (l : Lit) (r : ℕ)
+    → l.variable < length values → HasReason clauses steps (length steps) l r → IsTrail clauses values steps
+    → IsTrail clauses (set values l.variable (Some l.positive)) (steps ++ record { literal = l; reason = Some r } ∷ [])
+IsTrail-implied clauses values steps l r within reason is =
     let s : Step = record { literal = l; reason = Some r } in
-    let longer = length_push steps s in
     record {
       stand = stand_more values steps s within is.stand;
       reasons = reasons_more clauses steps s is.reasons (λ q e. subst (λ x. HasReason clauses steps (length steps) l x) (same_some _ _ e) reason);
-      implied = λ k t at less.
-          ⊎_elim
-          (λ before.
-          ⊎_elim (λ early. is.implied k t before early) (λ late. absurd (omega (arith, slice_get_within steps k t before, late)))
-          (start_stays starts k (length steps) _ longer less))
-          (λ e. subst (λ (x : Step). x.reason ≢ None) e.1 (λ none. none_some r (sym none))) (before_or_last steps s k t at);
-      low = omega (arith, longer, is.low);
-      rising = is.rising;
     }
 
 -- a decision
-pub IsTrail-decided : (clauses : List Clause) (values : List (Option Bool)) (steps : List Step) (starts : List ℕ) (l : Lit)
-    → l.variable < length values → IsTrail clauses values steps starts
-    → IsTrail clauses (set values l.variable (Some l.positive)) (steps ++ record { literal = l; reason = None } ∷ []) (starts ++ length steps ∷ [])
-IsTrail-decided clauses values steps starts l within is =
+pub IsTrail-decided : (clauses : List Clause) (values : List (Option Bool)) (steps : List Step) (l : Lit)
+    → l.variable < length values → IsTrail clauses values steps
+    → IsTrail clauses (set values l.variable (Some l.positive)) (steps ++ record { literal = l; reason = None } ∷ [])
+IsTrail-decided clauses values steps l within is =
     let s : Step = record { literal = l; reason = None } in
-    let longer = length_push steps s in
     record {
       stand = stand_more values steps s within is.stand;
       reasons = reasons_more clauses steps s is.reasons (λ q e. none_some q e);
-      implied = λ k t at less.
-          ⊎_elim (λ before. is.implied k t before (first_old starts k _ (slice_get_within steps k t before) less))
-          (λ e. absurd (first_last starts k _ e.0 less is.low)) (before_or_last steps s k t at);
-      low = first_low starts is.low longer;
-      rising = λ i p at. ⊎_elim (λ before. rising_old starts i p before is.rising) (λ e. rising_last starts p e.1 is.low) (before_or_last starts (length steps) i p at);
     }
-  where
-    first_old : (starts : List ℕ) (k n : ℕ) → k < length steps → k < get_or (starts ++ length steps ∷ []) 0 n
-        → k < get_or starts 0 (length steps)
-    first_old [] k n inside less = inside
-    first_old (p ∷ rest) k n inside less = less
-
-    first_last : (starts : List ℕ) (k n : ℕ) → k ≡ length steps → k < get_or (starts ++ length steps ∷ []) 0 n
-        → get_or starts 0 0 ≤ length steps → ⊥
-    first_last [] k n same less low = omega (arith, same, less)
-    first_last (p ∷ rest) k n same less low = omega (arith, same, less, low)
-
-    first_low : (starts : List ℕ) → get_or starts 0 0 ≤ length steps
-        → length (steps ++ record { literal = l; reason = None } ∷ []) ≡ length steps + 1
-        → get_or (starts ++ length steps ∷ []) 0 0 ≤ length (steps ++ record { literal = l; reason = None } ∷ [])
-    first_low [] low more = omega (arith, more)
-    first_low (p ∷ rest) low more = omega (arith, more, low)
-
-    rising_old : (starts : List ℕ) (i p : ℕ) → slice_get starts i ≡ Some p
-        → ((i p : ℕ) → slice_get starts i ≡ Some p → get_or starts 0 0 ≤ p)
-        → get_or (starts ++ length steps ∷ []) 0 0 ≤ p
-    rising_old [] i p at rising = none_some p at
-    rising_old (q ∷ rest) i p at rising = rising i p at
-
-    rising_last : (starts : List ℕ) (p : ℕ) → length steps ≡ p → get_or starts 0 0 ≤ length steps
-        → get_or (starts ++ length steps ∷ []) 0 0 ≤ p
-    rising_last [] p same low = omega (arith, same)
-    rising_last (q ∷ rest) p same low = omega (arith, same, low)
 
 stands_less : (steps : List Step) (s : Step) (l : Lit) (i : ℕ) → i ≤ length steps → Stands (steps ++ s ∷ []) l i
     → Stands steps l i
@@ -236,76 +184,36 @@ popped_value values v m is =
     absurd (some_value here m.positive true is none)) (cases_lt v (length values)))
     (λ other. (other, sym (value_other values m v None other) ∙ is)) (cases_eq m.variable v)
 
-starts_less : (starts : List ℕ) (k m n : ℕ) → m ≤ n → k < get_or starts 0 m → k < get_or starts 0 n
-starts_less [] k m n less inside = omega (arith, less, inside)
-starts_less (p ∷ starts) k m n less inside = inside
-
 -- the last literal's value is taken away
-pub IsTrail-popped : (clauses : List Clause) (values : List (Option Bool)) (steps : List Step) (starts : List ℕ) (s : Step)
-    → get_or starts 0 0 ≤ length steps
-    → IsTrail clauses values (steps ++ s ∷ []) starts
-    → IsTrail clauses (set values s.literal.variable None) steps starts
-IsTrail-popped clauses values steps starts s low is =
-    let longer = length_push steps s in
-    record {
-      stand = λ l true_now.
-          let was = popped_value values s.literal.variable l true_now in
-          let there = is.stand l was.1 in
-          ⊎_elim (λ before. (there.0, there.1, slice_get_within steps there.0 there.1 before, before, there.4))
-          (λ e. absurd (was.0 (ap (λ x. x.variable) (sym there.4 ∙ ap (λ x. x.literal) (sym e.1))))) (before_or_last steps s there.0 there.1 there.3);
-      reasons = λ k t r at by.
-          let reason = is.reasons k t r (stays_before steps (s ∷ []) k t at) by in
-          let inside = slice_get_within steps k t at in
-          (reason.0, reason.1, λ m has other. stands_less steps s (negated m) k (omega (arith, inside)) (reason.2 m has other));
-      implied = λ k t at less. is.implied k t (stays_before steps (s ∷ []) k t at) (starts_less starts k (length steps) _ (omega (arith, longer)) less);
-      low = low;
-      rising = is.rising;
-    }
-
-taken : (starts : List ℕ) (level i p : ℕ) → slice_get (take level starts) i ≡ Some p → slice_get starts i ≡ Some p
-taken [] zero i p at = at
-taken [] (suc level) i p at = at
-taken (q ∷ starts) zero i p at = none_some p at
-taken (q ∷ starts) (suc level) zero p at = at
-taken (q ∷ starts) (suc level) (suc i) p at = taken starts level i p at
-
--- decisions that are no more are forgotten
-pub IsTrail-truncated : (clauses : List Clause) (values : List (Option Bool)) (steps : List Step) (starts : List ℕ) (level start : ℕ)
-    → slice_get starts level ≡ Some start → length steps ≤ start
-    → IsTrail clauses values steps starts → IsTrail clauses values steps (take level starts)
-IsTrail-truncated clauses values steps [] level start at short is = none_some start at
-IsTrail-truncated clauses values steps (p ∷ starts) zero start at short is = record {
-  stand = is.stand;
-  reasons = is.reasons;
-  implied = λ k t there less. let first = same_some p start at in is.implied k t there (omega (arith, short, less, first));
-  low = omega arith;
-  rising = λ i q there. none_some q there;
-}
-IsTrail-truncated clauses values steps (p ∷ starts) (suc level) start at short is = record {
-  stand = is.stand;
-  reasons = is.reasons;
-  implied = is.implied;
-  low = is.low;
-  rising = λ i q there. is.rising i q (taken (p ∷ starts) (suc level) i q there);
+pub IsTrail-popped : (clauses : List Clause) (values : List (Option Bool)) (steps : List Step) (s : Step)
+    → IsTrail clauses values (steps ++ s ∷ [])
+    → IsTrail clauses (set values s.literal.variable None) steps
+IsTrail-popped clauses values steps s is = record {
+  stand = λ l true_now.
+      let was = popped_value values s.literal.variable l true_now in
+      let there = is.stand l was.1 in
+      ⊎_elim (λ before. (there.0, there.1, slice_get_within steps there.0 there.1 before, before, there.4))
+      (λ e. absurd (was.0 (ap (λ x. x.variable) (sym there.4 ∙ ap (λ x. x.literal) (sym e.1))))) (before_or_last steps s there.0 there.1 there.3);
+  reasons = λ k t r at by.
+      let reason = is.reasons k t r (stays_before steps (s ∷ []) k t at) by in
+      let inside = slice_get_within steps k t at in
+      (reason.0, reason.1, λ m has other. stands_less steps s (negated m) k (omega (arith, inside)) (reason.2 m has other));
 }
 
 -- a clause more
-pub IsTrail-learned : (clauses : List Clause) (c : Clause) (values : List (Option Bool)) (steps : List Step) (starts : List ℕ)
-    → IsTrail clauses values steps starts → IsTrail (clauses ++ c ∷ []) values steps starts
-IsTrail-learned clauses c values steps starts is = record {
+pub IsTrail-learned : (clauses : List Clause) (c : Clause) (values : List (Option Bool)) (steps : List Step)
+    → IsTrail clauses values steps → IsTrail (clauses ++ c ∷ []) values steps
+IsTrail-learned clauses c values steps is = record {
   stand = is.stand;
   reasons = λ k s r at by. let reason = is.reasons k s r at by in (reason.0, stays_before clauses (c ∷ []) r reason.0 reason.1, reason.2);
-  implied = is.implied;
-  low = is.low;
-  rising = is.rising;
 }
 
 -- what is false but for one literal is a reason
-pub HasReason-unit : (clauses : List Clause) (values : List (Option Bool)) (steps : List Step) (starts : List ℕ) (l : Lit) (r : ℕ) (c : Clause)
-    → IsTrail clauses values steps starts
+pub HasReason-unit : (clauses : List Clause) (values : List (Option Bool)) (steps : List Step) (l : Lit) (r : ℕ) (c : Clause)
+    → IsTrail clauses values steps
     → slice_get clauses r ≡ Some c → ((m : Lit) → Has c m → m ≢ l → value_of values m ≡ Some false)
     → HasReason clauses steps (length steps) l r
-HasReason-unit clauses values steps starts l r c is at others = (c, at, λ m has other. is.stand (negated m) (true_negation values m (others m has other)))
+HasReason-unit clauses values steps l r c is at others = (c, at, λ m has other. is.stand (negated m) (true_negation values m (others m has other)))
 
 negated_twice : (l : Lit) → negated (negated l) ≡ l
 negated_twice l = ap (λ p. record { variable = l.variable; positive = p }) (twice l.positive)
@@ -341,11 +249,11 @@ AreUndone-resolved clauses steps old new i step r c at reason c_at undone only m
     (λ come. let same : c ≡ reason.0 = same_some c reason.0 (sym c_at ∙ reason.1) in reason.2 m (subst (λ (x : Clause). Has x m) same come.0) come.1) (only m marked)
 
 -- a conflict's literals are false by what stands
-pub AreUndone-conflict : (clauses : List Clause) (values : List (Option Bool)) (steps : List Step) (starts : List ℕ) (marks : List Bool) (i : ℕ) (c : Clause)
-    → IsTrail clauses values steps starts
+pub AreUndone-conflict : (clauses : List Clause) (values : List (Option Bool)) (steps : List Step) (marks : List Bool) (i : ℕ) (c : Clause)
+    → IsTrail clauses values steps
     → IsConflict clauses values i → slice_get clauses i ≡ Some c → ((m : Lit) → is_marked marks m ≡ true → Has c m)
     → AreUndone steps marks (length steps)
-AreUndone-conflict clauses values steps starts marks i c is conflict c_at only m marked =
+AreUndone-conflict clauses values steps marks i c is conflict c_at only m marked =
     let same : c ≡ conflict.0 = same_some c conflict.0 (sym c_at ∙ conflict.1) in
     is.stand (negated m) (true_negation values m (conflict.2 m (subst (λ (x : Clause). Has x m) same (only m marked))))
 

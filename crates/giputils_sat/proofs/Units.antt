@@ -2,12 +2,12 @@
 use Rattle.std.proofs.Common.{◌≡◌, ◌≢◌, ℕ, ◌<◌, List, [], ◌∷◌, ◌++◌, length, Option, Some, None, suc, zero, refl, sym, ap, subst, arith, ⊎_elim, inl, inr, Bool, true}
 use Rattle.std.specs.Prelude.{slice_get, Result, Ok, Err, OnOk, OnErr}
 use Rattle.std.proofs.lemmas.Bool.{cases_lt}
-use Rattle.std.proofs.lemmas.Option.{slice_get_within}
 use Rattle.giputils_sat.specs.declared.trail.Step.{Step}
 use Rattle.giputils_sat.specs.Literals.{Lit}
 use Rattle.giputils_sat.specs.Formulas.{Clause, Formula, Assignment, is_true, satisfies, Implies}
 use Rattle.giputils_sat.specs.Stores.{Known, AddsUnits, AreAmong}
-use Rattle.giputils_sat.specs.Trails.{IsTrail}
+use Rattle.giputils_sat.specs.Trails.{IsTrail, decisions}
+use Rattle.giputils_sat.proofs.Levels.{reasoned}
 use Rattle.giputils_sat.proofs.Places.{before_or_last}
 use Rattle.giputils_sat.proofs.Following.{true_literal, satisfied_by}
 use Rattle.giputils_sat.proofs.Marking.{cases_literal, not_both}
@@ -17,7 +17,7 @@ some_reason None not_none = absurd (not_none refl)
 some_reason (Some r) not_none = (r, refl)
 
 module _ (f : Formula) (clauses : List Clause) (values : List (Option Bool)) (steps : List Step)
-    (is : IsTrail clauses values steps []) (follow : (k : ℕ) (c : Clause) → slice_get clauses k ≡ Some c → Implies f c)
+    (is : IsTrail clauses values steps) (none : decisions steps ≡ 0) (follow : (k : ℕ) (c : Clause) → slice_get clauses k ≡ Some c → Implies f c)
     (a : Assignment) (all : satisfies a f ≡ true) where
   -- each literal before place n is true where the formula is satisfied
   true_before : (n k : ℕ) (s : Step) → k < n → slice_get steps k ≡ Some s → is_true a s.literal ≡ true
@@ -25,7 +25,7 @@ module _ (f : Formula) (clauses : List Clause) (values : List (Option Bool)) (st
   true_before (suc n) k s less at =
       ⊎_elim (λ earlier. true_before n k s earlier at)
       (λ later.
-      let found = some_reason s.reason (is.implied k s at (slice_get_within steps k s at)) in
+      let found = some_reason s.reason (reasoned steps k s none at) in
       let reason = is.reasons k s found.0 at found.1 in
       let one = true_literal a reason.0 ((follow found.0 reason.0 reason.1).follows a all) in
       ⊎_elim (λ same. subst (λ x. is_true a x ≡ true) same one.2)
@@ -37,14 +37,14 @@ module _ (f : Formula) (clauses : List Clause) (values : List (Option Bool)) (st
       (cases_lt k n)
 
 -- a literal of a trail with no decision follows
-pub Implies-fixed : (f : Formula) (clauses : List Clause) (values : List (Option Bool)) (steps : List Step) (starts : List ℕ)
-    (k : ℕ) (s : Step) → IsTrail clauses values steps starts → starts ≡ []
+pub Implies-fixed : (f : Formula) (clauses : List Clause) (values : List (Option Bool)) (steps : List Step)
+    (k : ℕ) (s : Step) → IsTrail clauses values steps → decisions steps ≡ 0
     → ((k : ℕ) (c : Clause) → slice_get clauses k ≡ Some c → Implies f c) → slice_get steps k ≡ Some s
     → Implies f (s.literal ∷ [])
-Implies-fixed f clauses values steps starts k s is none follow at = record {
+Implies-fixed f clauses values steps k s is none follow at = record {
   follows = λ a all.
       satisfied_by a (s.literal ∷ []) zero s.literal refl
-      (true_before f clauses values steps (subst (IsTrail clauses values steps) none is) follow a all (suc k) k s (omega arith) at);
+      (true_before f clauses values steps is none follow a all (suc k) k s (omega arith) at);
 }
 
 -- nothing is new

@@ -1,6 +1,7 @@
 pub mod Literals
 pub mod Coding
 pub mod Formulas
+pub mod Heights
 pub mod Stores
 pub mod Marked
 pub mod Values

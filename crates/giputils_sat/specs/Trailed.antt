@@ -1,5 +1,5 @@
 -- The trail of a search, as its own calls state it.
-use Rattle.std.specs.Prelude.{◌≡◌, ℕ, ◌+◌, ◌*◌, ◌≤◌, ◌++◌, ◌∷◌, [], Bool, List, length, slice_get, Option, Some, IfSome, IfNone}
+use Rattle.std.specs.Prelude.{◌≡◌, ℕ, ◌+◌, ◌*◌, ◌≤◌, [], Bool, List, length, slice_get, Option, Some, IfSome, IfNone}
 use Rattle.giputils_sat.specs.declared.trail.Step.{Step}
 use Rattle.giputils_sat.specs.declared.trail.Trail.{Trail}
 use Rattle.giputils_sat.specs.Formulas.{Clause, Formula}
@@ -10,7 +10,7 @@ use Rattle.giputils_sat.specs.Values.{unset, IsModelOf}
 
 -- the trail's literals stand by these clauses
 abbrev pub StandsBy : {A : Type 0} → List Clause → Trail A → Type 0
-StandsBy clauses t = IsTrail clauses t.values.items t.steps.items t.starts.items
+StandsBy clauses t = IsTrail clauses t.values.items t.steps.items
 
 -- the clause at a place has false literals alone
 abbrev pub IsConflictOf : {A : Type 0} → List Clause → Trail A → ℕ → Type 0
@@ -31,10 +31,6 @@ StandsOn old new = (clauses : List Clause) → StandsBy clauses old → StandsBy
 -- how many variables have no value or stand in the trail
 abbrev pub total : {A : Type 0} → Trail A → ℕ
 total t = unset t.values.items + length t.steps.items
-
--- where each level begins, with one that begins now
-abbrev pub starts_after : {A : Type 0} → Trail A → List ℕ
-starts_after t = t.starts.items ++ length t.steps.items ∷ []
 
 -- before any decision: where all that was marked is undone before a place's end, what is marked now is before the place
 abbrev pub UndoesAtRoot : {A : Type 0} → List Clause → Trail A → Step → List Bool → List Bool → Type 0

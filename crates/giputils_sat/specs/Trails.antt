@@ -1,5 +1,5 @@
 -- The true literals in order, each with the clause that made it true, where it was not decided.
-use Rattle.std.specs.Prelude.{◌≡◌, [], ◌∷◌, ◌++◌, ◌≢◌, ℕ, ◌<◌, ◌≤◌, Bool, true, false, List, length, slice_get, slice_index_or, Option, Some, None}
+use Rattle.std.specs.Prelude.{◌≡◌, [], ◌∷◌, ◌++◌, ◌≢◌, ℕ, ◌+◌, ◌<◌, Bool, true, false, List, length, slice_get, Option, Some, None}
 use Rattle.giputils_sat.specs.Literals.{Lit, negated}
 use Rattle.giputils_sat.specs.declared.trail.Step.{Step}
 use Rattle.giputils_sat.specs.Formulas.{Clause, Has}
@@ -16,15 +16,31 @@ HasReason clauses steps i l r =
     (c : Clause) × (slice_get clauses r ≡ Some c)
     × ((m : Lit) → Has c m → m ≢ l → Stands steps (negated m) i)
 
--- what has a value stands in the trail; each reason is one; before the first decision each literal has a reason
-pub record IsTrail (clauses : List Clause) (values : List (Option Bool)) (steps : List Step) (starts : List ℕ) : Type 0 where
+-- what is true by the values stands in the trail, and each reason is one
+pub record IsTrail (clauses : List Clause) (values : List (Option Bool)) (steps : List Step) : Type 0 where
   pub stand : (l : Lit) → value_of values l ≡ Some true → Stands steps l (length steps)
   pub reasons : (k : ℕ) (s : Step) (r : ℕ) → slice_get steps k ≡ Some s → s.reason ≡ Some r
       → HasReason clauses steps k s.literal r
-  pub implied : (k : ℕ) (s : Step) → slice_get steps k ≡ Some s → k < slice_index_or starts 0 (length steps)
-      → s.reason ≢ None
-  pub low : slice_index_or starts 0 0 ≤ length steps
-  pub rising : (i p : ℕ) → slice_get starts i ≡ Some p → slice_index_or starts 0 0 ≤ p
+
+-- each literal of the trail is true by the values
+abbrev pub AreTrue : List (Option Bool) → List Step → Type 0
+AreTrue values steps = (k : ℕ) (s : Step) → slice_get steps k ≡ Some s → value_of values s.literal ≡ Some true
+
+-- no variable stands at two places of the trail
+abbrev pub AreOnce : List Step → Type 0
+AreOnce steps =
+    (i k : ℕ) (s t : Step) → slice_get steps i ≡ Some s → slice_get steps k ≡ Some t
+    → s.literal.variable ≡ t.literal.variable → i ≡ k
+
+-- 1 for a literal with no reason
+abbrev pub decision : Option ℕ → ℕ
+decision None = 1
+decision (Some r) = 0
+
+-- how many of the trail's literals have no reason
+abbrev pub decisions : List Step → ℕ
+decisions [] = 0
+decisions (s ∷ steps) = decision s.reason + decisions steps
 
 -- each of the clause's literals is false
 abbrev pub AreFalse : List (Option Bool) → Clause → Type 0

@@ -1,7 +1,7 @@
 //! The calls of a trail: a literal more, a literal less.
-ghost use Rattle.std.specs.Prelude.{◌≡◌, ◌++◌, ◌∷◌, ◌+◌, ◌^◌, ◌<◌, ◌≤◌, [], None, length, replicate, IfOk, IfSome, OnOk};
-ghost use Rattle.giputils_sat.specs.Trailed.{StandsOn, starts_after};
-ghost use Rattle.giputils_sat.specs.Trails.{steps_with};
+ghost use Rattle.std.specs.Prelude.{◌≡◌, ◌++◌, ◌∷◌, ◌+◌, ◌^◌, ◌<◌, ◌≤◌, [], None, Some, length, replicate, IfOk, IfSome, OnOk};
+ghost use Rattle.giputils_sat.specs.Trailed.{StandsOn};
+ghost use Rattle.giputils_sat.specs.Trails.{decision, steps_with};
 ghost use Rattle.giputils_sat.specs.Values.{unset, value_of, values_with, values_without};
 
 use crate::activity::Activity;
@@ -106,22 +106,26 @@ impl<A: Allocator + Copy> Trail<A> {
         }
     }
 
-    // Makes a literal true.
-    pub(crate) fn assign(&mut self, l: Literal, reason: Option<usize>) -> Result<(), AllocError>
+    // Makes a literal true, whose reason is the clause at a place.
+    pub(crate) fn assign(&mut self, l: Literal, reason: usize) -> Result<(), AllocError>
         requires within { l.variable < length self.old.values.items }
         requires unset { value_of self.old.values.items l ≡ None }
         ensures len { length self.new.values.items ≡ length self.old.values.items }
         ensures values { OnOk result (self.new.values.items ≡ values_with l self.old.values.items) }
-        ensures steps { OnOk result (self.new.steps.items ≡ steps_with l reason self.old.steps.items) }
-        ensures starts { self.new.starts ≡ self.old.starts }
+        ensures steps { OnOk result (self.new.steps.items ≡ steps_with l (Some reason) self.old.steps.items) }
         ensures unset { OnOk result (unset self.new.values.items + 1 ≡ unset self.old.values.items) }
         ensures head { self.new.head ≡ self.old.head }
     {
-        let level = self.starts.len();
-        let place = self.steps.len();
-        self.steps.push(Step { literal: l, reason })?;
+        let stand = Stand {
+            level: self.starts.len(),
+            place: self.steps.len(),
+        };
+        self.steps.push(Step {
+            literal: l,
+            reason: Some(reason),
+        })?;
         self.values[l.variable() as usize] = Some(l.is_positive());
-        self.stands[l.variable() as usize] = Stand { level, place };
+        self.stands[l.variable() as usize] = stand;
         self.phases[l.variable() as usize] = l.is_positive();
         Ok(())
     }
@@ -134,10 +138,21 @@ impl<A: Allocator + Copy> Trail<A> {
         ensures unset { OnOk result (unset self.new.values.items + 1 ≡ unset self.old.values.items) }
         ensures values { OnOk result (self.new.values.items ≡ values_with l self.old.values.items) }
         ensures steps { OnOk result (self.new.steps.items ≡ steps_with l None self.old.steps.items) }
-        ensures starts { OnOk result (self.new.starts.items ≡ starts_after self.old) }
     {
-        self.starts.push(self.steps.len())?;
-        self.assign(l, None)
+        let place = self.steps.len();
+        self.starts.reserve(1)?;
+        self.steps.push(Step {
+            literal: l,
+            reason: None,
+        })?;
+        self.starts.push_reserved(place);
+        self.values[l.variable() as usize] = Some(l.is_positive());
+        self.stands[l.variable() as usize] = Stand {
+            level: self.starts.len(),
+            place,
+        };
+        self.phases[l.variable() as usize] = l.is_positive();
+        Ok(())
     }
 
     // The value that a variable had last.
@@ -161,22 +176,18 @@ impl<A: Allocator + Copy> Trail<A> {
         Some(step.literal)
     }
 
-    // Takes the last literal's value away.
+    // Takes the last literal's value away, and its level, where it was decided.
     fn pop(&mut self) -> Step
         requires { 0 < length self.old.steps.items }
         ensures len { length self.new.values.items ≡ length self.old.values.items }
-        ensures starts { self.new.starts ≡ self.old.starts }
         ensures steps { self.old.steps.items ≡ self.new.steps.items ++ result ∷ [] }
         ensures values { self.new.values.items ≡ values_without result.literal self.old.values.items }
     {
         let Some(step) = self.steps.pop() else {
             unreachable!();
         };
-        let variable = step.literal.variable() as usize;
-        if variable >= self.values.len() {
-            return step;
-        }
-        self.values[variable] = None;
+        close(&mut self.starts, step.reason);
+        self.values[step.literal.variable() as usize] = None;
         step
     }
 
@@ -186,16 +197,11 @@ impl<A: Allocator + Copy> Trail<A> {
         ensures trail { StandsOn self.old self.new }
         ensures root { level ≡ 0 → self.new.starts.items ≡ [] }
     {
-        if level >= self.starts.len() {
-            return;
-        }
-        let start = self.starts[level];
-        self.head = self.head.min(start);
-        while self.steps.len() > start {
+        while self.starts.len() > level {
             let step = self.pop();
             activity.put_back(step.literal.variable());
         }
-        self.starts.truncate(level);
+        self.head = self.head.min(self.steps.len());
     }
 
     // Takes all values away. Each variable's last one is still known as its phase.
@@ -204,9 +210,26 @@ impl<A: Allocator + Copy> Trail<A> {
         ensures steps { self.new.steps.items ≡ [] }
         ensures starts { self.new.starts.items ≡ [] }
     {
-        self.values.fill(None);
+        take_away(&mut self.values);
         self.steps.clear();
         self.starts.clear();
         self.head = 0;
     }
+}
+
+// Takes the last level away, where its literal has no reason.
+fn close<A: Allocator + Copy>(starts: &mut Vec<usize, A>, reason: Option<usize>)
+    requires { decision reason ≤ length starts.old.items }
+    ensures { length starts.new.items + decision reason ≡ length starts.old.items }
+{
+    if reason.is_none() {
+        starts.pop();
+    }
+}
+
+// Takes all values away.
+fn take_away<A: Allocator + Copy>(values: &mut Vec<Option<bool>, A>)
+    ensures { values.new.items ≡ replicate (length values.old.items) None }
+{
+    values.fill(None);
 }

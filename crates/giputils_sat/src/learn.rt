@@ -331,7 +331,7 @@ fn follow<A: Allocator + Copy>(
     if let Some(_) = free_place(trail, clause, literal) {
         return Ok(());
     }
-    trail.assign(l, Some(place))?;
+    trail.assign(l, place)?;
     Ok(())
 }
 

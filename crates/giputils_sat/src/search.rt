@@ -120,7 +120,7 @@ fn turn<A: Allocator + Copy>(
         }),
         Some(true) => Ok(seen(short, unit, true)),
         None => {
-            trail.assign(unit, Some(home))?;
+            trail.assign(unit, home)?;
             Ok(seen(short, unit, true))
         }
     }

@@ -1,5 +1,7 @@
-use Rattle.std.proofs.Common.{◌∙◌, arith, sym, ⊎_elim, inl, inr}
+use Rattle.std.proofs.Common.{◌≡◌, ◌∙◌, arith, sym, ap, length, ⊎_elim, inl, inr}
 use Rattle.std.proofs.lemmas.Option.{slice_get_within}
+use Rattle.giputils_sat.specs.Trails.{decisions}
+use Rattle.giputils_sat.proofs.Levels.{reasoned}
 use Rattle.giputils_sat.proofs.Trailing.{AreUndone-resolved}
 use Rattle.giputils_sat.proofs.Marking.{ImpliesMarked-resolved}
 use Rattle.giputils_sat.proofs.learn.exchange.Goals as goal
@@ -9,6 +11,11 @@ returns-clause-follows g c =
     ImpliesMarked-resolved c.args.database.now.formula c.args.marks.now c.note_others.new.marks c.args.step.literal c.clause.result.now c.requires.follows c.clause.ensures.implied
     (λ m other was. c.in_ok-more.ensures.grows m (c.remove.ensures.others m (λ e. other (e ∙ c.negated-2.ensures)) was))
     c.in_ok-more.ensures.marked
+
+pub returns-in_default-clause-root : goal.returns-in_default-clause-root
+returns-in_default-clause-root g c = λ place none trail at undone m marked.
+    let undecided : decisions c.args.trail.now.steps.items ≡ 0 = sym c.args.trail.now.levels ∙ ap length none in
+    absurd (reasoned c.args.trail.now.steps.items place c.args.step undecided at c.in_default.is)
 
 pub returns-then-reason-len-clause-root : goal.returns-then-reason-len-clause-root
 returns-then-reason-len-clause-root g c = λ place none trail at undone m marked.

@@ -17,8 +17,8 @@ returns-clause-trail g c =
     let below = c.clause-clause.ensures.below c.args.literal unit at in
     let within : c.index-clause-literal.result.variable < length c.args.trail.now.values.items = omega (arith, below, c.requires.len) in
     let reason : HasReason c.args.database.now.clauses c.args.trail.now.steps.items (length c.args.trail.now.steps.items) c.index-clause-literal.result c.args.place =
-    HasReason-unit clauses trail.values.items trail.steps.items trail.starts.items unit c.args.place clause c.requires.trail c.clause-clause.ensures.at
+    HasReason-unit clauses trail.values.items trail.steps.items unit c.args.place clause c.requires.trail c.clause-clause.ensures.at
     (λ m has other. c.in_default-free_place.ensures.none has.0 m has.1 (λ same. other (sym (same_at clause c.args.literal unit has.0 m same at has.1))))
     in
-    rw (c.in_ok-assign.ensures.values, c.in_ok-assign.ensures.steps, c.assign.ensures.starts)
-    (IsTrail-implied clauses trail.values.items trail.steps.items trail.starts.items unit c.args.place within reason c.requires.trail)
+    rw (c.in_ok-assign.ensures.values, c.in_ok-assign.ensures.steps)
+    (IsTrail-implied clauses trail.values.items trail.steps.items unit c.args.place within reason c.requires.trail)

@@ -24,7 +24,7 @@ pub follow-requires-clause-trail : goal.follow-requires-clause-trail
 follow-requires-clause-trail g c =
     let trail = c.args.trail.now in
     c.backtrack.ensures.trail c.learn.new.self.clauses
-    (rw c.in_ok-learn.ensures.ok (IsTrail-learned c.args.database.now.clauses c.deref.result.now trail.values.items trail.steps.items trail.starts.items c.requires.trail))
+    (rw c.in_ok-learn.ensures.ok (IsTrail-learned c.args.database.now.clauses c.deref.result.now trail.values.items trail.steps.items c.requires.trail))
 
 pub returns-clause-root : goal.returns-clause-root
 returns-clause-root g c = λ none.

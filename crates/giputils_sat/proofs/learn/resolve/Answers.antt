@@ -20,7 +20,7 @@ loop-place-init g c =
       follows = c.in_ok-analyze.ensures.follows;
       root = λ none.
           rw (c.first_start-place.ensures.root none, c.in_ok-analyze.ensures.root none)
-          (AreUndone-conflict c.args.database.now.clauses trail.values.items trail.steps.items trail.starts.items c.note_all.new.marks conflict
+          (AreUndone-conflict c.args.database.now.clauses trail.values.items trail.steps.items c.note_all.new.marks conflict
           c.clause.result.now c.requires.trail c.requires.conflict c.clause.ensures.at
           (λ m marked. ⊎_elim (λ was. absurd (false≢true (sym (c.requires.clear m) ∙ was))) (λ has. has) (c.in_ok-pending.ensures.only m marked)));
     }

@@ -4,8 +4,8 @@ use Rattle.giputils_sat.proofs.search.choose.Goals as goal
 
 pub returns-in-Some-clause-trail : goal.returns-in-Some-clause-trail
 returns-in-Some-clause-trail g c =
-    rw (c.in_ok-decide.ensures.values, c.in_ok-decide.ensures.steps, c.in_ok-decide.ensures.starts)
-    (IsTrail-decided c.args.database.now.clauses c.args.trail.now.values.items c.args.trail.now.steps.items c.args.trail.now.starts.items c.in-Some.l c.in-Some.ensures.within c.requires.trail)
+    rw (c.in_ok-decide.ensures.values, c.in_ok-decide.ensures.steps)
+    (IsTrail-decided c.args.database.now.clauses c.args.trail.now.values.items c.args.trail.now.steps.items c.in-Some.l c.in-Some.ensures.within c.requires.trail)
 
 pub returns-clause-trail : goal.returns-clause-trail
 returns-clause-trail g c =
@@ -13,5 +13,5 @@ returns-clause-trail g c =
     let has = c.in-Some-free_literal.ensures.has in
     let below = c.clause.ensures.below has.0 l has.1 in
     let within : c.in-Some-free_literal.l.variable < length c.args.trail.now.values.items = omega (arith, below, c.requires.len) in
-    rw (c.in_ok-decide-2.ensures.values, c.in_ok-decide-2.ensures.steps, c.in_ok-decide-2.ensures.starts)
-    (IsTrail-decided c.args.database.now.clauses c.args.trail.now.values.items c.args.trail.now.steps.items c.args.trail.now.starts.items l within c.requires.trail)
+    rw (c.in_ok-decide-2.ensures.values, c.in_ok-decide-2.ensures.steps)
+    (IsTrail-decided c.args.database.now.clauses c.args.trail.now.values.items c.args.trail.now.steps.items l within c.requires.trail)

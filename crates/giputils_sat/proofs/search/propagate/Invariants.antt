@@ -7,7 +7,7 @@ abbrev pub invariant-loop-l : goal.invariant-loop-l
 invariant-loop-l g l = record {
   len : length l.trail.values.items ≡ length l.initial.trail.values.items;
   total : unset l.trail.values.items + length l.trail.steps.items ≡ unset l.initial.trail.values.items + length l.initial.trail.steps.items;
-  trail : IsTrail l.database.clauses l.trail.values.items l.trail.steps.items l.trail.starts.items;
+  trail : IsTrail l.database.clauses l.trail.values.items l.trail.steps.items;
   less : unset l.trail.values.items ≤ unset l.initial.trail.values.items;
 }
 

@@ -6,7 +6,7 @@ use Rattle.giputils_sat.proofs.search.search.Given as goal
 abbrev pub invariant-loop-conflict : goal.invariant-loop-conflict
 invariant-loop-conflict g l = record {
   len : length l.trail.values.items ≡ length l.initial.trail.values.items;
-  trail : IsTrail l.database.clauses l.trail.values.items l.trail.steps.items l.trail.starts.items;
+  trail : IsTrail l.database.clauses l.trail.values.items l.trail.steps.items;
 }
 
 abbrev pub decreases-loop-conflict : goal.decreases-loop-conflict

@@ -23,8 +23,8 @@ returns-in_ok-assign-in-None-clause-trail g c =
     let below = c.clause-clause.ensures.below c.match-get.other unit at in
     let within : c.index-clause-other.result.variable < length c.args.trail.now.values.items = omega (arith, below, c.requires.len) in
     let reason : HasReason c.args.database.now.clauses c.args.trail.now.steps.items (length c.args.trail.now.steps.items) c.index-clause-other.result c.args.watch.clause =
-    HasReason-unit clauses trail.values.items trail.steps.items trail.starts.items unit c.args.watch.clause clause c.requires.trail c.clause-clause.ensures.at
+    HasReason-unit clauses trail.values.items trail.steps.items unit c.args.watch.clause clause c.requires.trail c.clause-clause.ensures.at
     (λ m has other. c.in_default-free_place.ensures.none has.0 m has.1 (λ same. other (sym (same_at clause c.match-get.other unit has.0 m same at has.1))))
     in
-    rw (c.in_ok-assign-in-None.ensures.values, c.in_ok-assign-in-None.ensures.steps, c.assign.ensures.starts)
-    (IsTrail-implied clauses trail.values.items trail.steps.items trail.starts.items unit c.args.watch.clause within reason c.requires.trail)
+    rw (c.in_ok-assign-in-None.ensures.values, c.in_ok-assign-in-None.ensures.steps)
+    (IsTrail-implied clauses trail.values.items trail.steps.items unit c.args.watch.clause within reason c.requires.trail)

@@ -12,7 +12,7 @@ invariant-loop-place g l = record {
   less : unset l.trail.values.items ≤ unset l.initial.trail.values.items;
   list : length l.list.items ≡ length l.initial.list.items;
   kept : l.kept ≤ l.place;
-  trail : IsTrail l.database.clauses l.trail.values.items l.trail.steps.items l.trail.starts.items;
+  trail : IsTrail l.database.clauses l.trail.values.items l.trail.steps.items;
   stays : Extends l.initial.trail.values.items l.trail.values.items;
   conflict : IfSome l.conflict (IsConflict l.database.clauses l.trail.values.items);
 }

@@ -1,0 +1,177 @@
+-- What a trail is by itself: its literals are true, each once, and as many levels are open as were decided.
+use Rattle.std.proofs.Common.{◌≡◌, ◌≢◌, ℕ, ◌+◌, ◌<◌, ◌≤◌, List, [], ◌∷◌, ◌++◌, length, get_or, set, take, replicate, Option, Some, None, suc, zero, refl, sym, ap, subst, ◌∙◌, arith, ⊎_elim, Bool, true}
+use Rattle.std.specs.Prelude.{slice_get, option_map}
+use Rattle.std.specs.Bool.{beq}
+use Rattle.std.proofs.lemmas.List.{length-set, length_push, get_or_past}
+use Rattle.std.proofs.lemmas.Option.{slice_get_within}
+use Rattle.std.proofs.lemmas.Bool.{cases_lt}
+use Rattle.giputils_sat.specs.Literals.{Lit}
+use Rattle.giputils_sat.specs.declared.trail.Step.{Step}
+use Rattle.giputils_sat.specs.Values.{value_of, unset}
+use Rattle.giputils_sat.specs.Trails.{AreTrue, AreOnce, decision, decisions}
+use Rattle.giputils_sat.proofs.Places.{none_some, same_some, stays_before, stands_last, before_or_last}
+use Rattle.giputils_sat.proofs.Valued.{unset-assigned}
+use Rattle.giputils_sat.proofs.Trailing.{Extends-set, some_value, no_value, beq_same, value_at, value_other}
+
+-- a literal more
+pub decisions-pushed : (steps : List Step) (s : Step) → decisions (steps ++ s ∷ []) ≡ decisions steps + decision s.reason
+decisions-pushed [] s = omega arith
+decisions-pushed (t ∷ steps) s = let rest = decisions-pushed steps s in omega (arith, rest)
+
+-- no more are decided than there are
+pub decisions_within : (steps : List Step) → decisions steps ≤ length steps
+decisions_within [] = omega arith
+decisions_within (s ∷ steps) = let rest = decisions_within steps in let one = at_most_one s.reason in omega (arith, rest, one)
+  where
+    at_most_one : (r : Option ℕ) → decision r ≤ 1
+    at_most_one None = omega arith
+    at_most_one (Some r) = omega arith
+
+-- with no decision each literal has a reason
+pub reasoned : (steps : List Step) (k : ℕ) (s : Step) → decisions steps ≡ 0 → slice_get steps k ≡ Some s → s.reason ≢ None
+reasoned [] k s none at = none_some s at
+reasoned (t ∷ steps) zero s none at =
+    let same = same_some t s at in λ lacks.
+    let one : decision t.reason ≡ 1 = ap (λ (x : Step). decision x.reason) same ∙ ap decision lacks in
+    absurd (omega (arith, none, one))
+reasoned (t ∷ steps) (suc k) s none at = reasoned steps k s (omega (arith, none)) at
+
+module _ (values : List (Option Bool)) (steps : List Step) (s : Step) where
+  -- a variable with no value gets one
+  pub AreTrue-pushed : s.literal.variable < length values → value_of values s.literal ≡ None → AreTrue values steps
+      → AreTrue (set values s.literal.variable (Some s.literal.positive)) (steps ++ s ∷ [])
+  AreTrue-pushed within none are k t at =
+      let now = set values s.literal.variable (Some s.literal.positive) in
+      ⊎_elim (λ before. Extends-set values s.literal none t.literal true (are k t before))
+      (λ last.
+      let here : value_of (set values s.literal.variable (Some s.literal.positive)) s.literal ≡ Some true =
+      value_at values s.literal s.literal.variable (Some s.literal.positive) refl within ∙ ap Some (beq_same s.literal.positive)
+      in
+      subst (λ (x : Step). value_of (set values s.literal.variable (Some s.literal.positive)) x.literal ≡ Some true) last.1 here)
+      (before_or_last steps s k t at)
+
+  is_new : value_of values s.literal ≡ None → AreTrue values steps → (k : ℕ) (t : Step) → slice_get steps k ≡ Some t
+      → t.literal.variable ≡ s.literal.variable → ⊥
+  is_new none are k t at same =
+      some_value (get_or values t.literal.variable None) t.literal.positive true (are k t at)
+      (ap (λ v. get_or values v None) same ∙ no_value (get_or values s.literal.variable None) s.literal.positive none)
+
+  pub AreOnce-pushed : value_of values s.literal ≡ None → AreTrue values steps → AreOnce steps → AreOnce (steps ++ s ∷ [])
+  AreOnce-pushed none are once i k t u at_i at_k same =
+      ⊎_elim
+      (λ early.
+      ⊎_elim (λ before. once i k t u early before same)
+      (λ last. absurd (is_new none are i t early (same ∙ ap (λ (x : Step). x.literal.variable) (sym last.1))))
+      (before_or_last steps s k u at_k))
+      (λ late.
+      ⊎_elim
+      (λ before. absurd (is_new none are k u before (sym same ∙ ap (λ (x : Step). x.literal.variable) (sym late.1))))
+      (λ last. late.0 ∙ sym last.0) (before_or_last steps s k u at_k))
+      (before_or_last steps s i t at_i)
+
+  -- the last literal's value is taken away
+  pub AreTrue-popped : AreOnce (steps ++ s ∷ []) → AreTrue values (steps ++ s ∷ [])
+      → AreTrue (set values s.literal.variable None) steps
+  AreTrue-popped once are k t at =
+      let was = stays_before steps (s ∷ []) k t at in
+      let inside = slice_get_within steps k t at in
+      value_other values t.literal s.literal.variable None
+      (λ same. let last = once k (length steps) t s was (stands_last steps s) same in absurd (omega (arith, inside, last)))
+      ∙ are k t was
+
+pub AreOnce-popped : (steps : List Step) (s : Step) → AreOnce (steps ++ s ∷ []) → AreOnce steps
+AreOnce-popped steps s once i k t u at_i at_k = once i k t u (stays_before steps (s ∷ []) i t at_i) (stays_before steps (s ∷ []) k u at_k)
+
+unset-removed : (values : List (Option Bool)) (v : ℕ) → get_or values v None ≢ None
+    → unset (set values v None) ≡ unset values + 1
+unset-removed [] v some = absurd (some refl)
+unset-removed (None ∷ values) zero some = absurd (some refl)
+unset-removed (Some w ∷ values) zero some = refl
+unset-removed (None ∷ values) (suc v) some = let rest = unset-removed values v some in omega (arith, rest)
+unset-removed (Some w ∷ values) (suc v) some = unset-removed values v some
+
+-- a true literal's value is taken away
+pub unset-popped : (values : List (Option Bool)) (l : Lit) → value_of values l ≡ Some true
+    → unset (set values l.variable None) ≡ unset values + 1
+unset-popped values l is =
+    unset-removed values l.variable (λ none. some_value (get_or values l.variable None) l.positive true is none)
+
+get_or-longer : (values more : List (Option Bool)) (v : ℕ) (b : Bool) → get_or values v None ≡ Some b
+    → get_or (values ++ more) v None ≡ Some b
+get_or-longer [] more v b is = none_some b is
+get_or-longer (o ∷ values) more zero b is = is
+get_or-longer (o ∷ values) more (suc v) b is = get_or-longer values more v b is
+
+pub unset-longer : (values : List (Option Bool)) (k : ℕ) → unset (values ++ replicate k None) ≡ unset values + k
+unset-longer [] zero = refl
+unset-longer [] (suc k) = let rest = unset-longer [] k in omega (arith, rest)
+unset-longer (None ∷ values) k = let rest = unset-longer values k in omega (arith, rest)
+unset-longer (Some b ∷ values) k = unset-longer values k
+
+value-longer : (o : Option Bool) (p : Bool) → (more : Option Bool) → ((b : Bool) → o ≡ Some b → more ≡ Some b)
+    → option_map (λ v. beq v p) o ≡ Some true → option_map (λ v. beq v p) more ≡ Some true
+value-longer None p more stays is = none_some true is
+value-longer (Some b) p more stays is = ap (option_map (λ v. beq v p)) (stays b refl) ∙ is
+
+-- variables that have no value are added
+pub AreTrue-longer : (values more : List (Option Bool)) (steps : List Step) → AreTrue values steps → AreTrue (values ++ more) steps
+AreTrue-longer values more steps are k s at =
+    value-longer (get_or values s.literal.variable None) s.literal.positive (get_or (values ++ more) s.literal.variable None)
+    (λ b is. get_or-longer values more s.literal.variable b is) (are k s at)
+
+-- how many have no value or stand in the trail, after a literal more
+pub full-pushed : (values : List (Option Bool)) (steps : List Step) (s : Step) → s.literal.variable < length values
+    → value_of values s.literal ≡ None → unset values + length steps ≡ length values
+    → unset (set values s.literal.variable (Some s.literal.positive)) + length (steps ++ s ∷ [])
+    ≡ length (set values s.literal.variable (Some s.literal.positive))
+full-pushed values steps s within none full =
+    let less = unset-assigned values s.literal within none in
+    let longer = length_push steps s in
+    let same = length-set values s.literal.variable (Some s.literal.positive) in
+    omega (arith, less, longer, same, full)
+
+-- and after one less
+pub full-popped : (values : List (Option Bool)) (steps : List Step) (s : Step) → AreTrue values (steps ++ s ∷ [])
+    → unset values + length (steps ++ s ∷ []) ≡ length values
+    → unset (set values s.literal.variable None) + length steps ≡ length (set values s.literal.variable None)
+full-popped values steps s are full =
+    let more = unset-popped values s.literal (are (length steps) s (stands_last steps s)) in
+    let longer = length_push steps s in
+    let same = length-set values s.literal.variable None in
+    omega (arith, more, longer, same, full)
+
+-- a true literal's variable has a place
+pub within-true : (values : List (Option Bool)) (l : Lit) → value_of values l ≡ Some true → l.variable < length values
+within-true values l is =
+    ⊎_elim (λ within. within)
+    (λ past. absurd (some_value (get_or values l.variable None) l.positive true is (get_or_past values l.variable None (omega (arith, past)))))
+    (cases_lt l.variable (length values))
+
+-- and with none
+pub full-none : (n : ℕ) → unset (replicate n None) + 0 ≡ length (replicate {A = Option Bool} n None)
+full-none zero = refl
+full-none (suc n) = let rest = full-none n in omega (arith, rest)
+
+-- variables that have no value are added
+pub full-longer : (values : List (Option Bool)) (k n : ℕ) → unset values + n ≡ length values
+    → unset (values ++ replicate k None) + n ≡ length (values ++ replicate k None)
+full-longer values k n full =
+    let more = unset-longer values k in
+    let longer = length_append values (replicate k None) in
+    let as_many = length_replicate k in
+    omega (arith, more, longer, as_many, full)
+  where
+    length_append : (xs ys : List (Option Bool)) → length (xs ++ ys) ≡ length xs + length ys
+    length_append [] ys = omega arith
+    length_append (x ∷ xs) ys = let rest = length_append xs ys in omega (arith, rest)
+
+    length_replicate : (k : ℕ) → length (replicate {A = Option Bool} k None) ≡ k
+    length_replicate zero = refl
+    length_replicate (suc k) = ap suc (length_replicate k)
+
+-- as many items as there are, or more
+pub take_all : {A : Type 0} (xs : List A) (n : ℕ) → length xs ≤ n → take n xs ≡ xs
+take_all [] zero less = refl
+take_all [] (suc n) less = refl
+take_all (x ∷ xs) zero less = absurd (omega (arith, less))
+take_all (x ∷ xs) (suc n) less = ap (λ ys. x ∷ ys) (take_all xs n (omega (arith, less)))
