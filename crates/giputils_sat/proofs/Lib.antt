@@ -2,8 +2,9 @@ mod Answering
 mod Copying
 mod Examples
 mod Following
+pub mod Literals
 mod Marking
-mod Places
+pub mod Places
 mod Ready
 mod Stored
 mod Trailing
