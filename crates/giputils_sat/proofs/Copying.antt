@@ -1,19 +1,15 @@
 -- Some of the known clauses, copied.
-use Rattle.std.proofs.Common.{◌≡◌, ℕ, ◌+◌, ◌≤◌, List, [], ◌∷◌, ◌++◌, length, take, Some, suc, zero, refl, sym, ap, subst, ◌∙◌, arith, ⊎_elim, Bool, true, false}
+use Rattle.std.proofs.Common.{◌≡◌, ℕ, ◌+◌, ◌≤◌, List, [], ◌∷◌, ◌++◌, length, take, Some, refl, sym, ap, subst, ◌∙◌, arith, ⊎_elim, Bool, true, false}
 use Rattle.std.specs.Prelude.{slice_get}
-use Rattle.std.proofs.lemmas.List.{length_push, length-take, take_all}
+use Rattle.std.proofs.lemmas.List.{length_push, length-take, take_all, take_more}
+use Rattle.std.proofs.lemmas.Option.{slice_get_within, get_or_from_slice_get}
 use Rattle.giputils_sat.specs.Formulas.{Clause, Formula, Implies}
 use Rattle.giputils_sat.specs.Stores.{given_among, IsKnown, IsCopied, IsCopying, IsAmong}
-use Rattle.giputils_sat.proofs.Places.{none_some, each_push, same_some}
+use Rattle.giputils_sat.proofs.Places.{none_some, each_push}
 use Rattle.giputils_sat.proofs.Following.{given_among-given, given_among-learned}
 
-take-suc : {A : Type 0} (xs : List A) (k : ℕ) (x : A) → slice_get xs k ≡ Some x → take (suc k) xs ≡ take k xs ++ x ∷ []
-take-suc [] k x at = none_some x at
-take-suc (y ∷ xs) zero x at = ap (λ z. z ∷ []) (same_some y x at)
-take-suc (y ∷ xs) (suc k) x at = ap (λ zs. y ∷ zs) (take-suc xs k x at)
-
 take-more : {A : Type 0} (xs : List A) (k : ℕ) (x : A) → slice_get xs k ≡ Some x → take (k + 1) xs ≡ take k xs ++ x ∷ []
-take-more xs k x at = let same : k + 1 ≡ suc k = omega arith in ap (λ n. take n xs) same ∙ take-suc xs k x at
+take-more xs k x at = take_more xs k x (slice_get_within xs k x at) ∙ ap (λ y. take k xs ++ y ∷ []) (get_or_from_slice_get xs k x x at)
 
 -- a given clause more, or a learned one
 given_among-more : (flags : List Bool) (cs : List Clause) (given : Bool) (c : Clause) → length flags ≡ length cs

@@ -1,10 +1,9 @@
 -- What follows from a formula.
-use Rattle.std.proofs.Common.{◌≡◌, ◌^◌, ◌+◌, ℕ, ◌<◌, ◌≤◌, List, [], ◌∷◌, ◌++◌, length, take, Some, unwrap_or, suc, zero, refl, sym, ap, subst, ◌∙◌, arith, ⊎_elim, Bool, true, false}
-use Rattle.giputils_sat.specs.Literals.{Lit}
+use Rattle.std.proofs.Common.{◌≡◌, ◌^◌, ◌+◌, ℕ, ◌<◌, ◌≤◌, List, [], ◌∷◌, ◌++◌, length, take, Some, unwrap_or, suc, zero, refl, sym, ap, subst, ◌∙◌, arith, Bool, true, false}
 use Rattle.std.specs.Prelude.{slice_get}
 use Rattle.std.proofs.lemmas.List.{take-append-le, take_all, length_push}
-use Rattle.std.proofs.lemmas.Bool.{false≢true, and_parts, and_from, or_cases, or_left, or_right}
-use Rattle.giputils_sat.specs.Formulas.{Clause, Formula, Assignment, is_true, satisfies, satisfies_clause, Implies, AreBelow, Has}
+use Rattle.std.proofs.lemmas.Bool.{and_parts, and_from}
+use Rattle.giputils_sat.specs.Formulas.{Clause, Formula, Assignment, satisfies, satisfies_clause, Implies, AreBelow}
 use Rattle.giputils_sat.specs.Stores.{given_among, AddsLearned, IsAmong, IsKnown, KeepsKnown, Known}
 use Rattle.giputils_sat.proofs.Places.{none_some, each_push, stands_last}
 
@@ -17,20 +16,6 @@ satisfied_at a (d ∷ f) (suc k) c all at = satisfied_at a f k c (and_parts (sat
 
 pub Implies-given : (f : Formula) (k : ℕ) (c : Clause) → slice_get f k ≡ Some c → Implies f c
 Implies-given f k c at = record { follows = λ a all. satisfied_at a f k c all at }
-
--- a satisfied clause has a true literal
-pub true_literal : (a : Assignment) (c : Clause) → satisfies_clause a c ≡ true
-    → (l : Lit) × Has c l × (is_true a l ≡ true)
-true_literal a [] none = absurd (false≢true none)
-true_literal a (l ∷ c) some =
-    ⊎_elim (λ here. (l, (0, refl), here)) (λ later. let found = true_literal a c later in (found.0, (suc found.1.0, found.1.1), found.2))
-    (or_cases (is_true a l) (satisfies_clause a c) some)
-
-pub satisfied_by : (a : Assignment) (c : Clause) (k : ℕ) (l : Lit) → slice_get c k ≡ Some l → is_true a l ≡ true
-    → satisfies_clause a c ≡ true
-satisfied_by a [] k l at is = none_some l at
-satisfied_by a (m ∷ c) zero l at is = or_left (is_true a m) (satisfies_clause a c) (subst (λ x. is_true a x ≡ true) (sym (ap (λ o. unwrap_or o m) at)) is)
-satisfied_by a (m ∷ c) (suc k) l at is = or_right (is_true a m) (satisfies_clause a c) (satisfied_by a c k l at is)
 
 pub AreBelow-more : (m n : ℕ) (c : Clause) → m ≤ n → AreBelow m c → AreBelow n c
 AreBelow-more m n c more below k l at = omega (arith, more, below k l at)

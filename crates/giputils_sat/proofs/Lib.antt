@@ -4,8 +4,9 @@ mod Examples
 mod Following
 mod Heights
 mod Levels
+pub mod Literals
 mod Marking
-mod Places
+pub mod Places
 mod Ready
 mod Stored
 mod Trailing

@@ -1,36 +1,18 @@
 -- Marks on literals.
-use Rattle.std.proofs.Common.{◌≡◌, ◌≢◌, ℕ, ◌+◌, ◌*◌, ◌<◌, ◌≤◌, List, [], ◌∷◌, ◌++◌, length, get_or, set, replicate, Some, suc, zero, refl, sym, ap, subst, ◌∙◌, arith, ◌⊎◌, ⊎_elim, inl, inr, Bool, true, false, cond, not}
+use Rattle.std.proofs.Common.{◌≡◌, ◌≢◌, ℕ, ◌+◌, ◌*◌, ◌<◌, ◌≤◌, List, [], ◌∷◌, ◌++◌, length, get_or, set, replicate, Some, suc, zero, refl, sym, ap, subst, ◌∙◌, arith, ◌⊎◌, ⊎_elim, inl, inr, Bool, true, false, cond}
 use Rattle.giputils_sat.specs.Literals.{Lit, code, negated}
-use Rattle.std.specs.Bool.{beq}
 use Rattle.std.specs.Prelude.{slice_get}
-use Rattle.std.proofs.lemmas.List.{get_or-set_same, get_or-set_other, length-set}
-use Rattle.std.proofs.lemmas.Bool.{false≢true, cases_eq, cases_lt, cases_Bool}
+use Rattle.std.proofs.lemmas.List.{get_or-set_same, length-set}
+use Rattle.std.proofs.lemmas.Bool.{false≢true, cases_lt, cases_Bool}
 use Rattle.std.proofs.lemmas.Option.{slice_get_within}
-use Rattle.giputils_sat.specs.Formulas.{Clause, Formula, Assignment, is_true, Has, Implies}
+use Rattle.giputils_sat.specs.Formulas.{Clause, Formula, is_true, Has, Implies}
 use Rattle.giputils_sat.specs.Marked.{is_marked, ImpliesMarked, AreAmong, IsNoted, IsTaking}
 use Rattle.giputils_sat.proofs.Places.{stays_before, stands_last, before_or_last, none_some, same_some}
-use Rattle.giputils_sat.proofs.Following.{true_literal, satisfied_by}
-
-same_literal : (v w : ℕ) (p q : Bool) → 2 * v + cond p 1 0 ≡ 2 * w + cond q 1 0
-    → ◌≡◌ {A = Lit} (record { variable = v; positive = p }) (record { variable = w; positive = q })
-same_literal v w true true e = let same : v ≡ w = omega (arith, e) in ap (λ u. record { variable = u; positive = true }) same
-same_literal v w false false e = let same : v ≡ w = omega (arith, e) in ap (λ u. record { variable = u; positive = false }) same
-same_literal v w true false e = absurd (omega (arith, e))
-same_literal v w false true e = absurd (omega (arith, e))
-
-pub code-injective : (m l : Lit) → code m ≡ code l → m ≡ l
-code-injective m l e = same_literal m.variable l.variable m.positive l.positive e
-
-pub marked-set_other : (marks : List Bool) (l m : Lit) (b : Bool) → m ≢ l
-    → is_marked (set marks (code l) b) m ≡ is_marked marks m
-marked-set_other marks l m b other = get_or-set_other marks (code l) (code m) b false (λ e. other (code-injective m l e))
+use Rattle.giputils_sat.proofs.Literals.{cases_literal, marked-set_other, unmark, true_literal, satisfied_by, not_both}
 
 pub marked-set_same : (marks : List Bool) (l : Lit) (b : Bool) → code l < length marks
     → is_marked (set marks (code l) b) l ≡ b
 marked-set_same marks l b within = get_or-set_same marks (code l) b false within
-
-pub cases_literal : (m l : Lit) → (m ≡ l) ⊎ (m ≢ l)
-cases_literal m l = ⊎_elim (λ e. inl (code-injective m l e)) (λ ne. inr (λ same. ne (ap code same))) (cases_eq (code m) (code l))
 
 -- one more literal is marked and noted
 pub IsNoted-add : (marks : List Bool) (noted : Clause) (l : Lit) → code l < length marks → IsNoted marks noted
@@ -56,12 +38,6 @@ IsTaking-start noted before = record {
   cleared = λ k m less at. absurd (omega (arith, less));
 }
 
-pub unmark : (marks : List Bool) (l m : Lit) → code l < length marks → is_marked (set marks (code l) false) m ≡ true
-    → (m ≢ l) × (is_marked marks m ≡ true)
-unmark marks l m within is =
-    ⊎_elim (λ same. absurd (false≢true (sym (marked-set_same marks l false within) ∙ ap (is_marked (set marks (code l) false)) (sym same) ∙ is)))
-    (λ other. (other, sym (marked-set_other marks l m false other) ∙ is)) (cases_literal m l)
-
 -- a marked literal is taken
 pub IsTaking-took : (noted : Clause) (before now : List Bool) (taken : Clause) (i : ℕ) (l : Lit)
     → slice_get noted i ≡ Some l → code l < length now → is_marked now l ≡ true
@@ -69,7 +45,7 @@ pub IsTaking-took : (noted : Clause) (before now : List Bool) (taken : Clause) (
 IsTaking-took noted before now taken i l at within marked is = record {
   only = λ m has. ⊎_elim (λ earlier. is.only m (has.0, earlier)) (λ last. is.shrinks m (subst (λ x. is_marked now x ≡ true) last.1 marked)) (before_or_last taken l has.0 m has.1);
   len = length-set now (code l) false ∙ is.len;
-  shrinks = λ m marked. is.shrinks m (unmark now l m within marked).1;
+  shrinks = λ m marked. is.shrinks m (unmark now l m marked).1;
   caught = λ m was.
       ⊎_elim (λ still. ⊎_elim (λ same. inr (length taken, stands_last taken l ∙ ap Some (sym same)))
       (λ other. inl (marked-set_other now l m false other ∙ still)) (cases_literal m l))
@@ -156,16 +132,6 @@ variable-below count l less = lt-code l.variable count l.positive less
     lt-code : (v n : ℕ) (p : Bool) → 2 * v + cond p 1 0 < 2 * n → v < n
     lt-code v n true less = omega (arith, less)
     lt-code v n false less = omega (arith, less)
-
-opposite : (u p : Bool) → beq u p ≡ true → beq u (not p) ≡ true → ⊥
-opposite true true is_p is_n = false≢true is_n
-opposite true false is_p is_n = false≢true is_p
-opposite false true is_p is_n = false≢true is_p
-opposite false false is_p is_n = false≢true is_n
-
--- a literal and its negation are not both true
-pub not_both : (a : Assignment) (l : Lit) → is_true a l ≡ true → is_true a (negated l) ≡ true → ⊥
-not_both a l is_l is_n = opposite (a l.variable) l.positive is_l is_n
 
 -- resolution: a clause without l in the place of l's negation
 pub ImpliesMarked-resolved : (f : Formula) (old new : List Bool) (l : Lit) (c : Clause) → ImpliesMarked f old

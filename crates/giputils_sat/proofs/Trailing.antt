@@ -11,6 +11,7 @@ use Rattle.giputils_sat.specs.Formulas.{Clause, Has}
 use Rattle.giputils_sat.specs.Values.{value_of}
 use Rattle.giputils_sat.specs.Trails.{Stands, HasReason, IsTrail, IsConflict, Extends, AreUndone}
 use Rattle.giputils_sat.specs.Marked.{is_marked}
+use Rattle.giputils_sat.proofs.Literals.{beq_not}
 use Rattle.giputils_sat.proofs.Places.{none_some, same_some, stays_before, stands_last, before_or_last, same_at}
 
 pub beq_same : (p : Bool) → beq p p ≡ true
@@ -22,12 +23,6 @@ beq_equal true true e = refl
 beq_equal false false e = refl
 beq_equal true false e = absurd (false≢true e)
 beq_equal false true e = absurd (false≢true e)
-
-beq_not : (v p : Bool) → beq v p ≡ false → beq v (not p) ≡ true
-beq_not true true e = absurd (false≢true (sym e))
-beq_not true false e = refl
-beq_not false true e = refl
-beq_not false false e = absurd (false≢true (sym e))
 
 -- a false literal's negation is true
 negated_value : (o : Option Bool) (p : Bool) → option_map (λ v. beq v p) o ≡ Some false

@@ -9,8 +9,7 @@ use Rattle.giputils_sat.specs.Stores.{Known, AddsUnits, AreAmong}
 use Rattle.giputils_sat.specs.Trails.{IsTrail, decisions}
 use Rattle.giputils_sat.proofs.Levels.{reasoned}
 use Rattle.giputils_sat.proofs.Places.{before_or_last}
-use Rattle.giputils_sat.proofs.Following.{true_literal, satisfied_by}
-use Rattle.giputils_sat.proofs.Marking.{cases_literal, not_both}
+use Rattle.giputils_sat.proofs.Literals.{cases_literal, true_literal, satisfied_by, not_both}
 
 some_reason : (o : Option ℕ) → o ≢ None → (r : ℕ) × (o ≡ Some r)
 some_reason None not_none = absurd (not_none refl)

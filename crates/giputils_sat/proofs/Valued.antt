@@ -7,7 +7,7 @@ use Rattle.std.proofs.lemmas.Bool.{false≢true}
 use Rattle.giputils_sat.specs.Formulas.{Clause, is_true, satisfies_clause}
 use Rattle.giputils_sat.specs.Values.{value_of, assignment_of, unset}
 use Rattle.giputils_sat.proofs.Places.{none_some}
-use Rattle.giputils_sat.proofs.Following.{satisfied_by}
+use Rattle.giputils_sat.proofs.Literals.{satisfied_by}
 
 no_value : (o : Option Bool) (p : Bool) → option_map (λ v. beq v p) o ≡ None → o ≡ None
 no_value None p e = refl
