@@ -7,8 +7,9 @@ use Rattle.std.proofs.lemmas.Option.{slice_get_within}
 use Rattle.std.proofs.lemmas.Bool.{cases_lt}
 use Rattle.giputils_sat.specs.Literals.{Lit}
 use Rattle.giputils_sat.specs.declared.trail.Step.{Step}
+use Rattle.giputils_sat.specs.Formulas.{Clause}
 use Rattle.giputils_sat.specs.Values.{value_of, unset}
-use Rattle.giputils_sat.specs.Trails.{AreTrue, AreOnce, decision, decisions}
+use Rattle.giputils_sat.specs.Trails.{AreValued, AreOnce, decision, decisions}
 use Rattle.giputils_sat.proofs.Places.{none_some, same_some, stays_before, stands_last, before_or_last}
 use Rattle.giputils_sat.proofs.Valued.{unset-assigned}
 use Rattle.giputils_sat.proofs.Trailing.{Extends-set, some_value, no_value, beq_same, value_at, value_other}
@@ -36,11 +37,15 @@ reasoned (t ∷ steps) zero s none at =
     absurd (omega (arith, none, one))
 reasoned (t ∷ steps) (suc k) s none at = reasoned steps k s (omega (arith, none)) at
 
+-- and each decision is among whatever literals
+pub DecidesAmong-root : (assumed : Clause) (steps : List Step) → decisions steps ≡ 0 → DecidesAmong assumed steps
+DecidesAmong-root assumed steps none k s at decided = absurd (reasoned steps k s none at decided)
+
 module _ (values : List (Option Bool)) (steps : List Step) (s : Step) where
   -- a variable with no value gets one
-  pub AreTrue-pushed : s.literal.variable < length values → value_of values s.literal ≡ None → AreTrue values steps
-      → AreTrue (set values s.literal.variable (Some s.literal.positive)) (steps ++ s ∷ [])
-  AreTrue-pushed within none are k t at =
+  pub AreValued-pushed : s.literal.variable < length values → value_of values s.literal ≡ None → AreValued values steps
+      → AreValued (set values s.literal.variable (Some s.literal.positive)) (steps ++ s ∷ [])
+  AreValued-pushed within none are k t at =
       let now = set values s.literal.variable (Some s.literal.positive) in
       ⊎_elim (λ before. Extends-set values s.literal none t.literal true (are k t before))
       (λ last.
@@ -50,13 +55,13 @@ module _ (values : List (Option Bool)) (steps : List Step) (s : Step) where
       subst (λ (x : Step). value_of (set values s.literal.variable (Some s.literal.positive)) x.literal ≡ Some true) last.1 here)
       (before_or_last steps s k t at)
 
-  is_new : value_of values s.literal ≡ None → AreTrue values steps → (k : ℕ) (t : Step) → slice_get steps k ≡ Some t
+  is_new : value_of values s.literal ≡ None → AreValued values steps → (k : ℕ) (t : Step) → slice_get steps k ≡ Some t
       → t.literal.variable ≡ s.literal.variable → ⊥
   is_new none are k t at same =
       some_value (get_or values t.literal.variable None) t.literal.positive true (are k t at)
       (ap (λ v. get_or values v None) same ∙ no_value (get_or values s.literal.variable None) s.literal.positive none)
 
-  pub AreOnce-pushed : value_of values s.literal ≡ None → AreTrue values steps → AreOnce steps → AreOnce (steps ++ s ∷ [])
+  pub AreOnce-pushed : value_of values s.literal ≡ None → AreValued values steps → AreOnce steps → AreOnce (steps ++ s ∷ [])
   AreOnce-pushed none are once i k t u at_i at_k same =
       ⊎_elim
       (λ early.
@@ -70,9 +75,9 @@ module _ (values : List (Option Bool)) (steps : List Step) (s : Step) where
       (before_or_last steps s i t at_i)
 
   -- the last literal's value is taken away
-  pub AreTrue-popped : AreOnce (steps ++ s ∷ []) → AreTrue values (steps ++ s ∷ [])
-      → AreTrue (set values s.literal.variable None) steps
-  AreTrue-popped once are k t at =
+  pub AreValued-popped : AreOnce (steps ++ s ∷ []) → AreValued values (steps ++ s ∷ [])
+      → AreValued (set values s.literal.variable None) steps
+  AreValued-popped once are k t at =
       let was = stays_before steps (s ∷ []) k t at in
       let inside = slice_get_within steps k t at in
       value_other values t.literal s.literal.variable None
@@ -114,8 +119,8 @@ value-longer None p more stays is = none_some true is
 value-longer (Some b) p more stays is = ap (option_map (λ v. beq v p)) (stays b refl) ∙ is
 
 -- variables that have no value are added
-pub AreTrue-longer : (values more : List (Option Bool)) (steps : List Step) → AreTrue values steps → AreTrue (values ++ more) steps
-AreTrue-longer values more steps are k s at =
+pub AreValued-longer : (values more : List (Option Bool)) (steps : List Step) → AreValued values steps → AreValued (values ++ more) steps
+AreValued-longer values more steps are k s at =
     value-longer (get_or values s.literal.variable None) s.literal.positive (get_or (values ++ more) s.literal.variable None)
     (λ b is. get_or-longer values more s.literal.variable b is) (are k s at)
 
@@ -131,7 +136,7 @@ full-pushed values steps s within none full =
     omega (arith, less, longer, same, full)
 
 -- and after one less
-pub full-popped : (values : List (Option Bool)) (steps : List Step) (s : Step) → AreTrue values (steps ++ s ∷ [])
+pub full-popped : (values : List (Option Bool)) (steps : List Step) (s : Step) → AreValued values (steps ++ s ∷ [])
     → unset values + length (steps ++ s ∷ []) ≡ length values
     → unset (set values s.literal.variable None) + length steps ≡ length (set values s.literal.variable None)
 full-popped values steps s are full =

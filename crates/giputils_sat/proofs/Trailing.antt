@@ -9,10 +9,10 @@ use Rattle.std.proofs.lemmas.Bool.{false≢true, cases_eq, cases_lt, cases_Bool}
 use Rattle.giputils_sat.specs.declared.trail.Step.{Step}
 use Rattle.giputils_sat.specs.Formulas.{Clause, Has}
 use Rattle.giputils_sat.specs.Values.{value_of}
-use Rattle.giputils_sat.specs.Trails.{Stands, HasReason, IsTrail, IsConflict, Extends, AreUndone}
+use Rattle.giputils_sat.specs.Trails.{Stands, HasReason, IsTrail, IsConflict, Extends, AreUndone, DecidesAmong}
 use Rattle.giputils_sat.specs.Marked.{is_marked}
-use Rattle.giputils_sat.proofs.Literals.{beq_not}
-use Rattle.giputils_sat.proofs.Places.{none_some, same_some, stays_before, stands_last, before_or_last, same_at}
+use Rattle.giputils_sat.proofs.Literals.{beq_not, cases_literal}
+use Rattle.giputils_sat.proofs.Places.{none_some, same_some, stays_before, stands_last, before_or_last, same_at, each_push}
 
 pub beq_same : (p : Bool) → beq p p ≡ true
 beq_same true = refl
@@ -226,34 +226,60 @@ stands_before steps i step m at (j, s, before, there, is) other =
     let step_is : step ≡ s = same_at steps i step j s same at there in
     absurd (other (sym (negated_twice m) ∙ ap negated (sym is ∙ ap (λ x. x.literal) (sym step_is))))) (cases_lt j i)
 
--- before any decision: a place whose literal's negation isn't marked
-pub AreUndone-unmarked : (steps : List Step) (marks : List Bool) (i : ℕ) (step : Step) → slice_get steps i ≡ Some step
+-- a place whose literal's negation isn't marked
+pub AreUndone-unmarked : (assumed : Clause) (steps : List Step) (marks : List Bool) (i : ℕ) (step : Step) → slice_get steps i ≡ Some step
     → is_marked marks (negated step.literal) ≡ false
-    → AreUndone steps marks (i + 1) → AreUndone steps marks i
-AreUndone-unmarked steps marks i step at none undone m marked =
-    stands_before steps i step m at (undone m marked) (λ same. false≢true (sym none ∙ ap (is_marked marks) (sym same) ∙ marked))
+    → AreUndone assumed steps marks (i + 1) → AreUndone assumed steps marks i
+AreUndone-unmarked assumed steps marks i step at none undone m marked =
+    ⊎_elim (λ is_assumed. inl is_assumed)
+    (λ stands. inr (stands_before steps i step m at stands (λ same. false≢true (sym none ∙ ap (is_marked marks) (sym same) ∙ marked))))
+    (undone m marked)
+
+-- one whose literal is assumed
+pub AreUndone-assumed : (assumed : Clause) (steps : List Step) (marks : List Bool) (i : ℕ) (step : Step) → slice_get steps i ≡ Some step
+    → Has assumed step.literal
+    → AreUndone assumed steps marks (i + 1) → AreUndone assumed steps marks i
+AreUndone-assumed assumed steps marks i step at has undone m marked =
+    ⊎_elim (λ is_assumed. inl is_assumed)
+    (λ stands.
+    ⊎_elim (λ same. inl (subst (Has assumed) (sym (ap negated same ∙ negated_twice step.literal)) has))
+    (λ other. inr (stands_before steps i step m at stands other)) (cases_literal m (negated step.literal)))
+    (undone m marked)
 
 -- and one whose reason takes the negation's place
-pub AreUndone-resolved : (clauses : List Clause) (steps : List Step) (old new : List Bool) (i : ℕ) (step : Step) (r : ℕ) (c : Clause)
+pub AreUndone-resolved : (assumed : Clause) (clauses : List Clause) (steps : List Step) (old new : List Bool) (i : ℕ) (step : Step) (r : ℕ) (c : Clause)
     → slice_get steps i ≡ Some step
-    → HasReason clauses steps i step.literal r → slice_get clauses r ≡ Some c → AreUndone steps old (i + 1)
+    → HasReason clauses steps i step.literal r → slice_get clauses r ≡ Some c → AreUndone assumed steps old (i + 1)
     → ((m : Lit) → is_marked new m ≡ true → ((is_marked old m ≡ true) × (m ≢ negated step.literal)) ⊎ (Has c m × (m ≢ step.literal)))
-    → AreUndone steps new i
-AreUndone-resolved clauses steps old new i step r c at reason c_at undone only m marked =
-    ⊎_elim (λ was. stands_before steps i step m at (undone m was.0) was.1)
-    (λ come. let same : c ≡ reason.0 = same_some c reason.0 (sym c_at ∙ reason.1) in reason.2 m (subst (λ (x : Clause). Has x m) same come.0) come.1) (only m marked)
+    → AreUndone assumed steps new i
+AreUndone-resolved assumed clauses steps old new i step r c at reason c_at undone only m marked =
+    ⊎_elim
+    (λ was. ⊎_elim (λ is_assumed. inl is_assumed) (λ stands. inr (stands_before steps i step m at stands was.1)) (undone m was.0))
+    (λ come. let same : c ≡ reason.0 = same_some c reason.0 (sym c_at ∙ reason.1) in inr (reason.2 m (subst (λ (x : Clause). Has x m) same come.0) come.1)) (only m marked)
 
 -- a conflict's literals are false by what stands
 pub AreUndone-conflict : (clauses : List Clause) (values : List (Option Bool)) (steps : List Step) (marks : List Bool) (i : ℕ) (c : Clause)
     → IsTrail clauses values steps
     → IsConflict clauses values i → slice_get clauses i ≡ Some c → ((m : Lit) → is_marked marks m ≡ true → Has c m)
-    → AreUndone steps marks (length steps)
+    → AreUndone [] steps marks (length steps)
 AreUndone-conflict clauses values steps marks i c is conflict c_at only m marked =
     let same : c ≡ conflict.0 = same_some c conflict.0 (sym c_at ∙ conflict.1) in
-    is.stand (negated m) (true_negation values m (conflict.2 m (subst (λ (x : Clause). Has x m) same (only m marked))))
+    inr (is.stand (negated m) (true_negation values m (conflict.2 m (subst (λ (x : Clause). Has x m) same (only m marked)))))
 
--- with no place left nothing is marked
-pub none_undone : (steps : List Step) (marks : List Bool) → AreUndone steps marks 0 → (m : Lit)
+-- with no place left only negations of assumed literals are marked
+pub all_assumed : (assumed : Clause) (steps : List Step) (marks : List Bool) → AreUndone assumed steps marks 0 → (m : Lit)
+    → is_marked marks m ≡ true → Has assumed (negated m)
+all_assumed assumed steps marks undone m marked =
+    ⊎_elim (λ is_assumed. is_assumed) (λ stands. absurd (omega (arith, stands.2))) (undone m marked)
+
+-- and none where none is assumed
+pub none_undone : (steps : List Step) (marks : List Bool) → AreUndone [] steps marks 0 → (m : Lit)
     → is_marked marks m ≡ false
 none_undone steps marks undone m =
-    ⊎_elim (λ marked. absurd (omega (arith, (undone m marked).2))) (λ unmarked. unmarked) (cases_Bool (is_marked marks m))
+    ⊎_elim (λ marked. none_some (negated m) (all_assumed [] steps marks undone m marked).1) (λ unmarked. unmarked) (cases_Bool (is_marked marks m))
+
+-- one literal more is true
+pub DecidesAmong-push : (assumed : Clause) (steps : List Step) (s : Step) → (s.reason ≡ None → Has assumed s.literal)
+    → DecidesAmong assumed steps → DecidesAmong assumed (steps ++ s ∷ [])
+DecidesAmong-push assumed steps s last all k t at =
+    each_push (λ x. x.reason ≡ None → Has assumed x.literal) steps s all last k t at

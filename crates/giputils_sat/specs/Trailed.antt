@@ -1,9 +1,9 @@
 -- The trail of a search, as its own calls state it.
-use Rattle.std.specs.Prelude.{◌≡◌, ℕ, ◌+◌, ◌*◌, ◌≤◌, [], Bool, List, length, slice_get, Option, Some, IfSome, IfNone}
+use Rattle.std.specs.Prelude.{◌≡◌, ℕ, ◌+◌, ◌*◌, ◌≤◌, [], Bool, List, length, slice_get, Option, Some, None, IfSome, IfNone}
 use Rattle.giputils_sat.specs.declared.trail.Step.{Step}
 use Rattle.giputils_sat.specs.declared.trail.Trail.{Trail}
-use Rattle.giputils_sat.specs.Formulas.{Clause, Formula}
-use Rattle.giputils_sat.specs.Trails.{IsTrail, IsConflict, AreUndone}
+use Rattle.giputils_sat.specs.Formulas.{Clause, Formula, Has}
+use Rattle.giputils_sat.specs.Trails.{IsTrail, IsConflict, AreUndone, DecidesAmong}
 use Rattle.giputils_sat.specs.Marked.{NoneMarked}
 use Rattle.giputils_sat.specs.Stores.{Known}
 use Rattle.giputils_sat.specs.Values.{unset, IsModelOf}
@@ -28,15 +28,22 @@ SatisfiesUnless formula t found = IfNone found (IsModelOf formula t.values.items
 abbrev pub StandsOn : {A : Type 0} → Trail A → Trail A → Type 0
 StandsOn old new = (clauses : List Clause) → StandsBy clauses old → StandsBy clauses new
 
+-- whatever literals all decisions are among, they still are
+abbrev pub KeepsDecisions : {A : Type 0} → Trail A → Trail A → Type 0
+KeepsDecisions old new =
+    (assumed : Clause) → DecidesAmong assumed old.steps.items → DecidesAmong assumed new.steps.items
+
 -- how many variables have no value or stand in the trail
 abbrev pub total : {A : Type 0} → Trail A → ℕ
 total t = unset t.values.items + length t.steps.items
 
--- before any decision: where all that was marked is undone before a place's end, what is marked now is before the place
-abbrev pub UndoesAtRoot : {A : Type 0} → List Clause → Trail A → Step → List Bool → List Bool → Type 0
-UndoesAtRoot clauses t step old new =
-    (place : ℕ) → t.starts.items ≡ [] → StandsBy clauses t → slice_get t.steps.items place ≡ Some step
-    → AreUndone t.steps.items old (place + 1) → AreUndone t.steps.items new place
+-- at a step with a reason, or one that is assumed: where all that was marked is undone before the step's end, what is
+-- marked now is undone before the step
+abbrev pub UndoesStep : {A : Type 0} → List Clause → Trail A → Step → List Bool → List Bool → Type 0
+UndoesStep clauses t step old new =
+    (assumed : Clause) (place : ℕ) → StandsBy clauses t → slice_get t.steps.items place ≡ Some step
+    → (step.reason ≡ None → Has assumed step.literal)
+    → AreUndone assumed t.steps.items old (place + 1) → AreUndone assumed t.steps.items new place
 
 -- the trail stands by the known clauses, and has no variable that is not below their count
 pub record IsBelow {A : Type 0} (known : Known) (t : Trail A) : Type 0 where

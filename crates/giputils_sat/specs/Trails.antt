@@ -1,5 +1,5 @@
 -- The true literals in order, each with the clause that made it true, where it was not decided.
-use Rattle.std.specs.Prelude.{◌≡◌, [], ◌∷◌, ◌++◌, ◌≢◌, ℕ, ◌+◌, ◌<◌, Bool, true, false, List, length, slice_get, Option, Some, None}
+use Rattle.std.specs.Prelude.{◌≡◌, [], ◌∷◌, ◌++◌, ◌≢◌, ℕ, ◌+◌, ◌<◌, ◌⊎◌, Bool, true, false, List, length, slice_get, Option, Some, None}
 use Rattle.giputils_sat.specs.Literals.{Lit, negated}
 use Rattle.giputils_sat.specs.declared.trail.Step.{Step}
 use Rattle.giputils_sat.specs.Formulas.{Clause, Has}
@@ -23,8 +23,8 @@ pub record IsTrail (clauses : List Clause) (values : List (Option Bool)) (steps 
       → HasReason clauses steps k s.literal r
 
 -- each literal of the trail is true by the values
-abbrev pub AreTrue : List (Option Bool) → List Step → Type 0
-AreTrue values steps = (k : ℕ) (s : Step) → slice_get steps k ≡ Some s → value_of values s.literal ≡ Some true
+abbrev pub AreValued : List (Option Bool) → List Step → Type 0
+AreValued values steps = (k : ℕ) (s : Step) → slice_get steps k ≡ Some s → value_of values s.literal ≡ Some true
 
 -- no variable stands at two places of the trail
 abbrev pub AreOnce : List Step → Type 0
@@ -54,9 +54,14 @@ IsConflict clauses values i = (c : Clause) × (slice_get clauses i ≡ Some c) �
 abbrev pub Extends : List (Option Bool) → List (Option Bool) → Type 0
 Extends old new = (m : Lit) (b : Bool) → value_of old m ≡ Some b → value_of new m ≡ Some b
 
--- each marked literal is false by what stands before place i
-abbrev pub AreUndone : List Step → List Bool → ℕ → Type 0
-AreUndone steps marks i = (m : Lit) → is_marked marks m ≡ true → Stands steps (negated m) i
+-- each step with no reason is one of these literals
+abbrev pub DecidesAmong : Clause → List Step → Type 0
+DecidesAmong assumed steps = (k : ℕ) (s : Step) → slice_get steps k ≡ Some s → s.reason ≡ None → Has assumed s.literal
+
+-- each marked literal is the negation of an assumed one, or false by what stands before place i
+abbrev pub AreUndone : Clause → List Step → List Bool → ℕ → Type 0
+AreUndone assumed steps marks i =
+    (m : Lit) → is_marked marks m ≡ true → Has assumed (negated m) ⊎ Stands steps (negated m) i
 
 -- one literal more is true
 abbrev pub steps_with : Lit → Option ℕ → List Step → List Step

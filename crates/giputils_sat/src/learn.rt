@@ -5,7 +5,7 @@ ghost use Rattle.giputils_sat.specs.Formulas.{Has, Implies};
 ghost use Rattle.giputils_sat.specs.Literals.{code};
 ghost use Rattle.giputils_sat.specs.Marked.{AddsAtMost, AreMarked, AreMarkedBut, Grows, HaveMarks, ImpliesMarked, NoneMarked, is_marked};
 ghost use Rattle.giputils_sat.specs.Stores.{AddsLearned, HasMore, KeepsKnown};
-ghost use Rattle.giputils_sat.specs.Trailed.{IsConflictOf, MeetsConflict, StandsBy, UndoesAtRoot};
+ghost use Rattle.giputils_sat.specs.Trailed.{IsConflictOf, MeetsConflict, StandsBy, UndoesStep};
 
 use crate::activity::Activity;
 use crate::database::Database;
@@ -114,7 +114,7 @@ fn exchange<A: Allocator + Copy>(
     requires follows { ImpliesMarked database.now.formula marks.old }
     ensures len { length marks.new ≡ length marks.old }
     ensures follows { OnOk result (ImpliesMarked database.now.formula marks.new) }
-    ensures root { OnOk result (UndoesAtRoot database.now.clauses trail.now step marks.old marks.new) }
+    ensures undoes { OnOk result (UndoesStep database.now.clauses trail.now step marks.old marks.new) }
 {
     let l = step.literal;
     if !marks.has(l.negated()) {

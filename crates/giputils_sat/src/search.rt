@@ -2,7 +2,7 @@
 ghost use Rattle.std.specs.Prelude.{◌≡◌, ◌<◌, ◌≤◌, None, length, IfOk, IfSome, IfNone, OnOk};
 ghost use Rattle.giputils_sat.specs.Choices.{FollowsChoice};
 ghost use Rattle.giputils_sat.specs.Formulas.{Has};
-ghost use Rattle.giputils_sat.specs.Trailed.{MeetsConflict, SatisfiesUnless, StandsBy, total};
+ghost use Rattle.giputils_sat.specs.Trailed.{KeepsDecisions, MeetsConflict, SatisfiesUnless, StandsBy, total};
 ghost use Rattle.giputils_sat.specs.Trails.{Extends};
 ghost use Rattle.giputils_sat.specs.Values.{AreAllSet, AreFalseBut, unset, value_of};
 
@@ -69,6 +69,7 @@ fn turn<A: Allocator + Copy>(
     ensures len { length trail.new.values.items ≡ length trail.old.values.items }
     ensures trail { OnOk result (StandsBy database.now.clauses trail.new) }
     ensures stays { OnOk result (Extends trail.old.values.items trail.new.values.items) }
+    ensures decisions { OnOk result (KeepsDecisions trail.old trail.new) }
     ensures head { trail.new.head ≡ trail.old.head }
     ensures less { OnOk result (unset trail.new.values.items ≤ unset trail.old.values.items) }
     ensures total { OnOk result (total trail.new ≡ total trail.old) }
@@ -139,6 +140,7 @@ fn visit<A: Allocator + Copy>(
     ensures len { length trail.new.values.items ≡ length trail.old.values.items }
     ensures trail { OnOk result (StandsBy database.now.clauses trail.new) }
     ensures stays { OnOk result (Extends trail.old.values.items trail.new.values.items) }
+    ensures decisions { OnOk result (KeepsDecisions trail.old trail.new) }
     ensures head { trail.new.head ≡ trail.old.head }
     ensures less { OnOk result (unset trail.new.values.items ≤ unset trail.old.values.items) }
     ensures total { OnOk result (total trail.new ≡ total trail.old) }
@@ -172,6 +174,8 @@ pub(crate) fn propagate<A: Allocator + Copy>(
     requires trail { StandsBy database.now.clauses trail.old }
     ensures len { length trail.new.values.items ≡ length trail.old.values.items }
     ensures trail { OnOk result (StandsBy database.now.clauses trail.new) }
+    ensures stays { OnOk result (Extends trail.old.values.items trail.new.values.items) }
+    ensures decisions { OnOk result (KeepsDecisions trail.old trail.new) }
     ensures unset { OnOk result (unset trail.new.values.items ≤ unset trail.old.values.items) }
     ensures conflict { IfOk result (MeetsConflict database.now.clauses trail.new) }
 {
@@ -233,6 +237,7 @@ fn choose<A: Allocator + Copy>(
     requires trail { StandsBy database.now.clauses trail.old }
     ensures len { length trail.new.values.items ≡ length trail.old.values.items }
     ensures trail { OnOk result (StandsBy database.now.clauses trail.new) }
+    ensures stays { OnOk result (Extends trail.old.values.items trail.new.values.items) }
     ensures choice { IfOk result (FollowsChoice database.now trail.old trail.new) }
 {
     hints.count_decision();

@@ -1,6 +1,6 @@
 //! The literals that are true, in the order in which they became so.
 ghost use Rattle.std.specs.Prelude.{◌≡◌, ◌+◌, ◌^◌, ◌≤◌, length};
-ghost use Rattle.giputils_sat.specs.Trails.{AreTrue, AreOnce, decisions};
+ghost use Rattle.giputils_sat.specs.Trails.{AreValued, AreOnce, decisions};
 ghost use Rattle.giputils_sat.specs.Values.{unset};
 
 use crate::literal::Literal;
@@ -36,7 +36,7 @@ pub(crate) struct Trail<A: Allocator = Global> {
     ghost same_len: { length stands.items ≡ length values.items },
     ghost small: { length values.items ≤ 2 ^ 31 },
     ghost as_many: { length phases.items ≡ length values.items },
-    ghost valued: { AreTrue values.items steps.items },
+    ghost valued: { AreValued values.items steps.items },
     ghost once: { AreOnce steps.items },
     ghost levels: { length starts.items ≡ decisions steps.items },
     ghost full: { unset values.items + length steps.items ≡ length values.items },

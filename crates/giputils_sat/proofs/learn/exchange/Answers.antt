@@ -1,7 +1,5 @@
-use Rattle.std.proofs.Common.{◌≡◌, ◌∙◌, arith, sym, ap, length, ⊎_elim, inl, inr}
+use Rattle.std.proofs.Common.{◌∙◌, arith, sym, ⊎_elim, inl, inr}
 use Rattle.std.proofs.lemmas.Option.{slice_get_within}
-use Rattle.giputils_sat.specs.Trails.{decisions}
-use Rattle.giputils_sat.proofs.Levels.{reasoned}
 use Rattle.giputils_sat.proofs.Trailing.{AreUndone-resolved}
 use Rattle.giputils_sat.proofs.Marking.{ImpliesMarked-resolved}
 use Rattle.giputils_sat.proofs.learn.exchange.Goals as goal
@@ -12,21 +10,16 @@ returns-clause-follows g c =
     (λ m other was. c.in_ok-more.ensures.grows m (c.remove.ensures.others m (λ e. other (e ∙ c.negated-2.ensures)) was))
     c.in_ok-more.ensures.marked
 
-pub returns-in_default-clause-root : goal.returns-in_default-clause-root
-returns-in_default-clause-root g c = λ place none trail at undone m marked.
-    let undecided : decisions c.args.trail.now.steps.items ≡ 0 = sym c.args.trail.now.levels ∙ ap length none in
-    absurd (reasoned c.args.trail.now.steps.items place c.args.step undecided at c.in_default.is)
-
-pub returns-then-reason-len-clause-root : goal.returns-then-reason-len-clause-root
-returns-then-reason-len-clause-root g c = λ place none trail at undone m marked.
+pub returns-then-reason-len-clause-undoes : goal.returns-then-reason-len-clause-undoes
+returns-then-reason-len-clause-undoes g c = λ assumed place trail at decided undone m marked.
     let reason = trail.reasons place c.args.step c.in-Some.reason at c.in-Some.is in
     let within = slice_get_within c.args.database.now.clauses c.in-Some.reason reason.0 reason.1 in
     let past = c.if-reason-len.true in
     let len = c.len.ensures in
     absurd (omega (arith, within, past, len))
 
-pub returns-clause-root : goal.returns-clause-root
-returns-clause-root g c = λ place none trail at undone.
-    AreUndone-resolved c.args.database.now.clauses c.args.trail.now.steps.items c.args.marks.now c.note_others.new.marks place c.args.step c.in-Some.reason c.clause.result.now at
+pub returns-clause-undoes : goal.returns-clause-undoes
+returns-clause-undoes g c = λ assumed place trail at decided undone.
+    AreUndone-resolved assumed c.args.database.now.clauses c.args.trail.now.steps.items c.args.marks.now c.note_others.new.marks place c.args.step c.in-Some.reason c.clause.result.now at
     (trail.reasons place c.args.step c.in-Some.reason at c.in-Some.is) c.clause.ensures.at undone
     (λ m marked. ⊎_elim (λ was. let old = c.remove.ensures.only m was in inl (old.0, λ same. old.1 (same ∙ sym c.negated-2.ensures))) (λ come. inr come) (c.in_ok-more.ensures.only m marked))

@@ -1,9 +1,10 @@
-use Rattle.std.proofs.Common.{◌≡◌, ◌<◌, ◌+◌, ◌-◌, ◌∙◌, length, refl, sym, arith, ⊎_elim}
+use Rattle.std.proofs.Common.{◌≡◌, ◌<◌, ◌+◌, ◌-◌, ◌∙◌, length, [], refl, sym, ap, arith, ⊎_elim}
 use Rattle.std.specs.Prelude.{slice_get, Some}
 use Rattle.std.proofs.lemmas.Bool.{false≢true}
 use Rattle.std.proofs.lemmas.Grind.{common_steps}
 use Rattle.std.proofs.lemmas.Option.{slice_get_read}
 use Rattle.giputils_sat.proofs.Marking.{ImpliesMarked-clause}
+use Rattle.giputils_sat.proofs.Levels.{DecidesAmong-root}
 use Rattle.giputils_sat.proofs.Trailing.{AreUndone-conflict}
 use Rattle.giputils_sat.proofs.learn.resolve.Goals as goal
 
@@ -36,5 +37,5 @@ loop-place-preserved g c =
     record {
       len = c.exchange.ensures.len ∙ c.loop-place.invariant.len;
       follows = c.in_ok-exchange.ensures.follows;
-      root = λ none. c.in_ok-exchange.ensures.root (c.loop-place.place - 1) none c.requires.trail at (rw again (c.loop-place.invariant.root none));
+      root = λ none. c.in_ok-exchange.ensures.undoes [] (c.loop-place.place - 1) c.requires.trail at (DecidesAmong-root [] c.args.trail.now.steps.items (sym c.args.trail.now.levels ∙ ap length none) (c.loop-place.place - 1) c.index-step.result.now at) (rw again (c.loop-place.invariant.root none));
     }

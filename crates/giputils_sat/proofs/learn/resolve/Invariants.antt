@@ -7,5 +7,5 @@ abbrev pub invariant-loop-place : goal.invariant-loop-place
 invariant-loop-place g l = record {
   len : length l.marks ≡ length l.initial.marks;
   follows : ImpliesMarked l.database.formula l.marks;
-  root : l.trail.starts.items ≡ [] → AreUndone l.trail.steps.items l.marks l.place;
+  root : l.trail.starts.items ≡ [] → AreUndone [] l.trail.steps.items l.marks l.place;
 }

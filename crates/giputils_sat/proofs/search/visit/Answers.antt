@@ -14,6 +14,7 @@ loop-place-preserved g c = record {
   list = grind (arith, common_steps);
   kept = grind (arith, common_steps);
   trail = c.in_ok-turn.ensures.trail;
+  decisions = λ assumed was. c.in_ok-turn.ensures.decisions assumed (c.loop-place.invariant.decisions assumed was);
   stays = Extends-both _ _ _ c.loop-place.invariant.stays c.in_ok-turn.ensures.stays;
   conflict = some_of_either (IsConflict c.args.database.now.clauses c.turn.new.trail.values.items) (IsConflict c.args.database.now.clauses c.loop-place.trail.values.items)
       c.in_ok-turn.turn.conflict c.loop-place.conflict c.or-conflict.result c.or-conflict.ensures c.in_ok-turn.ensures.conflict c.loop-place.invariant.conflict

@@ -2,6 +2,7 @@ use Rattle.std.proofs.Common.{◌≡◌, ◌≤◌, ◌+◌, length}
 use Rattle.std.specs.Option.{IfSome}
 use Rattle.giputils_sat.specs.Values.{unset}
 use Rattle.giputils_sat.specs.Trails.{IsTrail, IsConflict, Extends}
+use Rattle.giputils_sat.specs.Trailed.{KeepsDecisions}
 use Rattle.giputils_sat.proofs.search.visit.Given as goal
 
 abbrev pub invariant-loop-place : goal.invariant-loop-place
@@ -14,5 +15,6 @@ invariant-loop-place g l = record {
   kept : l.kept ≤ l.place;
   trail : IsTrail l.database.clauses l.trail.values.items l.trail.steps.items;
   stays : Extends l.initial.trail.values.items l.trail.values.items;
+  decisions : KeepsDecisions l.initial.trail l.trail;
   conflict : IfSome l.conflict (IsConflict l.database.clauses l.trail.values.items);
 }

@@ -1,6 +1,6 @@
 use Rattle.std.proofs.Common.{◌∙◌, sym, arith, Some}
 use Rattle.std.proofs.lemmas.List.{length-set}
-use Rattle.giputils_sat.proofs.Levels.{AreTrue-pushed, AreOnce-pushed, decisions-pushed, full-pushed}
+use Rattle.giputils_sat.proofs.Levels.{AreValued-pushed, AreOnce-pushed, decisions-pushed, full-pushed}
 use Rattle.giputils_sat.proofs.Valued.{unset-assigned}
 use Rattle.giputils_sat.proofs.trail.Trail.assign.Goals as goal
 
@@ -21,7 +21,7 @@ invariant_of-self-2-clause-as_many g c =
 pub invariant_of-self-2-clause-valued : goal.invariant_of-self-2-clause-valued
 invariant_of-self-2-clause-valued g c =
     rw (c.in_ok-push.ensures.items, c.variable.ensures.value, c.is_positive.ensures)
-    (AreTrue-pushed c.args.self.now.values.items c.args.self.now.steps.items record { literal = c.args.l; reason = Some c.args.reason }
+    (AreValued-pushed c.args.self.now.values.items c.args.self.now.steps.items record { literal = c.args.l; reason = Some c.args.reason }
     c.requires.within c.requires.unset c.args.self.now.valued)
 
 pub invariant_of-self-2-clause-once : goal.invariant_of-self-2-clause-once

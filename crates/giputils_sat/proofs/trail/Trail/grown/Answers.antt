@@ -1,6 +1,6 @@
 use Rattle.std.proofs.Common.{◌≡◌, ◌++◌, ◌-◌, take, replicate, None, length}
 use Rattle.giputils_sat.specs.Trails.{Extends}
-use Rattle.giputils_sat.proofs.Levels.{AreTrue-longer, full-longer, take_all}
+use Rattle.giputils_sat.proofs.Levels.{AreValued-longer, full-longer, take_all}
 use Rattle.giputils_sat.proofs.Trailing.{Extends-resized, IsTrail-resized}
 use Rattle.giputils_sat.proofs.trail.Trail.grown.Goals as goal
 
@@ -18,7 +18,7 @@ returns-clause-trail g c = λ clauses was.
 pub invariant_of-result-clause-valued : goal.invariant_of-result-clause-valued
 invariant_of-result-clause-valued g c =
     rw (c.in_ok-resize.ensures.items, take_all c.args.self.values.items c.args.count c.requires.least)
-    (AreTrue-longer c.args.self.values.items (replicate (c.args.count - c.args.self.values.len) None) c.args.self.steps.items c.args.self.valued)
+    (AreValued-longer c.args.self.values.items (replicate (c.args.count - c.args.self.values.len) None) c.args.self.steps.items c.args.self.valued)
 
 pub invariant_of-result-clause-full : goal.invariant_of-result-clause-full
 invariant_of-result-clause-full g c =

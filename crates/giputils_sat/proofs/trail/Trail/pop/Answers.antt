@@ -1,9 +1,9 @@
 use Rattle.std.proofs.Common.{◌≡◌, ◌+◌, ◌<◌, ◌++◌, ◌∷◌, [], ◌∙◌, None, length, ap, sym, subst, arith}
 use Rattle.std.proofs.lemmas.Grind.{common_steps}
 use Rattle.std.proofs.lemmas.List.{length-set}
-use Rattle.giputils_sat.specs.Trails.{AreTrue, AreOnce, decisions}
+use Rattle.giputils_sat.specs.Trails.{AreValued, AreOnce, decisions}
 use Rattle.giputils_sat.specs.Values.{unset}
-use Rattle.giputils_sat.proofs.Levels.{AreTrue-popped, AreOnce-popped, decisions-pushed, full-popped, within-true}
+use Rattle.giputils_sat.proofs.Levels.{AreValued-popped, AreOnce-popped, decisions-pushed, full-popped, within-true}
 use Rattle.giputils_sat.proofs.Places.{stands_last}
 use Rattle.giputils_sat.proofs.trail.Trail.pop.Goals as goal
 
@@ -17,7 +17,7 @@ close-requires g c =
 
 pub index_mut-requires : goal.index_mut-requires
 index_mut-requires g c =
-    let are = subst (AreTrue c.args.self.now.values.items) c.in-Some.ensures.items c.args.self.now.valued in
+    let are = subst (AreValued c.args.self.now.values.items) c.in-Some.ensures.items c.args.self.now.valued in
     let at = are (length c.pop.new.self.items) c.in-Some.step (stands_last c.pop.new.self.items c.in-Some.step) in
     let within : c.in-Some.step.literal.variable < length c.args.self.now.values.items =
     within-true c.args.self.now.values.items c.in-Some.step.literal at
@@ -34,9 +34,9 @@ invariant_of-self-clause-as_many g c =
 pub invariant_of-self-clause-valued : goal.invariant_of-self-clause-valued
 invariant_of-self-clause-valued g c =
     rw c.variable.ensures.value
-    (AreTrue-popped c.args.self.now.values.items c.pop.new.self.items c.in-Some.step
+    (AreValued-popped c.args.self.now.values.items c.pop.new.self.items c.in-Some.step
     (subst AreOnce c.in-Some.ensures.items c.args.self.now.once)
-    (subst (AreTrue c.args.self.now.values.items) c.in-Some.ensures.items c.args.self.now.valued))
+    (subst (AreValued c.args.self.now.values.items) c.in-Some.ensures.items c.args.self.now.valued))
 
 pub invariant_of-self-clause-once : goal.invariant_of-self-clause-once
 invariant_of-self-clause-once g c =
@@ -55,5 +55,5 @@ pub invariant_of-self-clause-full : goal.invariant_of-self-clause-full
 invariant_of-self-clause-full g c =
     rw c.variable.ensures.value
     (full-popped c.args.self.now.values.items c.pop.new.self.items c.in-Some.step
-    (subst (AreTrue c.args.self.now.values.items) c.in-Some.ensures.items c.args.self.now.valued)
+    (subst (AreValued c.args.self.now.values.items) c.in-Some.ensures.items c.args.self.now.valued)
     (ap (λ n. unset c.args.self.now.values.items + length n) (sym c.in-Some.ensures.items) ∙ c.args.self.now.full))
