@@ -1,13 +1,17 @@
 -- What makes an answer right.
 use Rattle.std.proofs.Common.{◌≡◌, ℕ, List, [], ◌∷◌, map, get_or, Option, Some, None, Bool, true, false, unwrap_or, refl, sym, ap, subst, ◌∙◌, suc, zero, arith}
 use Rattle.std.proofs.Math.Path.{fun_ext}
-use Rattle.std.proofs.lemmas.Bool.{false≢true}
-use Rattle.giputils_sat.specs.Answers.{IsRight, IsRightTurn}
-use Rattle.giputils_sat.specs.declared.solver.Answer.{Answer}
-use Rattle.giputils_sat.specs.declared.solver.Answer.TheVariants.{Sat, Unsat, Unknown}
+use Rattle.std.specs.Prelude.{slice_get}
+use Rattle.std.proofs.lemmas.Bool.{false≢true, and_from, and_parts}
+use Rattle.giputils_sat.specs.Literals.{Lit}
+use Rattle.giputils_sat.specs.Under.{makes_true, IsCore, IsModelUnder, IsRightTurn, IsRightUnder}
+use Rattle.giputils_sat.specs.declared.solver.AnswerUnder.{AnswerUnder}
+use Rattle.giputils_sat.specs.declared.solver.AnswerUnder.TheVariants.{Sat, Unsat, Unknown}
 use Rattle.giputils_sat.specs.Stores.{Known}
-use Rattle.giputils_sat.specs.Formulas.{Formula, satisfies, Implies, IsSatisfiable}
-use Rattle.giputils_sat.specs.Values.{assignment_of, assignment_in}
+use Rattle.giputils_sat.specs.Formulas.{Assignment, Formula, Has, is_true, satisfies, Implies, IsSatisfiable}
+use Rattle.giputils_sat.specs.Values.{assignment_of, assignment_in, AreTrue}
+use Rattle.giputils_sat.proofs.Places.{none_some, same_some}
+use Rattle.giputils_sat.proofs.Valued.{is_true-valued}
 
 model_at : (values : List (Option Bool)) (v : ℕ)
     → get_or (map (λ o. unwrap_or o false) values) v false ≡ unwrap_or (get_or values v None) false
@@ -16,20 +20,59 @@ model_at (o ∷ values) zero = refl
 model_at (o ∷ values) (suc v) = model_at values v
 
 -- the model is the assignment that the values are
+equal-model : (values : List (Option Bool)) (model : List Bool) → model ≡ map (λ o. unwrap_or o false) values
+    → assignment_of values ≡ assignment_in model
+equal-model values model is = fun_ext (λ v. sym (ap (λ m. get_or m v false) is ∙ model_at values v))
+
 pub satisfied-model : (f g : Formula) (values : List (Option Bool)) (model : List Bool) → g ≡ f
     → model ≡ map (λ o. unwrap_or o false) values
     → satisfies (assignment_of values) g ≡ true → satisfies (assignment_in model) f ≡ true
 satisfied-model f g values model same is sat =
-    let equal : assignment_of values ≡ assignment_in model = fun_ext (λ v. sym (ap (λ m. get_or m v false) is ∙ model_at values v)) in
-    subst (λ h. satisfies (assignment_in model) h ≡ true) same (subst (λ a. satisfies a g ≡ true) equal sat)
+    subst (λ h. satisfies (assignment_in model) h ≡ true) same (subst (λ a. satisfies a g ≡ true) (equal-model values model is) sat)
 
 -- where the empty clause follows, nothing satisfies the formula
 pub unsatisfied : (f g : Formula) → g ≡ f → Implies g [] → IsSatisfiable f → ⊥
 unsatisfied f g same empty sat = false≢true (empty.follows sat.0 (subst (λ h. satisfies sat.0 h ≡ true) (sym same) sat.1))
 
 -- an answer of a turn is one whatever the limit is
-pub right_at_limit : {A : Type 0} (first old new : Known) (limit : ℕ) (answer : Answer A) → old.formula ≡ first.formula
-    → IsRightTurn old new (Some answer) → IsRight first new limit answer
-right_at_limit first old new limit (Sat model) same right = subst (λ f. satisfies (assignment_in model.items) f ≡ true) same (right limit)
-right_at_limit first old new limit Unsat same right = λ sat. right limit (subst IsSatisfiable (sym same) sat)
-right_at_limit first old new limit Unknown same right = absurd (omega (arith, right 0, right 1))
+pub right_at_limit : {A : Type 0} (assumed : List Lit) (first old new : Known) (limit : ℕ) (answer : AnswerUnder A)
+    → old.formula ≡ first.formula → IsRightTurn assumed old new (Some answer) → IsRightUnder assumed first new limit answer
+right_at_limit assumed first old new limit (Sat model) same right = subst (λ f. IsModelUnder f assumed model.items) same (right limit)
+right_at_limit assumed first old new limit (Unsat core) same right = subst (λ f. IsCore f assumed core.items) same (right limit)
+right_at_limit assumed first old new limit Unknown same right = absurd (omega (arith, right 0, right 1))
+
+-- literals each of which is true, all at once
+pub makes_true-each : (a : Assignment) (literals : List Lit) → ((l : Lit) → Has literals l → is_true a l ≡ true)
+    → makes_true a literals ≡ true
+makes_true-each a [] each = refl
+makes_true-each a (l ∷ literals) each =
+    and_from (is_true a l) (makes_true a literals) (each l (zero, refl)) (makes_true-each a literals (λ m has. each m (suc has.0, has.1)))
+
+pub makes_true-at : (a : Assignment) (literals : List Lit) (k : ℕ) (l : Lit) → makes_true a literals ≡ true
+    → slice_get literals k ≡ Some l
+    → is_true a l ≡ true
+makes_true-at a [] k l all at = none_some l at
+makes_true-at a (m ∷ literals) zero l all at =
+    subst (λ x. is_true a x ≡ true) (same_some m l at) (and_parts (is_true a m) (makes_true a literals) all).0
+makes_true-at a (m ∷ literals) (suc k) l all at =
+    makes_true-at a literals k l (and_parts (is_true a m) (makes_true a literals) all).1 at
+
+-- the model makes true what the values make true
+pub makes_true-model : (values : List (Option Bool)) (model : List Bool) (assumed : List Lit)
+    → model ≡ map (λ o. unwrap_or o false) values → AreTrue values assumed → makes_true (assignment_in model) assumed ≡ true
+makes_true-model values model assumed is are_true =
+    subst (λ a. makes_true a assumed ≡ true) (equal-model values model is)
+    (makes_true-each (assignment_of values) assumed (λ l has. is_true-valued values l (are_true l has)))
+
+-- where the empty clause follows, no literal is needed
+pub IsCore-empty : (f : Formula) (assumed core : List Lit) → core ≡ [] → Implies f [] → IsCore f assumed core
+IsCore-empty f assumed core none empty = record {
+  among = λ l has. none_some l (subst (λ ls. slice_get ls has.0 ≡ Some l) none has.1);
+  refuted = λ sat. false≢true (empty.follows sat.0 sat.1);
+}
+
+-- where nothing is assumed, a core says that nothing satisfies the formula
+pub unsatisfied-core : (f : Formula) (assumed core : List Lit) → assumed ≡ [] → IsCore f assumed core → IsSatisfiable f → ⊥
+unsatisfied-core f assumed core none is sat =
+    is.refuted
+    (sat.0, sat.1, makes_true-each sat.0 core (λ l has. let there = is.among l has in none_some l (subst (λ ls. slice_get ls there.0 ≡ Some l) none there.1)))

@@ -1,4 +1,5 @@
 mod Answering
+mod Assuming
 mod Copying
 mod Examples
 mod Following

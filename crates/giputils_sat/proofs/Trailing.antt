@@ -210,7 +210,7 @@ pub HasReason-unit : (clauses : List Clause) (values : List (Option Bool)) (step
     → HasReason clauses steps (length steps) l r
 HasReason-unit clauses values steps l r c is at others = (c, at, λ m has other. is.stand (negated m) (true_negation values m (others m has other)))
 
-negated_twice : (l : Lit) → negated (negated l) ≡ l
+pub negated_twice : (l : Lit) → negated (negated l) ≡ l
 negated_twice l = ap (λ p. record { variable = l.variable; positive = p }) (twice l.positive)
   where
     twice : (p : Bool) → not (not p) ≡ p

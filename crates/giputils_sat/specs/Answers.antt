@@ -1,5 +1,5 @@
 -- When an answer is right.
-use Rattle.std.specs.Prelude.{ℕ, IsTrue, Option, Some, None}
+use Rattle.std.specs.Prelude.{ℕ, IsTrue}
 use Rattle.giputils_sat.specs.declared.solver.Answer.{Answer}
 use Rattle.giputils_sat.specs.declared.solver.Answer.TheVariants.{Sat, Unsat, Unknown}
 use Rattle.giputils_sat.specs.Formulas.{satisfies, IsSatisfiable}
@@ -11,8 +11,3 @@ abbrev pub IsRight : {A : Type 0} → Known → Known → ℕ → Answer A → T
 IsRight old new limit (Sat model) = IsTrue (satisfies (assignment_in model.items) old.formula)
 IsRight old new limit Unsat = ¬ (IsSatisfiable old.formula)
 IsRight old new limit Unknown = HasMore limit old new
-
--- an answer is right whatever the limit is; where there is none, a clause was learned
-abbrev pub IsRightTurn : {A : Type 0} → Known → Known → Option (Answer A) → Type 0
-IsRightTurn old new (Some answer) = (limit : ℕ) → IsRight old new limit answer
-IsRightTurn old new None = HasMore 1 old new

@@ -9,3 +9,5 @@ pub mod Choices
 pub mod Answers
 pub mod Trails
 pub mod Trailed
+pub mod Under
+pub mod Obstacles

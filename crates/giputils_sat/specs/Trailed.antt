@@ -20,8 +20,8 @@ IsConflictOf clauses t place = IsConflict clauses t.values.items place
 abbrev pub MeetsConflict : {A : Type 0} → List Clause → Trail A → Option ℕ → Type 0
 MeetsConflict clauses t found = IfSome found (IsConflict clauses t.values.items)
 
--- where no place is found, the values satisfy the formula
-abbrev pub SatisfiesUnless : {A : Type 0} → Formula → Trail A → Option ℕ → Type 0
+-- where nothing is found, the values satisfy the formula
+abbrev pub SatisfiesUnless : {A X : Type 0} → Formula → Trail A → Option X → Type 0
 SatisfiesUnless formula t found = IfNone found (IsModelOf formula t.values.items)
 
 -- whatever clauses the old trail stood by, the new one stands by them

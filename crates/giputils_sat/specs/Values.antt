@@ -44,6 +44,10 @@ IsModelOf formula values = IsTrue (satisfies (assignment_of values) formula)
 abbrev pub HasNoTrue : List (Option Bool) → Clause → Type 0
 HasNoTrue values clause = (m : Lit) → Has clause m → value_of values m ≢ Some true
 
+-- the values make each of the literals true
+abbrev pub AreTrue : List (Option Bool) → List Lit → Type 0
+AreTrue values literals = (l : Lit) → Has literals l → value_of values l ≡ Some true
+
 -- each of the clause's variables has a value
 abbrev pub AreAllSet : List (Option Bool) → Clause → Type 0
 AreAllSet values clause = (m : Lit) → Has clause m → value_of values m ≢ None

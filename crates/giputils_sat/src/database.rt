@@ -111,6 +111,17 @@ impl<A: Allocator + Copy> Database<A> {
         Ok(())
     }
 
+    // Makes the count one that the literals' variables are below.
+    pub(crate) fn raise_count(&mut self, literals: &[Literal])
+        ensures formula { self.new.formula ≡ self.old.formula }
+        ensures clauses { self.new.clauses ≡ self.old.clauses }
+        ensures learned { self.new.learned ≡ self.old.learned }
+        ensures count { self.old.count ≤ self.new.count }
+        ensures below { AreBelow self.new.count literals.now }
+    {
+        self.count = count_with(literals, self.count);
+    }
+
     // The clauses that stay, and all that were given, in a store of their own.
     pub(crate) fn closed_up(&self, alloc: A, stays: &[bool]) -> Result<Self, AllocError>
         ensures formula { IfOk result (λ d. d.formula ≡ self.now.formula) }

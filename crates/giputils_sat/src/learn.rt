@@ -102,7 +102,7 @@ fn note_others<A: Allocator + Copy>(
 
 // Where a true literal's negation is marked, puts the literal's reason in the negation's place. How many marked literals
 // are of the last level, if there were so many.
-fn exchange<A: Allocator + Copy>(
+pub(crate) fn exchange<A: Allocator + Copy>(
     database: &Database<A>,
     trail: &Trail<A>,
     hints: &mut Hints<A>,

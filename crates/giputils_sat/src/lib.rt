@@ -2,6 +2,7 @@
 #![tactic(auto)]
 
 mod activity;
+mod assume;
 mod changes;
 mod clauses;
 mod compact;
@@ -19,4 +20,4 @@ mod watches;
 
 pub use hints::Stats;
 pub use literal::Literal;
-pub use solver::{Answer, Solver};
+pub use solver::{Answer, AnswerUnder, Solver};

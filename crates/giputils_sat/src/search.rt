@@ -1,12 +1,14 @@
 //! Propagation, decisions and what is learned of conflicts.
 ghost use Rattle.std.specs.Prelude.{◌≡◌, ◌<◌, ◌≤◌, None, length, IfOk, IfSome, IfNone, OnOk};
 ghost use Rattle.giputils_sat.specs.Choices.{FollowsChoice};
-ghost use Rattle.giputils_sat.specs.Formulas.{Has};
+ghost use Rattle.giputils_sat.specs.Formulas.{AreBelow, Has};
+ghost use Rattle.giputils_sat.specs.Obstacles.{MeetsObstacle};
 ghost use Rattle.giputils_sat.specs.Trailed.{KeepsDecisions, MeetsConflict, SatisfiesUnless, StandsBy, total};
 ghost use Rattle.giputils_sat.specs.Trails.{Extends};
-ghost use Rattle.giputils_sat.specs.Values.{AreAllSet, AreFalseBut, unset, value_of};
+ghost use Rattle.giputils_sat.specs.Values.{AreAllSet, AreFalseBut, AreTrue, unset, value_of};
 
 use crate::activity::Activity;
+use crate::assume::{Obstacle, assume};
 use crate::database::Database;
 use crate::hints::Hints;
 use crate::learn::attach_all;
@@ -256,32 +258,38 @@ fn choose<A: Allocator + Copy>(
     Ok(Choice::Decided)
 }
 
-// Decides and propagates until a clause has no literal that isn't false, whose place it is, or until the formula is
-// satisfied.
+// Decides literals that are assumed, and then others, and propagates, until something keeps it from a model, or until
+// the formula is satisfied.
 pub(crate) fn search<A: Allocator + Copy>(
     alloc: A,
     database: &Database<A>,
     trail: &mut Trail<A>,
     hints: &mut Hints<A>,
-) -> Result<Option<usize>, AllocError>
+    assumptions: &[Literal],
+) -> Result<Option<Obstacle>, AllocError>
     requires len { length trail.old.values.items ≡ database.now.count }
     requires trail { StandsBy database.now.clauses trail.old }
+    requires within { AreBelow database.now.count assumptions.now }
     ensures len { length trail.new.values.items ≡ length trail.old.values.items }
     ensures trail { OnOk result (StandsBy database.now.clauses trail.new) }
-    ensures conflict { IfOk result (MeetsConflict database.now.clauses trail.new) }
+    ensures obstacle { IfOk result (MeetsObstacle database.now.clauses assumptions.now trail.new) }
     ensures model { IfOk result (SatisfiesUnless database.now.formula trail.new) }
+    ensures assumed { IfOk result (λ found. IfNone found (AreTrue trail.new.values.items assumptions.now)) }
 {
     if let Some(conflict) = attach_all(database, trail, &mut hints.watches)? {
-        return Ok(Some(conflict));
+        return Ok(Some(Obstacle::Conflict(conflict)));
+    }
+    if let Some(obstacle) = assume(alloc, database, trail, hints, assumptions)? {
+        return Ok(Some(obstacle));
     }
     loop {
         if let Some(conflict) = propagate(alloc, database, trail, hints)? {
-            return Ok(Some(conflict));
+            return Ok(Some(Obstacle::Conflict(conflict)));
         }
         match choose(database, trail, hints)? {
             Choice::Decided => {}
             Choice::Model => return Ok(None),
-            Choice::Conflict(place) => return Ok(Some(place)),
+            Choice::Conflict(place) => return Ok(Some(Obstacle::Conflict(place))),
         }
     }
 }

@@ -1,11 +1,13 @@
 //! The solver.
 ghost use Rattle.std.specs.Prelude.{◌≡◌, ◌++◌, ◌∷◌, ◌<◌, [], Some, length, slice_get, IfOk, OnOk, OnErr};
-ghost use Rattle.giputils_sat.specs.Answers.{IsRight, IsRightTurn};
-ghost use Rattle.giputils_sat.specs.Formulas.{Implies};
+ghost use Rattle.giputils_sat.specs.Answers.{IsRight};
+ghost use Rattle.giputils_sat.specs.Formulas.{AreBelow, Implies};
 ghost use Rattle.giputils_sat.specs.Stores.{AddsLearned, AddsUnits, AreAmong, KeepsKnown};
 ghost use Rattle.giputils_sat.specs.Trailed.{IsReady, StandsOn};
+ghost use Rattle.giputils_sat.specs.Under.{IsRightTurn, IsRightUnder};
 ghost use Rattle.giputils_sat.specs.Values.{model_in};
 
+use crate::assume::{Obstacle, core_of};
 use crate::compact::{compact, is_forgotten, learn_units};
 use crate::database::Database;
 use crate::hints::{Hints, Stats};
@@ -26,6 +28,19 @@ pub enum Answer<A: Allocator = Global> {
     Sat(Vec<bool, A>),
     /// No assignment satisfies the formula.
     Unsat,
+    /// As many conflicts were met as were allowed.
+    Unknown,
+}
+
+/// What is found out about a formula under assumptions.
+#[derive(Drop)]
+pub enum AnswerUnder<A: Allocator = Global> {
+    /// A value for each variable, by which the formula is satisfied and each assumption is true; a variable past the end
+    /// is false.
+    Sat(Vec<bool, A>),
+    /// Some of the assumptions: no assignment satisfies the formula and makes all of them true. Where it is empty, none
+    /// satisfies the formula.
+    Unsat(Vec<Literal, A>),
     /// As many conflicts were met as were allowed.
     Unknown,
 }
@@ -127,7 +142,33 @@ impl<A: Allocator + Copy> Solver<A> {
         ensures kept { KeepsKnown self.old self.new }
         ensures adds { AddsLearned self.old self.new }
     {
+        Ok(match self.solve_under(&[], limit)? {
+            AnswerUnder::Sat(model) => Answer::Sat(model),
+            AnswerUnder::Unsat(_) => Answer::Unsat,
+            AnswerUnder::Unknown => Answer::Unknown,
+        })
+    }
+
+    /// Finds out whether anything satisfies the formula and makes each assumption true, and gives up after `limit`
+    /// conflicts, of each of which a clause was learned then.
+    ///
+    /// The assumptions hold for this call alone: what is learned follows from the formula. They may repeat or contradict
+    /// each other, and may name variables that no clause has; memory is taken for each number up to the greatest then.
+    ///
+    /// # Errors
+    /// `AllocError` where memory is refused. The formula stays as it was; some clauses may have been learned.
+    pub fn solve_under(
+        &mut self,
+        assumptions: &[Literal],
+        limit: usize,
+    ) -> Result<AnswerUnder<A>, AllocError>
+        ensures right { IfOk result (IsRightUnder assumptions.now self.old self.new limit) }
+        ensures formula { self.new.formula ≡ self.old.formula }
+        ensures kept { KeepsKnown self.old self.new }
+        ensures adds { AddsLearned self.old self.new }
+    {
         let alloc = self.alloc;
+        self.database.raise_count(assumptions);
         let count = self.database.count();
         let mut marks = Marks::new(alloc, count)?;
         // Where memory is refused, the search begins anew at the next call.
@@ -143,6 +184,7 @@ impl<A: Allocator + Copy> Solver<A> {
             &mut trail,
             &mut hints,
             &mut marks,
+            assumptions,
             limit,
         )?;
         self.trail = trail;
@@ -239,19 +281,29 @@ fn turn<A: Allocator + Copy>(
     trail: &mut Trail<A>,
     hints: &mut Hints<A>,
     marks: &mut Marks<A>,
-) -> Result<Option<Answer<A>>, AllocError>
+    assumptions: &[Literal],
+) -> Result<Option<AnswerUnder<A>>, AllocError>
     requires ready { IsReady database.old trail.old marks.old }
+    requires within { AreBelow database.old.count assumptions.now }
     ensures ready { OnOk result (IsReady database.new trail.new marks.new) }
-    ensures right { IfOk result (IsRightTurn database.old database.new) }
+    ensures right { IfOk result (IsRightTurn assumptions.now database.old database.new) }
+    ensures count { database.new.count ≡ database.old.count }
     ensures formula { database.new.formula ≡ database.old.formula }
     ensures kept { KeepsKnown database.old database.new }
     ensures adds { AddsLearned database.old database.new }
 {
-    let Some(conflict) = search(alloc, database, trail, hints)? else {
-        return Ok(Some(Answer::Sat(model_of(alloc, trail)?)));
+    let Some(obstacle) = search(alloc, database, trail, hints, assumptions)? else {
+        return Ok(Some(AnswerUnder::Sat(model_of(alloc, trail)?)));
+    };
+    let conflict = match obstacle {
+        Obstacle::Conflict(place) => place,
+        Obstacle::Refuted(l) => {
+            let core = core_of(alloc, database, trail, hints, marks, l)?;
+            return Ok(Some(AnswerUnder::Unsat(core)));
+        }
     };
     if learn(alloc, database, trail, hints, marks, conflict)? {
-        return Ok(Some(Answer::Unsat));
+        return Ok(Some(AnswerUnder::Unsat(Vec::new(alloc))));
     }
     restart(alloc, database, trail, hints)?;
     Ok(None)
@@ -265,19 +317,21 @@ fn run<A: Allocator + Copy>(
     trail: &mut Trail<A>,
     hints: &mut Hints<A>,
     marks: &mut Marks<A>,
+    assumptions: &[Literal],
     limit: usize,
-) -> Result<Answer<A>, AllocError>
+) -> Result<AnswerUnder<A>, AllocError>
     requires ready { IsReady database.old trail.old marks.old }
+    requires within { AreBelow database.old.count assumptions.now }
     ensures ready { OnOk result (IsReady database.new trail.new marks.new) }
-    ensures right { IfOk result (IsRight database.old database.new limit) }
+    ensures right { IfOk result (IsRightUnder assumptions.now database.old database.new limit) }
     ensures formula { database.new.formula ≡ database.old.formula }
     ensures kept { KeepsKnown database.old database.new }
     ensures adds { AddsLearned database.old database.new }
 {
     for _ in 0..limit {
-        if let Some(answer) = turn(alloc, database, trail, hints, marks)? {
+        if let Some(answer) = turn(alloc, database, trail, hints, marks, assumptions)? {
             return Ok(answer);
         }
     }
-    Ok(Answer::Unknown)
+    Ok(AnswerUnder::Unknown)
 }

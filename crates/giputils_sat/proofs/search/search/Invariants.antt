@@ -1,12 +1,14 @@
 use Rattle.std.proofs.Common.{◌≡◌, length}
 use Rattle.giputils_sat.specs.Values.{unset}
 use Rattle.giputils_sat.specs.Trails.{IsTrail}
+use Rattle.giputils_sat.specs.Values.{AreTrue}
 use Rattle.giputils_sat.proofs.search.search.Given as goal
 
 abbrev pub invariant-loop-conflict : goal.invariant-loop-conflict
 invariant-loop-conflict g l = record {
   len : length l.trail.values.items ≡ length l.initial.trail.values.items;
   trail : IsTrail l.database.clauses l.trail.values.items l.trail.steps.items;
+  assumed : AreTrue l.trail.values.items l.assumptions;
 }
 
 abbrev pub decreases-loop-conflict : goal.decreases-loop-conflict

@@ -6,6 +6,7 @@ use Rattle.giputils_sat.proofs.solver.run.Given as goal
 abbrev pub invariant-loop : goal.invariant-loop
 invariant-loop g l = record {
   ready : IsReady l.database l.trail l.marks;
+  count : l.database.count ≡ l.fn.database.count;
   formula : l.database.formula ≡ l.fn.database.formula;
   more : HasMore l.counter l.fn.database l.database;
   kept : KeepsKnown l.fn.database l.database;

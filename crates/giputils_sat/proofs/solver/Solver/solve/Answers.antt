@@ -1,21 +1,17 @@
-use Rattle.std.proofs.Common.{subst, sym, ◌≡◌, length, ap, arith}
-use Rattle.giputils_sat.specs.Trailed.{StandsBy}
+use Rattle.std.proofs.Common.{[], refl, subst}
+use Rattle.giputils_sat.specs.Under.{IsRightUnder}
+use Rattle.giputils_sat.proofs.Answering.{unsatisfied-core}
 use Rattle.giputils_sat.proofs.solver.Solver.solve.Goals as goal
+use Rattle.giputils_sat.proofs.solver.Solver.solve.Goals.{in-Sat, in-Unsat, in-Unknown}
 
-pub run-requires : goal.run-requires
-run-requires g c =
-    let clauses = c.self.inside.database.clauses in
-    let rewound : length c.rewind.new.self.values.items ≡ length c.backtrack.new.self.values.items =
-    ap (λ v. length v.items) c.rewind.ensures.values
-    in
-    let taken : StandsBy c.self.inside.database.clauses c.replace-trail.result =
-    subst (StandsBy c.self.inside.database.clauses) (sym c.replace-trail.ensures.value) c.self.invariant.trail
-    in
-    record {
-      ready = record {
-        len = omega (arith, rewound, c.backtrack.ensures.len, c.in_ok-trail.ensures.len, c.count-count.ensures.value);
-        trail = c.rewind.ensures.trail clauses (c.backtrack.ensures.trail clauses (c.in_ok-trail.ensures.trail clauses taken));
-        room = omega (arith, c.in_ok-marks.ensures.len, c.count-count.ensures.value);
-        clear = c.in_ok-marks.ensures.clear;
-      };
-    }
+pub returns-clause-right : goal.returns-clause-right
+returns-clause-right g c =
+    let old = c.args.self.now in
+    let new = c.solve_under.new.self in
+    elim c.match-branch-2.branch [
+      | in-Sat w ↦ rw w.result-is (subst (IsRightUnder [] old new c.args.limit) w.in-Sat.is c.in_ok-model.ensures.right).0
+      | in-Unsat w ↦
+          rw w.result-is
+          (unsatisfied-core old.formula [] w.in-Unsat.field-0.items refl (subst (IsRightUnder [] old new c.args.limit) w.in-Unsat.is c.in_ok-model.ensures.right))
+      | in-Unknown w ↦ rw w.result-is (subst (IsRightUnder [] old new c.args.limit) w.in-Unknown.is c.in_ok-model.ensures.right)
+    ]

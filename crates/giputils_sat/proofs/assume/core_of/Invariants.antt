@@ -1,0 +1,14 @@
+use Rattle.std.proofs.Common.{◌≡◌, length}
+use Rattle.giputils_sat.specs.Literals.{Lit}
+use Rattle.std.specs.Prelude.{List}
+use Rattle.giputils_sat.specs.Marked.{ImpliesMarked}
+use Rattle.giputils_sat.specs.Obstacles.{IsRefuted}
+use Rattle.giputils_sat.specs.Trails.{AreUndone}
+use Rattle.giputils_sat.proofs.assume.core_of.Given as goal
+
+abbrev pub invariant-loop-place : goal.invariant-loop-place
+invariant-loop-place g l = record {
+  len : length l.marks ≡ length l.initial.marks;
+  follows : ImpliesMarked l.database.formula l.marks;
+  undone : (assumed : List Lit) → IsRefuted assumed l.trail l.fn.refuted → AreUndone assumed l.trail.steps.items l.marks l.place;
+}
