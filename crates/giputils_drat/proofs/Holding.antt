@@ -4,7 +4,7 @@ use Rattle.std.specs.Bool.{OnTrue}
 use Rattle.std.proofs.lemmas.Bool.{false≢true}
 use Rattle.giputils_sat.specs.Literals.{Lit}
 use Rattle.giputils_sat.specs.Formulas.{Clause, Formula, Implies}
-use Rattle.giputils_drat.specs.Forcing.{Forces, AreForced, AreImplied}
+use Rattle.giputils_drat.specs.Forcing.{AreForced, AreImplied}
 use Rattle.giputils_drat.specs.Trails.{Stand, IsForced}
 use Rattle.giputils_drat.specs.Held.{Held, Follow}
 use Rattle.giputils_dimacs.specs.Dimacs.Texts.{Problem, problem_of}

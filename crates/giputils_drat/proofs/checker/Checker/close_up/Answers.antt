@@ -1,7 +1,7 @@
 -- What was held is held anew.
 use Rattle.std.proofs.Common.{◌∙◌, sym, subst}
 use Rattle.giputils_drat.specs.Forcing.{AreImplied}
-use Rattle.giputils_drat.proofs.Places.{none_some}
+use Rattle.giputils_sat.proofs.Places.{none_some}
 use Rattle.giputils_drat.proofs.Holding.{parts_of, follow_of}
 use Rattle.giputils_drat.proofs.checker.Checker.close_up.Goals as goal
 
