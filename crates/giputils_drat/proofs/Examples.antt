@@ -5,7 +5,7 @@ use Rattle.giputils_sat.specs.Literals.{Lit}
 use Rattle.giputils_sat.specs.Formulas.{Formula, is_true, satisfies}
 use Rattle.giputils_drat.specs.Forcing.{Forces}
 use Rattle.giputils_drat.specs.Held.{Follow}
-use Rattle.giputils_drat.proofs.Places.{none_some}
+use Rattle.giputils_sat.proofs.Places.{none_some}
 use Rattle.giputils_drat.specs.Outcomes.{IsRight, outcome_text}
 use Rattle.giputils_drat.specs.declared.error.Flaw.TheVariants.{NotShown}
 use Rattle.giputils_drat.specs.declared.error.Outcome.TheVariants.{Verified, Refused}

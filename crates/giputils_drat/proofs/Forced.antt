@@ -1,6 +1,5 @@
 -- What is forced while a clause is tried.
-use Rattle.std.proofs.Common.{◌≡◌, ◌≢◌, ℕ, ◌≤◌, List, [], ◌∷◌, ◌++◌, length, take, take_all, set, Some, refl, sym, ap, subst, ◌∙◌, arith, ⊎_elim, Bool, true, false}
-use Rattle.std.specs.Prelude.{slice_get}
+use Rattle.std.proofs.Common.{◌≡◌, ◌≢◌, ℕ, ◌≤◌, List, [], ◌∷◌, ◌++◌, length, take_all, set, Some, refl, sym, ap, subst, ◌∙◌, arith, ⊎_elim, Bool, true, false}
 use Rattle.std.proofs.lemmas.List.{take-append-le, length_push}
 use Rattle.std.proofs.lemmas.Bool.{false≢true, cases_Bool}
 use Rattle.giputils_sat.specs.Literals.{Lit, code, negated}
@@ -8,9 +7,8 @@ use Rattle.giputils_sat.specs.Formulas.{Clause, Formula, Has, Implies, IsSatisfi
 use Rattle.giputils_sat.specs.Marked.{is_marked}
 use Rattle.giputils_drat.specs.Forcing.{Forces, AreForced, AreImplied}
 use Rattle.giputils_drat.specs.Trails.{Stand, IsForced, AreFalse, AreFalseBut}
-use Rattle.giputils_drat.specs.Held.{Held, Follow}
-use Rattle.giputils_drat.proofs.Places.{before_or_last, stays_before, stands_last, each_push}
-use Rattle.giputils_drat.proofs.Literals.{cases_literal, marked-set_other, unmark, true_literal, negation_true, not_both}
+use Rattle.giputils_sat.proofs.Places.{before_or_last, stays_before, stands_last, each_push}
+use Rattle.giputils_sat.proofs.Literals.{cases_literal, marked-set_other, unmark, true_literal, negation_true, not_both}
 
 -- the negation of each literal of the clause that is tried is forced
 pub Forces-tried : (f : Formula) (c : Clause) (l : Lit) → Has c l → Forces f c (negated l)

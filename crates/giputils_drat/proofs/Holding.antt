@@ -1,12 +1,15 @@
 -- What a checker holds, and outcomes that say whether.
-use Rattle.std.proofs.Common.{◌≡◌, ℕ, List, [], ◌∷◌, length, Bool, true, false, sym, subst, Option, Some, None, IfSome}
+use Rattle.std.proofs.Common.{◌≡◌, ℕ, List, [], ◌∷◌, length, Bool, true, false, sym, subst, Option, Some, None, IfSome, ◌++◌, ◌⊎◌, ⊎_elim}
 use Rattle.std.specs.Bool.{OnTrue}
 use Rattle.std.proofs.lemmas.Bool.{false≢true}
 use Rattle.giputils_sat.specs.Literals.{Lit}
 use Rattle.giputils_sat.specs.Formulas.{Clause, Formula, Implies}
-use Rattle.giputils_drat.specs.Forcing.{Forces, AreForced, AreImplied}
+use Rattle.giputils_sat.specs.Stores.{AreAmong, IsAmong}
+use Rattle.giputils_sat.proofs.Places.{each_push, stands_last, stays_before}
+use Rattle.std.specs.Prelude.{slice_get}
+use Rattle.giputils_drat.specs.Forcing.{AreForced, AreImplied}
 use Rattle.giputils_drat.specs.Trails.{Stand, IsForced}
-use Rattle.giputils_drat.specs.Held.{Held, Follow}
+use Rattle.giputils_drat.specs.Held.{Held, Follow, HoldsNoOther}
 use Rattle.giputils_dimacs.specs.Dimacs.Texts.{Problem, problem_of}
 use Rattle.giputils_drat.proofs.Forced.{IsForced-held}
 
@@ -64,3 +67,21 @@ pub of_problem : (text : Option (List ℕ)) (problem : Problem) (P : Problem →
     → IfSome text (λ text. problem_of text ≡ Some problem) → P problem → IfSome text (λ text. IfSome (problem_of text) P)
 of_problem None problem P e h = tt
 of_problem (Some text) problem P e h = subst (λ found. IfSome found P) (sym e) h
+
+-- the clauses are those of before
+pub no_other-same : (old new : Held) → new ≡ old → HoldsNoOther old new
+no_other-same old new same k c at = (k, subst (λ (held : Held). slice_get held.clauses k ≡ Some c) same at)
+
+pub no_other-after : (old now new : Held) → now ≡ old → HoldsNoOther now new → HoldsNoOther old new
+no_other-after old now new same none = subst (λ held. HoldsNoOther held new) same none
+
+-- the clauses without the last one, and that one
+pub AreAmong-pop : (all cs : List Clause) (c : Clause) → AreAmong all (cs ++ c ∷ []) → AreAmong all cs × IsAmong all c
+AreAmong-pop all cs c among = ((λ k d at. among k d (stays_before cs (c ∷ []) k d at)), among (length cs) c (stands_last cs c))
+
+-- a clause more that is one of them
+pub AreAmong-held : (all : List Clause) (c : Clause) (old new : List Clause) → AreAmong all old → IsAmong all c
+    → (new ≡ old) ⊎ (new ≡ old ++ c ∷ []) → AreAmong all new
+AreAmong-held all c old new among has at_most =
+    ⊎_elim (λ same. subst (AreAmong all) (sym same) among)
+    (λ more. subst (AreAmong all) (sym more) (each_push (IsAmong all) old c among has)) at_most

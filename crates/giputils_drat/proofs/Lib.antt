@@ -1,6 +1,4 @@
 mod Examples
-mod Places
-mod Literals
 mod Forced
 mod Holding
 mod Failing

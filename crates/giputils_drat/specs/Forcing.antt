@@ -1,5 +1,5 @@
 -- What follows from a formula, and what follows while a clause is tried.
-use Rattle.std.specs.Prelude.{◌≡◌, ℕ, Bool, true, false, List, slice_get, Some, IsTrue}
+use Rattle.std.specs.Prelude.{◌≡◌, ℕ, true, false, List, slice_get, Some, IsTrue}
 use Rattle.giputils_sat.specs.Literals.{Lit}
 use Rattle.giputils_sat.specs.Formulas.{Assignment, Clause, Formula, Has, Implies, is_true, satisfies, satisfies_clause}
 

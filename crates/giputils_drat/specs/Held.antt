@@ -1,7 +1,8 @@
 -- What a checker holds.
-use Rattle.std.specs.Prelude.{◌≡◌, Bool, true, List, []}
+use Rattle.std.specs.Prelude.{◌≡◌, ◌⊎◌, ◌++◌, ◌∷◌, Bool, true, false, List, []}
 use Rattle.giputils_sat.specs.Literals.{Lit}
 use Rattle.giputils_sat.specs.Formulas.{Clause, Formula, Implies, IsSatisfiable}
+use Rattle.giputils_sat.specs.Stores.{AreAmong}
 use Rattle.giputils_drat.specs.Forcing.{AreForced, AreImplied}
 
 -- some clauses, the literals that are true by them alone, and whether the empty clause was shown
@@ -9,6 +10,10 @@ pub record Held : Type 0 where
   pub clauses : List Clause
   pub units : List Lit
   pub refuted : Bool
+
+-- nothing is held
+abbrev pub nothing_held : Held
+nothing_held = record { clauses = []; units = []; refuted = false }
 
 -- all that is held follows from the formula
 pub record Follow (formula : Formula) (held : Held) : Type 0 where
@@ -31,3 +36,19 @@ StaysWith clause old new = (f : Formula) → Follow f old → Implies f clause �
 -- nothing satisfies a formula from which all that is held follows
 abbrev pub Refutes : Held → Type 0
 Refutes held = (f : Formula) → Follow f held → ¬ (IsSatisfiable f)
+
+-- the clause is held beside those of before
+abbrev pub HoldsAlso : Clause → Held → Held → Type 0
+HoldsAlso clause old new = new.clauses ≡ old.clauses ++ clause ∷ []
+
+-- the clauses are those of before, or the clause is held beside them
+abbrev pub HoldsAtMost : Clause → Held → Held → Type 0
+HoldsAtMost clause old new = (new.clauses ≡ old.clauses) ⊎ HoldsAlso clause old new
+
+-- each clause that is held was held before
+abbrev pub HoldsNoOther : Held → Held → Type 0
+HoldsNoOther old new = AreAmong old.clauses new.clauses
+
+-- once the empty clause was shown, it stays so
+abbrev pub StaysRefuted : Held → Held → Type 0
+StaysRefuted old new = old.refuted ≡ true → new.refuted ≡ true

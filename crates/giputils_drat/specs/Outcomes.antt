@@ -1,5 +1,5 @@
 -- The texts of outcomes and of errors.
-use Rattle.std.specs.Prelude.{◌≡◌, ℕ, List, ◌++◌, codes, decimal, Option, ⊤}
+use Rattle.std.specs.Prelude.{ℕ, List, ◌++◌, codes, decimal, Option, ⊤}
 use Rattle.std.specs.Io.KnownBytes.{Appends}
 use Rattle.giputils_sat.specs.Formulas.{Formula, IsSatisfiable}
 use Rattle.giputils_dimacs.specs.Dimacs.Errors as dimacs

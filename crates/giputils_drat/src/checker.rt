@@ -1,8 +1,10 @@
 //! The checker.
-ghost use Rattle.std.specs.Prelude.{◌≡◌, IfOk, [], true};
-ghost use Rattle.std.specs.Bool.{OnTrue};
+ghost use Rattle.std.specs.Prelude.{◌≡◌, IfOk, List, OnOk, [], true};
+ghost use Rattle.std.specs.Bool.{OnFalse, OnTrue};
 ghost use Rattle.giputils_sat.specs.Formulas.{Clause, Formula, Implies};
+ghost use Rattle.giputils_sat.specs.Stores.{AreAmong};
 ghost use Rattle.giputils_drat.specs.Held.{Entails, Follow, Held, Refutes, Stays, StaysWith};
+ghost use Rattle.giputils_drat.specs.Held.{HoldsAlso, HoldsAtMost, HoldsNoOther, StaysRefuted, nothing_held};
 ghost use Rattle.giputils_drat.specs.Trails.{IsTrail};
 ghost use Rattle.giputils_drat.specs.Forcing.{AreImplied};
 
@@ -18,7 +20,8 @@ use std::mem;
 /// Clauses that follow from a formula, to which others are added only where unit propagation shows that they follow.
 ///
 /// It is seen as what it holds: its clauses, the literals that are true by them alone, and whether the empty clause was
-/// shown. It does not know the formula: what is said of it holds of each formula from which all that it holds follows.
+/// shown. A clause that was deleted is no longer used, and is among these until its memory is given back. A checker does
+/// not know the formula: what is said of it holds of each formula from which all that it holds follows.
 #[derive(Drop)]
 pub struct Checker<A: Allocator = Global> {
     alloc: A,
@@ -47,7 +50,8 @@ impl<A: Allocator + Copy> Checker<A> {
     /// # Errors
     /// `AllocError` where memory is refused.
     pub fn new(alloc: A, variables: u32) -> Result<Self, AllocError>
-        ensures { IfOk result (λ c. (f : Formula) → Follow f c) }
+        ensures value { IfOk result (λ c. c ≡ nothing_held) }
+        ensures follow { IfOk result (λ c. (f : Formula) → Follow f c) }
     {
         Ok(Checker {
             alloc,
@@ -70,9 +74,12 @@ impl<A: Allocator + Copy> Checker<A> {
     /// Holds a clause without a look at whether it follows.
     ///
     /// # Errors
-    /// `AllocError` where memory is refused.
+    /// `AllocError` where memory is refused. The clause may be held then.
     pub fn give(&mut self, clause: &[Literal]) -> Result<(), AllocError>
-        ensures { StaysWith clause.now self.old self.new }
+        ensures stays { StaysWith clause.now self.old self.new }
+        ensures held { OnOk result (HoldsAlso clause.now self.old self.new) }
+        ensures at_most { HoldsAtMost clause.now self.old self.new }
+        ensures refuted { StaysRefuted self.old self.new }
     {
         let mut copy = Vec::new(self.alloc);
         copy.extend_from_slice(clause)?;
@@ -82,10 +89,14 @@ impl<A: Allocator + Copy> Checker<A> {
     /// Holds a clause, if unit propagation shows that it follows, and answers whether it does.
     ///
     /// # Errors
-    /// `AllocError` where memory is refused.
+    /// `AllocError` where memory is refused. The clause may be held then.
     pub fn add(&mut self, clause: &[Literal]) -> Result<bool, AllocError>
         ensures stays { Stays self.old self.new }
         ensures entails { IfOk result (λ shown. OnTrue shown (Entails self.old clause.now)) }
+        ensures held { IfOk result (λ shown. OnTrue shown (HoldsAlso clause.now self.old self.new)) }
+        ensures refused { IfOk result (λ shown. OnFalse shown (self.new.clauses ≡ self.old.clauses)) }
+        ensures at_most { HoldsAtMost clause.now self.old self.new }
+        ensures refuted { StaysRefuted self.old self.new }
     {
         if !self.shows(clause)? {
             return Ok(false);
@@ -100,7 +111,10 @@ impl<A: Allocator + Copy> Checker<A> {
     /// # Errors
     /// `AllocError` where memory is refused. Some clauses may have been deleted then.
     pub fn delete(&mut self, clause: &[Literal]) -> Result<bool, AllocError>
-        ensures { Stays self.old self.new }
+        ensures stays { Stays self.old self.new }
+        ensures no_other { HoldsNoOther self.old self.new }
+        ensures missing { IfOk result (λ found. OnFalse found (self.new ≡ self.old)) }
+        ensures refuted { StaysRefuted self.old self.new }
     {
         let Some(place) = self.index.find(&self.clauses, clause) else {
             return Ok(false);
@@ -116,6 +130,8 @@ impl<A: Allocator + Copy> Checker<A> {
     fn shows(&mut self, clause: &[Literal]) -> Result<bool, AllocError>
         ensures stays { Stays self.old self.new }
         ensures entails { IfOk result (λ shown. OnTrue shown (Entails self.old clause.now)) }
+        ensures clauses { self.new.clauses ≡ self.old.clauses }
+        ensures refuted { self.new.refuted ≡ self.old.refuted }
     {
         if self.refuted {
             return Ok(true);
@@ -133,7 +149,10 @@ impl<A: Allocator + Copy> Checker<A> {
 
     // Holds a clause.
     fn keep(&mut self, clause: Vec<Literal, A>) -> Result<(), AllocError>
-        ensures { StaysWith clause.items self.old self.new }
+        ensures stays { StaysWith clause.items self.old self.new }
+        ensures held { OnOk result (HoldsAlso clause.items self.old self.new) }
+        ensures at_most { HoldsAtMost clause.items self.old self.new }
+        ensures refuted { StaysRefuted self.old self.new }
     {
         let place = self.clauses.len();
         self.index.push(&clause)?;
@@ -156,7 +175,9 @@ impl<A: Allocator + Copy> Checker<A> {
 
     // Lets the clauses go that were deleted.
     fn close_up(&mut self) -> Result<(), AllocError>
-        ensures { Stays self.old self.new }
+        ensures stays { Stays self.old self.new }
+        ensures no_other { HoldsNoOther self.old self.new }
+        ensures refuted { StaysRefuted self.old self.new }
     {
         let index = Index::new(self.alloc, self.variables)?;
         let index = mem::replace(&mut self.index, index);
@@ -166,7 +187,10 @@ impl<A: Allocator + Copy> Checker<A> {
 
     // Holds those of the clauses that were not deleted.
     fn keep_alive(&mut self, mut clauses: Clauses<A>, index: &Index<A>) -> Result<(), AllocError>
-        ensures { (f : Formula) → Follow f self.old → AreImplied f clauses → Follow f self.new }
+        ensures stays { (f : Formula) → Follow f self.old → AreImplied f clauses → Follow f self.new }
+        ensures no_other { (all : List Clause) → AreAmong all clauses → AreAmong all self.old.clauses →
+            AreAmong all self.new.clauses }
+        ensures refuted { StaysRefuted self.old self.new }
     {
         while let Some(clause) = clauses.pop() {
             let is_dead = index.is_dead(clauses.len());
@@ -177,7 +201,9 @@ impl<A: Allocator + Copy> Checker<A> {
 
     // Holds a clause, if it was not deleted.
     fn keep_unless(&mut self, is_dead: bool, clause: Vec<Literal, A>) -> Result<(), AllocError>
-        ensures { StaysWith clause.items self.old self.new }
+        ensures stays { StaysWith clause.items self.old self.new }
+        ensures at_most { HoldsAtMost clause.items self.old self.new }
+        ensures refuted { StaysRefuted self.old self.new }
     {
         if is_dead {
             return Ok(());

@@ -8,8 +8,6 @@ mod index;
 mod propagation;
 mod script;
 pub mod task;
-#[cfg(test)]
-mod tests;
 mod trail;
 
 pub use checker::Checker;

@@ -10,8 +10,8 @@ invariant_of-self-in_err-conflict g c =
     let attached = c.attach-conflict.ensures.stays nothing [] (Implies-nothing c.push-2.new.self) (settled_trail _ _ _ c.self.invariant) in
     ((c.settle.ensures.trail nothing attached).stand, c.settle.ensures.root)
 
-pub returns-in_err-conflict : goal.returns-in_err-conflict
-returns-in_err-conflict g c = λ f follow implied.
+pub returns-in_err-conflict-clause-stays : goal.returns-in_err-conflict-clause-stays
+returns-in_err-conflict-clause-stays g c = λ f follow implied.
     let parts = parts_of f _ _ _ _ _ _ c.self.view_is c.self.invariant follow in
     let all : AreImplied f c.push-2.new.self = rw c.in_ok-push-2.ensures.ok (AreImplied-push f c.self.inside.clauses c.args.clause.items parts.implied implied) in
     follow_of f _ _ _ _ _ all (c.settle.ensures.trail f (c.attach-conflict.ensures.stays f [] all parts.forced)) parts.shown
@@ -21,8 +21,8 @@ invariant_of-self-then-not-conflict g c =
     let attached = c.attach-conflict.ensures.stays nothing [] (Implies-nothing c.push-2.new.self) (settled_trail _ _ _ c.self.invariant) in
     ((c.settle.ensures.trail nothing attached).stand, c.settle.ensures.root)
 
-pub returns-then-not-conflict : goal.returns-then-not-conflict
-returns-then-not-conflict g c = λ f follow implied.
+pub returns-then-not-conflict-clause-stays : goal.returns-then-not-conflict-clause-stays
+returns-then-not-conflict-clause-stays g c = λ f follow implied.
     let parts = parts_of f _ _ _ _ _ _ c.self.view_is c.self.invariant follow in
     let all : AreImplied f c.push-2.new.self = rw c.in_ok-push-2.ensures.ok (AreImplied-push f c.self.inside.clauses c.args.clause.items parts.implied implied) in
     follow_of f _ _ _ _ _ all (c.settle.ensures.trail f (c.attach-conflict.ensures.stays f [] all parts.forced)) parts.shown
@@ -32,8 +32,8 @@ invariant_of-self-2 g c =
     let attached = c.attach-conflict.ensures.stays nothing [] (Implies-nothing c.push-2.new.self) (settled_trail _ _ _ c.self.invariant) in
     ((c.settle.ensures.trail nothing attached).stand, c.settle.ensures.root)
 
-pub returns : goal.returns
-returns g c = λ f follow implied.
+pub returns-clause-stays : goal.returns-clause-stays
+returns-clause-stays g c = λ f follow implied.
     let parts = parts_of f _ _ _ _ _ _ c.self.view_is c.self.invariant follow in
     let all : AreImplied f c.push-2.new.self = rw c.in_ok-push-2.ensures.ok (AreImplied-push f c.self.inside.clauses c.args.clause.items parts.implied implied) in
     follow_of f _ _ _ _ _ all (c.settle.ensures.trail f (c.attach-conflict.ensures.stays f [] all parts.forced))

@@ -1,7 +1,7 @@
 //! Proofs that are verified, and proofs that are refused.
 
-use crate::{DratError, Flaw, Outcome, Refusal, check_text};
 use giputils_dimacs::dimacs::{DimacsError, Reason};
+use giputils_drat::{DratError, Flaw, Outcome, Refusal, check_text};
 use std::alloc::Global;
 use std::io::{self, Error, ErrorKind, Read, Write};
 use std::test::Fail;
