@@ -1,1 +1,4 @@
+pub mod Faults
 pub mod Options
+pub mod Runs
+pub mod Statuses

@@ -1,6 +1,6 @@
 -- What the words of a command line ask for.
 use Rattle.std.specs.Prelude.{ℕ, ◌^◌, ◌-◌, ◌==◌, ◌&&◌, ◌||◌, Bool, true, false, List, [], ◌∷◌, length, nat_lt, slice_index, if◌then◌else◌, codes, Option, Some, None, is_some}
-use Rattle.std.specs.Option.{option_map, option_and_then}
+use Rattle.std.specs.Option.{option_map, option_map_or, option_and_then}
 use Rattle.std.specs.Str.{all_ascii_digits, byte, bytes_eq}
 use Rattle.std.specs.Str.Parse.{digits_value, without_leading_plus}
 use Rattle.gipsat.specs.declared.options.Options.{Options}
@@ -54,6 +54,10 @@ asked_at Own r (word ∷ words) =
 -- what is asked for where r was asked for before these words
 abbrev pub asked : Request → List (List ℕ) → Option Request
 asked r words = asked_at Own r words
+
+-- the file to read has this name; standard input has none
+abbrev pub reads : Request → List ℕ → Bool
+reads r name = option_map_or (bytes_eq name) r.file false
 
 -- what options ask for
 abbrev pub request_of : Options → Request

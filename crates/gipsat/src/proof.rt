@@ -1,11 +1,42 @@
 //! A proof that nothing satisfies a formula, as text in the DRAT form: a line for each clause that is learned, and one
 //! that begins with `d` for each that leaves the store.
+ghost use Rattle.std.specs.Prelude.{◌≡◌};
+ghost use Rattle.gipsat.specs.Faults.{fault_error};
+ghost use Rattle.gipsat.specs.declared.proof.Fault.TheVariants as fault;
 
 use giputils_dimacs::dimacs::DimacsError;
 use giputils_dimacs::dimacs::progress::Progress;
 use giputils_sat::{Literal, Solver};
 use std::alloc::{AllocError, Allocator, Global};
 use std::io::Write;
+
+/// Why a proof is not whole.
+#[derive(Clone, Copy)]
+pub enum Fault {
+    /// Memory was refused.
+    Memory,
+    /// The output could not be written.
+    Output,
+}
+
+impl From<AllocError> for Fault {
+    ghost from_gives = { λ _ refused. refused ≡ fault.Memory };
+
+    fn from(_refused: AllocError) -> Fault {
+        Fault::Memory
+    }
+}
+
+impl From<Fault> for DimacsError {
+    ghost from_gives = { λ fault error. error ≡ fault_error fault };
+
+    fn from(fault: Fault) -> DimacsError {
+        match fault {
+            Fault::Memory => DimacsError::Memory,
+            Fault::Output => DimacsError::Output,
+        }
+    }
+}
 
 // From how many bytes on the text is written.
 const BUFFER_SIZE: usize = 65_536;
@@ -19,7 +50,7 @@ pub struct Proof<W: Write> {
     // How many of the known clauses need not be told.
     seen: usize,
     // Why the proof is not whole.
-    fault: Option<DimacsError>,
+    fault: Option<Fault>,
 }
 
 impl<W: Write> Proof<W> {
@@ -37,7 +68,7 @@ impl<W: Write> Proof<W> {
     ///
     /// # Errors
     /// The first failure of all: `Output` where a write failed, `Memory` where memory was refused.
-    pub fn finish(&mut self, is_refuted: bool) -> Result<(), DimacsError> {
+    pub fn finish(&mut self, is_refuted: bool) -> Result<(), Fault> {
         if let Some(fault) = self.fault {
             return Err(fault);
         }
@@ -48,7 +79,7 @@ impl<W: Write> Proof<W> {
     }
 
     // Writes the clauses that were learned since.
-    fn learned(&mut self, solver: &Solver) -> Result<(), DimacsError> {
+    fn learned(&mut self, solver: &Solver) -> Result<(), Fault> {
         for place in self.seen..solver.len() {
             self.line(b"", solver.clause(place))?;
         }
@@ -57,7 +88,7 @@ impl<W: Write> Proof<W> {
     }
 
     // Writes the clauses that are forgotten.
-    fn forgotten(&mut self, solver: &Solver) -> Result<(), DimacsError> {
+    fn forgotten(&mut self, solver: &Solver) -> Result<(), Fault> {
         for place in 0..solver.len() {
             if solver.is_forgotten(place) {
                 self.line(b"d ", solver.clause(place))?;
@@ -67,7 +98,7 @@ impl<W: Write> Proof<W> {
     }
 
     // Writes a line.
-    fn line(&mut self, front: &[u8], clause: &[Literal]) -> Result<(), DimacsError> {
+    fn line(&mut self, front: &[u8], clause: &[Literal]) -> Result<(), Fault> {
         self.text.extend_from_slice(front)?;
         write_clause(&mut self.text, clause)?;
         if self.text.len() < BUFFER_SIZE {
@@ -77,19 +108,19 @@ impl<W: Write> Proof<W> {
     }
 
     // Writes what was not written yet.
-    fn pass_on(&mut self) -> Result<(), DimacsError> {
+    fn pass_on(&mut self) -> Result<(), Fault> {
         let done = self.writer.write_all(&self.text);
         self.text.clear();
         match done {
             Ok(()) => Ok(()),
-            Err(_) => Err(DimacsError::Output),
+            Err(_) => Err(Fault::Output),
         }
     }
 
     // Remembers the first failure.
-    fn keep(&mut self, done: Result<(), DimacsError>) {
-        if let Err(error) = done {
-            self.fault = Some(error);
+    fn keep(&mut self, done: Result<(), Fault>) {
+        if let Err(fault) = done {
+            self.fault = Some(fault);
         }
     }
 }
