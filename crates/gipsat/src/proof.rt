@@ -1,7 +1,9 @@
 //! A proof that nothing satisfies a formula, as text in the DRAT form: a line for each clause that is learned, and one
 //! that begins with `d` for each that leaves the store.
-ghost use Rattle.std.specs.Prelude.{◌≡◌};
+ghost use Rattle.std.specs.Prelude.{◌≡◌, ◌++◌, [], IfSome, IsErrOf, OnOk};
+ghost use Rattle.std.specs.Io.KnownBytes.{Appends, append_known};
 ghost use Rattle.gipsat.specs.Faults.{fault_error};
+ghost use Rattle.gipsat.specs.Lines.{clause_line, end_line, literal_text};
 ghost use Rattle.gipsat.specs.declared.proof.Fault.TheVariants as fault;
 
 use giputils_dimacs::dimacs::DimacsError;
@@ -68,7 +70,11 @@ impl<W: Write> Proof<W> {
     ///
     /// # Errors
     /// The first failure of all: `Output` where a write failed, `Memory` where memory was refused.
-    pub fn finish(&mut self, is_refuted: bool) -> Result<(), Fault> {
+    pub fn finish(&mut self, is_refuted: bool) -> Result<(), Fault>
+        ensures whole { OnOk result (Appends (W.contents self.old.writer) (W.contents self.new.writer)
+            (self.old.text.items ++ end_line is_refuted)) }
+        ensures fault { IfSome self.old.fault (λ fault. IsErrOf result fault) }
+    {
         if let Some(fault) = self.fault {
             return Err(fault);
         }
@@ -98,7 +104,10 @@ impl<W: Write> Proof<W> {
     }
 
     // Writes a line.
-    fn line(&mut self, front: &[u8], clause: &[Literal]) -> Result<(), Fault> {
+    fn line(&mut self, front: &[u8], clause: &[Literal]) -> Result<(), Fault>
+        ensures { OnOk result (Appends (append_known (W.contents self.old.writer) self.old.text.items)
+            (append_known (W.contents self.new.writer) self.new.text.items) (front.now ++ clause_line clause.now)) }
+    {
         self.text.extend_from_slice(front)?;
         write_clause(&mut self.text, clause)?;
         if self.text.len() < BUFFER_SIZE {
@@ -108,7 +117,11 @@ impl<W: Write> Proof<W> {
     }
 
     // Writes what was not written yet.
-    fn pass_on(&mut self) -> Result<(), Fault> {
+    fn pass_on(&mut self) -> Result<(), Fault>
+        ensures written { OnOk result (Appends (W.contents self.old.writer) (W.contents self.new.writer)
+            self.old.text.items) }
+        ensures cleared { self.new.text.items ≡ [] }
+    {
         let done = self.writer.write_all(&self.text);
         self.text.clear();
         match done {
@@ -181,7 +194,9 @@ impl<P: Progress<Global>, Q: Progress<Global>> Progress<Global> for Both<P, Q> {
 }
 
 // Writes the line of a clause.
-fn write_clause<A: Allocator>(text: &mut Vec<u8, A>, clause: &[Literal]) -> Result<(), AllocError> {
+fn write_clause<A: Allocator>(text: &mut Vec<u8, A>, clause: &[Literal]) -> Result<(), AllocError>
+    ensures { OnOk result (text.new.items ≡ text.old.items ++ clause_line clause.now) }
+{
     for l in clause {
         write_literal(text, *l)?;
     }
@@ -190,7 +205,9 @@ fn write_clause<A: Allocator>(text: &mut Vec<u8, A>, clause: &[Literal]) -> Resu
 }
 
 // Writes a literal: variable k of a formula is k + 1 in a text.
-fn write_literal<A: Allocator>(text: &mut Vec<u8, A>, l: Literal) -> Result<(), AllocError> {
+fn write_literal<A: Allocator>(text: &mut Vec<u8, A>, l: Literal) -> Result<(), AllocError>
+    ensures { OnOk result (text.new.items ≡ text.old.items ++ literal_text l) }
+{
     if !l.is_positive() {
         text.push(b'-')?;
     }
