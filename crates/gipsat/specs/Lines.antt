@@ -1,8 +1,10 @@
 -- The lines of a proof.
-use Rattle.std.specs.Prelude.{ℕ, Bool, List, [], ◌∷◌, ◌++◌, if◌then◌else◌, codes}
+use Rattle.std.specs.Prelude.{ℕ, List, [], ◌∷◌, ◌++◌, codes}
 use Rattle.giputils_sat.specs.Formulas.{Clause}
 use Rattle.giputils_sat.specs.Literals.{Lit}
 use Rattle.giputils_dimacs.specs.Dimacs.Answers.{literal_word}
+use Rattle.giputils_dimacs.specs.declared.dimacs.answers.Verdict.{Verdict}
+use Rattle.giputils_dimacs.specs.declared.dimacs.answers.Verdict.TheVariants.{Unsatisfiable}
 
 -- a literal, and a space behind it
 abbrev pub literal_text : Lit → List ℕ
@@ -13,6 +15,7 @@ abbrev pub clause_line : Clause → List ℕ
 clause_line [] = codes "0\n"
 clause_line (l ∷ clause) = literal_text l ++ clause_line clause
 
--- what stands at the end: the empty clause, where it was found that nothing satisfies the formula
-abbrev pub end_line : Bool → List ℕ
-end_line is_refuted = if is_refuted then codes "0\n" else []
+-- what stands at the end: the empty clause, where nothing satisfies the formula
+abbrev pub end_line : Verdict → List ℕ
+end_line Unsatisfiable = clause_line []
+end_line verdict = []

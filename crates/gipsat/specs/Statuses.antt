@@ -11,6 +11,10 @@ use Rattle.giputils_drat.specs.declared.error.Outcome.TheVariants.{Verified, Ref
 abbrev pub refused_status : ℕ
 refused_status = 1
 
+-- where the arguments have no meaning
+abbrev pub usage_status : ℕ
+usage_status = 2
+
 -- of a search: that of its verdict
 abbrev pub solving_status : Result Verdict DimacsError → ℕ
 solving_status (Ok verdict) = verdict_status verdict

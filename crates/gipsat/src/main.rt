@@ -17,7 +17,7 @@ ghost use Rattle.giputils_dimacs.specs.Dimacs.Answers.{WritesAnswer};
 ghost use Rattle.giputils_drat.specs.Outcomes.{WritesOutcome};
 ghost use Rattle.gipsat.specs.Options.{reads, request_of};
 ghost use Rattle.gipsat.specs.Runs.{HasClauses, HasForm, HasOtherForm, IsRefusedAt, OfProblem};
-ghost use Rattle.gipsat.specs.Statuses.{checking_status, refused_status, solving_status};
+ghost use Rattle.gipsat.specs.Statuses.{checking_status, refused_status, solving_status, usage_status};
 
 mod options;
 mod proof;
@@ -51,10 +51,7 @@ fn main(rt: HostRuntime) -> ExitCode {
     match Task::parse(&words) {
         Some(Task::Solve(options)) => end_search(&rt, solve_file(&rt, &options)),
         Some(Task::Check(formula, proof)) => end_check(&rt, check_files(&rt, formula, proof)),
-        None => {
-            let _ = eprintln!(rt; "{USAGE_LINES}");
-            ExitCode::from(USAGE)
-        }
+        None => explain(&rt),
     }
 }
 
@@ -90,6 +87,14 @@ fn refuse<E: Display>(rt: &HostRuntime, error: &E) -> ExitCode
 {
     let _ = eprintln!(rt; "{error}");
     ExitCode::from(REFUSED)
+}
+
+// Writes the usage lines.
+fn explain(rt: &HostRuntime) -> ExitCode
+    ensures { exit_status result ≡ usage_status }
+{
+    let _ = eprintln!(rt; "{USAGE_LINES}");
+    ExitCode::from(USAGE)
 }
 
 // Solves the formula of the file that the options name, or of standard input, and writes the answer to standard output.
@@ -164,8 +169,7 @@ fn prove<R: Read, W: Write>(
     };
     let mut text = Vec::new(rt.alloc());
     let solved = solve_text(rt.alloc(), reader, &mut text, options.conflicts, &mut both)?;
-    both.second
-        .finish(matches!(solved.verdict, Verdict::Unsatisfiable))?;
+    both.second.finish(solved.verdict)?;
     match writer.write_all(&text) {
         Ok(()) => Ok(solved),
         Err(_) => Err(DimacsError::Output),

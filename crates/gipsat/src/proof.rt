@@ -6,8 +6,8 @@ ghost use Rattle.gipsat.specs.Faults.{fault_error};
 ghost use Rattle.gipsat.specs.Lines.{clause_line, end_line, literal_text};
 ghost use Rattle.gipsat.specs.declared.proof.Fault.TheVariants as fault;
 
-use giputils_dimacs::dimacs::DimacsError;
 use giputils_dimacs::dimacs::progress::Progress;
+use giputils_dimacs::dimacs::{DimacsError, Verdict};
 use giputils_sat::{Literal, Solver};
 use std::alloc::{AllocError, Allocator, Global};
 use std::io::Write;
@@ -66,19 +66,19 @@ impl<W: Write> Proof<W> {
         }
     }
 
-    /// Writes what is left, and the empty clause, if it was found that nothing satisfies the formula.
+    /// Writes what is left, and the empty clause, if this verdict is that nothing satisfies the formula.
     ///
     /// # Errors
     /// The first failure of all: `Output` where a write failed, `Memory` where memory was refused.
-    pub fn finish(&mut self, is_refuted: bool) -> Result<(), Fault>
+    pub fn finish(&mut self, verdict: Verdict) -> Result<(), Fault>
         ensures whole { OnOk result (Appends (W.contents self.old.writer) (W.contents self.new.writer)
-            (self.old.text.items ++ end_line is_refuted)) }
+            (self.old.text.items ++ end_line verdict)) }
         ensures fault { IfSome self.old.fault (λ fault. IsErrOf result fault) }
     {
         if let Some(fault) = self.fault {
             return Err(fault);
         }
-        if is_refuted {
+        if matches!(verdict, Verdict::Unsatisfiable) {
             self.text.extend_from_slice(b"0\n")?;
         }
         self.pass_on()
