@@ -1,5 +1,7 @@
--- Worked examples of command lines.
+-- Worked examples of command lines, and of a line of a proof.
 use Rattle.std.proofs.Common.{◌≡◌, [], ◌∷◌, refl, codes, Some, None, true, false}
+use Rattle.std.specs.Fmt.{digits}
+use Rattle.gipsat.specs.Lines.{clause_line}
 use Rattle.gipsat.specs.Options.{no_request, number_of, with_file, asked, work_asked, Solve, Check}
 
 number-plus : number_of (codes "+07") ≡ Some 7
@@ -66,3 +68,11 @@ refused-check_of_one = refl
 
 refused-check_later : work_asked (codes "--stats" ∷ codes "--check" ∷ codes "a" ∷ codes "b" ∷ []) ≡ None
 refused-check_later = refl
+
+-- variable k of a formula is k + 1 in a text
+line : clause_line (record { variable = 0; positive = true } ∷ record { variable = 11; positive = false } ∷ []) ≡ codes "1 -12 0\n"
+unfolding digits
+line = refl
+
+line-empty : clause_line [] ≡ codes "0\n"
+line-empty = refl

@@ -11,8 +11,7 @@ HasForm input = IfSome input (λ text. IsTrue (is_some (problem_of text)))
 abbrev pub HasOtherForm : Option (List ℕ) → Type 0
 HasOtherForm input = IfSome input (λ text. problem_of text ≡ None)
 
--- some of an input's bytes lead to the line of this number, and no text that goes on with the same byte writes a
--- problem
+-- an input is refused after some of its bytes, which lead to the line of this number
 abbrev pub IsRefusedAt : Option (List ℕ) → ℕ → Type 0
 IsRefusedAt input line = IfSome input (λ text. IsRefusedIn text line)
 
