@@ -94,11 +94,14 @@ printf '%b' "$squares" > "$work/formula"
 try "no proof" 1 "proof: cannot be read" "" "" --check "$work/formula" "$work/none"
 try "a proof beside no formula" 1 "formula: input: cannot be read" "" "" --check "$work/none" "$work/proof"
 
-# Proofs that the program writes: of the squares, and of six pigeons in five holes.
+# Proofs that the program writes: of the squares, of six pigeons in five holes, and of eight in seven, which takes so many
+# conflicts that clauses leave the store.
+# HOLES: a formula that seats one pigeon more than there are holes.
 pigeons() {
-    python3 - <<'END'
+    python3 - "$1" <<'END'
 import itertools
-holes = 5
+import sys
+holes = int(sys.argv[1])
 sits = lambda pigeon, hole: pigeon * holes + hole + 1
 clauses = [[sits(p, h) for h in range(holes)] for p in range(holes + 1)]
 clauses += [[-sits(a, h), -sits(b, h)] for h in range(holes) for a, b in itertools.combinations(range(holes + 1), 2)]
@@ -107,11 +110,19 @@ for clause in clauses:
     print(*clause, 0)
 END
 }
-pigeons > "$work/pigeons"
-for formula in formula pigeons; do
+pigeons 5 > "$work/pigeons"
+pigeons 7 > "$work/crowd"
+for formula in formula pigeons crowd; do
     try "a proof of $formula is written" 20 "" "s UNSATISFIABLE" "" --proof "$work/written" "$work/$formula"
     try "the proof of $formula is checked" 0 "" "s VERIFIED" "" --check "$work/$formula" "$work/written"
 done
+if grep -q '^d ' "$work/written"; then
+    echo "ok: clauses leave the store"
+    passed=$((passed + 1))
+else
+    echo "FAILED: clauses leave the store"
+    failed=$((failed + 1))
+fi
 try "a proof of the pigeons beside another formula" 1 \
     "proof line 1: a variable that the formula does not have" "s NOT VERIFIED" "" --check "$work/formula" "$work/written"
 try "a proof that can't be opened" 1 "output: cannot be written" "" "" --proof "$work/none/proof" "$work/formula"

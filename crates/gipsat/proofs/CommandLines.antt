@@ -1,5 +1,5 @@
 -- What is asked for by the first word of a command line, and the rest.
-use Rattle.std.proofs.Common.{◌≡◌, ◌<◌, ◌^◌, ℕ, true, false, List, [], ◌∷◌, length, codes, refl, arith, if◌then◌else◌, Result, Ok, Err, Option, Some, None, inl, inr}
+use Rattle.std.proofs.Common.{◌≡◌, ◌<◌, ◌^◌, ℕ, true, false, List, ◌∷◌, length, codes, refl, arith, if◌then◌else◌, Result, Ok, Err, Option, Some, None, inl, inr}
 use Rattle.std.proofs.cmp.Tests.{cases_Bool}
 use Rattle.std.proofs.lemmas.Bool.{and_parts}
 use Rattle.std.proofs.lemmas.Bool.Decides.{nat_tests}
@@ -25,8 +25,7 @@ module _ (r : Request) (word : List ℕ) where
   -- a summary
   pub stats_more : (words : List (List ℕ)) → word ≡ codes "--stats"
       → asked r (word ∷ words) ≡ asked (record r { stats = true }) words
-  stats_more [] is = rw is refl
-  stats_more (next ∷ words) is = rw is refl
+  stats_more words is = rw is refl
 
   -- the proof's file
   pub proof_more : (next name : List ℕ) (words after : List (List ℕ)) → word ≡ codes "--proof" → after ≡ next ∷ words
@@ -37,16 +36,10 @@ module _ (r : Request) (word : List ℕ) where
   not_same other differs =
       elim (cases_Bool (bytes_eq word other)) [ inl same ↦ absurd (differs ((bytes_eq-Decides word other).0 same)) | inr other_bytes ↦ other_bytes ]
 
-  and_then-Some : (s : Option Request) → s ≡ option_and_then (λ t. Some t) s
-  and_then-Some None = refl
-  and_then-Some (Some t) = refl
-
   -- a file
   pub file_more : (s : Option Request) (words : List (List ℕ)) → ¬ (word ≡ codes "--conflicts") → ¬ (word ≡ codes "--stats")
       → ¬ (word ≡ codes "--proof") → with_file r word ≡ s → asked r (word ∷ words) ≡ option_and_then (λ t. asked t words) s
-  file_more s [] limit stats proof file =
-      rw (not_same (codes "--conflicts") limit, not_same (codes "--stats") stats, not_same (codes "--proof") proof) (rw file (and_then-Some s))
-  file_more s (next ∷ words) limit stats proof file =
+  file_more s words limit stats proof file =
       rw (not_same (codes "--conflicts") limit, not_same (codes "--stats") stats, not_same (codes "--proof") proof) (rw file refl)
 
 number-some : (ds : List ℕ) (n : ℕ) → 0 < length ds → all_ascii_digits ds ≡ true → digits_value 10 ds < 2 ^ 64

@@ -1,6 +1,23 @@
--- Worked examples of command lines.
+-- Worked examples of command lines, and of a line of a proof.
 use Rattle.std.proofs.Common.{◌≡◌, [], ◌∷◌, refl, codes, Some, None, true, false}
-use Rattle.gipsat.specs.Options.{no_request, asked, work_asked, Solve, Check}
+use Rattle.std.specs.Fmt.{digits}
+use Rattle.gipsat.specs.Lines.{clause_line}
+use Rattle.gipsat.specs.Options.{no_request, number_of, with_file, asked, work_asked, Solve, Check}
+
+number-plus : number_of (codes "+07") ≡ Some 7
+number-plus = refl
+
+number-greatest : number_of (codes "18446744073709551615") ≡ Some 18446744073709551615
+number-greatest = refl
+
+refused-minus : number_of (codes "-7") ≡ None
+refused-minus = refl
+
+file-first : with_file no_request (codes "a-b") ≡ Some (record no_request { file = Some (codes "a-b") })
+file-first = refl
+
+refused-flag_as_file : with_file no_request (codes "-a") ≡ None
+refused-flag_as_file = refl
 
 nothing : asked no_request [] ≡ Some no_request
 nothing = refl
@@ -29,6 +46,11 @@ refused-two_files = refl
 refused-other_flag : asked no_request (codes "--stat" ∷ []) ≡ None
 refused-other_flag = refl
 
+-- what stands behind the flag is a name, whatever it is
+proof-any_name : asked no_request (codes "--proof" ∷ codes "--stats" ∷ [])
+    ≡ Some (record no_request { proof = Some (codes "--stats") })
+proof-any_name = refl
+
 refused-no_proof : asked no_request (codes "a" ∷ codes "--proof" ∷ []) ≡ None
 refused-no_proof = refl
 
@@ -46,3 +68,11 @@ refused-check_of_one = refl
 
 refused-check_later : work_asked (codes "--stats" ∷ codes "--check" ∷ codes "a" ∷ codes "b" ∷ []) ≡ None
 refused-check_later = refl
+
+-- variable k of a formula is k + 1 in a text
+line : clause_line (record { variable = 0; positive = true } ∷ record { variable = 11; positive = false } ∷ []) ≡ codes "1 -12 0\n"
+unfolding digits
+line = refl
+
+line-empty : clause_line [] ≡ codes "0\n"
+line-empty = refl

@@ -1,2 +1,3 @@
 mod CommandLines
 mod Examples
+mod Handed

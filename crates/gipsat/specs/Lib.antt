@@ -1,1 +1,5 @@
+pub mod Faults
+pub mod Lines
 pub mod Options
+pub mod Runs
+pub mod Statuses

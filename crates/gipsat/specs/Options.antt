@@ -1,14 +1,14 @@
 -- What the words of a command line ask for.
 use Rattle.std.specs.Prelude.{ℕ, ◌^◌, ◌-◌, ◌==◌, ◌&&◌, ◌||◌, Bool, true, false, List, [], ◌∷◌, length, nat_lt, slice_index, if◌then◌else◌, codes, Option, Some, None, is_some}
-use Rattle.std.specs.Option.{option_map, option_and_then}
-use Rattle.std.specs.Str.{all_ascii_digits, bytes_eq}
+use Rattle.std.specs.Option.{option_map, option_map_or, option_and_then}
+use Rattle.std.specs.Str.{all_ascii_digits, byte, bytes_eq}
 use Rattle.std.specs.Str.Parse.{digits_value, without_leading_plus}
 use Rattle.gipsat.specs.declared.options.Options.{Options}
 use Rattle.gipsat.specs.declared.options.Task.{Task}
 use Rattle.gipsat.specs.declared.options.Task.TheVariants as task
 
--- after how many conflicts to give up, whether to write a summary, where to write a proof, if anywhere, and which file to
--- read, if not standard input
+-- after how many conflicts to give up, whether to write a summary, where to write a proof, if anywhere, and which file
+-- to read, if not standard input
 pub record Request : Type 0 where
   pub conflicts : ℕ
   pub stats : Bool
@@ -29,23 +29,35 @@ number_of word =
 -- a file besides, where there is none yet, and its name does not begin with a minus
 abbrev pub with_file : Request → List ℕ → Option Request
 with_file r name =
-    if (slice_index name 0 == 45) || is_some r.file then None else Some (record r { file = Some name })
+    if (slice_index name 0 == byte "-") || is_some r.file then None else Some (record r { file = Some name })
 
--- what is asked for where r was asked for before these words: the limit behind `--conflicts`, a summary by `--stats`,
--- the proof's file behind `--proof`, and a file by any other word
+-- what a word is for: the number behind `--conflicts`, the name behind `--proof`, or something of its own
+pub data Place : Type 0 where
+  Number : Place
+  Proof : Place
+  Own : Place
+
+-- what is asked for where r was asked for before these words, the first of which has this place
+abbrev pub asked_at : Place → Request → List (List ℕ) → Option Request
+asked_at Own r [] = Some r
+asked_at Number r [] = None
+asked_at Proof r [] = None
+asked_at Number r (word ∷ words) =
+    option_and_then (λ n. asked_at Own (record r { conflicts = n }) words) (number_of word)
+asked_at Proof r (word ∷ words) = asked_at Own (record r { proof = Some word }) words
+asked_at Own r (word ∷ words) =
+    if bytes_eq word (codes "--conflicts") then asked_at Number r words
+    else if bytes_eq word (codes "--stats") then asked_at Own (record r { stats = true }) words
+    else if bytes_eq word (codes "--proof") then asked_at Proof r words
+    else option_and_then (λ s. asked_at Own s words) (with_file r word)
+
+-- what is asked for where r was asked for before these words
 abbrev pub asked : Request → List (List ℕ) → Option Request
-asked r [] = Some r
-asked r (word ∷ []) =
-    if bytes_eq word (codes "--conflicts") then None
-    else if bytes_eq word (codes "--stats") then Some (record r { stats = true })
-    else if bytes_eq word (codes "--proof") then None
-    else with_file r word
-asked r (word ∷ next ∷ words) =
-    if bytes_eq word (codes "--conflicts")
-    then option_and_then (λ n. asked (record r { conflicts = n }) words) (number_of next)
-    else if bytes_eq word (codes "--stats") then asked (record r { stats = true }) (next ∷ words)
-    else if bytes_eq word (codes "--proof") then asked (record r { proof = Some next }) words
-    else option_and_then (λ s. asked s (next ∷ words)) (with_file r word)
+asked r words = asked_at Own r words
+
+-- the file to read has this name; standard input has none
+abbrev pub reads : Request → List ℕ → Bool
+reads r name = option_map_or (bytes_eq name) r.file false
 
 -- what options ask for
 abbrev pub request_of : Options → Request

@@ -1,11 +1,44 @@
 //! A proof that nothing satisfies a formula, as text in the DRAT form: a line for each clause that is learned, and one
 //! that begins with `d` for each that leaves the store.
+ghost use Rattle.std.specs.Prelude.{◌≡◌, ◌++◌, [], IfSome, IsErrOf, OnOk};
+ghost use Rattle.std.specs.Io.KnownBytes.{Appends, append_known};
+ghost use Rattle.gipsat.specs.Faults.{fault_error};
+ghost use Rattle.gipsat.specs.Lines.{clause_line, end_line, literal_text};
+ghost use Rattle.gipsat.specs.declared.proof.Fault.TheVariants as fault;
 
-use giputils_dimacs::dimacs::DimacsError;
 use giputils_dimacs::dimacs::progress::Progress;
+use giputils_dimacs::dimacs::{DimacsError, Verdict};
 use giputils_sat::{Literal, Solver};
 use std::alloc::{AllocError, Allocator, Global};
 use std::io::Write;
+
+/// Why a proof is not whole.
+#[derive(Clone, Copy)]
+pub enum Fault {
+    /// Memory was refused.
+    Memory,
+    /// The output could not be written.
+    Output,
+}
+
+impl From<AllocError> for Fault {
+    ghost from_gives = { λ _ refused. refused ≡ fault.Memory };
+
+    fn from(_refused: AllocError) -> Fault {
+        Fault::Memory
+    }
+}
+
+impl From<Fault> for DimacsError {
+    ghost from_gives = { λ fault error. error ≡ fault_error fault };
+
+    fn from(fault: Fault) -> DimacsError {
+        match fault {
+            Fault::Memory => DimacsError::Memory,
+            Fault::Output => DimacsError::Output,
+        }
+    }
+}
 
 // From how many bytes on the text is written.
 const BUFFER_SIZE: usize = 65_536;
@@ -19,7 +52,7 @@ pub struct Proof<W: Write> {
     // How many of the known clauses need not be told.
     seen: usize,
     // Why the proof is not whole.
-    fault: Option<DimacsError>,
+    fault: Option<Fault>,
 }
 
 impl<W: Write> Proof<W> {
@@ -33,22 +66,26 @@ impl<W: Write> Proof<W> {
         }
     }
 
-    /// Writes what is left, and the empty clause, if it was found that nothing satisfies the formula.
+    /// Writes what is left, and the empty clause, if this verdict is that nothing satisfies the formula.
     ///
     /// # Errors
     /// The first failure of all: `Output` where a write failed, `Memory` where memory was refused.
-    pub fn finish(&mut self, is_refuted: bool) -> Result<(), DimacsError> {
+    pub fn finish(&mut self, verdict: Verdict) -> Result<(), Fault>
+        ensures whole { OnOk result (Appends (W.contents self.old.writer) (W.contents self.new.writer)
+            (self.old.text.items ++ end_line verdict)) }
+        ensures fault { IfSome self.old.fault (λ fault. IsErrOf result fault) }
+    {
         if let Some(fault) = self.fault {
             return Err(fault);
         }
-        if is_refuted {
+        if matches!(verdict, Verdict::Unsatisfiable) {
             self.text.extend_from_slice(b"0\n")?;
         }
         self.pass_on()
     }
 
     // Writes the clauses that were learned since.
-    fn learned(&mut self, solver: &Solver) -> Result<(), DimacsError> {
+    fn learned(&mut self, solver: &Solver) -> Result<(), Fault> {
         for place in self.seen..solver.len() {
             self.line(b"", solver.clause(place))?;
         }
@@ -57,7 +94,7 @@ impl<W: Write> Proof<W> {
     }
 
     // Writes the clauses that are forgotten.
-    fn forgotten(&mut self, solver: &Solver) -> Result<(), DimacsError> {
+    fn forgotten(&mut self, solver: &Solver) -> Result<(), Fault> {
         for place in 0..solver.len() {
             if solver.is_forgotten(place) {
                 self.line(b"d ", solver.clause(place))?;
@@ -67,7 +104,10 @@ impl<W: Write> Proof<W> {
     }
 
     // Writes a line.
-    fn line(&mut self, front: &[u8], clause: &[Literal]) -> Result<(), DimacsError> {
+    fn line(&mut self, front: &[u8], clause: &[Literal]) -> Result<(), Fault>
+        ensures { OnOk result (Appends (append_known (W.contents self.old.writer) self.old.text.items)
+            (append_known (W.contents self.new.writer) self.new.text.items) (front.now ++ clause_line clause.now)) }
+    {
         self.text.extend_from_slice(front)?;
         write_clause(&mut self.text, clause)?;
         if self.text.len() < BUFFER_SIZE {
@@ -77,19 +117,23 @@ impl<W: Write> Proof<W> {
     }
 
     // Writes what was not written yet.
-    fn pass_on(&mut self) -> Result<(), DimacsError> {
+    fn pass_on(&mut self) -> Result<(), Fault>
+        ensures written { OnOk result (Appends (W.contents self.old.writer) (W.contents self.new.writer)
+            self.old.text.items) }
+        ensures cleared { self.new.text.items ≡ [] }
+    {
         let done = self.writer.write_all(&self.text);
         self.text.clear();
         match done {
             Ok(()) => Ok(()),
-            Err(_) => Err(DimacsError::Output),
+            Err(_) => Err(Fault::Output),
         }
     }
 
     // Remembers the first failure.
-    fn keep(&mut self, done: Result<(), DimacsError>) {
-        if let Err(error) = done {
-            self.fault = Some(error);
+    fn keep(&mut self, done: Result<(), Fault>) {
+        if let Err(fault) = done {
+            self.fault = Some(fault);
         }
     }
 }
@@ -150,7 +194,9 @@ impl<P: Progress<Global>, Q: Progress<Global>> Progress<Global> for Both<P, Q> {
 }
 
 // Writes the line of a clause.
-fn write_clause<A: Allocator>(text: &mut Vec<u8, A>, clause: &[Literal]) -> Result<(), AllocError> {
+fn write_clause<A: Allocator>(text: &mut Vec<u8, A>, clause: &[Literal]) -> Result<(), AllocError>
+    ensures { OnOk result (text.new.items ≡ text.old.items ++ clause_line clause.now) }
+{
     for l in clause {
         write_literal(text, *l)?;
     }
@@ -159,7 +205,9 @@ fn write_clause<A: Allocator>(text: &mut Vec<u8, A>, clause: &[Literal]) -> Resu
 }
 
 // Writes a literal: variable k of a formula is k + 1 in a text.
-fn write_literal<A: Allocator>(text: &mut Vec<u8, A>, l: Literal) -> Result<(), AllocError> {
+fn write_literal<A: Allocator>(text: &mut Vec<u8, A>, l: Literal) -> Result<(), AllocError>
+    ensures { OnOk result (text.new.items ≡ text.old.items ++ literal_text l) }
+{
     if !l.is_positive() {
         text.push(b'-')?;
     }

@@ -1,4 +1,5 @@
 //! How far the search is, in lines on standard error.
+ghost use Rattle.std.specs.Prelude.{◌≡◌, IfOk};
 
 use giputils_dimacs::dimacs::progress::Progress;
 use giputils_sat::{Solver, Stats};
@@ -86,7 +87,9 @@ pub struct Watch<'a> {
 
 impl<'a> Watch<'a> {
     /// Before the search.
-    pub fn new(rt: &'a HostRuntime, stats: bool) -> Result<Self, AllocError> {
+    pub fn new(rt: &'a HostRuntime, stats: bool) -> Result<Self, AllocError>
+        ensures { IfOk result (λ watch. watch.stats ≡ stats) }
+    {
         Ok(Watch {
             rt,
             started: Instant::now(rt).ok(),
