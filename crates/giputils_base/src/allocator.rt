@@ -9,8 +9,6 @@ mod live;
 mod renaming;
 mod room;
 mod run;
-#[cfg(test)]
-mod tests;
 
 use crate::gvec::Gvec;
 use crate::hash::GHashMap;

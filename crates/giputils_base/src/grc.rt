@@ -1,9 +1,6 @@
 //! A value with several owners, who read it.
 ghost use Rattle.std.specs.Prelude.{◌≡◌, IfOk};
 
-#[cfg(test)]
-mod tests;
-
 use std::alloc::{AllocError, Allocator, Global};
 use std::marker::Model;
 use std::ops::Deref;

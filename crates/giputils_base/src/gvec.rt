@@ -4,9 +4,6 @@ ghost use Rattle.std.specs.List.{FoldsTo, AllZip};
 ghost use Rattle.std.specs.Borrow.{sem};
 ghost use Rattle.giputils_base.specs.Gvec.{swap_remove, FilledTo, Draws, Iterates, IsPlace, place};
 
-#[cfg(test)]
-mod tests;
-
 use std::alloc::{AllocError, Allocator, Global};
 use std::marker::Model;
 use std::ops::{Deref, DerefMut, Index, IndexMut};

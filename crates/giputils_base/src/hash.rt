@@ -6,9 +6,6 @@ ghost use Rattle.std.specs.Map.Iter.{GivesInOrder};
 ghost use Rattle.std.specs.Borrow.{sem};
 ghost use Rattle.giputils_base.specs.Hash.{get, contains, PutsValue, TakesKey, PutsMember, TakesMember, IsMapOf, IsSetOf, ListsMembers, ListsEntries, HasUniqueKeys};
 
-#[cfg(test)]
-mod tests;
-
 use std::alloc::{AllocError, AllocFailed, Allocator, Global};
 use std::collections::{HashMap, HashSet, hash_map, hash_set};
 use std::fmt;

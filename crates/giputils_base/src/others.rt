@@ -7,9 +7,6 @@ ghost use Rattle.std.specs.Borrow.{Lends, sem, u8 as row_u8, u32 as row_u32};
 ghost use Rattle.std.proofs.Common.{rules};
 ghost use Rattle.giputils_base.specs.Others.{option_u8, option_u32, kept_u8, kept_u32};
 
-#[cfg(test)]
-mod tests;
-
 use std::ops::{Deref, DerefMut};
 
 /// An option of a number below 255, kept in one `u8`: 255 stands for none.

@@ -1,11 +1,13 @@
-//! Tests in which the containers of `giputils_base`, and the moving average of `giputils_stat`, are refused memory,
-//! request by request, and tests of which calls ask for none.
+//! All tests of `giputils_base` and of `giputils_stat`: worked examples of their calls, and tests in which they are
+//! refused memory, request by request.
 //!
-//! They hold what no clause can say: that a call answers want of memory only where a request was refused, how many
+//! The latter hold what no clause can say: that a call answers want of memory only where a request was refused, how many
 //! requests it makes, and that some calls make none. What a refused call leaves is proved, and not tested again. They
-//! stand apart from the library, so that it is not proved twice for them.
+//! stand apart from the libraries, so that these are not proved twice for them.
 #![tactic(auto)]
 
+#[cfg(test)]
+mod bounds;
 #[cfg(test)]
 mod hashed;
 #[cfg(test)]
@@ -13,4 +15,18 @@ mod indexes;
 #[cfg(test)]
 mod lists;
 #[cfg(test)]
+mod logs;
+#[cfg(test)]
+mod maps;
+#[cfg(test)]
+mod options;
+#[cfg(test)]
+mod owners;
+#[cfg(test)]
+mod slots;
+#[cfg(test)]
 mod statistics;
+#[cfg(test)]
+mod texts;
+#[cfg(test)]
+mod vectors;

@@ -6,5 +6,3 @@
 pub mod decimal;
 pub mod logger;
 pub mod statistic;
-#[cfg(test)]
-mod tests;

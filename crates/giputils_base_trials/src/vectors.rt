@@ -1,7 +1,7 @@
-//! What callers learn through the clauses, and the calls once each.
+//! Vectors: what callers learn through the clauses, and the calls once each.
 ghost use Rattle.std.specs.Prelude.{◌≡◌, ◌+◌, ◌<◌, ◌++◌, ◌∷◌, [], length, slice_index_or, slice_set, sum, OnOk, OnErr, IfOk, ◌↔◌, IsTrue, Contains};
 
-use super::Gvec;
+use giputils_base::gvec::Gvec;
 use rand_core::Rng;
 use rand_pcg::Pcg32;
 use std::alloc::{AllocError, AllocFailed, Allocator, Global};

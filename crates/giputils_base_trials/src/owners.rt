@@ -1,7 +1,7 @@
-//! What callers learn through the clauses, and the calls once each.
+//! Shared values: what callers learn through the clauses, and the calls once each.
 ghost use Rattle.std.specs.Prelude.{◌≡◌, IfOk};
 
-use super::Grc;
+use giputils_base::grc::Grc;
 use std::alloc::{AllocError, Global};
 use std::test::Fail;
 

@@ -1,8 +1,8 @@
-//! What callers learn through the clauses, and the calls once each.
+//! Hashed sets and maps: what callers learn through the clauses, and the calls once each.
 ghost use Rattle.std.specs.Prelude.{◌≡◌, ◌≢◌, ℕ, Some, None, nat_eq, true, false, IfOk, OnOk, OnErr};
 ghost use Rattle.giputils_base.specs.Hash.{get, contains};
 
-use super::{GHashMap, GHashSet};
+use giputils_base::hash::{GHashMap, GHashSet};
 use std::alloc::{AllocError, Global};
 use std::test::Fail;
 

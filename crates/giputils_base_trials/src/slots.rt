@@ -1,8 +1,8 @@
-//! What callers learn through the clauses, and the calls once each.
+//! Allocators of indexes: what callers learn through the clauses, and the calls once each.
 ghost use Rattle.std.specs.Prelude.{◌≡◌, ◌<◌, [], ◌∷◌, ◌++◌, false, Some, length, IfOk, map};
 ghost use Rattle.giputils_base.specs.Allocator.{value_at, write, live_slots};
 
-use super::{GallocCall, GallocElem, Gallocator, galloc_run, rename};
+use giputils_base::allocator::{GallocCall, GallocElem, Gallocator, galloc_run, rename};
 use std::alloc::{AllocError, Global};
 use std::test::Fail;
 

@@ -1,10 +1,9 @@
-use crate::decimal::Decimal;
-use crate::logger::IntervalLogger;
-use crate::statistic::{
+//! The texts of statistics, and what they tell.
+
+use giputils_stat::decimal::Decimal;
+use giputils_stat::statistic::{
     Average, AverageDuration, CountedDuration, MovingAverage, RunningTime, SuccessRate,
 };
-use log::sink::Memory;
-use log::{Level, Log, Logged};
 use std::fmt::{Debug, Display};
 use std::process::Abort;
 use std::test::Fail;
@@ -246,20 +245,6 @@ fn a_running_time_is_that_since_its_beginning(rt: HostRuntime) -> Result<(), Fai
 }
 
 #[test]
-fn an_average_merged_with_itself_ends_at_the_greatest_count(rt: HostRuntime) {
-    let mut average = Average::default();
-    average += 0;
-    for _ in 0..63u32 {
-        assert!(rt; average.can_merge(&average));
-        let same = average;
-        average += same;
-    }
-    assert_eq!(rt; average.count(), 9_223_372_036_854_775_808);
-    assert!(rt; !average.can_merge(&average));
-    assert!(rt; average.can_add());
-}
-
-#[test]
 fn an_average_divides_by_the_whole_count(rt: HostRuntime) -> Result<(), Fail> {
     let mut average = AverageDuration::default();
     average += Duration::from_nanos(1);
@@ -270,73 +255,4 @@ fn an_average_divides_by_the_whole_count(rt: HostRuntime) -> Result<(), Fail> {
     }
     assert_eq!(rt; average.count(), 4_294_967_296);
     debugs(&rt, &average, "0.000000001s")
-}
-
-#[test]
-fn a_sum_of_durations_ends_at_the_longest(rt: HostRuntime) {
-    let mut average = AverageDuration::default();
-    average += Duration::MAX;
-    assert!(rt; average.can_add(Duration::ZERO));
-    assert!(rt; !average.can_add(Duration::from_nanos(1)));
-    let mut counted = CountedDuration::default();
-    counted += Duration::MAX;
-    assert!(rt; counted.can_add(Duration::ZERO));
-    assert!(rt; !counted.can_add(Duration::from_nanos(1)));
-    assert!(rt; !counted.can_merge(&counted));
-}
-
-#[test]
-fn successes_and_failures_are_bounded_together(rt: HostRuntime) {
-    let mut rate = SuccessRate::default();
-    rate.success();
-    let mut failures = SuccessRate::default();
-    failures.fail();
-    for _ in 0..63u32 {
-        assert!(rt; rate.can_merge(&rate));
-        let same = rate;
-        rate += same;
-        assert!(rt; failures.can_merge(&failures));
-        let same = failures;
-        failures += same;
-    }
-    assert_eq!(rt; rate.count(), 9_223_372_036_854_775_808);
-    assert_eq!(rt; failures.count(), 9_223_372_036_854_775_808);
-    assert!(rt; !rate.can_merge(&failures));
-    assert!(rt; rate.can_merge(&SuccessRate::default()));
-}
-
-// Whether a message is logged at a moment in nanoseconds.
-fn logs<R: Log>(logger: &mut IntervalLogger, rt: &R, nanos: u64, level: Level) -> bool {
-    logger.log(rt, Duration::from_nanos(nanos), level, &"tick")
-}
-
-#[test]
-fn logs_at_most_once_an_interval(rt: HostRuntime) {
-    let memory = Memory::new(rt.alloc());
-    let logged = Logged::new(rt, Level::Info, &memory);
-    let mut logger = IntervalLogger::with_default(Duration::ZERO);
-    assert!(rt; !logs(&mut logger, &logged, 9_999_999_999, Level::Info));
-    assert!(rt; logs(&mut logger, &logged, 10_000_000_000, Level::Info));
-    assert!(rt; !logs(&mut logger, &logged, 19_000_000_000, Level::Info));
-    // The level is not enabled, and the moment is moved all the same.
-    assert!(rt; logs(&mut logger, &logged, 20_000_000_000, Level::Debug));
-    assert!(rt; !logs(&mut logger, &logged, 29_999_999_999, Level::Info));
-    assert!(rt; logs(&mut logger, &logged, 30_000_000_000, Level::Error));
-    // A moment before the last is no time after it.
-    assert!(rt; !logs(&mut logger, &logged, 5_000_000_000, Level::Info));
-
-    let (_, _) = logged.into_parts();
-    let lines = memory.into_lines();
-    assert_eq!(rt; lines.len(), 2);
-    assert!(rt; lines.as_slice()[0].as_str() == "[INFO  giputils_stat::logger] tick");
-    assert!(rt; lines.as_slice()[1].as_str() == "[ERROR giputils_stat::logger] tick");
-}
-
-#[test]
-fn with_no_interval_each_message_is_logged(rt: HostRuntime) {
-    let memory = Memory::new(rt.alloc());
-    let mut logger = IntervalLogger::new(Duration::from_secs(10), Duration::ZERO);
-    assert!(rt; logs(&mut logger, &memory, 5_000_000_000, Level::Info));
-    assert!(rt; logs(&mut logger, &memory, 10_000_000_000, Level::Info));
-    assert_eq!(rt; memory.into_lines().len(), 2);
 }
