@@ -4,11 +4,11 @@ mod Copying
 mod Examples
 mod Following
 mod Heights
-mod Levels
 pub mod Literals
 mod Marking
 pub mod Places
 mod Ready
+mod Steps
 mod Stored
 mod Trailing
 mod Units

@@ -7,7 +7,7 @@ use Rattle.giputils_sat.specs.Literals.{Lit}
 use Rattle.giputils_sat.specs.Formulas.{Clause, Formula, Assignment, is_true, satisfies, Implies}
 use Rattle.giputils_sat.specs.Stores.{Known, AddsUnits, AreAmong}
 use Rattle.giputils_sat.specs.Trails.{IsTrail, decisions}
-use Rattle.giputils_sat.proofs.Levels.{reasoned}
+use Rattle.giputils_sat.proofs.Steps.{reasoned}
 use Rattle.giputils_sat.proofs.Places.{before_or_last}
 use Rattle.giputils_sat.proofs.Literals.{cases_literal, true_literal, satisfied_by, not_both}
 

@@ -2,7 +2,10 @@
 ghost use Rattle.std.specs.Prelude.{◌^◌, ◌<◌};
 
 use crate::activity::Activity;
+use crate::levels::Levels;
+use crate::literal::Literal;
 use crate::pace::Pace;
+use crate::trail::Trail;
 use crate::watches::Watches;
 use std::alloc::{AllocError, Allocator, Global};
 
@@ -42,6 +45,7 @@ impl Stats {
 pub(crate) struct Hints<A: Allocator = Global> {
     pub activity: Activity<A>,
     pub watches: Watches<A>,
+    pub levels: Levels<A>,
     pub pace: Pace,
     // How many of the root's literals were learned as clauses of their own, or need not be.
     pub units: usize,
@@ -54,6 +58,7 @@ impl<A: Allocator + Copy> Hints<A> {
         Ok(Hints {
             activity: Activity::new(alloc)?,
             watches: Watches::new(alloc),
+            levels: Levels::new(alloc),
             pace: Pace::new(),
             units: 0,
             stats,
@@ -79,14 +84,17 @@ impl<A: Allocator + Copy> Hints<A> {
         let Hints {
             activity,
             mut watches,
+            mut levels,
             pace,
             units,
             stats,
         } = self;
         watches.grow(alloc, count)?;
+        levels.grow(count)?;
         Ok(Hints {
             activity: activity.grown(count)?,
             watches,
+            levels,
             pace,
             units,
             stats,
@@ -98,6 +106,12 @@ impl<A: Allocator + Copy> Hints<A> {
         self.stats.conflicts = self.stats.conflicts.saturating_add(1);
         self.activity.decay();
         self.watches.decay();
+    }
+
+    // This clause was learned of a conflict. To be called before decisions are taken back.
+    pub(crate) fn note_learned(&mut self, trail: &Trail<A>, clause: &[Literal]) {
+        let levels = self.levels.count(trail, clause);
+        self.pace.note(levels);
     }
 
     // A variable was decided.

@@ -371,6 +371,7 @@ pub(crate) fn learn<A: Allocator + Copy>(
     }
     let place = database.len();
     database.learn(&learned)?;
+    hints.note_learned(trail, &learned);
     let pair = highest(trail, &learned);
     let level = level_at(trail, &learned, pair.second);
     trail.backtrack(level, &mut hints.activity);

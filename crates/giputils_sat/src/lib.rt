@@ -9,6 +9,7 @@ mod compact;
 mod database;
 mod hints;
 mod learn;
+mod levels;
 pub mod literal;
 mod marks;
 mod pace;

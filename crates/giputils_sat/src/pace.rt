@@ -1,18 +1,28 @@
 //! When to begin anew, and when to forget.
 
-// How many conflicts a unit of the restarts' sequence has.
-const UNIT: usize = 100;
+// How many conflicts there are between two restarts at the least.
+const LEAST_RUN: usize = 50;
+
+// How many of the last learned clauses count for most of their average.
+const LAST: u64 = 32;
+
+// The binary digits behind the point of an average.
+const DIGITS: u32 = 16;
 
 // How many learned clauses are watched at the least before some are forgotten.
 const LEAST_ROOM: usize = 500;
 
-// How many conflicts are left until all decisions are taken back. The runs between follow Luby's sequence,
-// 1, 1, 2, 1, 1, 2, 4, .., whose pairs Knuth's rule makes: each is a counter and the value that it has now.
+// When all decisions are taken back: where the clauses that were learned last have literals of many more levels than
+// all clauses that were learned so far, on average.
 #[derive(Clone, Copy)]
 pub(crate) struct Pace {
+    // How many conflicts are left until all decisions may be taken back.
     left: usize,
-    counter: u64,
-    run: usize,
+    // How many levels the literals of a learned clause are of: the sum, and the average of the last clauses.
+    levels: u64,
+    lately: u64,
+    // How many clauses those are.
+    clauses: u64,
     // How many learned clauses are watched, and how many may be before some are forgotten.
     pub learned: usize,
     room: usize,
@@ -24,24 +34,39 @@ impl Pace {
     // The first run.
     pub(crate) fn new() -> Self {
         Pace {
-            left: UNIT,
-            counter: 1,
-            run: 1,
+            left: LEAST_RUN,
+            levels: 0,
+            lately: 0,
+            clauses: 0,
             learned: 0,
             room: 0,
             growth: 0,
         }
     }
 
+    // A clause was learned whose literals are of so many levels.
+    pub(crate) fn note(&mut self, levels: u32) {
+        let levels = u64::from(levels) << DIGITS;
+        self.clauses = self.clauses.saturating_add(1);
+        self.levels = self.levels.saturating_add(levels);
+        let older = self.lately - self.lately / LAST;
+        self.lately = older.saturating_add(levels / LAST);
+    }
+
     // One conflict more. Whether it is time to take all decisions back.
     pub(crate) fn step(&mut self) -> bool {
         self.learned = self.learned.saturating_add(1);
-        if self.left > 1 {
-            self.left -= 1;
+        self.left = self.left.saturating_sub(1);
+        if self.left > 0 || !self.is_astray() {
             return false;
         }
-        self.turn();
+        self.left = LEAST_RUN;
         true
+    }
+
+    // Whether the last learned clauses have literals of more than 5/4 as many levels as all of them, on average.
+    fn is_astray(&self) -> bool {
+        self.lately - self.lately / 5 > self.levels / self.clauses.max(1)
     }
 
     // Whether some learned clauses are to be forgotten, when so many clauses are known and so many conflicts were met.
@@ -54,17 +79,5 @@ impl Pace {
             self.room = self.room.saturating_add(self.room / 10);
         }
         self.learned >= self.room
-    }
-
-    // The next run.
-    fn turn(&mut self) {
-        let lowest = self.counter & self.counter.wrapping_neg();
-        if lowest == self.run as u64 {
-            self.counter = self.counter.wrapping_add(1);
-            self.run = 1;
-        } else {
-            self.run = self.run.saturating_mul(2);
-        }
-        self.left = self.run.saturating_mul(UNIT);
     }
 }

@@ -5,7 +5,7 @@ use Rattle.std.proofs.lemmas.Grind.{common_steps}
 use Rattle.std.proofs.lemmas.Option.{slice_get_read, slice_get_within}
 use Rattle.giputils_sat.specs.Values.{value_of}
 use Rattle.giputils_sat.proofs.Assuming.{from_one}
-use Rattle.giputils_sat.proofs.Levels.{DecidesAmong-root}
+use Rattle.giputils_sat.proofs.Steps.{DecidesAmong-root}
 use Rattle.giputils_sat.proofs.Places.{none_then, same_at}
 use Rattle.giputils_sat.proofs.assume.assume_each.Goals as goal
 

@@ -4,7 +4,7 @@ use Rattle.std.proofs.lemmas.Bool.{false≢true}
 use Rattle.std.proofs.lemmas.Grind.{common_steps}
 use Rattle.std.proofs.lemmas.Option.{slice_get_read}
 use Rattle.giputils_sat.proofs.Marking.{ImpliesMarked-clause}
-use Rattle.giputils_sat.proofs.Levels.{DecidesAmong-root}
+use Rattle.giputils_sat.proofs.Steps.{DecidesAmong-root}
 use Rattle.giputils_sat.proofs.Trailing.{AreUndone-conflict}
 use Rattle.giputils_sat.proofs.learn.resolve.Goals as goal
 

@@ -2,7 +2,7 @@ use Rattle.std.proofs.Common.{◌<◌, ◌∙◌, length, List, subst, arith}
 use Rattle.std.proofs.lemmas.Grind.{common_steps}
 use Rattle.giputils_sat.specs.declared.trail.Step.{Step}
 use Rattle.giputils_sat.specs.Trails.{IsTrail}
-use Rattle.giputils_sat.proofs.Levels.{decisions_within}
+use Rattle.giputils_sat.proofs.Steps.{decisions_within}
 use Rattle.giputils_sat.proofs.Trailing.{IsTrail-popped}
 use Rattle.giputils_sat.proofs.trail.Trail.backtrack.Goals as goal
 

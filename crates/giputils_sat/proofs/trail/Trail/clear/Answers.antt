@@ -1,5 +1,5 @@
 use Rattle.std.proofs.Common.{length, refl}
-use Rattle.giputils_sat.proofs.Levels.{full-none}
+use Rattle.giputils_sat.proofs.Steps.{full-none}
 use Rattle.giputils_sat.proofs.Places.{none_some}
 use Rattle.giputils_sat.proofs.trail.Trail.clear.Goals as goal
 

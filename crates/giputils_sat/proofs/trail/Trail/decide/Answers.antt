@@ -1,6 +1,6 @@
 use Rattle.std.proofs.Common.{◌∙◌, sym, arith, Some, None}
 use Rattle.std.proofs.lemmas.List.{length-set}
-use Rattle.giputils_sat.proofs.Levels.{AreValued-pushed, AreOnce-pushed, decisions-pushed, full-pushed}
+use Rattle.giputils_sat.proofs.Steps.{AreValued-pushed, AreOnce-pushed, decisions-pushed, full-pushed}
 use Rattle.giputils_sat.proofs.Valued.{unset-assigned}
 use Rattle.giputils_sat.proofs.trail.Trail.decide.Goals as goal
 

@@ -1,6 +1,6 @@
 use Rattle.std.proofs.Common.{◌≡◌, ◌++◌, ◌-◌, take, replicate, None, length}
 use Rattle.giputils_sat.specs.Trails.{Extends}
-use Rattle.giputils_sat.proofs.Levels.{AreValued-longer, full-longer, take_all}
+use Rattle.giputils_sat.proofs.Steps.{AreValued-longer, full-longer, take_all}
 use Rattle.giputils_sat.proofs.Trailing.{Extends-resized, IsTrail-resized}
 use Rattle.giputils_sat.proofs.trail.Trail.grown.Goals as goal
 

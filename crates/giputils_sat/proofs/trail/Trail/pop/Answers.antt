@@ -3,7 +3,7 @@ use Rattle.std.proofs.lemmas.Grind.{common_steps}
 use Rattle.std.proofs.lemmas.List.{length-set}
 use Rattle.giputils_sat.specs.Trails.{AreValued, AreOnce, decisions}
 use Rattle.giputils_sat.specs.Values.{unset}
-use Rattle.giputils_sat.proofs.Levels.{AreValued-popped, AreOnce-popped, decisions-pushed, full-popped, within-true}
+use Rattle.giputils_sat.proofs.Steps.{AreValued-popped, AreOnce-popped, decisions-pushed, full-popped, within-true}
 use Rattle.giputils_sat.proofs.Places.{stands_last}
 use Rattle.giputils_sat.proofs.trail.Trail.pop.Goals as goal
 
