@@ -6,6 +6,7 @@ use Rattle.giputils_sat.specs.Formulas.{Formula, Assignment, satisfies_clause, s
 use Rattle.giputils_sat.specs.Marked.{is_marked}
 use Rattle.giputils_sat.specs.Values.{value_of, unset}
 use Rattle.giputils_sat.specs.Stores.{clauses_of, given_among}
+use Rattle.giputils_sat.specs.Under.{IsCore, IsSatisfiableUnder, makes_true}
 
 abbrev yes : ℕ → Lit
 yes v = record { variable = v; positive = true }
@@ -102,3 +103,32 @@ other_variable = refl
 -- of three clauses the second was learned
 given_ones : given_among (true ∷ false ∷ true ∷ []) ((yes 0 ∷ []) ∷ (yes 1 ∷ []) ∷ [] ∷ []) ≡ (yes 0 ∷ []) ∷ [] ∷ []
 given_ones = refl
+
+-- a list of literals, all of which are true, or not
+makes_both_true : makes_true second (yes 1 ∷ not_ 0 ∷ []) ≡ true
+makes_both_true = refl
+
+makes_true_refused : makes_true second (yes 1 ∷ yes 0 ∷ []) ≡ false
+makes_true_refused = refl
+
+makes_none_true : (a : Assignment) → makes_true a [] ≡ true
+makes_none_true a = refl
+
+two_is_satisfiable_under : IsSatisfiableUnder two (yes 1 ∷ not_ 0 ∷ [])
+two_is_satisfiable_under = (second, refl, refl)
+
+-- not x1 can't be assumed; x0 can
+core : IsCore two (yes 0 ∷ not_ 1 ∷ []) (not_ 1 ∷ [])
+core = record {
+  among = λ l has. (suc has.0, has.1);
+  refuted = λ sat. by_values (sat.0 0) (sat.0 1) sat.1 sat.2;
+}
+  where
+    by_values : (b c : Bool) → satisfies (λ v. elim v [ zero ↦ b | suc n ↦ c ]) two ≡ true
+        → makes_true (λ v. c) (not_ 1 ∷ []) ≡ true → ⊥
+    by_values b true all is = false≢true is
+    by_values true false all is = false≢true all
+    by_values false false all is = false≢true all
+
+core_refused : IsCore two (yes 0 ∷ not_ 1 ∷ []) (yes 0 ∷ []) → ⊥
+core_refused is = is.refuted ((λ v. true), refl, refl)

@@ -18,7 +18,7 @@ pub(crate) enum Said {
 }
 
 // The literal of a number.
-fn literal(number: i32) -> Literal {
+pub(crate) fn literal(number: i32) -> Literal {
     Literal::new(number.unsigned_abs().min(1_000_000), number > 0)
 }
 
@@ -41,7 +41,7 @@ pub(crate) fn add_all<A: Allocator + Copy>(
 }
 
 // Whether each clause has a true literal.
-fn satisfies(model: &[bool], formula: &[i32]) -> bool {
+pub(crate) fn satisfies(model: &[bool], formula: &[i32]) -> bool {
     let mut holds = false;
     for number in formula {
         if *number != 0 {

@@ -1,6 +1,7 @@
 //! Solvers that are refused memory.
 
 use crate::formulas::{Said, add_all, said_of, say};
+use crate::under::{SaidUnder, said_under};
 use giputils_refusing::{Refusing, refuse_each, refuse_from_each};
 use giputils_sat::{Answer, Literal, Solver};
 use std::alloc::AllocError;
@@ -66,6 +67,14 @@ fn is_answered_when_closed_up(memory: &Refusing) -> bool {
     said_when_closed_up(memory) == Ok(Said::Unsat)
 }
 
+fn is_refuted_under(memory: &Refusing) -> bool {
+    said_under(
+        memory,
+        &[1, 2, -9, 0, -1, 2, 0, 1, -2, 0, -1, -2, 0],
+        &[8, 9],
+    ) == Ok(SaidUnder::Unsat(1))
+}
+
 // How many requests an answer takes is open. A model is collected, and `collect` asks again.
 #[test]
 fn each_request_of_a_solver_is_refused_in_turn(rt: HostRuntime) {
@@ -74,6 +83,10 @@ fn each_request_of_a_solver_is_refused_in_turn(rt: HostRuntime) {
         ("asked once more", refuse_each(alloc, is_answered_at_last)),
         ("sat", refuse_from_each(alloc, is_found_satisfied)),
         ("unsat", refuse_from_each(alloc, is_found_unsatisfied)),
+        (
+            "under assumptions",
+            refuse_from_each(alloc, is_refuted_under),
+        ),
         (
             "closed up",
             refuse_from_each(alloc, is_answered_when_closed_up),

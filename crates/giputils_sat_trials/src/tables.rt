@@ -1,9 +1,11 @@
-//! All formulas of at most four clauses over three variables, against tables of truth.
+//! All formulas of at most four clauses over three variables, and those of two under assumptions, against tables of
+//! truth.
 //!
 //! A clause is a number below 27, whose three digits to base 3 tell of each variable whether the clause has it (1), has
 //! its negation (2), or neither. The table of a formula has a bit for each of the eight assignments.
 
 use crate::formulas::{Said, add_all, say};
+use crate::under::{SaidUnder, say_under};
 use giputils_sat::Solver;
 use std::alloc::{AllocError, Global};
 
@@ -80,4 +82,70 @@ fn first_fault(alloc: Global) -> Result<Option<[u32; 4]>, AllocError> {
 #[test]
 fn formulas_over_three_variables_answer_as_their_tables(rt: HostRuntime) {
     assert_eq!(rt; first_fault(rt.alloc()), Ok(None));
+}
+
+// The assignments that make the literals of a clause all true.
+fn table_of_all(clause: u32) -> u8 {
+    let [a, b, c] = digits(clause);
+    row_of_all(a, 0b1010_1010) & row_of_all(b, 0b1100_1100) & row_of_all(c, 0b1111_0000)
+}
+
+// The same of one variable.
+fn row_of_all(digit: u32, true_ones: u8) -> u8 {
+    match digit {
+        0 => 0xff,
+        _ => row(digit, true_ones),
+    }
+}
+
+// Whether the answer under assumptions, which are the literals of a clause, is that of the table.
+fn is_as_the_table_under(
+    alloc: Global,
+    solver: &mut Solver,
+    formula: &[i32],
+    models: u8,
+    assumed: u32,
+) -> Result<bool, AllocError> {
+    let mut assumptions = Vec::new(alloc);
+    push(&mut assumptions, assumed)?;
+    assumptions.pop();
+    let said = say_under(alloc, solver, formula, &assumptions, 100)?;
+    Ok(if models & table_of_all(assumed) == 0 {
+        matches!(said, SaidUnder::Unsat(_))
+    } else {
+        said == SaidUnder::Sat
+    })
+}
+
+// The first assumptions under which the answer to two clauses is wrong, where one solver is asked under all of them.
+fn first_fault_of_two(alloc: Global, a: u32, b: u32) -> Result<Option<u32>, AllocError> {
+    let mut formula = Vec::new(alloc);
+    push(&mut formula, a)?;
+    push(&mut formula, b)?;
+    let mut solver = Solver::new(alloc);
+    add_all(alloc, &mut solver, &formula)?;
+    let models = table(a) & table(b);
+    for assumed in 0..CLAUSES {
+        if !is_as_the_table_under(alloc, &mut solver, &formula, models, assumed)? {
+            return Ok(Some(assumed));
+        }
+    }
+    Ok(None)
+}
+
+// The first two clauses, in rising order, and assumptions under which an answer is wrong.
+fn first_fault_under(alloc: Global) -> Result<Option<[u32; 3]>, AllocError> {
+    for a in 0..CLAUSES {
+        for b in a..CLAUSES {
+            if let Some(assumed) = first_fault_of_two(alloc, a, b)? {
+                return Ok(Some([a, b, assumed]));
+            }
+        }
+    }
+    Ok(None)
+}
+
+#[test]
+fn two_clauses_under_assumptions_answer_as_their_tables(rt: HostRuntime) {
+    assert_eq!(rt; first_fault_under(rt.alloc()), Ok(None));
 }
