@@ -1,4 +1,5 @@
 mod Examples
+mod Followed
 mod Gathered
 mod Held
 mod Multiples
@@ -7,5 +8,6 @@ mod Picked
 mod Reaching
 mod Searches
 mod SmallSets
+mod Unrolling
 mod Worklists
 mod Written

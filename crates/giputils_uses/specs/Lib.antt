@@ -1,5 +1,6 @@
 -- What the contracts of the uses speak of.
 pub mod Activity
+pub mod Bounded
 pub mod Clock
 pub mod Compaction
 pub mod Drained
@@ -9,4 +10,5 @@ pub mod Ranked
 pub mod Reachable
 pub mod Rows
 pub mod SmallSet
+pub mod Unrolled
 pub mod Worklist

@@ -3,6 +3,7 @@
 #![tactic(auto)]
 
 pub mod activity;
+pub mod bounded;
 pub mod compaction;
 pub mod drain;
 pub mod last;
