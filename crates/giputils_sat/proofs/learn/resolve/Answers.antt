@@ -37,5 +37,9 @@ loop-place-preserved g c =
     record {
       len = c.exchange.ensures.len ∙ c.loop-place.invariant.len;
       follows = c.in_ok-exchange.ensures.follows;
-      root = λ none. c.in_ok-exchange.ensures.undoes [] (c.loop-place.place - 1) c.requires.trail at (DecidesAmong-root [] c.args.trail.now.steps.items (sym c.args.trail.now.levels ∙ ap length none) (c.loop-place.place - 1) c.index-step.result.now at) (rw again (c.loop-place.invariant.root none));
+      root = λ none.
+          let trail = c.args.trail.now in
+          let decided = DecidesAmong-root [] c.args.trail.now.steps.items (sym c.args.trail.now.levels ∙ ap length none) in
+          c.in_ok-exchange.ensures.undoes [] (c.loop-place.place - 1) c.requires.trail at (decided (c.loop-place.place - 1) c.index-step.result.now at)
+          (rw again (c.loop-place.invariant.root none));
     }
