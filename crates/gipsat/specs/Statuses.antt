@@ -20,7 +20,7 @@ abbrev pub solving_status : Result Verdict DimacsError → ℕ
 solving_status (Ok verdict) = verdict_status verdict
 solving_status (Err error) = refused_status
 
--- of a check: 0 for a proof alone that is verified
+-- of a check: 0 for a verified proof alone
 abbrev pub checking_status : Result Outcome DratError → ℕ
 checking_status (Ok Verified) = 0
 checking_status (Ok (Refused refusal)) = refused_status

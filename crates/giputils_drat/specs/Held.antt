@@ -37,11 +37,11 @@ StaysWith clause old new = (f : Formula) → Follow f old → Implies f clause �
 abbrev pub Refutes : Held → Type 0
 Refutes held = (f : Formula) → Follow f held → ¬ (IsSatisfiable f)
 
--- the clause is held beside those of before
+-- the clause is held behind those of before
 abbrev pub HoldsAlso : Clause → Held → Held → Type 0
 HoldsAlso clause old new = new.clauses ≡ old.clauses ++ clause ∷ []
 
--- the clauses are those of before, or the clause is held beside them
+-- the clauses are those of before, or the clause is held behind them
 abbrev pub HoldsAtMost : Clause → Held → Held → Type 0
 HoldsAtMost clause old new = (new.clauses ≡ old.clauses) ⊎ HoldsAlso clause old new
 

@@ -14,26 +14,34 @@ const RIGHT: &[u8] = b"2 1 0\nd 1 2 3 0\nd 1 2 -3 0\n1 0\nd 2 1 0\n2 0\n";
 // Its second clause is not shown.
 const WRONG: &[u8] = b"1 2 0\n-3 0\n";
 
-// Whether a proof is checked to its end, which it is unless memory was refused and nothing was written.
-fn is_checked(memory: &Refusing, proof: &[u8], verified: bool) -> bool {
+// Whether a check ends otherwise than by refused memory with nothing written. A wrong outcome is no refusal.
+fn is_checked(memory: &Refusing, proof: &[u8]) -> bool {
     let mut formula = FORMULA;
     let mut proof = proof;
     let mut writer = Vec::new(memory);
-    match check_text(memory, &mut formula, &mut proof, &mut writer) {
-        Ok(outcome) => matches!(outcome, Outcome::Verified) == verified,
-        Err(DratError::Memory | DratError::Formula(DimacsError::Memory) | DratError::Output) => {
-            !writer.is_empty()
-        }
-        Err(_) => true,
-    }
+    let outcome = check_text(memory, &mut formula, &mut proof, &mut writer);
+    let refused = matches!(
+        outcome,
+        Err(DratError::Memory | DratError::Formula(DimacsError::Memory) | DratError::Output)
+    );
+    !(refused && writer.is_empty())
 }
 
-fn is_verified(memory: &Refusing) -> bool {
-    is_checked(memory, RIGHT, true)
+fn is_right_checked(memory: &Refusing) -> bool {
+    is_checked(memory, RIGHT)
 }
 
-fn is_refused(memory: &Refusing) -> bool {
-    is_checked(memory, WRONG, false)
+fn is_wrong_checked(memory: &Refusing) -> bool {
+    is_checked(memory, WRONG)
+}
+
+// Whether a proof is verified.
+fn is_verified(memory: &Refusing, proof: &[u8]) -> bool {
+    let mut formula = FORMULA;
+    let mut proof = proof;
+    let mut writer = Vec::new(memory);
+    let outcome = check_text(memory, &mut formula, &mut proof, &mut writer);
+    matches!(outcome, Ok(Outcome::Verified))
 }
 
 // How many requests a check takes is open.
@@ -41,8 +49,8 @@ fn is_refused(memory: &Refusing) -> bool {
 fn each_refused_request_stops_a_check_unwritten(rt: HostRuntime) {
     let alloc = rt.alloc();
     let outcomes = [
-        ("verified", refuse_each(alloc, is_verified)),
-        ("refused", refuse_each(alloc, is_refused)),
+        ("verified", refuse_each(alloc, is_right_checked)),
+        ("refused", refuse_each(alloc, is_wrong_checked)),
     ];
     for (proof, outcome) in outcomes {
         assert!(rt;
@@ -50,4 +58,11 @@ fn each_refused_request_stops_a_check_unwritten(rt: HostRuntime) {
             "{proof}: {outcome:?}"
         );
     }
+}
+
+#[test]
+fn with_all_memory_the_right_proof_alone_is_verified(rt: HostRuntime) {
+    let memory = Refusing::none(rt.alloc());
+    assert!(rt; is_verified(&memory, RIGHT));
+    assert!(rt; !is_verified(&memory, WRONG));
 }

