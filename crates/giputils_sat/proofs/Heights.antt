@@ -26,6 +26,10 @@ height_longer zero steps more = omega arith
 height_longer (suc n) [] more = omega arith
 height_longer (suc n) (s ∷ steps) more = let rest = height_longer n steps more in omega (arith, rest)
 
+-- a literal more
+pub height_pushed : (n m : ℕ) (old new : List Step) (s : Step) → m ≡ n → new ≡ old ++ s ∷ [] → height n old ≤ height m new
+height_pushed n m old new s same more = rw (same, more) (height_longer n old (s ∷ []))
+
 -- a literal with a reason where a decision stood
 pub height_implied : (n : ℕ) (steps rest : List Step) (d s : Step) (r : ℕ) → d.reason ≡ None → s.reason ≡ Some r
     → length steps < n
