@@ -11,7 +11,7 @@ use Rattle.giputils_sat.specs.Jumps.{IsDecided, IsJump, Jumps}
 use Rattle.giputils_sat.specs.Marked.{AreAmong, AreMarked, ImpliesMarked, KeepsBut, LosesAtLeast, NoneMarked}
 use Rattle.giputils_sat.specs.Trails.{AreOnce, AreUndone, HasReason, IsTrail, Stands, decisions}
 use Rattle.giputils_sat.specs.Values.{value_of}
-use Rattle.giputils_sat.proofs.Heights.{height_below}
+use Rattle.giputils_sat.proofs.Heights.{height_implied}
 use Rattle.giputils_sat.proofs.Literals.{cases_literal}
 use Rattle.giputils_sat.proofs.Marking.{Implies-among}
 use Rattle.giputils_sat.proofs.Places.{before_or_last, each_push, none_some, same_at, same_some, stands_last, stays_before}
@@ -108,19 +108,6 @@ jump_at steps clause start place l (m, jump) read =
     subst (IsJump steps clause start place)
     (same_some m l (sym jump.at ∙ slice_get_read clause (length clause) place l refl within read)) jump
 
-higher : (n : ℕ) (steps : List Step) (start : ℕ) (d s : Step) (r : ℕ) → slice_get steps start ≡ Some d → d.reason ≡ None
-    → s.reason ≡ Some r → start < n → height n steps < height n (take start steps ++ s ∷ [])
-higher zero steps start d s r at decided implied less = absurd (omega (arith, less))
-higher (suc n) [] start d s r at decided implied less = none_some d at
-higher (suc n) (t ∷ steps) zero d s r at decided implied less =
-    let decided : t.reason ≡ None = ap (λ (x : Step). x.reason) (same_some t d at) ∙ decided in
-    let below = height_below n steps in
-    let least : 0 ≤ height n [] = omega arith in
-    rw (decided, implied) (omega (arith, below, least))
-higher (suc n) (t ∷ steps) (suc start) d s r at decided implied less =
-    let rest = higher n steps start d s r at decided implied (omega (arith, less)) in
-    omega (arith, rest)
-
 -- a jump leads higher
 pub height-jump : (n m : ℕ) (steps new : List Step) (clause : Clause) (start place : ℕ) (l : Lit) (r : ℕ) → m ≡ n
     → new ≡ take start steps ++ record { literal = l; reason = Some r } ∷ [] → length steps ≤ n
@@ -128,7 +115,7 @@ pub height-jump : (n m : ℕ) (steps new : List Step) (clause : Clause) (start p
 height-jump n m steps new clause start place l r same is within jump =
     let inside = slice_get_within steps start jump.decided.0 jump.decided.1 in
     rw (same, is)
-    (higher n steps start jump.decided.0 record { literal = l; reason = Some r } r jump.decided.1 jump.decided.2 refl (omega (arith, inside, within)))
+    (height_implied n steps start jump.decided.0 record { literal = l; reason = Some r } r jump.decided.1 jump.decided.2 refl (omega (arith, inside, within)))
 
 -- of a decision that all that is marked rests on, and the other marked literals
 module _ (steps : List Step) (before after : List Bool) (others : Clause) (place : ℕ) (s : Step) where
