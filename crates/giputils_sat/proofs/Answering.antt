@@ -4,7 +4,7 @@ use Rattle.std.proofs.Math.Path.{fun_ext}
 use Rattle.std.specs.Prelude.{slice_get}
 use Rattle.std.proofs.lemmas.Bool.{false≢true, and_from, and_parts}
 use Rattle.giputils_sat.specs.Literals.{Lit}
-use Rattle.giputils_sat.specs.Under.{makes_true, IsCore, IsModelUnder, IsRightTurn, IsRightUnder}
+use Rattle.giputils_sat.specs.Under.{makes_true, IsCore, IsModelUnder, IsRightTurn, IsRightUnder, IsRightWithin}
 use Rattle.giputils_sat.specs.declared.solver.AnswerUnder.{AnswerUnder}
 use Rattle.giputils_sat.specs.declared.solver.AnswerUnder.TheVariants.{Sat, Unsat, Unknown}
 use Rattle.giputils_sat.specs.Stores.{Known}
@@ -40,6 +40,22 @@ pub right_at_limit : {A : Type 0} (assumed : List Lit) (first old new : Known) (
 right_at_limit assumed first old new limit (Sat model) same right = subst (λ f. IsModelUnder f assumed model.items) same (right limit)
 right_at_limit assumed first old new limit (Unsat core) same right = subst (λ f. IsCore f assumed core.items) same (right limit)
 right_at_limit assumed first old new limit Unknown same right = absurd (omega (arith, right 0, right 1))
+
+-- of one formula, and with as many learned clauses
+right_since : {A : Type 0} (assumed : List Lit) (first old new : Known) (limit : ℕ) (answer : AnswerUnder A)
+    → old.formula ≡ first.formula → old.learned ≡ first.learned → IsRightUnder assumed old new limit answer
+    → IsRightUnder assumed first new limit answer
+right_since assumed first old new limit (Sat model) same learned right = subst (λ f. IsModelUnder f assumed model.items) same right
+right_since assumed first old new limit (Unsat core) same learned right = subst (λ f. IsCore f assumed core.items) same right
+right_since assumed first old new limit Unknown same learned right = omega (arith, learned, right)
+
+pub right_within_since : {A : Type 0} (assumed : List Lit) (first old new : Known) (limit : Option ℕ) (answer : AnswerUnder A)
+    → old.formula ≡ first.formula → old.learned ≡ first.learned → IsRightWithin assumed old new limit answer
+    → IsRightWithin assumed first new limit answer
+right_within_since assumed first old new (Some limit) answer same learned right =
+    right_since assumed first old new limit answer same learned right
+right_within_since assumed first old new None answer same learned right = λ limit.
+    right_since assumed first old new limit answer same learned (right limit)
 
 -- literals each of which is true, all at once
 pub makes_true-each : (a : Assignment) (literals : List Lit) → ((l : Lit) → Has literals l → is_true a l ≡ true)

@@ -6,6 +6,8 @@ use Rattle.giputils_sat.specs.Formulas.{Formula, Assignment, satisfies_clause, s
 use Rattle.giputils_sat.specs.Marked.{is_marked}
 use Rattle.giputils_sat.specs.Values.{value_of, unset}
 use Rattle.giputils_sat.specs.Stores.{clauses_of, given_among}
+use Rattle.giputils_sat.specs.Answers.{IsModel}
+use Rattle.giputils_sat.specs.Heights.{height}
 use Rattle.giputils_sat.specs.Under.{IsCore, IsSatisfiableUnder, makes_true}
 
 abbrev yes : ℕ → Lit
@@ -132,3 +134,20 @@ core = record {
 
 core_refused : IsCore two (yes 0 ∷ not_ 1 ∷ []) (yes 0 ∷ []) → ⊥
 core_refused is = is.refuted ((λ v. true), refl, refl)
+
+-- one of two variables is decided, and the other follows: one and two, to the base 3
+height_of_both : height 2 (record { literal = yes 0; reason = None } ∷ record { literal = yes 1; reason = Some 0 } ∷ []) ≡ 5
+height_of_both = refl
+
+-- that it follows without a decision is higher, however many are decided before
+height_of_one : height 2 (record { literal = yes 1; reason = Some 0 } ∷ []) ≡ 6
+height_of_one = refl
+
+height_of_decisions : height 2 (record { literal = yes 0; reason = None } ∷ record { literal = yes 1; reason = None } ∷ []) ≡ 4
+height_of_decisions = refl
+
+model : IsModel two (false ∷ true ∷ [])
+model = refl
+
+model_refused : IsModel two (true ∷ []) → ⊥
+model_refused is = false≢true is

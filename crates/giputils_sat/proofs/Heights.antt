@@ -1,7 +1,11 @@
 -- The trail as a number: longer ones are higher, and so is one with a reason where a decision stood.
-use Rattle.std.proofs.Common.{◌≡◌, ℕ, ◌+◌, ◌<◌, ◌≤◌, List, [], ◌∷◌, ◌++◌, length, Option, Some, None, suc, zero, arith}
+use Rattle.std.proofs.Common.{◌≡◌, ℕ, ◌+◌, ◌<◌, ◌≤◌, List, [], ◌∷◌, ◌++◌, length, take, Option, Some, None, suc, zero, sym, ap, subst, ◌∙◌, ◌*◌, ◌-◌, ◌⊎◌, ⊎_elim, arith}
+use Rattle.std.specs.Prelude.{slice_get}
 use Rattle.giputils_sat.specs.declared.trail.Step.{Step}
 use Rattle.giputils_sat.specs.Heights.{threes, digit, height}
+use Rattle.giputils_sat.specs.declared.trail.Trail.{Trail}
+use Rattle.giputils_sat.specs.Trailed.{GoesOn, distance, reach}
+use Rattle.giputils_sat.proofs.Places.{none_some, same_some}
 
 threes_positive : (n : ℕ) → 1 ≤ threes n
 threes_positive zero = omega arith
@@ -26,15 +30,48 @@ height_longer zero steps more = omega arith
 height_longer (suc n) [] more = omega arith
 height_longer (suc n) (s ∷ steps) more = let rest = height_longer n steps more in omega (arith, rest)
 
--- a literal with a reason where a decision stood
-pub height_implied : (n : ℕ) (steps rest : List Step) (d s : Step) (r : ℕ) → d.reason ≡ None → s.reason ≡ Some r
-    → length steps < n
-    → height n (steps ++ d ∷ rest) < height n (steps ++ s ∷ [])
-height_implied zero steps rest d s r decided implied within = absurd (omega (arith, within))
-height_implied (suc n) [] rest d s r decided implied within =
-    let less = height_below n rest in
+-- a literal more
+pub height_pushed : (n m : ℕ) (old new : List Step) (s : Step) → m ≡ n → new ≡ old ++ s ∷ [] → height n old ≤ height m new
+height_pushed n m old new s same more = rw (same, more) (height_longer n old (s ∷ []))
+
+-- a literal with a reason where a decision stood, whatever followed
+pub height_implied : (n : ℕ) (steps : List Step) (start : ℕ) (d s : Step) (r : ℕ) → slice_get steps start ≡ Some d → d.reason ≡ None
+    → s.reason ≡ Some r → start < n → height n steps < height n (take start steps ++ s ∷ [])
+height_implied zero steps start d s r at decided implied less = absurd (omega (arith, less))
+height_implied (suc n) [] start d s r at decided implied less = none_some d at
+height_implied (suc n) (t ∷ steps) zero d s r at decided implied less =
+    let decided : t.reason ≡ None = ap (λ (x : Step). x.reason) (same_some t d at) ∙ decided in
+    let below = height_below n steps in
     let least : 0 ≤ height n [] = omega arith in
-    rw (decided, implied) (omega (arith, less, least))
-height_implied (suc n) (t ∷ steps) rest d s r decided implied within =
-    let higher = height_implied n steps rest d s r decided implied (omega (arith, within)) in
-    omega (arith, higher)
+    rw (decided, implied) (omega (arith, below, least))
+height_implied (suc n) (t ∷ steps) (suc start) d s r at decided implied less =
+    let rest = height_implied n steps start d s r at decided implied (omega (arith, less)) in
+    omega (arith, rest)
+
+-- a search is nearer to its end with one restart less, or farther on; each number is below 3 to the power n
+pub nearer : (n left now h k : ℕ) → h < threes n → k < threes n → (now + 1 ≡ left) ⊎ ((now ≡ left) × (h < k))
+    → now * threes n + (threes n - k) < left * threes n + (threes n - h)
+nearer n left now h k below less one =
+    ⊎_elim
+    (λ fewer.
+    let more : left * threes n ≡ now * threes n + threes n = ap (λ m. m * threes n) (sym fewer) ∙ add_one now (threes n) in
+    omega (arith, more, below, less))
+    (λ rises.
+    let same = ap (λ m. m * threes n) rises.0 in
+    let farther = rises.1 in
+    omega (arith, same, farther, below, less))
+    one
+  where
+    add_one : (m p : ℕ) → (m + 1) * p ≡ m * p + p
+    add_one m p = omega arith
+
+-- a search that goes on
+pub distance_less : {A : Type 0} (left now : ℕ) (old new : Trail A) → length new.values.items ≡ length old.values.items
+    → GoesOn left now old new → distance now new < distance left old
+distance_less left now old new same goes_on =
+    let n = length old.values.items in
+    let base : threes (length new.values.items) ≡ threes (length old.values.items) = ap threes same in
+    let below = height_below n old.steps.items in
+    let less : reach new < threes (length old.values.items) = rw (sym base) (height_below (length new.values.items) new.steps.items) in
+    subst (λ t. now * t + (t - reach new) < left * threes n + (threes n - reach old)) (sym base)
+    (nearer n left now (reach old) (reach new) below less goes_on)

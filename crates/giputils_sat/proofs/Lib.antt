@@ -4,6 +4,7 @@ mod Copying
 mod Examples
 mod Following
 mod Heights
+mod Jumping
 pub mod Literals
 mod Marking
 pub mod Places

@@ -9,7 +9,7 @@ use Rattle.giputils_sat.specs.Literals.{Lit}
 use Rattle.giputils_sat.specs.declared.trail.Step.{Step}
 use Rattle.giputils_sat.specs.Formulas.{Clause}
 use Rattle.giputils_sat.specs.Values.{value_of, unset}
-use Rattle.giputils_sat.specs.Trails.{AreValued, AreOnce, DecidesAmong, Extends, decision, decisions}
+use Rattle.giputils_sat.specs.Trails.{AreValued, AreOnce, DecidesAmong, decision, decisions}
 use Rattle.giputils_sat.proofs.Places.{none_some, same_some, stays_before, stands_last, before_or_last}
 use Rattle.giputils_sat.proofs.Valued.{unset-assigned}
 use Rattle.giputils_sat.proofs.Trailing.{Extends-set, some_value, no_value, beq_same, value_at, value_other}

@@ -217,7 +217,7 @@ negated_twice l = ap (λ p. record { variable = l.variable; positive = p }) (twi
     twice true = refl
     twice false = refl
 
-stands_before : (steps : List Step) (i : ℕ) (step : Step) (m : Lit) → slice_get steps i ≡ Some step
+pub stands_before : (steps : List Step) (i : ℕ) (step : Step) (m : Lit) → slice_get steps i ≡ Some step
     → Stands steps (negated m) (i + 1) → m ≢ negated step.literal → Stands steps (negated m) i
 stands_before steps i step m at (j, s, before, there, is) other =
     ⊎_elim (λ earlier. (j, s, earlier, there, is))

@@ -10,4 +10,5 @@ pub mod Answers
 pub mod Trails
 pub mod Trailed
 pub mod Under
+pub mod Jumps
 pub mod Obstacles

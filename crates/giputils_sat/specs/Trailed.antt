@@ -1,9 +1,10 @@
 -- The trail of a search, as its own calls state it.
-use Rattle.std.specs.Prelude.{◌≡◌, ℕ, ◌+◌, ◌*◌, ◌≤◌, [], Bool, List, length, slice_get, Option, Some, None, IfSome, IfNone}
+use Rattle.std.specs.Prelude.{◌≡◌, ℕ, ◌+◌, ◌-◌, ◌*◌, ◌<◌, ◌≤◌, ◌⊎◌, Bool, List, length, slice_get, Option, Some, None, IfSome, IfNone}
 use Rattle.giputils_sat.specs.declared.trail.Step.{Step}
 use Rattle.giputils_sat.specs.declared.trail.Trail.{Trail}
 use Rattle.giputils_sat.specs.Formulas.{Clause, Formula, Has}
 use Rattle.giputils_sat.specs.Trails.{IsTrail, IsConflict, AreUndone, DecidesAmong}
+use Rattle.giputils_sat.specs.Heights.{height, threes}
 use Rattle.giputils_sat.specs.Marked.{NoneMarked}
 use Rattle.giputils_sat.specs.Stores.{Known}
 use Rattle.giputils_sat.specs.Values.{unset, IsModelOf}
@@ -36,6 +37,22 @@ KeepsDecisions old new =
 -- how many variables have no value or stand in the trail
 abbrev pub total : {A : Type 0} → Trail A → ℕ
 total t = unset t.values.items + length t.steps.items
+
+-- how far a search has come: its trail as a number of as many digits as there are variables
+abbrev pub reach : {A : Type 0} → Trail A → ℕ
+reach t = height (length t.values.items) t.steps.items
+
+-- one less is left, or as many and this is so
+abbrev pub OneLessOr : ℕ → ℕ → Type 0 → Type 0
+OneLessOr old new P = (new + 1 ≡ old) ⊎ ((new ≡ old) × P)
+
+-- one restart less is left, or as many and the search has come farther
+abbrev pub GoesOn : {A : Type 0} → ℕ → ℕ → Trail A → Trail A → Type 0
+GoesOn left now old new = OneLessOr left now (reach old < reach new)
+
+-- an upper bound of how many conflicts are still met, where so many restarts are left
+abbrev pub distance : {A : Type 0} → ℕ → Trail A → ℕ
+distance left t = left * threes (length t.values.items) + (threes (length t.values.items) - reach t)
 
 -- at a step with a reason, or one that is assumed: where all that was marked is undone before the step's end, what is
 -- marked now is undone before the step

@@ -36,3 +36,8 @@ IsRightUnder assumed old new limit Unknown = HasMore limit old new
 abbrev pub IsRightTurn : {A : Type 0} → List Lit → Known → Known → Option (AnswerUnder A) → Type 0
 IsRightTurn assumed old new (Some answer) = (limit : ℕ) → IsRightUnder assumed old new limit answer
 IsRightTurn assumed old new None = HasMore 1 old new
+
+-- within a limit, or whatever the limit is
+abbrev pub IsRightWithin : {A : Type 0} → List Lit → Known → Known → Option ℕ → AnswerUnder A → Type 0
+IsRightWithin assumed old new (Some limit) answer = IsRightUnder assumed old new limit answer
+IsRightWithin assumed old new None answer = (limit : ℕ) → IsRightUnder assumed old new limit answer

@@ -1,10 +1,10 @@
 //! Literals that are assumed: they are decided before all others, and where they can't be true together it is told why.
-ghost use Rattle.std.specs.Prelude.{◌≡◌, ◌*◌, ◌<◌, Some, true, length, map, IfOk, IfNone, IfSome, OnOk};
+ghost use Rattle.std.specs.Prelude.{◌≡◌, ◌*◌, ◌<◌, ◌≤◌, [], None, Some, true, length, map, IfOk, IfNone, IfSome, OnOk};
 ghost use Rattle.giputils_sat.specs.Formulas.{AreBelow};
 ghost use Rattle.giputils_sat.specs.Literals.{negated};
 ghost use Rattle.giputils_sat.specs.Marked.{NoneMarked};
 ghost use Rattle.giputils_sat.specs.Obstacles.{IsCoreOf, IsObstacleTo, KeepsDecisionsBut, MeetsFrom, MeetsObstacle, is_conflict};
-ghost use Rattle.giputils_sat.specs.Trailed.{StandsBy};
+ghost use Rattle.giputils_sat.specs.Trailed.{StandsBy, reach};
 ghost use Rattle.giputils_sat.specs.Trails.{Extends};
 ghost use Rattle.giputils_sat.specs.Values.{AreTrue, value_of};
 
@@ -51,6 +51,7 @@ fn assume_one<A: Allocator + Copy>(
     ensures len { length trail.new.values.items ≡ length trail.old.values.items }
     ensures trail { OnOk result (StandsBy database.now.clauses trail.new) }
     ensures stays { OnOk result (Extends trail.old.values.items trail.new.values.items) }
+    ensures reach { OnOk result (reach trail.old ≤ reach trail.new) }
     ensures decisions { OnOk result (KeepsDecisionsBut l trail.old trail.new) }
     ensures some { IfOk result (λ found. IfSome found (IsObstacleTo database.now.clauses l trail.new)) }
     ensures none { IfOk result (λ found. IfNone found (value_of trail.new.values.items l ≡ Some true)) }
@@ -82,6 +83,8 @@ fn assume_each<A: Allocator + Copy>(
     requires within { AreBelow database.now.count assumptions.now }
     ensures len { length trail.new.values.items ≡ length trail.old.values.items }
     ensures trail { OnOk result (StandsBy database.now.clauses trail.new) }
+    ensures reach { OnOk result (reach trail.old ≤ reach trail.new) }
+    ensures quiet { assumptions.now ≡ [] → IfOk result (λ found. found ≡ None) }
     ensures some { IfOk result (MeetsFrom trail.old.starts.items database.now.clauses assumptions.now trail.new) }
     ensures none { IfOk result (λ found. IfNone found (AreTrue trail.new.values.items assumptions.now)) }
 {
@@ -107,6 +110,7 @@ pub(crate) fn assume<A: Allocator + Copy>(
     requires within { AreBelow database.now.count assumptions.now }
     ensures len { length trail.new.values.items ≡ length trail.old.values.items }
     ensures trail { OnOk result (StandsBy database.now.clauses trail.new) }
+    ensures reach { OnOk result (assumptions.now ≡ [] → reach trail.old ≤ reach trail.new) }
     ensures some { IfOk result (MeetsObstacle database.now.clauses assumptions.now trail.new) }
     ensures none { IfOk result (λ found. IfNone found (AreTrue trail.new.values.items assumptions.now)) }
 {

@@ -1,6 +1,6 @@
 //! The calls of a trail: a literal more, a literal less.
-ghost use Rattle.std.specs.Prelude.{◌≡◌, ◌++◌, ◌∷◌, ◌+◌, ◌^◌, ◌<◌, ◌≤◌, [], None, Some, length, replicate, IfOk, IfSome, OnOk};
-ghost use Rattle.giputils_sat.specs.Trailed.{StandsOn};
+ghost use Rattle.std.specs.Prelude.{◌≡◌, ◌++◌, ◌∷◌, ◌+◌, ◌^◌, ◌<◌, ◌≤◌, [], None, Some, length, replicate, take, IfOk, IfSome, OnOk};
+ghost use Rattle.giputils_sat.specs.Trailed.{StandsOn, reach};
 ghost use Rattle.giputils_sat.specs.Trails.{decision, steps_with};
 ghost use Rattle.giputils_sat.specs.Values.{unset, value_of, values_with, values_without};
 
@@ -90,6 +90,14 @@ impl<A: Allocator + Copy> Trail<A> {
         }
     }
 
+    // The place at which the level above one begins, or would begin.
+    pub(crate) fn start_above(&self, level: usize) -> usize {
+        match self.starts.get(level) {
+            Some(start) => *start,
+            None => self.steps.len(),
+        }
+    }
+
     // The level at which the literal's variable got its value.
     pub(crate) fn level_of(&self, l: Literal) -> usize {
         match self.stands.get(l.variable() as usize) {
@@ -113,6 +121,7 @@ impl<A: Allocator + Copy> Trail<A> {
         ensures len { length self.new.values.items ≡ length self.old.values.items }
         ensures values { OnOk result (self.new.values.items ≡ values_with l self.old.values.items) }
         ensures steps { OnOk result (self.new.steps.items ≡ steps_with l (Some reason) self.old.steps.items) }
+        ensures reach { OnOk result (reach self.old ≤ reach self.new) }
         ensures unset { OnOk result (unset self.new.values.items + 1 ≡ unset self.old.values.items) }
         ensures head { self.new.head ≡ self.old.head }
     {
@@ -138,6 +147,7 @@ impl<A: Allocator + Copy> Trail<A> {
         ensures unset { OnOk result (unset self.new.values.items + 1 ≡ unset self.old.values.items) }
         ensures values { OnOk result (self.new.values.items ≡ values_with l self.old.values.items) }
         ensures steps { OnOk result (self.new.steps.items ≡ steps_with l None self.old.steps.items) }
+        ensures reach { OnOk result (reach self.old ≤ reach self.new) }
     {
         let place = self.steps.len();
         self.starts.reserve(1)?;
@@ -168,6 +178,7 @@ impl<A: Allocator + Copy> Trail<A> {
         ensures values { self.new.values ≡ self.old.values }
         ensures steps { self.new.steps ≡ self.old.steps }
         ensures starts { self.new.starts ≡ self.old.starts }
+        ensures reach { reach self.new ≡ reach self.old }
         ensures within { IfSome result (λ _. self.old.head < length self.old.steps.items) }
         ensures head { IfSome result (λ _. self.new.head ≡ self.old.head + 1) }
     {
@@ -198,6 +209,19 @@ impl<A: Allocator + Copy> Trail<A> {
         ensures root { level ≡ 0 → self.new.starts.items ≡ [] }
     {
         while self.starts.len() > level {
+            let step = self.pop();
+            activity.put_back(step.literal.variable());
+        }
+        self.head = self.head.min(self.steps.len());
+    }
+
+    // Goes back to a place of the trail. What is not true any more may be decided again.
+    pub(crate) fn cut(&mut self, place: usize, activity: &mut Activity<A>)
+        ensures len { length self.new.values.items ≡ length self.old.values.items }
+        ensures trail { StandsOn self.old self.new }
+        ensures steps { self.new.steps.items ≡ take place self.old.steps.items }
+    {
+        while self.steps.len() > place {
             let step = self.pop();
             activity.put_back(step.literal.variable());
         }

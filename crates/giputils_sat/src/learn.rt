@@ -1,15 +1,16 @@
 //! What is learned of a conflict.
-ghost use Rattle.std.specs.Prelude.{◌≡◌, ◌≢◌, ◌*◌, ◌<◌, [], true, length, IsTrue, IfOk, OnOk};
+ghost use Rattle.std.specs.Prelude.{◌≡◌, ◌≢◌, ◌*◌, ◌<◌, ◌≤◌, [], true, length, IsTrue, IfOk, OnOk};
 ghost use Rattle.std.specs.Bool.{IsFalse};
 ghost use Rattle.giputils_sat.specs.Formulas.{Has, Implies};
 ghost use Rattle.giputils_sat.specs.Literals.{code};
 ghost use Rattle.giputils_sat.specs.Marked.{AddsAtMost, AreMarked, AreMarkedBut, Grows, HaveMarks, ImpliesMarked, NoneMarked, is_marked};
 ghost use Rattle.giputils_sat.specs.Stores.{AddsLearned, HasMore, KeepsKnown};
-ghost use Rattle.giputils_sat.specs.Trailed.{IsConflictOf, MeetsConflict, StandsBy, UndoesStep};
+ghost use Rattle.giputils_sat.specs.Trailed.{IsConflictOf, MeetsConflict, StandsBy, UndoesStep, reach};
 
 use crate::activity::Activity;
 use crate::database::Database;
 use crate::hints::Hints;
+use crate::lesson::lesson_of;
 use crate::literal::Literal;
 use crate::marks::Marks;
 use crate::search::free_place;
@@ -59,7 +60,7 @@ fn note_unless<A: Allocator + Copy>(
 }
 
 // Marks a clause's literals.
-fn note_all<A: Allocator + Copy>(
+pub(crate) fn note_all<A: Allocator + Copy>(
     trail: &Trail<A>,
     activity: &mut Activity<A>,
     marks: &mut Marks<A>,
@@ -256,7 +257,7 @@ fn analyze<A: Allocator + Copy>(
 }
 
 // Marks literals of which one has to be true, beginning with those of a clause.
-fn resolve<A: Allocator + Copy>(
+pub(crate) fn resolve<A: Allocator + Copy>(
     alloc: A,
     database: &Database<A>,
     trail: &Trail<A>,
@@ -282,31 +283,6 @@ fn resolve<A: Allocator + Copy>(
     Ok(())
 }
 
-// The level of the literal at a place of a clause.
-fn level_at<A: Allocator + Copy>(trail: &Trail<A>, clause: &[Literal], place: usize) -> usize {
-    match clause.get(place) {
-        Some(l) => trail.level_of(*l),
-        None => 0,
-    }
-}
-
-// Two places of a clause whose literals have the highest levels, the highest first.
-fn highest<A: Allocator + Copy>(trail: &Trail<A>, clause: &[Literal]) -> Pair {
-    let mut first = 0;
-    for place in 1..clause.len() {
-        if level_at(trail, clause, place) > level_at(trail, clause, first) {
-            first = place;
-        }
-    }
-    let mut second = usize::from(first == 0);
-    for place in 0..clause.len() {
-        if place != first && level_at(trail, clause, place) > level_at(trail, clause, second) {
-            second = place;
-        }
-    }
-    Pair { first, second }
-}
-
 // Makes a literal of a clause true, where it has no value and the others are false.
 fn follow<A: Allocator + Copy>(
     database: &Database<A>,
@@ -319,6 +295,7 @@ fn follow<A: Allocator + Copy>(
     requires within { place < length database.now.clauses }
     ensures len { length trail.new.values.items ≡ length trail.old.values.items }
     ensures trail { OnOk result (StandsBy database.now.clauses trail.new) }
+    ensures reach { OnOk result (reach trail.old ≤ reach trail.new) }
 {
     let clause = database.clause(place);
     if literal >= clause.len() {
@@ -353,6 +330,7 @@ pub(crate) fn learn<A: Allocator + Copy>(
     requires clear { NoneMarked marks.old }
     ensures trail { OnOk result (StandsBy database.new.clauses trail.new) }
     ensures clear { OnOk result (NoneMarked marks.new) }
+    ensures rises { IfOk result (λ is_empty. IsFalse is_empty → reach trail.old < reach trail.new) }
     ensures root { IfOk result (λ is_empty. trail.old.starts.items ≡ [] → IsTrue is_empty) }
     ensures len { length trail.new.values.items ≡ length trail.old.values.items }
     ensures marks { length marks.new ≡ length marks.old }
@@ -363,20 +341,23 @@ pub(crate) fn learn<A: Allocator + Copy>(
     ensures empty { IfOk result (λ is_empty. IsTrue is_empty → Implies database.old.formula []) }
     ensures more { IfOk result (λ is_empty. IsFalse is_empty → HasMore 1 database.old database.new) }
 {
-    resolve(alloc, database, trail, hints, marks, conflict)?;
+    let lesson = lesson_of(alloc, database, trail, hints, marks, conflict)?;
     hints.count_conflict();
-    let learned = marks.take(alloc)?;
-    if learned.is_empty() {
+    let Some(lesson) = lesson else {
         return Ok(true);
-    }
+    };
     let place = database.len();
-    database.learn(&learned)?;
-    hints.note_learned(trail, &learned);
-    let pair = highest(trail, &learned);
-    let level = level_at(trail, &learned, pair.second);
-    trail.backtrack(level, &mut hints.activity);
-    attach(&mut hints.watches, &learned, place, pair, false)?;
-    follow(database, trail, place, pair.first)?;
+    database.learn(&lesson.clause)?;
+    hints.note_learned(trail, &lesson.clause);
+    trail.cut(lesson.start, &mut hints.activity);
+    attach(
+        &mut hints.watches,
+        &lesson.clause,
+        place,
+        lesson.pair,
+        false,
+    )?;
+    trail.assign(lesson.clause[lesson.pair.first], place)?;
     Ok(false)
 }
 
@@ -411,6 +392,7 @@ pub(crate) fn attach_all<A: Allocator + Copy>(
     requires trail { StandsBy database.now.clauses trail.old }
     ensures len { length trail.new.values.items ≡ length trail.old.values.items }
     ensures trail { OnOk result (StandsBy database.now.clauses trail.new) }
+    ensures reach { OnOk result (reach trail.old ≤ reach trail.new) }
     ensures conflict { IfOk result (MeetsConflict database.now.clauses trail.new) }
 {
     for place in watches.len()..database.len() {

@@ -1,9 +1,9 @@
 //! Propagation, decisions and what is learned of conflicts.
-ghost use Rattle.std.specs.Prelude.{◌≡◌, ◌<◌, ◌≤◌, None, length, IfOk, IfSome, IfNone, OnOk};
+ghost use Rattle.std.specs.Prelude.{◌≡◌, ◌<◌, ◌≤◌, [], None, length, IfOk, IfSome, IfNone, OnOk};
 ghost use Rattle.giputils_sat.specs.Choices.{FollowsChoice};
 ghost use Rattle.giputils_sat.specs.Formulas.{AreBelow, Has};
 ghost use Rattle.giputils_sat.specs.Obstacles.{MeetsObstacle};
-ghost use Rattle.giputils_sat.specs.Trailed.{KeepsDecisions, MeetsConflict, SatisfiesUnless, StandsBy, total};
+ghost use Rattle.giputils_sat.specs.Trailed.{KeepsDecisions, MeetsConflict, SatisfiesUnless, StandsBy, reach, total};
 ghost use Rattle.giputils_sat.specs.Trails.{Extends};
 ghost use Rattle.giputils_sat.specs.Values.{AreAllSet, AreFalseBut, AreTrue, unset, value_of};
 
@@ -71,6 +71,7 @@ fn turn<A: Allocator + Copy>(
     ensures len { length trail.new.values.items ≡ length trail.old.values.items }
     ensures trail { OnOk result (StandsBy database.now.clauses trail.new) }
     ensures stays { OnOk result (Extends trail.old.values.items trail.new.values.items) }
+    ensures reach { OnOk result (reach trail.old ≤ reach trail.new) }
     ensures decisions { OnOk result (KeepsDecisions trail.old trail.new) }
     ensures head { trail.new.head ≡ trail.old.head }
     ensures less { OnOk result (unset trail.new.values.items ≤ unset trail.old.values.items) }
@@ -142,6 +143,7 @@ fn visit<A: Allocator + Copy>(
     ensures len { length trail.new.values.items ≡ length trail.old.values.items }
     ensures trail { OnOk result (StandsBy database.now.clauses trail.new) }
     ensures stays { OnOk result (Extends trail.old.values.items trail.new.values.items) }
+    ensures reach { OnOk result (reach trail.old ≤ reach trail.new) }
     ensures decisions { OnOk result (KeepsDecisions trail.old trail.new) }
     ensures head { trail.new.head ≡ trail.old.head }
     ensures less { OnOk result (unset trail.new.values.items ≤ unset trail.old.values.items) }
@@ -177,6 +179,7 @@ pub(crate) fn propagate<A: Allocator + Copy>(
     ensures len { length trail.new.values.items ≡ length trail.old.values.items }
     ensures trail { OnOk result (StandsBy database.now.clauses trail.new) }
     ensures stays { OnOk result (Extends trail.old.values.items trail.new.values.items) }
+    ensures reach { OnOk result (reach trail.old ≤ reach trail.new) }
     ensures decisions { OnOk result (KeepsDecisions trail.old trail.new) }
     ensures unset { OnOk result (unset trail.new.values.items ≤ unset trail.old.values.items) }
     ensures conflict { IfOk result (MeetsConflict database.now.clauses trail.new) }
@@ -240,6 +243,7 @@ fn choose<A: Allocator + Copy>(
     ensures len { length trail.new.values.items ≡ length trail.old.values.items }
     ensures trail { OnOk result (StandsBy database.now.clauses trail.new) }
     ensures stays { OnOk result (Extends trail.old.values.items trail.new.values.items) }
+    ensures reach { OnOk result (reach trail.old ≤ reach trail.new) }
     ensures choice { IfOk result (FollowsChoice database.now trail.old trail.new) }
 {
     hints.count_decision();
@@ -272,6 +276,7 @@ pub(crate) fn search<A: Allocator + Copy>(
     requires within { AreBelow database.now.count assumptions.now }
     ensures len { length trail.new.values.items ≡ length trail.old.values.items }
     ensures trail { OnOk result (StandsBy database.now.clauses trail.new) }
+    ensures reach { OnOk result (assumptions.now ≡ [] → reach trail.old ≤ reach trail.new) }
     ensures obstacle { IfOk result (MeetsObstacle database.now.clauses assumptions.now trail.new) }
     ensures model { IfOk result (SatisfiesUnless database.now.formula trail.new) }
     ensures assumed { IfOk result (λ found. IfNone found (AreTrue trail.new.values.items assumptions.now)) }

@@ -1,10 +1,10 @@
 //! The solver.
-ghost use Rattle.std.specs.Prelude.{◌≡◌, ◌++◌, ◌∷◌, ◌<◌, [], Some, length, slice_get, IfOk, OnOk, OnErr};
-ghost use Rattle.giputils_sat.specs.Answers.{IsRight};
-ghost use Rattle.giputils_sat.specs.Formulas.{AreBelow, Implies};
+ghost use Rattle.std.specs.Prelude.{◌≡◌, ◌++◌, ◌∷◌, ◌<◌, [], None, Some, length, slice_get, IfNone, IfOk, IfSome, OnOk, OnErr};
+ghost use Rattle.giputils_sat.specs.Answers.{IsModel, IsRight};
+ghost use Rattle.giputils_sat.specs.Formulas.{AreBelow, Implies, IsSatisfiable};
 ghost use Rattle.giputils_sat.specs.Stores.{AddsLearned, AddsUnits, AreAmong, KeepsKnown};
-ghost use Rattle.giputils_sat.specs.Trailed.{IsReady, StandsOn};
-ghost use Rattle.giputils_sat.specs.Under.{IsRightTurn, IsRightUnder};
+ghost use Rattle.giputils_sat.specs.Trailed.{GoesOn, IsReady, OneLessOr, StandsOn, reach};
+ghost use Rattle.giputils_sat.specs.Under.{IsRightTurn, IsRightUnder, IsRightWithin};
 ghost use Rattle.giputils_sat.specs.Values.{model_in};
 
 use crate::assume::{Obstacle, core_of};
@@ -167,6 +167,43 @@ impl<A: Allocator + Copy> Solver<A> {
         ensures kept { KeepsKnown self.old self.new }
         ensures adds { AddsLearned self.old self.new }
     {
+        self.search(assumptions, Some(limit))
+    }
+
+    /// Finds values that satisfy the formula, a variable past the end being false, or that there are none. It has no
+    /// limit: where memory is not refused, it ends with one or the other.
+    ///
+    /// What was learned before is used, and what is learned is kept.
+    ///
+    /// # Errors
+    /// `AllocError` where memory is refused. The formula stays as it was; some clauses may have been learned.
+    pub fn find_model(&mut self) -> Result<Option<Vec<bool, A>>, AllocError>
+        ensures model { IfOk result (λ found. IfSome found (λ model. IsModel self.old.formula model.items)) }
+        ensures none { IfOk result (λ found. IfNone found (¬ (IsSatisfiable self.old.formula))) }
+        ensures formula { self.new.formula ≡ self.old.formula }
+        ensures kept { KeepsKnown self.old self.new }
+        ensures adds { AddsLearned self.old self.new }
+    {
+        Ok(match self.search(&[], None)? {
+            AnswerUnder::Sat(model) => Some(model),
+            AnswerUnder::Unsat(_) => None,
+            AnswerUnder::Unknown => unreachable!(),
+        })
+    }
+
+    // Finds out whether anything satisfies the formula and makes each assumption true, within so many conflicts. With no
+    // limit nothing may be assumed.
+    fn search(
+        &mut self,
+        assumptions: &[Literal],
+        limit: Option<usize>,
+    ) -> Result<AnswerUnder<A>, AllocError>
+        requires none { limit ≡ None → assumptions.now ≡ [] }
+        ensures right { IfOk result (IsRightWithin assumptions.now self.old self.new limit) }
+        ensures formula { self.new.formula ≡ self.old.formula }
+        ensures kept { KeepsKnown self.old self.new }
+        ensures adds { AddsLearned self.old self.new }
+    {
         let alloc = self.alloc;
         self.database.raise_count(assumptions);
         let count = self.database.count();
@@ -255,25 +292,32 @@ fn model_of<A: Allocator + Copy>(alloc: A, trail: &Trail<A>) -> Result<Vec<bool,
         .collect(alloc)
 }
 
-// One conflict more. Where it is time takes all decisions back, and forgets clauses.
+// One conflict more. Where it is time takes all decisions back, and forgets clauses, as often as is left.
 fn restart<A: Allocator + Copy>(
     alloc: A,
     database: &Database<A>,
     trail: &mut Trail<A>,
     hints: &mut Hints<A>,
+    left: &mut usize,
 ) -> Result<(), AllocError>
     ensures len { length trail.new.values.items ≡ length trail.old.values.items }
     ensures trail { StandsOn trail.old trail.new }
+    ensures left { OneLessOr left.old left.new (reach trail.new ≡ reach trail.old) }
 {
     if !hints.pace.step() {
         return Ok(());
     }
+    let Some(fewer) = left.checked_sub(1) else {
+        return Ok(());
+    };
+    *left = fewer;
     hints.stats.restarts = hints.stats.restarts.saturating_add(1);
     trail.backtrack(0, &mut hints.activity);
     reduce(alloc, database, trail, hints)
 }
 
-// Searches until an assignment is found or a conflict is met, and learns of that. None if a clause was learned.
+// Searches until an assignment is found or a conflict is met, and learns of that. None if a clause was learned. So many
+// restarts are left.
 #[tactic(auto, using(crate::proofs::Following::kept_same))]
 fn turn<A: Allocator + Copy>(
     alloc: A,
@@ -282,6 +326,7 @@ fn turn<A: Allocator + Copy>(
     hints: &mut Hints<A>,
     marks: &mut Marks<A>,
     assumptions: &[Literal],
+    left: &mut usize,
 ) -> Result<Option<AnswerUnder<A>>, AllocError>
     requires ready { IsReady database.old trail.old marks.old }
     requires within { AreBelow database.old.count assumptions.now }
@@ -291,6 +336,7 @@ fn turn<A: Allocator + Copy>(
     ensures formula { database.new.formula ≡ database.old.formula }
     ensures kept { KeepsKnown database.old database.new }
     ensures adds { AddsLearned database.old database.new }
+    ensures left { IfOk result (λ found. IfNone found (assumptions.now ≡ [] → GoesOn left.old left.new trail.old trail.new)) }
 {
     let Some(obstacle) = search(alloc, database, trail, hints, assumptions)? else {
         return Ok(Some(AnswerUnder::Sat(model_of(alloc, trail)?)));
@@ -305,13 +351,13 @@ fn turn<A: Allocator + Copy>(
     if learn(alloc, database, trail, hints, marks, conflict)? {
         return Ok(Some(AnswerUnder::Unsat(Vec::new(alloc))));
     }
-    restart(alloc, database, trail, hints)?;
+    restart(alloc, database, trail, hints, left)?;
     Ok(None)
 }
 
 // Searches and learns until there is an answer, or as many conflicts as are allowed.
 #[tactic(auto, using(crate::proofs::Following::kept_same))]
-fn run<A: Allocator + Copy>(
+fn run_to<A: Allocator + Copy>(
     alloc: A,
     database: &mut Database<A>,
     trail: &mut Trail<A>,
@@ -328,10 +374,62 @@ fn run<A: Allocator + Copy>(
     ensures kept { KeepsKnown database.old database.new }
     ensures adds { AddsLearned database.old database.new }
 {
+    let mut left = usize::MAX;
     for _ in 0..limit {
-        if let Some(answer) = turn(alloc, database, trail, hints, marks, assumptions)? {
+        if let Some(answer) = turn(alloc, database, trail, hints, marks, assumptions, &mut left)? {
             return Ok(answer);
         }
     }
     Ok(AnswerUnder::Unknown)
+}
+
+// Searches and learns until there is an answer, with no assumption.
+#[tactic(auto, using(crate::proofs::Following::kept_same))]
+fn run_on<A: Allocator + Copy>(
+    alloc: A,
+    database: &mut Database<A>,
+    trail: &mut Trail<A>,
+    hints: &mut Hints<A>,
+    marks: &mut Marks<A>,
+    assumptions: &[Literal],
+) -> Result<AnswerUnder<A>, AllocError>
+    requires ready { IsReady database.old trail.old marks.old }
+    requires none { assumptions.now ≡ [] }
+    ensures ready { OnOk result (IsReady database.new trail.new marks.new) }
+    ensures right { IfOk result (IsRightWithin assumptions.now database.old database.new None) }
+    ensures formula { database.new.formula ≡ database.old.formula }
+    ensures kept { KeepsKnown database.old database.new }
+    ensures adds { AddsLearned database.old database.new }
+{
+    let mut left = usize::MAX;
+    loop {
+        if let Some(answer) = turn(alloc, database, trail, hints, marks, assumptions, &mut left)? {
+            return Ok(answer);
+        }
+    }
+}
+
+// Searches and learns until there is an answer, or as many conflicts as are allowed.
+fn run<A: Allocator + Copy>(
+    alloc: A,
+    database: &mut Database<A>,
+    trail: &mut Trail<A>,
+    hints: &mut Hints<A>,
+    marks: &mut Marks<A>,
+    assumptions: &[Literal],
+    limit: Option<usize>,
+) -> Result<AnswerUnder<A>, AllocError>
+    requires ready { IsReady database.old trail.old marks.old }
+    requires within { AreBelow database.old.count assumptions.now }
+    requires none { limit ≡ None → assumptions.now ≡ [] }
+    ensures ready { OnOk result (IsReady database.new trail.new marks.new) }
+    ensures right { IfOk result (IsRightWithin assumptions.now database.old database.new limit) }
+    ensures formula { database.new.formula ≡ database.old.formula }
+    ensures kept { KeepsKnown database.old database.new }
+    ensures adds { AddsLearned database.old database.new }
+{
+    match limit {
+        Some(limit) => run_to(alloc, database, trail, hints, marks, assumptions, limit),
+        None => run_on(alloc, database, trail, hints, marks, assumptions),
+    }
 }

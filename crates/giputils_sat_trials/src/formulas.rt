@@ -84,3 +84,26 @@ pub(crate) fn said_of<A: Allocator + Copy>(
     add_all(alloc, &mut solver, formula)?;
     say(&mut solver, formula, limit)
 }
+
+// What is found by the solver, whose clauses are those of the formula, with no limit.
+pub(crate) fn find<A: Allocator + Copy>(
+    solver: &mut Solver<A>,
+    formula: &[i32],
+) -> Result<Said, AllocError> {
+    let found = solver.find_model()?;
+    if solver.stats().left_open > 0 {
+        return Ok(Said::LeftOpen);
+    }
+    Ok(match found {
+        Some(model) if satisfies(&model, formula) => Said::Sat,
+        Some(_) => Said::WrongModel,
+        None => Said::Unsat,
+    })
+}
+
+// What is found of a formula.
+pub(crate) fn found_of<A: Allocator + Copy>(alloc: A, formula: &[i32]) -> Result<Said, AllocError> {
+    let mut solver = Solver::new(alloc);
+    add_all(alloc, &mut solver, formula)?;
+    find(&mut solver, formula)
+}

@@ -1,6 +1,6 @@
 //! Solvers that are refused memory.
 
-use crate::formulas::{Said, add_all, said_of, say};
+use crate::formulas::{Said, add_all, found_of, said_of, say};
 use crate::under::{SaidUnder, said_under};
 use giputils_refusing::{Refusing, refuse_each, refuse_from_each};
 use giputils_sat::{Answer, Literal, Solver};
@@ -53,6 +53,10 @@ fn is_found_unsatisfied(memory: &Refusing) -> bool {
     said_of(memory, &[1, 2, 0, -1, 2, 0, 1, -2, 0, -1, -2, 0], 100) == Ok(Said::Unsat)
 }
 
+fn is_found_with_no_limit(memory: &Refusing) -> bool {
+    found_of(memory, &[1, 2, 0, -1, 2, 0, 1, -2, 0, -1, -2, 0]) == Ok(Said::Unsat)
+}
+
 // What is said of no model where the store is closed up after the first conflict.
 fn said_when_closed_up(memory: &Refusing) -> Result<Said, AllocError> {
     let formula = [1, 2, 3, 0, 1, 2, -3, 0, -1, 2, 0, 1, -2, 0, -1, -2, 0];
@@ -85,6 +89,10 @@ fn each_request_of_a_solver_is_refused_in_turn(rt: HostRuntime) {
         ("asked once more", refuse_each(alloc, is_answered_at_last)),
         ("sat", refuse_from_each(alloc, is_found_satisfied)),
         ("unsat", refuse_from_each(alloc, is_found_unsatisfied)),
+        (
+            "with no limit",
+            refuse_from_each(alloc, is_found_with_no_limit),
+        ),
         (
             "under assumptions",
             refuse_from_each(alloc, is_answered_under),

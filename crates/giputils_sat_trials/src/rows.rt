@@ -1,6 +1,6 @@
 //! Formulas by plain names, and families of formulas.
 
-use crate::formulas::{Said, add_all, said_of, say};
+use crate::formulas::{Said, add_all, find, found_of, said_of, say};
 use giputils_sat::Solver;
 use std::alloc::{AllocError, Global};
 use std::test::Fail;
@@ -329,13 +329,14 @@ fn said_with_a_small_store(alloc: Global) -> Result<(Said, usize, u64), AllocErr
     Ok((said, most, solver.stats().conflicts))
 }
 
-// The formula has 204 clauses, and some 500 learned ones are watched before half of them are forgotten.
+// The formula has 204 clauses. Learned ones are forgotten only where all decisions are taken back, and some thousand
+// conflicts may pass until then.
 #[test]
 fn a_store_stays_small(rt: HostRuntime) {
     let outcome = said_with_a_small_store(rt.alloc());
     assert!(rt;
         outcome.is_ok_and(|(said, most, conflicts)| {
-            said == Said::Unsat && most < 1500 && conflicts > 2000
+            said == Said::Unsat && most < 2500 && conflicts > 3000
         }),
         "{outcome:?}"
     );
@@ -359,4 +360,67 @@ fn said_as_clauses_come_later(alloc: Global) -> Result<[Said; 3], AllocError> {
 fn clauses_for_a_closed_up_store(rt: HostRuntime) {
     let wanted = [Said::Sat, Said::Sat, Said::Unsat];
     assert_eq!(rt; said_as_clauses_come_later(rt.alloc()), Ok(wanted));
+}
+
+// What is found of a formula that memory was found for.
+fn found_of_made(alloc: Global, formula: Result<Vec<i32>, AllocError>) -> Result<Said, AllocError> {
+    found_of(alloc, &formula?)
+}
+
+fn made(alloc: Global, formula: &[i32]) -> Result<Vec<i32>, AllocError> {
+    let mut made = Vec::new(alloc);
+    made.extend_from_slice(formula)?;
+    Ok(made)
+}
+
+#[test]
+fn models_with_no_limit(rt: HostRuntime) {
+    let alloc = rt.alloc();
+    let rows = [
+        ("the empty formula", made(alloc, &[]), Said::Sat),
+        ("the empty clause", made(alloc, &[1, 0, 0]), Said::Unsat),
+        (
+            "one model",
+            made(alloc, &[1, 2, 0, -1, 2, 0, 1, -2, 0]),
+            Said::Sat,
+        ),
+        (
+            "no model",
+            made(alloc, &[1, 2, 0, -1, 2, 0, 1, -2, 0, -1, -2, 0]),
+            Said::Unsat,
+        ),
+        ("7 holes", pigeons(alloc, 7), Said::Unsat),
+        (
+            "a sum of 30 variables that is even",
+            there_and_back(alloc, 30, false),
+            Said::Sat,
+        ),
+        (
+            "Petersen's graph in 3 colours",
+            colouring(alloc, 10, &PETERSEN, 3),
+            Said::Sat,
+        ),
+    ];
+    for (name, formula, wanted) in rows {
+        assert_eq!(rt; found_of_made(alloc, formula), Ok(wanted), "{name}");
+    }
+}
+
+// What is found by a solver that is given clauses after each answer, also after one that was left open.
+fn found_as_clauses_come(alloc: Global) -> Result<[Said; 4], AllocError> {
+    let formula = [1, 2, 0, -1, 2, 0, 1, -2, 0, -1, -2, 0];
+    let mut solver = Solver::new(alloc);
+    add_all(alloc, &mut solver, &formula[..6])?;
+    let two = find(&mut solver, &formula[..6])?;
+    add_all(alloc, &mut solver, &formula[6..9])?;
+    let three = find(&mut solver, &formula[..9])?;
+    add_all(alloc, &mut solver, &formula[9..])?;
+    let none = say(&mut solver, &formula, 0)?;
+    Ok([two, three, none, find(&mut solver, &formula)?])
+}
+
+#[test]
+fn models_as_clauses_come(rt: HostRuntime) {
+    let wanted = [Said::Sat, Said::Sat, Said::Unknown, Said::Unsat];
+    assert_eq!(rt; found_as_clauses_come(rt.alloc()), Ok(wanted));
 }

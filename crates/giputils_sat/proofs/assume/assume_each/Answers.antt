@@ -20,6 +20,7 @@ pub loop-l-init : goal.loop-l-init
 loop-l-init g c = record {
   len = refl;
   trail = c.requires.trail;
+  reach = omega arith;
   decided = λ none. DecidesAmong-root c.args.assumptions.now c.args.trail.now.steps.items (sym c.args.trail.now.levels ∙ ap length none);
   are_true = λ k m less there. absurd (omega (arith, less));
 }
@@ -38,6 +39,7 @@ loop-l-preserved g c =
     record {
       len = c.assume_one.ensures.len ∙ c.loop-l.invariant.len;
       trail = c.in_ok-obstacle.ensures.trail;
+      reach = omega (arith, c.in_ok-obstacle.ensures.reach, c.loop-l.invariant.reach);
       decided = λ none. c.in_ok-obstacle.ensures.decisions c.args.assumptions.now (c.loop-l.l-index, at) (c.loop-l.invariant.decided none);
       are_true = λ k m less there.
           ⊎_elim (λ earlier. c.in_ok-obstacle.ensures.stays m true (c.loop-l.invariant.are_true k m earlier there))

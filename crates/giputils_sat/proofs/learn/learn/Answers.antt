@@ -1,35 +1,68 @@
-use Rattle.std.proofs.Common.{◌≡◌, ◌<◌, ◌∙◌, length, arith, sym, ap, get_or, false}
-use Rattle.giputils_sat.specs.Literals.{Lit}
+use Rattle.std.proofs.Common.{◌≡◌, ◌≤◌, ◌<◌, ◌∙◌, ◌∷◌, ◌++◌, [], List, length, take, arith, sym, ap, subst}
 use Rattle.std.specs.Prelude.{slice_get, Some}
-use Rattle.std.proofs.lemmas.Grind.{common_steps}
-use Rattle.std.proofs.lemmas.Option.{slice_get-get_or}
-use Rattle.std.proofs.lemmas.Bool.{false≢true}
-use Rattle.std.proofs.lemmas.Bool.Decides.{nat_tests}
+use Rattle.giputils_sat.specs.declared.trail.Step.{Step}
+use Rattle.giputils_sat.specs.Jumps.{IsLesson}
+use Rattle.giputils_sat.specs.Trails.{IsTrail}
+use Rattle.giputils_sat.proofs.Jumping.{IsTrail-jump, free-jump, height-jump, jump_at, none_decided}
+use Rattle.giputils_sat.proofs.Places.{some_then, stands_last}
 use Rattle.giputils_sat.proofs.Trailing.{IsTrail-learned}
-use Rattle.giputils_sat.specs.Formulas.{Clause}
-use Rattle.giputils_sat.proofs.Marking.{Implies-among, variable-below}
 use Rattle.giputils_sat.proofs.learn.learn.Goals as goal
 
-pub learn-requires-clause-implied : goal.learn-requires-clause-implied
-learn-requires-clause-implied g c =
-    rw c.deref.ensures.value (Implies-among c.args.database.now.formula c.resolve.new.marks c.in_ok-learned.learned.items c.in_ok-resolve.ensures.follows c.in_ok-learned.ensures.all)
-
-pub learn-requires-clause-below : goal.learn-requires-clause-below
-learn-requires-clause-below g c = λ k l at.
-    let at : slice_get c.in_ok-learned.learned.items k ≡ Some l = ap (λ (xs : Clause). slice_get xs k) (sym c.deref.ensures.value) ∙ at in
-    let within = c.in_ok-learned.ensures.below l (k, at) in
-    variable-below c.args.database.now.count l (omega (arith, within, c.resolve.ensures.len, c.requires.marks))
-
-pub follow-requires-clause-trail : goal.follow-requires-clause-trail
-follow-requires-clause-trail g c =
+pub assign-requires-clause-unset : goal.assign-requires-clause-unset
+assign-requires-clause-unset g c =
     let trail = c.args.trail.now in
-    c.backtrack.ensures.trail c.learn.new.self.clauses
-    (rw c.in_ok-learn.ensures.ok (IsTrail-learned c.args.database.now.clauses c.deref.result.now trail.values.items trail.steps.items c.requires.trail))
+    let lesson = c.in-Some.lesson in
+    let is : IsLesson c.args.database.now c.args.trail.now c.in-Some.lesson =
+    some_then (IsLesson c.args.database.now c.args.trail.now) c.in_ok-lesson.lesson c.in-Some.lesson c.in-Some.is c.in_ok-lesson.ensures.some
+    in
+    let jump = jump_at trail.steps.items lesson.clause.items lesson.start lesson.pair.first c.index.result.now is.jumps c.index.ensures in
+    let stands : IsTrail c.args.database.now.clauses c.cut.new.self.values.items (take c.in-Some.lesson.start c.args.trail.now.steps.items) =
+    subst (λ (xs : List Step). IsTrail c.args.database.now.clauses c.cut.new.self.values.items xs) c.cut.ensures.steps
+    (c.cut.ensures.trail c.args.database.now.clauses c.requires.trail)
+    in
+    free-jump trail.steps.items lesson.clause.items lesson.start lesson.pair.first c.index.result.now jump
+    c.args.database.now.clauses c.cut.new.self.values.items trail.once stands
+
+pub returns-clause-trail : goal.returns-clause-trail
+returns-clause-trail g c =
+    let trail = c.args.trail.now in
+    let lesson = c.in-Some.lesson in
+    let is : IsLesson c.args.database.now c.args.trail.now c.in-Some.lesson =
+    some_then (IsLesson c.args.database.now c.args.trail.now) c.in_ok-lesson.lesson c.in-Some.lesson c.in-Some.is c.in_ok-lesson.ensures.some
+    in
+    let jump = jump_at trail.steps.items lesson.clause.items lesson.start lesson.pair.first c.index.result.now is.jumps c.index.ensures in
+    let stands : IsTrail c.learn.new.self.clauses c.cut.new.self.values.items (take c.in-Some.lesson.start c.args.trail.now.steps.items) =
+    subst (λ (xs : List Step). IsTrail c.learn.new.self.clauses c.cut.new.self.values.items xs) c.cut.ensures.steps
+    (c.cut.ensures.trail c.learn.new.self.clauses
+    (rw c.in_ok-learn.ensures.ok (IsTrail-learned c.args.database.now.clauses c.deref.result.now trail.values.items trail.steps.items c.requires.trail)))
+    in
+    let at : slice_get c.learn.new.self.clauses c.len-place.result ≡ Some c.in-Some.lesson.clause.items =
+    rw (c.in_ok-learn.ensures.ok, c.len-place.ensures, c.deref.ensures.value) (stands_last c.args.database.now.clauses c.in-Some.lesson.clause.items)
+    in
+    let below = is.below lesson.pair.first c.index.result.now jump.at in
+    let within : c.index.result.now.variable < length c.cut.new.self.values.items = omega (arith, below, c.requires.len, c.cut.ensures.len) in
+    rw (c.in_ok-assign.ensures.values, c.in_ok-assign.ensures.steps, c.cut.ensures.steps)
+    (IsTrail-jump trail.steps.items lesson.clause.items lesson.start lesson.pair.first c.index.result.now jump
+    c.learn.new.self.clauses c.cut.new.self.values.items c.len-place.result at within stands)
+
+pub returns-clause-rises : goal.returns-clause-rises
+returns-clause-rises g c = λ goes_on.
+    let trail = c.args.trail.now in
+    let lesson = c.in-Some.lesson in
+    let is : IsLesson c.args.database.now c.args.trail.now c.in-Some.lesson =
+    some_then (IsLesson c.args.database.now c.args.trail.now) c.in_ok-lesson.lesson c.in-Some.lesson c.in-Some.is c.in_ok-lesson.ensures.some
+    in
+    let jump = jump_at trail.steps.items lesson.clause.items lesson.start lesson.pair.first c.index.result.now is.jumps c.index.ensures in
+    let full = trail.full in
+    let within : length c.args.trail.now.steps.items ≤ length c.args.trail.now.values.items = omega (arith, full) in
+    height-jump (length trail.values.items) (length c.assign.new.self.values.items) trail.steps.items c.assign.new.self.steps.items lesson.clause.items
+    lesson.start lesson.pair.first c.index.result.now c.len-place.result (c.assign.ensures.len ∙ c.cut.ensures.len)
+    (c.in_ok-assign.ensures.steps ∙ ap (λ (xs : List Step). xs ++ record { literal = c.index.result.now; reason = Some c.len-place.result } ∷ []) c.cut.ensures.steps)
+    within jump
 
 pub returns-clause-root : goal.returns-clause-root
 returns-clause-root g c = λ none.
-    let d : Lit = record { variable = 0; positive = false } in
-    let some : 0 < length c.in_ok-learned.learned.items = grind (arith, common_steps, nat_tests) in
-    let first : Lit = get_or c.in_ok-learned.learned.items 0 d in
-    let marked = c.in_ok-learned.ensures.only first (0, slice_get-get_or c.in_ok-learned.learned.items 0 d some) in
-    absurd (false≢true (sym (c.in_ok-resolve.ensures.root none first) ∙ marked))
+    let is : IsLesson c.args.database.now c.args.trail.now c.in-Some.lesson =
+    some_then (IsLesson c.args.database.now c.args.trail.now) c.in_ok-lesson.lesson c.in-Some.lesson c.in-Some.is c.in_ok-lesson.ensures.some
+    in
+    absurd (none_decided c.args.trail.now.steps.items c.in-Some.lesson.start (sym c.args.trail.now.levels ∙ ap length none) is.jumps.1.decided)

@@ -17,6 +17,7 @@ loop-l-preserved g c =
     in
     record {
       len = grind (arith, common_steps);
+      reach = omega (arith, c.in_ok-conflict.ensures.reach, c.next.ensures.reach, c.loop-l.invariant.reach);
       total = grind (arith, common_steps);
       trail = c.in_ok-conflict.ensures.trail;
       stays = Extends-both _ _ _ now c.in_ok-conflict.ensures.stays;

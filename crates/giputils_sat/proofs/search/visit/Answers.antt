@@ -8,6 +8,7 @@ use Rattle.giputils_sat.proofs.search.visit.Goals as goal
 pub loop-place-preserved : goal.loop-place-preserved
 loop-place-preserved g c = record {
   len = c.turn.ensures.len ∙ c.loop-place.invariant.len;
+  reach = omega (arith, c.in_ok-turn.ensures.reach, c.loop-place.invariant.reach);
   head = c.turn.ensures.head ∙ c.loop-place.invariant.head;
   total = c.in_ok-turn.ensures.total ∙ c.loop-place.invariant.total;
   less = grind (arith, common_steps);

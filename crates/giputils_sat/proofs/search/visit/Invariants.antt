@@ -2,12 +2,13 @@ use Rattle.std.proofs.Common.{◌≡◌, ◌≤◌, ◌+◌, length}
 use Rattle.std.specs.Option.{IfSome}
 use Rattle.giputils_sat.specs.Values.{unset}
 use Rattle.giputils_sat.specs.Trails.{IsTrail, IsConflict, Extends}
-use Rattle.giputils_sat.specs.Trailed.{KeepsDecisions}
+use Rattle.giputils_sat.specs.Trailed.{KeepsDecisions, reach}
 use Rattle.giputils_sat.proofs.search.visit.Given as goal
 
 abbrev pub invariant-loop-place : goal.invariant-loop-place
 invariant-loop-place g l = record {
   len : length l.trail.values.items ≡ length l.initial.trail.values.items;
+  reach : reach l.initial.trail ≤ reach l.trail;
   head : l.trail.head ≡ l.initial.trail.head;
   total : unset l.trail.values.items + length l.trail.steps.items ≡ unset l.initial.trail.values.items + length l.initial.trail.steps.items;
   less : unset l.trail.values.items ≤ unset l.initial.trail.values.items;

@@ -1,5 +1,6 @@
-use Rattle.std.proofs.Common.{◌∙◌, sym, arith, Some}
+use Rattle.std.proofs.Common.{length, ◌∙◌, sym, arith, Some}
 use Rattle.std.proofs.lemmas.List.{length-set}
+use Rattle.giputils_sat.proofs.Heights.{height_pushed}
 use Rattle.giputils_sat.proofs.Steps.{AreValued-pushed, AreOnce-pushed, decisions-pushed, full-pushed}
 use Rattle.giputils_sat.proofs.Valued.{unset-assigned}
 use Rattle.giputils_sat.proofs.trail.Trail.assign.Goals as goal
@@ -41,3 +42,9 @@ invariant_of-self-2-clause-full g c =
     rw (c.in_ok-push.ensures.items, c.variable.ensures.value, c.is_positive.ensures)
     (full-pushed c.args.self.now.values.items c.args.self.now.steps.items record { literal = c.args.l; reason = Some c.args.reason }
     c.requires.within c.requires.unset c.args.self.now.full)
+
+pub returns-clause-reach : goal.returns-clause-reach
+returns-clause-reach g c =
+    height_pushed (length c.args.self.now.values.items) _ c.args.self.now.steps.items c.push.new.self.items
+    record { literal = c.args.l; reason = Some c.args.reason }
+    (length-set c.args.self.now.values.items c.variable.result (Some c.is_positive.result)) c.in_ok-push.ensures.items

@@ -1,7 +1,7 @@
 use Rattle.std.proofs.Common.{◌≡◌}
 use Rattle.giputils_sat.specs.Stores.{AddsLearned, HasMore, KeepsKnown}
 use Rattle.giputils_sat.specs.Trailed.{IsReady}
-use Rattle.giputils_sat.proofs.solver.run.Given as goal
+use Rattle.giputils_sat.proofs.solver.run_to.Given as goal
 
 abbrev pub invariant-loop : goal.invariant-loop
 invariant-loop g l = record {

@@ -1,6 +1,8 @@
-use Rattle.std.proofs.Common.{subst, sym, ◌≡◌, length, ap, arith}
+use Rattle.std.proofs.Common.{◌∙◌, subst, sym, ◌≡◌, length, ap, arith}
+use Rattle.giputils_sat.specs.Stores.{Known}
 use Rattle.giputils_sat.specs.Trailed.{StandsBy}
-use Rattle.giputils_sat.proofs.solver.Solver.solve_under.Goals as goal
+use Rattle.giputils_sat.proofs.Answering.{right_within_since}
+use Rattle.giputils_sat.proofs.solver.Solver.search.Goals as goal
 
 pub run-requires : goal.run-requires
 run-requires g c =
@@ -15,6 +17,7 @@ run-requires g c =
     c.rewind.ensures.trail clauses (c.backtrack.ensures.trail clauses (c.in_ok-trail.ensures.trail clauses taken))
     in
     record {
+      none = c.requires.none;
       within = c.raise_count.ensures.below;
       ready = record {
         len = omega (arith, rewound, c.backtrack.ensures.len, c.in_ok-trail.ensures.len, c.count-count.ensures.value);
@@ -23,3 +26,9 @@ run-requires g c =
         clear = c.in_ok-marks.ensures.clear;
       };
     }
+
+pub returns-clause-right : goal.returns-clause-right
+returns-clause-right g c =
+    right_within_since c.args.assumptions.now c.args.self.now c.raise_count.new.self c.run.new.database c.args.limit c.in_ok-answer.answer
+    (c.raise_count.ensures.formula ∙ ap (λ (k : Known). k.formula) c.self.view_is)
+    (c.raise_count.ensures.learned ∙ ap (λ (k : Known). k.learned) c.self.view_is) c.in_ok-answer.ensures.right

@@ -1,7 +1,7 @@
 use Rattle.std.proofs.Common.{subst}
 use Rattle.giputils_sat.specs.Under.{IsRightTurn}
 use Rattle.giputils_sat.proofs.Answering.{right_at_limit}
-use Rattle.giputils_sat.proofs.solver.run.Goals as goal
+use Rattle.giputils_sat.proofs.solver.run_to.Goals as goal
 
 pub returns-in-Some-clause-right : goal.returns-in-Some-clause-right
 returns-in-Some-clause-right g c =
