@@ -81,8 +81,7 @@ impl<A: Allocator + Copy> Trail<A> {
 
     // The place at which the first decision stands, or would stand.
     pub(crate) fn first_start(&self) -> usize
-        ensures root { self.now.starts.items ≡ [] → result ≡ length self.now.steps.items }
-        ensures within { result ≤ length self.now.steps.items }
+        ensures { result ≤ length self.now.steps.items }
     {
         match self.starts.first() {
             Some(start) => self.steps.len().min(*start),

@@ -247,7 +247,6 @@ fn analyze<A: Allocator + Copy>(
     requires follows { ImpliesMarked database.now.formula marks.old }
     ensures len { length marks.new ≡ length marks.old }
     ensures follows { OnOk result (ImpliesMarked database.now.formula marks.new) }
-    ensures root { OnOk result (trail.now.starts.items ≡ [] → marks.new ≡ marks.old) }
 {
     if trail.level() == 0 {
         return Ok(());
@@ -266,12 +265,9 @@ pub(crate) fn resolve<A: Allocator + Copy>(
     conflict: usize,
 ) -> Result<(), AllocError>
     requires len { length marks.old ≡ 2 * database.now.count }
-    requires trail { StandsBy database.now.clauses trail.now }
     requires conflict { IsConflictOf database.now.clauses trail.now conflict }
-    requires clear { NoneMarked marks.old }
     ensures len { length marks.new ≡ length marks.old }
     ensures follows { OnOk result (ImpliesMarked database.now.formula marks.new) }
-    ensures root { OnOk result (trail.now.starts.items ≡ [] → NoneMarked marks.new) }
 {
     hints.watches.bump(conflict);
     let pending = note_all(trail, &mut hints.activity, marks, database.clause(conflict))?;

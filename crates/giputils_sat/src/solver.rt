@@ -191,8 +191,8 @@ impl<A: Allocator + Copy> Solver<A> {
         })
     }
 
-    // Finds out whether anything satisfies the formula and makes each assumption true, within so many conflicts. With no
-    // limit nothing may be assumed.
+    // Finds out whether anything satisfies the formula and makes each assumption true, within so many conflicts. Where
+    // there is no limit, nothing may be assumed.
     fn search(
         &mut self,
         assumptions: &[Literal],
@@ -336,7 +336,7 @@ fn turn<A: Allocator + Copy>(
     ensures formula { database.new.formula ≡ database.old.formula }
     ensures kept { KeepsKnown database.old database.new }
     ensures adds { AddsLearned database.old database.new }
-    ensures left { IfOk result (λ found. IfNone found (assumptions.now ≡ [] → GoesOn left.old left.new trail.old trail.new)) }
+    ensures left { IfOk result (λ a. IfNone a (assumptions.now ≡ [] → GoesOn left.old left.new trail.old trail.new)) }
 {
     let Some(obstacle) = search(alloc, database, trail, hints, assumptions)? else {
         return Ok(Some(AnswerUnder::Sat(model_of(alloc, trail)?)));

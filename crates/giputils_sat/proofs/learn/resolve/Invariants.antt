@@ -1,11 +1,9 @@
-use Rattle.std.proofs.Common.{◌≡◌, length, []}
+use Rattle.std.proofs.Common.{◌≡◌, length}
 use Rattle.giputils_sat.specs.Marked.{ImpliesMarked}
-use Rattle.giputils_sat.specs.Trails.{AreUndone}
 use Rattle.giputils_sat.proofs.learn.resolve.Given as goal
 
 abbrev pub invariant-loop-place : goal.invariant-loop-place
 invariant-loop-place g l = record {
   len : length l.marks ≡ length l.initial.marks;
   follows : ImpliesMarked l.database.formula l.marks;
-  root : l.trail.starts.items ≡ [] → AreUndone [] l.trail.steps.items l.marks l.place;
 }
