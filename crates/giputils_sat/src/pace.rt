@@ -13,7 +13,7 @@ const DIGITS: u32 = 16;
 const LEAST_ROOM: usize = 500;
 
 // When all decisions are taken back: where the clauses that were learned last have literals of many more levels than
-// all clauses that were learned so far, on average.
+// all clauses that were learned so far, on average, and where many more are watched than there is room for.
 #[derive(Clone, Copy)]
 pub(crate) struct Pace {
     // How many conflicts are left until all decisions may be taken back.
@@ -57,7 +57,7 @@ impl Pace {
     pub(crate) fn step(&mut self) -> bool {
         self.learned = self.learned.saturating_add(1);
         self.left = self.left.saturating_sub(1);
-        if self.left > 0 || !self.is_astray() {
+        if self.left > 0 || !(self.is_astray() || self.is_crowded()) {
             return false;
         }
         self.left = LEAST_RUN;
@@ -67,6 +67,12 @@ impl Pace {
     // Whether the last learned clauses have literals of more than 5/4 as many levels as all of them, on average.
     fn is_astray(&self) -> bool {
         self.lately - self.lately / 5 > self.levels / self.clauses.max(1)
+    }
+
+    // Whether 3/2 as many learned clauses are watched as there is room for.
+    fn is_crowded(&self) -> bool {
+        let room = self.room.max(LEAST_ROOM);
+        self.learned >= room.saturating_add(room / 2)
     }
 
     // Whether some learned clauses are to be forgotten, when so many clauses are known and so many conflicts were met.
