@@ -329,7 +329,7 @@ fn said_with_a_small_store(alloc: Global) -> Result<(Said, usize, u64), AllocErr
     Ok((said, most, solver.stats().conflicts))
 }
 
-// The formula has 204 clauses.
+// The formula has 204 clauses, and some 750 learned ones are watched before half of them are forgotten.
 #[test]
 fn a_store_stays_small(rt: HostRuntime) {
     let outcome = said_with_a_small_store(rt.alloc());
