@@ -69,10 +69,10 @@ impl Pace {
         self.lately - self.lately / 5 > self.levels / self.clauses.max(1)
     }
 
-    // Whether 3/2 as many learned clauses are watched as there is room for.
+    // Whether three times as many learned clauses are watched as there is room for.
     fn is_crowded(&self) -> bool {
         let room = self.room.max(LEAST_ROOM);
-        self.learned >= room.saturating_add(room / 2)
+        self.learned / 3 >= room
     }
 
     // Whether some learned clauses are to be forgotten, when so many clauses are known and so many conflicts were met.
