@@ -2,7 +2,7 @@
 use Rattle.std.proofs.Common.{◌≡◌, ℕ, List, [], ◌∷◌, map, get_or, Option, Some, None, Bool, true, false, unwrap_or, refl, sym, ap, subst, ◌∙◌, suc, zero, arith}
 use Rattle.std.proofs.Math.Path.{fun_ext}
 use Rattle.std.specs.Prelude.{slice_get}
-use Rattle.std.proofs.lemmas.Bool.{false≢true, and_from, and_parts}
+use Rattle.std.proofs.lemmas.Bool.{false≢true}
 use Rattle.giputils_sat.specs.Literals.{Lit}
 use Rattle.giputils_sat.specs.Under.{makes_true, IsCore, IsModelUnder, IsRightTurn, IsRightUnder, IsRightWithin}
 use Rattle.giputils_sat.specs.declared.solver.AnswerUnder.{AnswerUnder}
@@ -10,7 +10,8 @@ use Rattle.giputils_sat.specs.declared.solver.AnswerUnder.TheVariants.{Sat, Unsa
 use Rattle.giputils_sat.specs.Stores.{Known}
 use Rattle.giputils_sat.specs.Formulas.{Assignment, Formula, Has, is_true, satisfies, Implies, IsSatisfiable}
 use Rattle.giputils_sat.specs.Values.{assignment_of, assignment_in, AreTrue}
-use Rattle.giputils_sat.proofs.Places.{none_some, same_some}
+use Rattle.giputils_sat.proofs.Assumptions.{makes_true-each}
+use Rattle.giputils_sat.proofs.Places.{none_some}
 use Rattle.giputils_sat.proofs.Valued.{is_true-valued}
 
 model_at : (values : List (Option Bool)) (v : ℕ)
@@ -56,22 +57,6 @@ right_within_since assumed first old new (Some limit) answer same learned right 
     right_since assumed first old new limit answer same learned right
 right_within_since assumed first old new None answer same learned right = λ limit.
     right_since assumed first old new limit answer same learned (right limit)
-
--- literals each of which is true, all at once
-pub makes_true-each : (a : Assignment) (literals : List Lit) → ((l : Lit) → Has literals l → is_true a l ≡ true)
-    → makes_true a literals ≡ true
-makes_true-each a [] each = refl
-makes_true-each a (l ∷ literals) each =
-    and_from (is_true a l) (makes_true a literals) (each l (zero, refl)) (makes_true-each a literals (λ m has. each m (suc has.0, has.1)))
-
-pub makes_true-at : (a : Assignment) (literals : List Lit) (k : ℕ) (l : Lit) → makes_true a literals ≡ true
-    → slice_get literals k ≡ Some l
-    → is_true a l ≡ true
-makes_true-at a [] k l all at = none_some l at
-makes_true-at a (m ∷ literals) zero l all at =
-    subst (λ x. is_true a x ≡ true) (same_some m l at) (and_parts (is_true a m) (makes_true a literals) all).0
-makes_true-at a (m ∷ literals) (suc k) l all at =
-    makes_true-at a literals k l (and_parts (is_true a m) (makes_true a literals) all).1 at
 
 -- the model makes true what the values make true
 pub makes_true-model : (values : List (Option Bool)) (model : List Bool) (assumed : List Lit)

@@ -14,7 +14,7 @@ use Rattle.giputils_sat.specs.Obstacles.{IsObstacle, IsObstacleFrom, IsObstacleT
 use Rattle.giputils_sat.specs.Trails.{AreUndone, DecidesAmong, IsTrail}
 use Rattle.giputils_sat.specs.Under.{IsCore}
 use Rattle.giputils_sat.specs.Values.{value_of}
-use Rattle.giputils_sat.proofs.Answering.{makes_true-at}
+use Rattle.giputils_sat.proofs.Assumptions.{makes_true-at}
 use Rattle.giputils_sat.proofs.Literals.{not_both}
 use Rattle.giputils_sat.proofs.Places.{none_some, same_some}
 use Rattle.giputils_sat.proofs.Trailing.{all_assumed, negated_twice, true_negation}

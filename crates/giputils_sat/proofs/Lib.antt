@@ -1,8 +1,10 @@
 mod Answering
+pub mod Assumptions
 mod Assuming
 mod Copying
 mod Examples
 mod Following
+mod Grown
 mod Heights
 mod Jumping
 pub mod Literals

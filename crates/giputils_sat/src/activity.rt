@@ -54,7 +54,6 @@ impl<A: Allocator + Copy> Activity<A> {
         let old = scores.len();
         scores.resize(old.max(count), 0)?;
         queue.raise_bound(u32::try_from(count).unwrap_or(u32::MAX))?;
-        queue.rebuild(&ByRank(&scores));
         let mut activity = Activity {
             queue,
             scores,

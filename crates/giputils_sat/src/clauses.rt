@@ -1,15 +1,26 @@
 //! Clauses, one after another in one vector of literals.
-ghost use Rattle.std.specs.Prelude.{◌≡◌, ◌++◌, ◌∷◌, ◌<◌, [], Some, length, slice_get, OnOk, OnErr};
+ghost use Rattle.std.specs.Prelude.{◌≡◌, ◌++◌, ◌∷◌, ◌+◌, ◌<◌, [], Some, length, slice_get, IfSome, OnOk, OnErr};
 
 use crate::literal::Literal;
 use std::alloc::{AllocError, Allocator, Global};
 use std::marker::Model;
 
-// Where a clause lies.
+// Where a clause lies. In half the room that usize takes: what a search waits for is memory.
 #[derive(Clone, Copy)]
 pub(crate) struct Span {
-    pub start: usize,
-    pub end: usize,
+    pub start: u32,
+    pub end: u32,
+}
+
+// Where so many literals lie behind others. None past 2^32.
+fn span_behind(others: usize, len: usize) -> Option<Span>
+    ensures start { IfSome result (λ s. s.start ≡ others) }
+    ensures end { IfSome result (λ s. s.end ≡ others + len) }
+{
+    let end = others.checked_add(len)?;
+    let start = u32::try_from(others).ok()?;
+    let end = u32::try_from(end).ok()?;
+    Some(Span { start, end })
 }
 
 // A list of clauses.
@@ -50,15 +61,16 @@ impl<A: Allocator + Copy> Clauses<A> {
         self.spans.len()
     }
 
-    // Adds a clause.
+    // Adds a clause. Nothing changes where memory is refused, or where there would be 2^32 literals.
     pub(crate) fn push(&mut self, clause: &[Literal]) -> Result<(), AllocError>
         ensures ok { OnOk result (self.new ≡ self.old ++ clause.now ∷ []) }
         ensures err { OnErr result (self.new ≡ self.old) }
     {
-        let start = self.literals.len();
+        let Some(span) = span_behind(self.literals.len(), clause.len()) else {
+            return Err(AllocError);
+        };
         self.literals.extend_from_slice(clause)?;
-        let end = self.literals.len();
-        self.spans.push(Span { start, end })?;
+        self.spans.push(span)?;
         Ok(())
     }
 
@@ -68,6 +80,6 @@ impl<A: Allocator + Copy> Clauses<A> {
         ensures { slice_get self.now place ≡ Some result.now }
     {
         let span = self.spans[place];
-        &self.literals[span.start..span.end]
+        &self.literals[span.start as usize..span.end as usize]
     }
 }

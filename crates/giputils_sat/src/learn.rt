@@ -357,6 +357,14 @@ pub(crate) fn learn<A: Allocator + Copy>(
     Ok(false)
 }
 
+// A place of a clause but one: the first whose literal isn't false, if there is one.
+fn second_place<A: Allocator + Copy>(trail: &Trail<A>, clause: &[Literal], first: usize) -> usize {
+    match free_place(trail, clause, first) {
+        Some(place) => place,
+        None => usize::from(first == 0),
+    }
+}
+
 // Watches two places of the next clause.
 fn attach<A: Allocator + Copy>(
     watches: &mut Watches<A>,
@@ -393,15 +401,13 @@ pub(crate) fn attach_all<A: Allocator + Copy>(
 {
     for place in watches.len()..database.len() {
         let clause = database.clause(place);
-        if let None = free_place(trail, clause, clause.len()) {
+        let Some(first) = free_place(trail, clause, clause.len()) else {
             return Ok(Some(place));
-        }
-        let pair = Pair {
-            first: 0,
-            second: 1,
         };
+        let second = second_place(trail, clause, first);
+        let pair = Pair { first, second };
         attach(watches, clause, place, pair, database.is_given(place))?;
-        follow(database, trail, place, 0)?;
+        follow(database, trail, place, first)?;
     }
     Ok(None)
 }

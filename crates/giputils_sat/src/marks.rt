@@ -27,14 +27,29 @@ impl<A: Allocator> Model for Marks<A> {
 }
 
 impl<A: Allocator + Copy> Marks<A> {
-    // Nothing is marked, among the literals of so many variables.
-    pub(crate) fn new(alloc: A, count: usize) -> Result<Self, AllocError>
-        requires { count < 2 ^ 40 }
+    // Nothing is marked, and there is no variable. It takes no memory.
+    pub(crate) fn new(alloc: A) -> Self
+        ensures { NoneMarked result }
+    {
+        Marks {
+            marks: Vec::new(alloc),
+            noted: Vec::new(alloc),
+        }
+    }
+
+    // The same with the literals of so many variables. Nothing is marked.
+    pub(crate) fn grown(self, count: usize) -> Result<Self, AllocError>
+        requires small { count < 2 ^ 40 }
+        requires clear { NoneMarked self }
         ensures len { IfOk result (λ m. length m ≡ 2 * count) }
         ensures clear { IfOk result (λ m. NoneMarked m) }
     {
-        let marks = vec![in alloc; false; 2 * count]?;
-        let noted = Vec::new(alloc);
+        let Marks {
+            mut marks,
+            mut noted,
+        } = self;
+        noted.clear();
+        marks.resize(2 * count, false)?;
         Ok(Marks { marks, noted })
     }
 

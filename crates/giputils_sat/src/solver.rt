@@ -2,6 +2,7 @@
 ghost use Rattle.std.specs.Prelude.{◌≡◌, ◌++◌, ◌∷◌, ◌<◌, [], None, Some, length, slice_get, IfNone, IfOk, IfSome, OnOk, OnErr};
 ghost use Rattle.giputils_sat.specs.Answers.{IsModel, IsRight};
 ghost use Rattle.giputils_sat.specs.Formulas.{AreBelow, Implies, IsSatisfiable};
+ghost use Rattle.giputils_sat.specs.Marked.{NoneMarked};
 ghost use Rattle.giputils_sat.specs.Stores.{AddsLearned, AddsUnits, AreAmong, KeepsKnown};
 ghost use Rattle.giputils_sat.specs.Trailed.{GoesOn, IsReady, OneLessOr, StandsOn, reach};
 ghost use Rattle.giputils_sat.specs.Under.{IsRightTurn, IsRightUnder, IsRightWithin};
@@ -54,9 +55,11 @@ pub struct Solver<A: Allocator = Global> {
     alloc: A,
     database: Database<A>,
     trail: Trail<A>,
+    marks: Marks<A>,
     // What the last search left, if it was not refused memory.
     hints: Option<Hints<A>>,
     stats: Stats,
+    ghost clear: { NoneMarked marks },
 }
 
 impl<A: Allocator> Model for Solver<A> {
@@ -81,6 +84,7 @@ impl<A: Allocator + Copy> Solver<A> {
             alloc,
             database: Database::new(alloc),
             trail: Trail::new(alloc),
+            marks: Marks::new(alloc),
             hints: None,
             stats: Stats::new(),
         }
@@ -207,14 +211,14 @@ impl<A: Allocator + Copy> Solver<A> {
         let alloc = self.alloc;
         self.database.raise_count(assumptions);
         let count = self.database.count();
-        let mut marks = Marks::new(alloc, count)?;
         // Where memory is refused, the search begins anew at the next call.
         let trail = mem::replace(&mut self.trail, Trail::new(alloc));
+        let marks = mem::replace(&mut self.marks, Marks::new(alloc));
         let hints = Hints::kept_or_new(self.hints.take(), alloc, self.stats)?;
         let mut trail = trail.grown(count)?;
+        let mut marks = marks.grown(count)?;
         let mut hints = hints.grown(alloc, count)?;
         trail.backtrack(0, &mut hints.activity);
-        trail.rewind();
         let answer = run(
             alloc,
             &mut self.database,
@@ -224,7 +228,9 @@ impl<A: Allocator + Copy> Solver<A> {
             assumptions,
             limit,
         )?;
+        rewind_if_refuted(&mut trail, &answer);
         self.trail = trail;
+        self.marks = marks;
         self.stats = hints.stats;
         self.hints = Some(hints);
         Ok(answer)
@@ -290,6 +296,17 @@ fn model_of<A: Allocator + Copy>(alloc: A, trail: &Trail<A>) -> Result<Vec<bool,
         .iter()
         .map(|value| value.unwrap_or(false))
         .collect(alloc)
+}
+
+// Where nothing satisfies the formula, lets each literal be propagated once more: the next search meets the conflict.
+fn rewind_if_refuted<A: Allocator + Copy>(trail: &mut Trail<A>, answer: &AnswerUnder<A>)
+    ensures values { trail.new.values ≡ trail.old.values }
+    ensures trail { StandsOn trail.old trail.new }
+{
+    match answer {
+        AnswerUnder::Unsat(core) if core.is_empty() => trail.rewind(),
+        _ => {}
+    }
 }
 
 // One conflict more. Where it is time takes all decisions back, and forgets clauses, as often as is left.

@@ -7,15 +7,15 @@ use Rattle.giputils_sat.proofs.clauses.Clauses.push.Goals as goal
 
 pub returns-clause-ok : goal.returns-clause-ok
 returns-clause-ok g c =
-    let from : c.len-start.result ≡ length c.self.inside.literals.items = grind (arith, common_steps) in
-    let to : c.len-end.result ≡ length c.self.inside.literals.items + length c.args.clause.now = grind (arith, common_steps) in
+    let from : c.in-Some.span.start ≡ length c.self.inside.literals.items = grind (arith, common_steps) in
+    let to : c.in-Some.span.end ≡ length c.self.inside.literals.items + length c.args.clause.now = grind (arith, common_steps) in
     rw (c.in_ok-extend_from_slice.ensures.items, c.in_ok-push.ensures.items, ← c.self.view_is)
     (clauses-append c.self.inside.literals.items c.args.clause.now c.self.inside.spans.items _ _ from to c.self.invariant)
 
 pub invariant_of-self-2 : goal.invariant_of-self-2
 invariant_of-self-2 g c =
-    let from : c.len-start.result ≡ length c.self.inside.literals.items = grind (arith, common_steps) in
-    let to : c.len-end.result ≡ length c.self.inside.literals.items + length c.args.clause.now = grind (arith, common_steps) in
+    let from : c.in-Some.span.start ≡ length c.self.inside.literals.items = grind (arith, common_steps) in
+    let to : c.in-Some.span.end ≡ length c.self.inside.literals.items + length c.args.clause.now = grind (arith, common_steps) in
     rw (c.in_ok-extend_from_slice.ensures.items, c.in_ok-push.ensures.items)
     (AreSpans-push c.self.inside.literals.items c.args.clause.now c.self.inside.spans.items _ _ from to c.self.invariant)
 
