@@ -7,6 +7,8 @@
 #![tactic(auto)]
 
 #[cfg(test)]
+mod costs;
+#[cfg(test)]
 mod formulas;
 #[cfg(test)]
 mod refusals;

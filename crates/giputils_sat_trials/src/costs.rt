@@ -1,0 +1,72 @@
+//! What a call under assumptions costs: its search, and not what the formula says besides.
+
+use crate::formulas::literal;
+use giputils_refusing::Refusing;
+use giputils_sat::{AnswerUnder, Literal, Solver};
+use std::alloc::{AllocError, Allocator};
+
+// So many variables: the first has to be true, and each next one where the one before it is.
+fn add_chain<A: Allocator + Copy>(
+    solver: &mut Solver<A>,
+    variables: i32,
+) -> Result<(), AllocError> {
+    solver.add_clause(&[literal(1)])?;
+    for variable in 1..variables {
+        solver.add_clause(&[literal(-variable), literal(variable + 1)])?;
+    }
+    Ok(())
+}
+
+// What a call did.
+#[derive(Clone, Copy, PartialEq, Eq, Debug)]
+struct Cost {
+    // How many of the assumptions can't be true together.
+    core: usize,
+    propagations: u64,
+    requests: u64,
+}
+
+// Asks under assumptions that can't be true together.
+fn cost_of_a_call(
+    memory: &Refusing,
+    solver: &mut Solver<&Refusing>,
+    assumptions: &[Literal],
+) -> Result<Cost, AllocError> {
+    let (propagations, requests) = (solver.stats().propagations, memory.requests());
+    let core = match solver.solve_under(assumptions, 10)? {
+        AnswerUnder::Unsat(core) => core.len(),
+        _ => 0,
+    };
+    Ok(Cost {
+        core,
+        propagations: solver.stats().propagations.saturating_sub(propagations),
+        requests: memory.requests().saturating_sub(requests),
+    })
+}
+
+// The first call and the second, where a chain of 1000 variables stands beside the clause that is asked for.
+fn costs_of_two_calls(memory: &Refusing) -> Result<(Cost, Cost), AllocError> {
+    let mut solver = Solver::new(memory);
+    add_chain(&mut solver, 1000)?;
+    solver.add_clause(&[literal(-2001), literal(2002)])?;
+    let assumptions = [literal(2001), literal(-2002)];
+    let first = cost_of_a_call(memory, &mut solver, &assumptions)?;
+    let second = cost_of_a_call(memory, &mut solver, &assumptions)?;
+    Ok((first, second))
+}
+
+#[test]
+fn a_second_call_costs_its_search_alone(rt: HostRuntime) {
+    let memory = Refusing::none(rt.alloc());
+    let costs = costs_of_two_calls(&memory);
+    assert!(rt;
+        costs.is_ok_and(|(first, second)| {
+            first.core == 2
+                && first.propagations >= 1000
+                && second.core == 2
+                && second.propagations <= 4
+                && second.requests <= 8
+        }),
+        "{costs:?}"
+    );
+}
