@@ -1,7 +1,8 @@
 #!/usr/bin/env bash
 # Tries what README says of another repository that takes the heap or the solver: makes an empty repository with the
-# folders and the lines of crates.txt that are named there and no others, writes a caller of each, and proves all of it
-# from nothing.
+# folders and the lines of crates.txt that are named there and no others, and writes a caller of each. The heap's is
+# proved, with all that it stands on, from nothing; the solver's is built and run with no proof, since a proof of the
+# solver takes as long as all else here: the gate proves it, from the same sources.
 # The last line is 'N passed, M failed'.
 set -u
 here=$(cd "$(dirname "$0")/.." && pwd) || exit 2
@@ -34,40 +35,47 @@ pub fn take<A: Allocator>(heap: &mut BinaryHeap<u32, A>) -> Option<(u32, usize)>
     Some((key, heap.len()))
 }
 END
-cat > crates/solver_caller/src/lib.rt << 'END'
+cat > crates/solver_caller/src/main.rt << 'END'
 //! A caller of the solver.
 #![tactic(auto)]
-ghost use Rattle.std.specs.Prelude.{◌≡◌, IfOk};
-ghost use Rattle.std.specs.Bool.{OnTrue};
-ghost use Rattle.giputils_sat.specs.Formulas.{IsSatisfiable};
 
-use giputils_sat::{Answer, Solver};
+use giputils_sat::{Literal, Solver};
 use std::alloc::{AllocError, Allocator};
+use std::io;
 
-/// Whether it is found out within so many conflicts that nothing satisfies the formula.
-pub fn is_refuted<A: Allocator + Copy>(
-    solver: &mut Solver<A>,
-    limit: usize,
-) -> Result<bool, AllocError>
-    ensures formula { solver.new.formula ≡ solver.old.formula }
-    ensures refuted { IfOk result (λ found. OnTrue found (IsSatisfiable solver.old.formula → ⊥)) }
-{
-    match solver.solve(limit)? {
-        Answer::Unsat => Ok(true),
-        _ => Ok(false),
+// Whether something satisfies two clauses that contradict each other.
+fn is_satisfied<A: Allocator + Copy>(alloc: A) -> Result<bool, AllocError> {
+    let l = Literal::new(1, true);
+    let mut solver = Solver::new(alloc);
+    solver.add_clause(&[l])?;
+    solver.add_clause(&[l.negated()])?;
+    Ok(solver.find_model()?.is_some())
+}
+
+fn main(rt: HostRuntime) -> io::Result<()> {
+    match is_satisfied(rt.alloc()) {
+        Ok(found) => println!(rt; "satisfied: {found}"),
+        Err(_) => println!(rt; "no memory"),
     }
 }
 END
 
 passed=0
 failed=0
-for caller in heap_caller solver_caller; do
-    if (cd "crates/$caller" && rt check --jobs 2) > log 2>&1 && grep -q '^logic=proved functions=1 ' log; then
+
+# Counts a test by the status of what was run; where it failed, shows what was said.
+count() {
+    if [ "$1" -eq 0 ]; then
         passed=$((passed + 1))
     else
         cat log
         failed=$((failed + 1))
     fi
-done
+}
+
+(cd crates/heap_caller && rt check --jobs 2) > log 2>&1 && grep -q '^logic=proved functions=1 ' log
+count $?
+(cd crates/solver_caller && rt try) > log 2>&1 && grep -q '^satisfied: false$' log
+count $?
 echo "$passed passed, $failed failed"
 [ "$failed" -eq 0 ]
