@@ -1,5 +1,5 @@
 -- A word appended to a list that is kept in words.
-use Rattle.std.proofs.Common.{◌≡◌, ◌≢◌, ℕ, ◌+◌, ◌-◌, ◌*◌, ◌/◌, ◌%◌, ◌^◌, ◌<◌, false, ◌||◌, List, [], ◌∷◌, ◌++◌, length, get_or, set, sym, ◌∙◌, arith, inl, inr, refl}
+use Rattle.std.proofs.Common.{◌≡◌, ◌≢◌, ℕ, ◌+◌, ◌-◌, ◌*◌, ◌/◌, ◌%◌, ◌^◌, ◌<◌, false, ◌||◌, List, [], ◌∷◌, ◌++◌, length, get_or, set, sym, ap, ◌∙◌, arith, inl, inr, refl}
 use Rattle.std.specs.Prelude.{bit_or}
 use Rattle.std.proofs.Math.Bool.{or-false}
 use Rattle.std.proofs.lemmas.List.{length-set, length-append, length_push, get_or-set_same, get_or-set_other, get_or_append_left, get_or-append_right}
@@ -8,6 +8,16 @@ use Rattle.giputils_bits.specs.Bits.{has_digit, digits_of}
 use Rattle.giputils_bits.specs.Places.{place, bits_of, IsPacked, AppendsWord}
 use Rattle.giputils_bits.proofs.Digits.{has_digit-or, has_digit-shl_low, has_digit-shl_high, has_digit-shr, length-digits_of, get_or-digits_of}
 use Rattle.giputils_bits.proofs.Places.{place_is, place-past, place-word, length-bits_of, get_or-bits_of, bits_of_is}
+
+-- at the start: the word takes the place of the only one
+pub AppendsWord-first : (n : ℕ) (old : List ℕ) (w : ℕ) → n ≡ 0 → IsPacked n old → AppendsWord n old (set old 0 w) w
+AppendsWord-first n [] w none p = absurd (omega (arith, p.count))
+AppendsWord-first n (v ∷ []) w none p = record {
+  count = omega (arith, none);
+  before = λ j h. absurd (omega (arith, none));
+  after = λ j h. let same : j ≡ j - n = omega (arith, none) in ap (λ k. place (w ∷ []) k) same;
+}
+AppendsWord-first n (v ∷ u ∷ ws) w none p = absurd (omega (arith, p.count, none))
 
 -- at a word's end
 pub AppendsWord-push : (n : ℕ) (old : List ℕ) (w : ℕ) → w < 2 ^ 64 → n % 64 ≡ 0 → 0 < n → IsPacked n old → AppendsWord n old (old ++ w ∷ []) w
