@@ -1,8 +1,9 @@
 //! Workloads of the bit vectors.
-ghost use Rattle.std.specs.Prelude.{◌≡◌, ◌<◌, ◌^◌, length, IfOk};
+ghost use Rattle.std.specs.Prelude.{◌<◌, ◌^◌, length};
 
-use crate::common::{Checksum, Generator, scaled};
 use giputils_bits::bitvec::{BitVec, BitVecError};
+use giputils_workloads::common::{Checksum, Generator, scaled};
+use giputils_workloads::vectors::vector;
 use std::alloc::Global;
 
 // How often two vectors are compared.
@@ -181,17 +182,6 @@ fn push_each(bits: &mut BitVec, others: &BitVec) -> Result<(), BitVecError> {
         bits.push(bit)?;
     }
     Ok(())
-}
-
-/// A vector of `size` drawn bits, by words.
-pub fn vector(alloc: Global, size: u32, rng: &mut Generator) -> Result<BitVec, BitVecError>
-    ensures { IfOk result (λ bits. length bits ≡ size) }
-{
-    let mut bits = BitVec::zero(alloc, size as usize)?;
-    for k in 0..bits.word_len() {
-        bits.set_word(k, rng.draw_word());
-    }
-    Ok(bits)
 }
 
 // How many bits are true.

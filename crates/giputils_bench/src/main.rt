@@ -7,13 +7,12 @@
 #![tactic(auto)]
 
 mod bits;
-mod common;
-mod galloc;
 mod heap;
 mod sets;
 
 use anyhow::{Context, bail};
-use common::{Checksum, Generator};
+use giputils_workloads::common::{Checksum, Generator};
+use giputils_workloads::galloc;
 use std::alloc::Global;
 use std::env;
 use std::process::ExitCode;

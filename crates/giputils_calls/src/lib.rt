@@ -4,5 +4,6 @@
 pub mod fault;
 pub mod galloc;
 pub mod heap;
+pub mod texts;
 
 pub use fault::NotACall;

@@ -5,7 +5,7 @@
 //! `success_rate SUCCESSES FAILURES` or `running_time BEGINNING NOW`.
 
 use anyhow::{Context, Result, bail, ensure};
-use giputils_stat::decimal::Decimal;
+use giputils_calls::texts::decimal_of;
 use giputils_stat::statistic::{
     Average, AverageDuration, CountedDuration, RunningTime, SuccessRate,
 };
@@ -47,17 +47,7 @@ fn text_of(alloc: Global, name: &str, numbers: &[u64]) -> Result<String> {
 }
 
 fn decimal(alloc: Global, numbers: &[u64]) -> Result<String> {
-    let &[numerator, denominator, places] = numbers else {
-        bail!("a decimal is of three numbers");
-    };
-    ensure!(denominator > 0, "division by 0");
-    ensure!(places > 0, "no decimals");
-    ensure!(places <= 19, "too many decimals");
-    let decimal = Decimal {
-        numerator: numerator as u128,
-        denominator,
-        places: places as u32,
-    };
+    let decimal = decimal_of(numbers)?;
     Ok(format!(in alloc; "{decimal}")?)
 }
 

@@ -1,6 +1,6 @@
 //! A workload of the index allocator.
 ghost use Rattle.std.specs.Prelude.{◌≡◌, length, OnOk, IfOk};
-ghost use Rattle.giputils_bench.specs.Galloc.{AreIndexes, LeadsTo};
+ghost use Rattle.giputils_workloads.specs.Galloc.{AreIndexes, LeadsTo};
 
 use crate::common::{Checksum, Generator};
 use giputils_base::allocator::{Gallocator, rename};
