@@ -5,7 +5,7 @@
                                                   stdout, in the place of the one that stands there; it needs minisat
     tests/formulas.py --write FOLDER              a DIMACS file for each formula of FILES, by name and seed
     tests/formulas.py --time FOLDER PROGRAM..     runs the programs by turns over the files of a folder
-    tests/formulas.py --check FOLDER GIPSAT       has each file that GIPSAT refutes checked with the proof that it writes
+    tests/formulas.py --check FOLDER GIPSAT       has each file that GIPSAT refutes checked with the proof it writes
     tests/formulas.py --check FOLDER GIPSAT CADICAL    has the proofs of this program checked by GIPSAT
 
 A line `cnf CLAUSE..` of the list has a word for each clause, and a letter for each literal: `A` is a variable, and `a`
@@ -14,14 +14,17 @@ the clause of no literal. minisat's models are tried here on their formulas.
 
 A PROGRAM that is named minisat gets the names of a file and of one for its answer, any other the file as its standard
 input, and answers as solvers do at competitions: a line `s SATISFIABLE` with lines `v ..`, or `s UNSATISFIABLE`. Each
-run may take 100 s of processor time. The table that is printed has the sums of user times, family by family, over the
-formulas that all programs have answered, and how many each has left; the programs' answers are compared, and each model
-is tried on its formula.
+run may take 100 s of processor time. The tables that are printed go family by family over the formulas that all
+programs have answered: user times and how many formulas each program has left, the greatest memory that was resident,
+and, of programs that print them (as `gipsat --stats`), conflicts and propagations. The programs' answers are compared
+with each other and with those that are known, and each model is tried on its formula. It needs /usr/bin/time.
 
 A formula is a list of clauses, which are lists of literals; variable 1 is 1, and its negation is -1.
 """
 
 import itertools
+import math
+import operator
 import random
 import re
 import resource
@@ -30,6 +33,7 @@ import subprocess
 import sys
 import tempfile
 from pathlib import Path
+from typing import NamedTuple
 
 SECONDS = 100
 REPLAY = Path(__file__).resolve().parent.parent / "crates" / "giputils_replay"
@@ -92,15 +96,85 @@ def parity_chains(rng, variables, agree):
     return clauses
 
 
-def colouring(rng, nodes, edges, colours=3):
-    """A colour for each node of a random graph, such that no edge has one colour at both ends."""
+def coloured(nodes, edges, colours, given):
+    """A colour for each node, such that no edge has one colour at both ends. The given nodes, of which each has an edge
+    to the others, have the first colours."""
 
     def has(node, colour):
         return node * colours + colour + 1
 
     clauses = [[has(node, colour) for colour in range(colours)] for node in range(nodes)]
-    for a, b in rng.sample(list(itertools.combinations(range(nodes), 2)), edges):
+    for a, b in edges:
         clauses += [[-has(a, colour), -has(b, colour)] for colour in range(colours)]
+    return clauses + [[has(node, colour)] for colour, node in enumerate(given)]
+
+
+def colouring(rng, nodes, edges, colours=3):
+    """A colour for each node of a random graph."""
+    return coloured(nodes, rng.sample(list(itertools.combinations(range(nodes), 2)), edges), colours, [])
+
+
+def queens(_rng, size, colours):
+    """A colour for each cell of a board, such that no queen goes from a cell to another of its colour. 9 are the least
+    for 8 by 8."""
+    cells = list(itertools.product(range(size), repeat=2))
+    edges = [
+        (a, b)
+        for (a, (row, column)), (b, (other_row, other_column)) in itertools.combinations(enumerate(cells), 2)
+        if row == other_row or column == other_column or abs(row - other_row) == abs(column - other_column)
+    ]
+    return coloured(len(cells), edges, colours, range(size))
+
+
+def mycielski(_rng, times, colours):
+    """Colours for the graph that Mycielski's construction makes of an edge in so many times. It has no triangle, and
+    needs as many colours and 2 more."""
+    nodes, edges = 2, [(0, 1)]
+    for _ in range(times):
+        edges += [(a, nodes + b) for a, b in edges] + [(b, nodes + a) for a, b in edges]
+        edges += [(nodes + node, 2 * nodes) for node in range(nodes)]
+        nodes = 2 * nodes + 1
+    return coloured(nodes, edges, colours, [0, 1])
+
+
+def sliding(rng, distance, steps):
+    """The puzzle of eight numbers in nine cells: from a drawn place, so many steps away from the goal, to the goal. In
+    each step a number goes into the empty cell, or none does. It has a model where there are as many steps."""
+    cells = range(9)
+    near = [[d for d in cells if abs(c % 3 - d % 3) + abs(c // 3 - d // 3) == 1] for c in cells]
+
+    def after(place):
+        empty = place.index(0)
+        for cell in near[empty]:
+            moved = list(place)
+            moved[empty], moved[cell] = moved[cell], 0
+            yield tuple(moved)
+
+    goal = tuple(cells)
+    seen, places = {goal}, [goal]
+    for _ in range(distance):
+        places = [place for place in dict.fromkeys(itertools.chain(*map(after, places))) if place not in seen]
+        seen.update(places)
+    start = rng.choice(places)
+
+    def has(step, cell, number):
+        return (step * 9 + cell) * 9 + number + 1
+
+    clauses = [[has(0, cell, start[cell])] for cell in cells] + [[has(steps, cell, cell)] for cell in cells]
+    for step in range(steps + 1):
+        for one in cells:
+            clauses += [[has(step, one, number) for number in cells], [has(step, cell, one) for cell in cells]]
+            for a, b in itertools.combinations(cells, 2):
+                clauses += [[-has(step, one, a), -has(step, one, b)], [-has(step, a, one), -has(step, b, one)]]
+    for step in range(steps):
+        for cell in cells:
+            clauses.append([-has(step, cell, 0)] + [has(step + 1, other, 0) for other in [cell, *near[cell]]])
+            for number in cells[1:]:
+                clauses.append([-has(step, cell, number), has(step + 1, cell, 0), has(step + 1, cell, number)])
+                clauses += [
+                    [-has(step, cell, 0), -has(step + 1, d, 0), -has(step, d, number), has(step + 1, cell, number)]
+                    for d in near[cell]
+                ]
     return clauses
 
 
@@ -162,6 +236,9 @@ class Circuit:
         self.clauses += [[-test, -yes, out], [-test, yes, -out], [test, -no, out], [test, no, -out]]
         return out
 
+    def either(self, a, b):
+        return -self.both(-a, -b)
+
     def sum(self, a, b, carried):
         """The digit and the carry of three bits."""
         half = self.differ(a, b)
@@ -181,6 +258,18 @@ class Circuit:
             row = next_row + [carried]
             digits.append(row.pop(0))
         return digits + row
+
+    def product_by_columns(self, a, b):
+        """The same by columns: three bits of a column are one bit of it, and one of the next column."""
+        columns = [[] for _ in range(len(a) + len(b) + 1)]
+        for (i, x), (j, y) in itertools.product(enumerate(a), enumerate(b)):
+            columns[i + j].append(self.both(x, y))
+        for place, column in enumerate(columns[:-1]):
+            while len(column) > 1:
+                digit, carried = self.sum(column.pop(0), column.pop(0), column.pop(0) if column else -1)
+                column.append(digit)
+                columns[place + 1].append(carried)
+        return [column[0] for column in columns[:-1]]
 
     def step_up(self, state, reset):
         """A number with 1 more, or 0 where there is a reset."""
@@ -245,6 +334,89 @@ def counters_differ(_rng, bits, steps):
     return circuit.clauses
 
 
+def multipliers(_rng, bits):
+    """Two numbers whose products by rows and by columns differ: no model."""
+    circuit = Circuit()
+    a, b = circuit.wires(bits), circuit.wires(bits)
+    pairs = zip(circuit.product(a, b), circuit.product_by_columns(a, b))
+    circuit.clauses.append([circuit.differ(x, y) for x, y in pairs])
+    return circuit.clauses
+
+
+def arbiter(_rng, clients, steps, wrong):
+    """An arbiter that serves the first client who asks, from the one with the token on, and round; the next one then
+    has the token. Who asks goes on until it is served. Are two ever served at once? Not by the right one; the wrong one
+    also leaves the token where it was, where all ask and the last one is served."""
+    circuit = Circuit()
+    token, waiting = [1] + [-1] * (clients - 1), [-1] * clients
+    twice = []
+    for _ in range(steps):
+        asks = [circuit.either(wait, circuit.wire()) for wait in waiting]
+        passed = -1
+        for have, ask in zip(token, asks):
+            passed = circuit.both(circuit.either(have, passed), -ask)
+        served, one, two, all_ask = [], -1, -1, 1
+        for have, ask in zip(token, asks):
+            here = circuit.either(have, passed)
+            served.append(circuit.both(here, ask))
+            passed = circuit.both(here, -ask)
+            two = circuit.either(two, circuit.both(one, served[-1]))
+            one = circuit.either(one, served[-1])
+            all_ask = circuit.both(all_ask, ask)
+        twice.append(two)
+        waiting = [circuit.both(ask, -done) for ask, done in zip(asks, served)]
+        stays = circuit.either(-one, circuit.both(all_ask, served[-1])) if wrong else -one
+        before = served[-1:] + served[:-1]
+        token = [circuit.either(circuit.both(stays, have), done) for have, done in zip(token, before)]
+    circuit.clauses.append(twice)
+    return circuit.clauses
+
+
+def gray(_rng, bits, steps):
+    """A counter of two bits or more that an input holds, and one that changes one bit a step: are they at other numbers
+    at the end? No model."""
+    circuit = Circuit()
+    state, code = [-1] * bits, [-1] * bits
+    for _ in range(steps):
+        carried = go = circuit.wire()
+        following = []
+        for bit in state:
+            following.append(circuit.differ(bit, carried))
+            carried = circuit.both(bit, carried)
+        odd = -1
+        for bit in code:
+            odd = circuit.differ(odd, bit)
+        # An even code changes its lowest bit, and an odd one the bit above its lowest true one, or the highest.
+        changes, clear = [circuit.both(go, -odd)], circuit.both(go, odd)
+        for bit in code[:-2]:
+            changes.append(circuit.both(clear, bit))
+            clear = circuit.both(clear, -bit)
+        state, code = following, [circuit.differ(*pair) for pair in zip(code, [*changes, clear])]
+    shifted = state[1:] + [-1]
+    circuit.clauses.append([circuit.differ(a, circuit.differ(b, c)) for a, b, c in zip(code, state, shifted)])
+    return circuit.clauses
+
+
+def register(rng, bits, steps, apart):
+    """A register that shifts by one bit a step, the new bit being made of five others: what did it hold at first, where
+    what it gives out, a bit each time that so many steps are over, is what a drawn one gives out?"""
+    taps = rng.sample(range(1, bits), 5)
+
+    def outputs(state, differ, both):
+        for step in range(steps):
+            if step % apart == 0:
+                yield differ(state[bits // 2], both(state[bits // 3], state[-1]))
+            a, b, c, d, e = [state[tap] for tap in taps]
+            state = state[1:] + [differ(differ(state[0], a), differ(both(b, c), both(d, e)))]
+
+    circuit = Circuit()
+    drawn = [rng.random() < 0.5 for _ in range(bits)]
+    wires = outputs(circuit.wires(bits), circuit.differ, circuit.both)
+    for wire, bit in zip(wires, outputs(drawn, operator.xor, operator.and_)):
+        circuit.clauses.append([wire if bit else -wire])
+    return circuit.clauses
+
+
 # Files to time solvers with: a name, what makes the formula, the seed (the last number of the name), and sizes.
 FILES = [
     *[
@@ -271,7 +443,23 @@ FILES = [
     ("factors-16-0", factors, 0, (40961 * 52361, 16)),
     ("factors-18-0", factors, 0, (131101 * 200003, 18)),
     *[(f"units-100000-{seed}", units, seed, (100000, seed == 1)) for seed in (1, 2)],
+    ("arbiter-30-0", arbiter, 0, (10, 30, False)),
+    ("arbiter-100-0", arbiter, 0, (20, 100, True)),
+    *[(f"multipliers-{bits}-0", multipliers, 0, (bits,)) for bits in (6, 7)],
+    ("gray-36-0", gray, 0, (7, 36)),
+    ("register-132-1", register, 1, (44, 132, 3)),
+    ("sliding-21-1", sliding, 1, (22, 21)),
+    ("sliding-26-2", sliding, 2, (26, 26)),
+    ("queens-9-0", queens, 0, (8, 9)),
+    ("mycielski-5-0", mycielski, 0, (4, 5)),
 ]
+
+# How the names of those formulas begin of which it is known what they answer. Of the others the programs have to agree.
+KNOWN = {
+    "sat": "arbiter-100 chains-40 chains-60 counter- factors- queens-9 register- sliding-26 units-100000-2",
+    "unsat": "arbiter-30 chains-20 chains-25 chains-30 counters- gray- multipliers- mycielski-5 pigeonhole- product- "
+    "sliding-21 units-100000-1",
+}
 
 
 def count_of(clauses):
@@ -336,11 +524,11 @@ def write_list():
         path = Path(folder) / "formula.cnf"
         for clauses in formulas(random.Random(1971)):
             path.write_text(dimacs(clauses))
-            what, _, model = answer("minisat", path)
-            if what == "none" or (what == "sat" and not satisfies(model, clauses)):
+            run = answer("minisat", path)
+            if run.what == "none" or (run.what == "sat" and not satisfies(run.model, clauses)):
                 sys.exit(f"minisat has no answer to {clauses}")
             questions.append(" ".join(["cnf", *map(word, clauses)]))
-            answers.append(what)
+            answers.append(run.what)
     for name, lines in (("stdin", questions), ("stdout", answers)):
         path = REPLAY / name
         before = list(itertools.takewhile(lambda line: line != HEADER, path.read_text().splitlines()))
@@ -370,57 +558,117 @@ def satisfies(model, clauses):
     return all(any((abs(literal) in true) == (literal > 0) for literal in clause) for clause in clauses)
 
 
+class Run(NamedTuple):
+    """What a program answers to a file, `sat`, `unsat` or `none`, and what it took; 0 where it does not count."""
+
+    what: str
+    seconds: float
+    megabytes: float
+    conflicts: int
+    propagations: int
+    model: list
+
+
+def number_of(name, text):
+    """The number that stands in a text before a name, or behind it and a colon, or 0."""
+    found = re.search(rf"(\d+) {name}|^(?:c )?{name} *: *(\d+)", text, re.MULTILINE)
+    return int(found[1] or found[2]) if found else 0
+
+
 def answer(program, path):
-    """What a program answers to a file, `sat`, `unsat` or `none`, with its user time and its model."""
     words = shlex.split(program)
 
     def limit():
         resource.setrlimit(resource.RLIMIT_CPU, (SECONDS, SECONDS))
 
-    with tempfile.NamedTemporaryFile("r") as result, path.open() as formula:
+    # `time` is small when it starts the program, as this process is not: what is resident before that counts as well.
+    with tempfile.NamedTemporaryFile("r") as result, tempfile.NamedTemporaryFile("r") as peak, path.open() as formula:
         if Path(words[0]).name == "minisat":
-            words += ["-verb=0", path, result.name]
+            words += ["-verb=1", path, result.name]
+        words = ["/usr/bin/time", "-f", "%M", "-o", peak.name, *words]
         before = resource.getrusage(resource.RUSAGE_CHILDREN).ru_utime
         run = subprocess.run(
-            words, stdin=formula, stdout=subprocess.PIPE, stderr=subprocess.DEVNULL, text=True, preexec_fn=limit
+            words, stdin=formula, stdout=subprocess.PIPE, stderr=subprocess.PIPE, text=True, preexec_fn=limit
         )
-        taken = resource.getrusage(resource.RUSAGE_CHILDREN).ru_utime - before
+        seconds = resource.getrusage(resource.RUSAGE_CHILDREN).ru_utime - before
         text = result.read() + run.stdout
+        megabytes = int(peak.read().split()[-1]) / 1024
+    what, model = "none", []
     if re.search(r"^(s )?UNSAT", text, re.MULTILINE):
-        return "unsat", taken, []
-    if re.search(r"^(s )?SAT", text, re.MULTILINE):
+        what = "unsat"
+    elif re.search(r"^(s )?SAT", text, re.MULTILINE):
+        what = "sat"
         lines = [line.removeprefix("v") for line in text.splitlines() if re.match(r"v |-?\d", line)]
-        return "sat", taken, [int(word) for line in lines for word in line.split()]
-    return "none", taken, []
+        model = [int(word) for line in lines for word in line.split()]
+    counts = [number_of(name, run.stdout + run.stderr) for name in ("conflicts", "propagations")]
+    return Run(what, seconds, megabytes, *counts, model)
+
+
+def known(name):
+    """What is known to be the answer to the formula of this name, or nothing."""
+    return {what for what, names in KNOWN.items() if name.startswith(tuple(names.split()))}
 
 
 def measure(folder, programs):
-    """Runs the programs, prints a line for each file and then the table, and tells how many answers were wrong."""
+    """Runs the programs, prints a line for each file and then the tables, and tells how many answers were wrong."""
     faults = 0
-    sums = {}
+    families = {}
     for path in sorted(folder.glob("*.cnf"), key=lambda path: re.sub(r"\d+", lambda m: m[0].zfill(6), path.name)):
         clauses = read(path)
-        answers = [answer(program, path) for program in programs]
-        given = {what for what, _, _ in answers} - {"none"}
-        wrong = [what == "sat" and not satisfies(model, clauses) for what, _, model in answers]
-        fault = " ANSWERS DIFFER" * (len(given) > 1) + " A MODEL IS WRONG" * any(wrong)
+        runs = [answer(program, path) for program in programs]
+        given = {run.what for run in runs} - {"none"}
+        fault = " ANSWERS DIFFER" * (len(given) > 1) + " AN ANSWER IS WRONG" * (known(path.stem) not in (set(), given))
+        fault *= bool(given)
+        fault += " A MODEL IS WRONG" * any(run.what == "sat" and not satisfies(run.model, clauses) for run in runs)
         faults += bool(fault)
-        cells = "  ".join(f"{what} {taken:.2f}" for what, taken, _ in answers)
+        cells = "; ".join(
+            f"{run.what} {run.seconds:.2f} s, {run.megabytes:.1f} MB, {run.conflicts} conflicts, "
+            f"{run.propagations} propagations"
+            for run in runs
+        )
         print(f"{path.stem} ({len(clauses)} clauses): {cells}{fault}", flush=True)
-        family = sums.setdefault(path.stem.split("-")[0], [])
-        family.append([None if what == "none" else taken for what, taken, _ in answers])
-    print("\n| Family | Files | " + " | ".join(programs) + " |\n|---|---|" + "---|" * len(programs))
-    rows = {**sums, "all": list(itertools.chain(*sums.values()))}
-    for family, times in rows.items():
-        done = [row for row in times if None not in row]
-        totals = [sum(column) for column in zip(*done)] or [0.0] * len(programs)
-        left = [sum(cell is None for cell in column) for column in zip(*times)]
-        cells = [
-            f"{total:.2f}" + f" ({total / totals[0]:.1f})" * (totals[0] > 0) + f", {lost} left" * (lost > 0)
-            for total, lost in zip(totals, left)
-        ]
-        print(f"| {family} | {len(times)} | {' | '.join(cells)} |")
+        families.setdefault(path.stem.split("-")[0], []).append(runs)
+    families["all"] = list(itertools.chain(*families.values()))
+    print("\nSeconds, as sums with the ratio to the first program, and at how many files there was no answer")
+    table(families, programs, seconds_of)
+    print("\nThe greatest memory in MB, as sums with the ratio, and the greatest ratio")
+    table(families, programs, memory_of)
+    print("\nConflicts, conflicts and propagations in a second, all in thousands")
+    table(families, programs, rates_of)
     return faults
+
+
+def table(families, programs, cell):
+    """A row for each family, a column for each program. What is counted is of the files that all have answered."""
+    heads = ["Family", "Files", *(Path(shlex.split(program)[0]).name for program in programs)]
+    print(f"| {' | '.join(heads)} |\n|{'---|' * len(heads)}")
+    for family, rows in families.items():
+        done = [runs for runs in rows if all(run.what != "none" for run in runs)]
+        left = [sum(run.what == "none" for run in column) for column in zip(*rows)]
+        columns = list(zip(*done)) or [()] * len(programs)
+        cells = [cell(column, columns[0], lost) for column, lost in zip(columns, left)]
+        print(f"| {family} | {len(rows)} | {' | '.join(cells)} |")
+
+
+def ratio(part, whole):
+    return f"{part / whole:.2f}" if whole else "-"
+
+
+def seconds_of(runs, first, lost):
+    total, whole = (sum(run.seconds for run in column) for column in (runs, first))
+    return f"{total:.2f} ({ratio(total, whole)})" + f", {lost} left" * (lost > 0)
+
+
+def memory_of(runs, first, _lost):
+    total, whole = (sum(run.megabytes for run in column) for column in (runs, first))
+    greatest = max((run.megabytes / other.megabytes for run, other in zip(runs, first)), default=0)
+    return f"{total:.0f} ({ratio(total, whole)}, {greatest:.2f})"
+
+
+def rates_of(runs, _first, _lost):
+    conflicts, propagations = (sum(getattr(run, name) for run in runs) for name in ("conflicts", "propagations"))
+    seconds = sum(run.seconds for run in runs) or math.inf
+    return f"{conflicts / 1000:.0f}, {conflicts / seconds / 1000:.1f}, {propagations / seconds / 1000:.0f}"
 
 
 def check(folder, gipsat, peer):
