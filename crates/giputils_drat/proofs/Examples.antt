@@ -1,11 +1,13 @@
 -- Worked examples of the definitions: accepted and refused ones.
-use Rattle.std.proofs.Common.{◌≡◌, ℕ, Bool, true, false, [], ◌∷◌, codes, refl}
+use Rattle.std.proofs.Common.{◌≡◌, ℕ, Bool, true, false, List, [], ◌∷◌, Some, None, suc, zero, ap, codes, refl, subst, sym}
+use Rattle.std.specs.Prelude.{slice_get}
 use Rattle.std.proofs.lemmas.Bool.{false≢true}
 use Rattle.giputils_sat.specs.Literals.{Lit}
-use Rattle.giputils_sat.specs.Formulas.{Formula, is_true, satisfies}
+use Rattle.giputils_sat.specs.Formulas.{Clause, Formula, Has, is_true, satisfies}
 use Rattle.giputils_drat.specs.Forcing.{Forces}
-use Rattle.giputils_drat.specs.Held.{Follow}
-use Rattle.giputils_sat.proofs.Places.{none_some}
+use Rattle.giputils_drat.specs.Held.{Deletes, Follow, Held, HoldsAlso, HoldsNone, IsShownEmpty}
+use Rattle.giputils_drat.specs.Slots.{HaveSameLiterals, held_among}
+use Rattle.giputils_sat.proofs.Places.{none_some, same_some}
 use Rattle.giputils_drat.specs.Outcomes.{IsRight, outcome_text}
 use Rattle.giputils_drat.specs.declared.error.Flaw.TheVariants.{NotShown}
 use Rattle.giputils_drat.specs.declared.error.Outcome.TheVariants.{Verified, Refused}
@@ -42,6 +44,62 @@ nothing_held = record {
 
 empty_clause_is_not : Follow one (record { clauses = []; units = []; refuted = true }) → ⊥
 empty_clause_is_not follow = false≢true ((follow.empty refl).follows (λ v. true) refl)
+
+-- x0 and not x1, and these with one of them twice, in the other order
+abbrev two : Clause
+two = yes 0 ∷ not_ 1 ∷ []
+
+abbrev three : Clause
+three = not_ 1 ∷ yes 0 ∷ yes 0 ∷ []
+
+-- order and repetitions do not tell clauses apart
+two_in_three : (l : Lit) (k : ℕ) → slice_get two k ≡ Some l → Has three l
+two_in_three l zero at = (1, at)
+two_in_three l (suc zero) at = (0, at)
+two_in_three l (suc (suc k)) at = none_some l at
+
+three_in_two : (l : Lit) (k : ℕ) → slice_get three k ≡ Some l → Has two l
+three_in_two l zero at = (1, at)
+three_in_two l (suc zero) at = (0, at)
+three_in_two l (suc (suc zero)) at = (0, at)
+three_in_two l (suc (suc (suc k))) at = none_some l at
+
+same_literals : HaveSameLiterals two three
+same_literals = ((λ l has. two_in_three l has.0 has.1), (λ l has. three_in_two l has.0 has.1))
+
+-- a part of a clause is another one
+part_is_not : HaveSameLiterals [] two → ⊥
+part_is_not same = none_some (yes 0) (same.1 (yes 0) (0, refl)).1
+
+-- an empty place holds nothing
+held : held_among (None ∷ Some two ∷ None ∷ Some [] ∷ []) ≡ two ∷ [] ∷ []
+held = refl
+
+-- of two such clauses one is deleted, and the others stay in their order
+abbrev holding : List Clause → Held
+holding clauses = record { clauses = clauses; units = []; refuted = false }
+
+one_goes : Deletes three (holding ([] ∷ two ∷ two ∷ [])) (holding ([] ∷ two ∷ []))
+one_goes = record { before = [] ∷ []; deleted = two; after = two ∷ []; same = same_literals; were = refl; are = refl }
+
+-- a deletion that finds none: no clause has these literals
+none_has : HoldsNone two (holding ([] ∷ []))
+none_has zero c at same = part_is_not (subst (λ d. HaveSameLiterals d two) (sym (same_some [] c at)) same)
+none_has (suc k) c at same = none_some c at
+
+-- a clause comes behind those of before
+comes_last : HoldsAlso two (holding ([] ∷ [])) (holding ([] ∷ two ∷ []))
+comes_last = refl
+
+comes_first : HoldsAlso two (holding ([] ∷ [])) (holding (two ∷ [] ∷ [])) → ⊥
+comes_first also = nothing_first (ap (λ clauses. slice_get clauses 0) also)
+  where
+    nothing_first : Some two ≡ Some [] → ⊥
+    nothing_first same = none_some (yes 0) (ap (λ c. slice_get c 0) (sym (same_some two [] same)))
+
+-- what takes the empty clause shows it
+shown_empty : IsShownEmpty [] (record { clauses = [] ∷ []; units = []; refuted = false }) → ⊥
+shown_empty shown = false≢true (shown refl)
 
 -- verified is wrong of a formula that something satisfies
 not_verified : IsRight one Verified → ⊥

@@ -2,3 +2,4 @@ mod Examples
 mod Forced
 mod Holding
 mod Failing
+mod Slots

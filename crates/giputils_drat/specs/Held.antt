@@ -1,9 +1,9 @@
 -- What a checker holds.
-use Rattle.std.specs.Prelude.{◌≡◌, ◌⊎◌, ◌++◌, ◌∷◌, Bool, true, false, List, []}
+use Rattle.std.specs.Prelude.{◌≡◌, ◌⊎◌, ◌++◌, ◌∷◌, ℕ, Bool, true, false, List, [], Some, slice_get}
 use Rattle.giputils_sat.specs.Literals.{Lit}
 use Rattle.giputils_sat.specs.Formulas.{Clause, Formula, Implies, IsSatisfiable}
-use Rattle.giputils_sat.specs.Stores.{AreAmong}
 use Rattle.giputils_drat.specs.Forcing.{AreForced, AreImplied}
+use Rattle.giputils_drat.specs.Slots.{HaveSameLiterals}
 
 -- some clauses, the literals that are true by them alone, and whether the empty clause was shown
 pub record Held : Type 0 where
@@ -45,9 +45,22 @@ HoldsAlso clause old new = new.clauses ≡ old.clauses ++ clause ∷ []
 abbrev pub HoldsAtMost : Clause → Held → Held → Type 0
 HoldsAtMost clause old new = (new.clauses ≡ old.clauses) ⊎ HoldsAlso clause old new
 
--- each clause that is held was held before
-abbrev pub HoldsNoOther : Held → Held → Type 0
-HoldsNoOther old new = AreAmong old.clauses new.clauses
+-- a clause with these literals is held no longer, and the others are, in their order
+pub record Deletes (clause : Clause) (old new : Held) : Type 0 where
+  pub before : List Clause
+  pub deleted : Clause
+  pub after : List Clause
+  pub same : HaveSameLiterals deleted clause
+  pub were : old.clauses ≡ before ++ deleted ∷ after
+  pub are : new.clauses ≡ before ++ after
+
+-- no clause with these literals is held
+abbrev pub HoldsNone : Clause → Held → Type 0
+HoldsNone clause held = (k : ℕ) (c : Clause) → slice_get held.clauses k ≡ Some c → ¬ (HaveSameLiterals c clause)
+
+-- where the clause is the empty one, that was shown
+abbrev pub IsShownEmpty : Clause → Held → Type 0
+IsShownEmpty clause held = clause ≡ [] → held.refuted ≡ true
 
 -- once the empty clause was shown, it stays so
 abbrev pub StaysRefuted : Held → Held → Type 0

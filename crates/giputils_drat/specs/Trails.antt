@@ -1,10 +1,11 @@
 -- The true literals of a checker.
-use Rattle.std.specs.Prelude.{◌≡◌, ◌≢◌, ℕ, ◌≤◌, Bool, true, List, [], length, take}
+use Rattle.std.specs.Prelude.{◌≡◌, ◌≢◌, ℕ, ◌≤◌, Bool, true, List, Option, [], length, take}
 use Rattle.giputils_sat.specs.Literals.{Lit, negated}
 use Rattle.giputils_sat.specs.Formulas.{Clause, Formula, Has, Implies}
 use Rattle.giputils_sat.specs.Marked.{is_marked}
 use Rattle.giputils_drat.specs.declared.trail.Trail.{Trail}
-use Rattle.giputils_drat.specs.Forcing.{AreForced, AreImplied}
+use Rattle.giputils_drat.specs.Forcing.{AreForced}
+use Rattle.giputils_drat.specs.Slots.{AreImpliedAt}
 
 -- each true literal is one of the steps
 abbrev pub Stand : List Bool → List Lit → Type 0
@@ -26,13 +27,13 @@ abbrev pub IsSettled : {A : Type 0} → Trail A → Type 0
 IsSettled t = Stand t.truths.items t.steps.items × (t.root ≡ length t.steps.items)
 
 -- whatever formula the clauses follow from, and whatever clause is tried, the trail stays forced
-abbrev pub StaysForced : {A : Type 0} → List Clause → Trail A → Trail A → Type 0
-StaysForced clauses old new =
-    (f : Formula) (c : Clause) → AreImplied f clauses → IsTrail f c old → IsTrail f c new
+abbrev pub StaysForced : {A : Type 0} → List (Option Clause) → Trail A → Trail A → Type 0
+StaysForced slots old new =
+    (f : Formula) (c : Clause) → AreImpliedAt f slots → IsTrail f c old → IsTrail f c new
 
 -- whatever formula the clauses follow from, the clause that is tried follows as well
-abbrev pub Shows : {A : Type 0} → List Clause → Trail A → Type 0
-Shows clauses t = (f : Formula) (c : Clause) → AreImplied f clauses → IsTrail f c t → Implies f c
+abbrev pub Shows : {A : Type 0} → List (Option Clause) → Trail A → Type 0
+Shows slots t = (f : Formula) (c : Clause) → AreImpliedAt f slots → IsTrail f c t → Implies f c
 
 -- each of the clause's literals is false
 abbrev pub AreFalse : List Bool → Clause → Type 0

@@ -1,27 +1,26 @@
 //! The checker.
-ghost use Rattle.std.specs.Prelude.{◌≡◌, IfOk, List, OnOk, [], true};
+ghost use Rattle.std.specs.Prelude.{◌≡◌, ℕ, IfNone, IfOk, IfSome, OnErr, OnOk, [], true, false};
 ghost use Rattle.std.specs.Bool.{OnFalse, OnTrue};
-ghost use Rattle.giputils_sat.specs.Formulas.{Clause, Formula, Implies};
-ghost use Rattle.giputils_sat.specs.Stores.{AreAmong};
-ghost use Rattle.giputils_drat.specs.Held.{Entails, Follow, Held, Refutes, Stays, StaysWith};
-ghost use Rattle.giputils_drat.specs.Held.{HoldsAlso, HoldsAtMost, HoldsNoOther, StaysRefuted, nothing_held};
+ghost use Rattle.giputils_sat.specs.Formulas.{Formula, Implies};
+ghost use Rattle.giputils_drat.specs.Held.{Deletes, Entails, Follow, Held, HoldsNone, Refutes, Stays, StaysWith};
+ghost use Rattle.giputils_drat.specs.Held.{HoldsAlso, HoldsAtMost, IsShownEmpty, StaysRefuted, nothing_held};
+ghost use Rattle.giputils_drat.specs.Slots.{AreImpliedAt, IsSameAt};
 ghost use Rattle.giputils_drat.specs.Trails.{IsTrail};
-ghost use Rattle.giputils_drat.specs.Forcing.{AreImplied};
 
 use crate::clauses::Clauses;
 use crate::index::Index;
-use crate::propagation::{attach, propagate};
+use crate::notes::{Notes, search};
+use crate::propagation::{attach, attach_all, propagate};
 use crate::trail::Trail;
 use giputils_sat::Literal;
 use std::alloc::{AllocError, Allocator, Global};
 use std::marker::Model;
-use std::mem;
 
 /// Clauses that follow from a formula, to which others are added only where unit propagation shows that they follow.
 ///
 /// It is seen as what it holds: its clauses, the literals that are true by them alone, and whether the empty clause was
-/// shown. A clause that was deleted is no longer used, and is among these until its memory is given back. A checker does
-/// not know the formula: what is said of it holds of each formula from which all that it holds follows.
+/// shown. A checker does not know the formula: what is said of it holds of each formula from which all that it holds
+/// follows.
 #[derive(Drop)]
 pub struct Checker<A: Allocator = Global> {
     alloc: A,
@@ -29,17 +28,19 @@ pub struct Checker<A: Allocator = Global> {
     clauses: Clauses<A>,
     trail: Trail<A>,
     index: Index<A>,
+    notes: Notes<A>,
     refuted: bool,
 }
 
 impl<A: Allocator> Model for Checker<A> {
     ghost use Rattle.std.specs.Prelude.{◌≡◌, length};
     ghost use Rattle.giputils_drat.specs.Held.{Held};
+    ghost use Rattle.giputils_drat.specs.Slots.{held_among};
     ghost use Rattle.giputils_drat.specs.Trails.{IsSettled};
 
     ghost Value = { Held };
 
-    ghost view = { λ c. record { clauses = c.clauses; units = c.trail.steps.items; refuted = c.refuted } };
+    ghost view = { λ c. record { clauses = held_among c.clauses; units = c.trail.steps.items; refuted = c.refuted } };
 
     ghost invariant = { λ c. IsSettled c.trail };
 }
@@ -59,6 +60,7 @@ impl<A: Allocator + Copy> Checker<A> {
             clauses: Clauses::new(alloc),
             trail: Trail::new(alloc, variables)?,
             index: Index::new(alloc, variables)?,
+            notes: Notes::new(alloc, variables)?,
             refuted: false,
         })
     }
@@ -71,13 +73,14 @@ impl<A: Allocator + Copy> Checker<A> {
         self.refuted
     }
 
-    /// Holds a clause without a look at whether it follows.
+    /// Holds a clause without a look at whether it follows. The empty one is shown by that.
     ///
     /// # Errors
     /// `AllocError` where memory is refused. The clause may be held then.
     pub fn give(&mut self, clause: &[Literal]) -> Result<(), AllocError>
         ensures stays { StaysWith clause.now self.old self.new }
         ensures held { OnOk result (HoldsAlso clause.now self.old self.new) }
+        ensures empty { OnOk result (IsShownEmpty clause.now self.new) }
         ensures at_most { HoldsAtMost clause.now self.old self.new }
         ensures refuted { StaysRefuted self.old self.new }
     {
@@ -86,7 +89,8 @@ impl<A: Allocator + Copy> Checker<A> {
         self.keep(copy)
     }
 
-    /// Holds a clause, if unit propagation shows that it follows, and answers whether it does.
+    /// Holds a clause, if unit propagation shows that it follows, and answers whether it does. Once the empty clause was
+    /// shown, each does.
     ///
     /// # Errors
     /// `AllocError` where memory is refused. The clause may be held then.
@@ -94,7 +98,9 @@ impl<A: Allocator + Copy> Checker<A> {
         ensures stays { Stays self.old self.new }
         ensures entails { IfOk result (λ shown. OnTrue shown (Entails self.old clause.now)) }
         ensures held { IfOk result (λ shown. OnTrue shown (HoldsAlso clause.now self.old self.new)) }
+        ensures empty { IfOk result (λ shown. OnTrue shown (IsShownEmpty clause.now self.new)) }
         ensures refused { IfOk result (λ shown. OnFalse shown (self.new.clauses ≡ self.old.clauses)) }
+        ensures open { IfOk result (λ shown. OnFalse shown (self.old.refuted ≡ false)) }
         ensures at_most { HoldsAtMost clause.now self.old self.new }
         ensures refuted { StaysRefuted self.old self.new }
     {
@@ -105,20 +111,23 @@ impl<A: Allocator + Copy> Checker<A> {
         Ok(true)
     }
 
-    /// Deletes a clause with these literals, in any order. False if there is none. What is true by the clauses held
-    /// before stays true.
+    /// Deletes one clause with these literals, in whatever order and however often each is there. False if there is none.
+    /// What is true by the clauses held before stays true.
     ///
     /// # Errors
-    /// `AllocError` where memory is refused. Some clauses may have been deleted then.
+    /// `AllocError` where memory is refused, as the memory of deleted clauses is given back. One was deleted then.
     pub fn delete(&mut self, clause: &[Literal]) -> Result<bool, AllocError>
         ensures stays { Stays self.old self.new }
-        ensures no_other { HoldsNoOther self.old self.new }
+        ensures deleted { IfOk result (λ found. OnTrue found (Deletes clause.now self.old self.new)) }
         ensures missing { IfOk result (λ found. OnFalse found (self.new ≡ self.old)) }
+        ensures none { IfOk result (λ found. OnFalse found (HoldsNone clause.now self.old)) }
+        ensures err { OnErr result (Deletes clause.now self.old self.new) }
         ensures refuted { StaysRefuted self.old self.new }
     {
-        let Some(place) = self.index.find(&self.clauses, clause) else {
+        let Some(place) = find(&self.clauses, &self.index, &mut self.notes, clause) else {
             return Ok(false);
         };
+        self.clauses.delete(place);
         self.index.delete(place);
         if self.index.is_sparse() {
             self.close_up()?;
@@ -130,6 +139,7 @@ impl<A: Allocator + Copy> Checker<A> {
     fn shows(&mut self, clause: &[Literal]) -> Result<bool, AllocError>
         ensures stays { Stays self.old self.new }
         ensures entails { IfOk result (λ shown. OnTrue shown (Entails self.old clause.now)) }
+        ensures open { IfOk result (λ shown. OnFalse shown (self.old.refuted ≡ false)) }
         ensures clauses { self.new.clauses ≡ self.old.clauses }
         ensures refuted { self.new.refuted ≡ self.old.refuted }
     {
@@ -151,6 +161,7 @@ impl<A: Allocator + Copy> Checker<A> {
     fn keep(&mut self, clause: Vec<Literal, A>) -> Result<(), AllocError>
         ensures stays { StaysWith clause.items self.old self.new }
         ensures held { OnOk result (HoldsAlso clause.items self.old self.new) }
+        ensures empty { OnOk result (IsShownEmpty clause.items self.new) }
         ensures at_most { HoldsAtMost clause.items self.old self.new }
         ensures refuted { StaysRefuted self.old self.new }
     {
@@ -173,43 +184,40 @@ impl<A: Allocator + Copy> Checker<A> {
         Ok(())
     }
 
-    // Lets the clauses go that were deleted.
+    // Gives the memory of deleted clauses back.
     fn close_up(&mut self) -> Result<(), AllocError>
         ensures stays { Stays self.old self.new }
-        ensures no_other { HoldsNoOther self.old self.new }
+        ensures clauses { self.new.clauses ≡ self.old.clauses }
         ensures refuted { StaysRefuted self.old self.new }
     {
         let index = Index::new(self.alloc, self.variables)?;
-        let index = mem::replace(&mut self.index, index);
-        let clauses = mem::replace(&mut self.clauses, Clauses::new(self.alloc));
-        self.keep_alive(clauses, &index)
-    }
-
-    // Holds those of the clauses that were not deleted.
-    fn keep_alive(&mut self, mut clauses: Clauses<A>, index: &Index<A>) -> Result<(), AllocError>
-        ensures stays { (f : Formula) → Follow f self.old → AreImplied f clauses → Follow f self.new }
-        ensures no_other { (all : List Clause) → AreAmong all clauses → AreAmong all self.old.clauses →
-            AreAmong all self.new.clauses }
-        ensures refuted { StaysRefuted self.old self.new }
-    {
-        while let Some(clause) = clauses.pop() {
-            let is_dead = index.is_dead(clauses.len());
-            self.keep_unless(is_dead, clause)?;
-        }
-        Ok(())
-    }
-
-    // Holds a clause, if it was not deleted.
-    fn keep_unless(&mut self, is_dead: bool, clause: Vec<Literal, A>) -> Result<(), AllocError>
-        ensures stays { StaysWith clause.items self.old self.new }
-        ensures at_most { HoldsAtMost clause.items self.old self.new }
-        ensures refuted { StaysRefuted self.old self.new }
-    {
-        if is_dead {
+        self.index = index;
+        self.clauses.close_up();
+        let conflict = attach_all(self.alloc, &self.clauses, &mut self.trail, &mut self.index);
+        self.trail.settle();
+        let conflict = conflict?;
+        if !conflict {
             return Ok(());
         }
-        self.keep(clause)
+        self.refuted = true;
+        Ok(())
     }
+}
+
+// The place of a clause with these literals.
+fn find<A: Allocator + Copy>(
+    clauses: &Clauses<A>,
+    index: &Index<A>,
+    notes: &mut Notes<A>,
+    clause: &[Literal],
+) -> Option<usize>
+    ensures found { IfSome result (λ place. IsSameAt clauses.now clause.now place) }
+    ensures none { IfNone result ((place : ℕ) → ¬ (IsSameAt clauses.now clause.now place)) }
+{
+    if let Some(place) = index.find(clauses, notes, clause) {
+        return Some(place);
+    }
+    search(clauses, notes, clause)
 }
 
 // Makes the literals of a clause false and propagates. Whether a clause is met whose literals are all false.
@@ -220,9 +228,9 @@ fn refute<A: Allocator + Copy>(
     index: &mut Index<A>,
     clause: &[Literal],
 ) -> Result<bool, AllocError>
-    ensures stays { (f : Formula) → AreImplied f clauses.now → IsTrail f [] trail.old → IsTrail f clause.now trail.new }
+    ensures stays { (f : Formula) → AreImpliedAt f clauses.now → IsTrail f [] trail.old → IsTrail f clause.now trail.new }
     ensures shown { IfOk result (λ shown. OnTrue shown ((f : Formula) →
-        AreImplied f clauses.now → IsTrail f [] trail.old → Implies f clause.now)) }
+        AreImpliedAt f clauses.now → IsTrail f [] trail.old → Implies f clause.now)) }
 {
     let shown = falsify(trail, clause)?;
     if shown {

@@ -1,23 +1,28 @@
-//! Clauses, each in a vector of its own.
-ghost use Rattle.std.specs.Prelude.{◌≡◌, ◌++◌, ◌∷◌, [], Some, length, slice_get, IfSome, OnOk, OnErr};
+//! Clauses, each in a vector of its own. They stand at places, and where one was deleted its place is empty.
+ghost use Rattle.std.specs.Prelude.{◌≡◌, ◌≢◌, ◌++◌, ◌∷◌, [], None, Some, length, slice_get, slice_set, IfNone, IfSome, OnOk};
+ghost use Rattle.std.specs.Prelude.{OnErr};
+ghost use Rattle.giputils_sat.specs.Formulas.{Clause};
+ghost use Rattle.giputils_drat.specs.Slots.{held_among};
 
 use giputils_sat::Literal;
 use std::alloc::{AllocError, Allocator, Global};
 use std::marker::Model;
+use std::mem;
 
-// A list of clauses.
+// The places of clauses.
 #[derive(Drop)]
 pub(crate) struct Clauses<A: Allocator = Global> {
-    list: Vec<Vec<Literal, A>, A>,
+    slots: Vec<Option<Vec<Literal, A>>, A>,
 }
 
 impl<A: Allocator> Model for Clauses<A> {
-    ghost use Rattle.std.specs.Prelude.{List, map};
+    ghost use Rattle.std.specs.Prelude.{List, Option, map};
+    ghost use Rattle.std.specs.Option.{option_map};
     ghost use Rattle.giputils_sat.specs.Formulas.{Clause};
 
-    ghost Value = { List Clause };
+    ghost Value = { List (Option Clause) };
 
-    ghost view = { λ s. map (λ c. c.items) s.list.items };
+    ghost view = { λ s. map (option_map (λ c. c.items)) s.slots.items };
 }
 
 impl<A: Allocator + Copy> Clauses<A> {
@@ -26,39 +31,50 @@ impl<A: Allocator + Copy> Clauses<A> {
         ensures { result ≡ [] }
     {
         Clauses {
-            list: Vec::new(alloc),
+            slots: Vec::new(alloc),
         }
     }
 
-    // How many there are.
+    // How many places there are.
     pub(crate) fn len(&self) -> usize
         ensures { result ≡ length self.now }
     {
-        self.list.len()
+        self.slots.len()
     }
 
     // The clause at a place.
     pub(crate) fn get(&self, place: usize) -> Option<&[Literal]>
-        ensures { IfSome result (λ c. slice_get self.now place ≡ Some c.now) }
+        ensures some { IfSome result (λ c. slice_get self.now place ≡ Some (Some c.now)) }
+        ensures none { IfNone result ((c : Clause) → slice_get self.now place ≢ Some (Some c)) }
     {
-        let clause = self.list.get(place)?;
+        let slot = self.slots.get(place)?;
+        let clause = slot.as_ref()?;
         Some(clause.as_slice())
     }
 
     // Adds a clause.
     pub(crate) fn push(&mut self, clause: Vec<Literal, A>) -> Result<(), AllocError>
-        ensures ok { OnOk result (self.new ≡ self.old ++ clause.items ∷ []) }
+        ensures ok { OnOk result (self.new ≡ self.old ++ Some clause.items ∷ []) }
         ensures err { OnErr result (self.new ≡ self.old) }
     {
-        self.list.reserve(1)?;
-        self.list.push_reserved(clause);
+        self.slots.reserve(1)?;
+        self.slots.push_reserved(Some(clause));
         Ok(())
     }
 
-    // Takes the last clause out.
-    pub(crate) fn pop(&mut self) -> Option<Vec<Literal, A>>
-        ensures { IfSome result (λ c. self.old ≡ self.new ++ c.items ∷ []) }
+    // Deletes the clause at a place.
+    pub(crate) fn delete(&mut self, place: usize)
+        ensures { self.new ≡ slice_set self.old place None }
     {
-        self.list.pop()
+        if place < self.slots.len() {
+            drop(mem::replace(&mut self.slots[place], None));
+        }
+    }
+
+    // Leaves the empty places out.
+    pub(crate) fn close_up(&mut self)
+        ensures { held_among self.new ≡ held_among self.old }
+    {
+        self.slots.retain(|slot| slot.is_some());
     }
 }

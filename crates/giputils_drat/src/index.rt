@@ -1,6 +1,10 @@
-//! Which clauses to look at when a literal becomes false, and where a clause stands. Nothing rests on what it says.
+//! Which clauses to look at when a literal becomes false, and where a clause stands. Nothing rests on what it says but
+//! where a clause was looked at.
+ghost use Rattle.std.specs.Prelude.{IfSome};
+ghost use Rattle.giputils_drat.specs.Slots.{IsSameAt};
 
 use crate::clauses::Clauses;
+use crate::notes::{Notes, is_same_at};
 use giputils_sat::Literal;
 use std::alloc::{AllocError, Allocator, Global};
 use std::mem;
@@ -25,7 +29,6 @@ struct Entry {
     hash: u64,
     // The next one in its bucket.
     next: Option<usize>,
-    is_dead: bool,
 }
 
 // For each literal the clauses that watch it, and for each hash the clauses that have it.
@@ -39,9 +42,6 @@ pub(crate) struct Index<A: Allocator = Global> {
     buckets: Vec<Option<usize>, A>,
     // How many clauses were deleted.
     dead: usize,
-    // The number of the clause in which each literal was met last.
-    marks: Vec<u64, A>,
-    number: u64,
 }
 
 // How many buckets there are at first.
@@ -61,8 +61,6 @@ impl<A: Allocator + Copy> Index<A> {
             entries: Vec::new(alloc),
             buckets: vec![in alloc; None; LEAST_BUCKETS]?,
             dead: 0,
-            marks: vec![in alloc; 0u64; literals]?,
-            number: 0,
         })
     }
 
@@ -70,11 +68,7 @@ impl<A: Allocator + Copy> Index<A> {
     pub(crate) fn push(&mut self, clause: &[Literal]) -> Result<(), AllocError> {
         let hash = hash_of(clause);
         self.pairs.push(None)?;
-        self.entries.push(Entry {
-            hash,
-            next: None,
-            is_dead: false,
-        })?;
+        self.entries.push(Entry { hash, next: None })?;
         if self.entries.len() > self.buckets.len() {
             return self.grow();
         }
@@ -122,62 +116,33 @@ impl<A: Allocator + Copy> Index<A> {
         }
     }
 
-    // The place of a clause with these literals that was not deleted.
-    pub(crate) fn find(&mut self, clauses: &Clauses<A>, clause: &[Literal]) -> Option<usize> {
-        self.mark(clause);
+    // The place of a clause with these literals, if its hash finds one.
+    pub(crate) fn find(
+        &self,
+        clauses: &Clauses<A>,
+        notes: &mut Notes<A>,
+        clause: &[Literal],
+    ) -> Option<usize>
+        ensures { IfSome result (λ place. IsSameAt clauses.now clause.now place) }
+    {
         let hash = hash_of(clause);
         let mut next = *self.buckets.get(self.bucket(hash))?;
         for _ in 0..self.entries.len() {
             let place = next?;
             let entry = *self.entries.get(place)?;
-            if entry.hash == hash && !entry.is_dead {
-                let found = clauses.get(place)?;
-                if found.len() == clause.len() && self.are_marked(found) {
-                    return Some(place);
-                }
+            if entry.hash == hash && is_same_at(clauses, notes, place, clause) {
+                return Some(place);
             }
             next = entry.next;
         }
         None
     }
 
-    // Marks the literals of a clause, and no others.
-    fn mark(&mut self, clause: &[Literal]) {
-        self.number = self.number.saturating_add(1);
-        for l in clause {
-            if let Some(mark) = self.marks.get_mut(l.code()) {
-                *mark = self.number;
-            }
-        }
-    }
-
-    // Whether each literal of a clause is marked.
-    fn are_marked(&self, clause: &[Literal]) -> bool {
-        for l in clause {
-            match self.marks.get(l.code()) {
-                Some(mark) if *mark == self.number => {}
-                _ => return false,
-            }
-        }
-        true
-    }
-
-    // Deletes the clause at a place.
+    // The clause at a place was deleted.
     pub(crate) fn delete(&mut self, place: usize) {
-        if let Some(entry) = self.entries.get_mut(place) {
-            entry.is_dead = true;
-            self.dead = self.dead.saturating_add(1);
-        }
+        self.dead = self.dead.saturating_add(1);
         if let Some(pair) = self.pairs.get_mut(place) {
             *pair = None;
-        }
-    }
-
-    // Whether the clause at a place was deleted.
-    pub(crate) fn is_dead(&self, place: usize) -> bool {
-        match self.entries.get(place) {
-            Some(entry) => entry.is_dead,
-            None => true,
         }
     }
 

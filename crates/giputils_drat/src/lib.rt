@@ -5,6 +5,7 @@ pub mod checker;
 mod clauses;
 pub mod error;
 mod index;
+mod notes;
 mod propagation;
 mod script;
 pub mod task;

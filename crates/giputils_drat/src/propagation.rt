@@ -1,6 +1,7 @@
 //! What becomes true by the clauses.
-ghost use Rattle.std.specs.Prelude.{◌≡◌, IfOk, IfNone, false};
+ghost use Rattle.std.specs.Prelude.{◌≡◌, [], Some, slice_get, IfOk, IfNone, IfSome, true, false};
 ghost use Rattle.std.specs.Bool.{OnTrue};
+ghost use Rattle.giputils_sat.specs.Formulas.{Has};
 ghost use Rattle.giputils_drat.specs.Trails.{AreFalse, AreFalseBut, Shows, StaysForced};
 
 use crate::clauses::Clauses;
@@ -30,7 +31,8 @@ fn seen(place: usize, blocker: Literal, stays: bool) -> Look
 
 // The first literal that isn't false.
 fn free<A: Allocator + Copy>(trail: &Trail<A>, clause: &[Literal]) -> Option<Literal>
-    ensures { IfNone result (AreFalse trail.now.truths.items clause.now) }
+    ensures none { IfNone result (AreFalse trail.now.truths.items clause.now) }
+    ensures has { IfSome result (Has clause.now) }
 {
     for l in clause {
         if !trail.is_false(*l) {
@@ -161,6 +163,7 @@ pub(crate) fn attach<A: Allocator + Copy>(
 ) -> Result<bool, AllocError>
     ensures stays { StaysForced clauses.now trail.old trail.new }
     ensures conflict { IfOk result (λ conflict. OnTrue conflict (Shows clauses.now trail.old)) }
+    ensures empty { slice_get clauses.now place ≡ Some (Some []) → IfOk result (λ conflict. conflict ≡ true) }
 {
     let Some(clause) = clauses.get(place) else {
         return Ok(false);
@@ -177,4 +180,37 @@ pub(crate) fn attach<A: Allocator + Copy>(
     }
     trail.assign(first)?;
     propagate(alloc, clauses, trail, index)
+}
+
+// Enters each clause into an index of none, and watches it. Whether one is met whose literals are all false; then those
+// behind it are left out.
+pub(crate) fn attach_all<A: Allocator + Copy>(
+    alloc: A,
+    clauses: &Clauses<A>,
+    trail: &mut Trail<A>,
+    index: &mut Index<A>,
+) -> Result<bool, AllocError>
+    ensures stays { StaysForced clauses.now trail.old trail.new }
+    ensures conflict { IfOk result (λ conflict. OnTrue conflict (Shows clauses.now trail.old)) }
+{
+    for place in 0..clauses.len() {
+        enter(clauses, index, place)?;
+        let conflict = attach(alloc, clauses, trail, index, place)?;
+        if conflict {
+            return Ok(true);
+        }
+    }
+    Ok(false)
+}
+
+// Enters the clause at a place into an index.
+fn enter<A: Allocator + Copy>(
+    clauses: &Clauses<A>,
+    index: &mut Index<A>,
+    place: usize,
+) -> Result<(), AllocError> {
+    match clauses.get(place) {
+        Some(clause) => index.push(clause),
+        None => Ok(()),
+    }
 }

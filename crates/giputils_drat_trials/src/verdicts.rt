@@ -67,13 +67,21 @@ fn refusal(alloc: Global, formula: &[u8], proof: &[u8]) -> Option<(usize, Flaw)>
     }
 }
 
-const REFUSED: [(&[u8], &[u8], usize, Flaw); 18] = [
+const REFUSED: [(&[u8], &[u8], usize, Flaw); 20] = [
     // A clause is left out, a literal is turned, another formula, a clause that is needed is deleted.
     (EIGHT, b"1 0\n2 0\n0\n", 1, Flaw::NotShown),
     (EIGHT, b"1 2 0\n-1 0\n2 0\n0\n", 2, Flaw::NotShown),
     (SEVEN, b"1 2 0\n1 0\n2 0\n0\n", 4, Flaw::NotShown),
     (EIGHT, b"1 2 0\nd 2 1 0\n1 0\n", 3, Flaw::NotShown),
     (EIGHT, b"d 1 2 3 0\n1 2 0\n", 2, Flaw::NotShown),
+    // Order and repetitions do not tell clauses apart, and one goes at a time.
+    (EIGHT, b"d 3 1 2 1 0\n1 2 0\n", 2, Flaw::NotShown),
+    (
+        b"p cnf 2 2\n1 1 2 0 2 1 0\n",
+        b"d 1 2 0\nd 2 1 0\nd 1 2 0\n",
+        3,
+        Flaw::Missing,
+    ),
     // What was tried before is taken back.
     (EIGHT, b"1 2 0\n-3 0\n", 2, Flaw::NotShown),
     // A deletion of what is not there, or not there any more.

@@ -6,23 +6,23 @@ use Rattle.giputils_drat.proofs.propagation.attach.Goals as goal
 
 pub returns-in_default-free-clause-conflict : goal.returns-in_default-free-clause-conflict
 returns-in_default-free-clause-conflict g c = λ f d all is.
-    Implies-false f d c.in-Some.clause.now _ _ _ is (all c.args.place _ c.in-Some.ensures) c.in_default-free.ensures
+    Implies-false f d c.in-Some.clause.now _ _ _ is (all c.args.place _ c.in-Some.ensures.some) c.in_default-free.ensures.none
 
 pub returns-in_err-assign-clause-stays : goal.returns-in_err-assign-clause-stays
 returns-in_err-assign-clause-stays g c = λ f d all is.
     c.assign.ensures f d
-    (Forces-unit f d c.in-Some.clause.now _ _ _ c.in-Some-free.first is (all c.args.place _ c.in-Some.ensures) c.in_default-free_but.ensures) is
+    (Forces-unit f d c.in-Some.clause.now _ _ _ c.in-Some-free.first is (all c.args.place _ c.in-Some.ensures.some) c.in_default-free_but.ensures) is
 
 pub returns-clause-stays : goal.returns-clause-stays
 returns-clause-stays g c = λ f d all is.
     c.propagate.ensures.stays f d all
     (c.assign.ensures f d
-    (Forces-unit f d c.in-Some.clause.now _ _ _ c.in-Some-free.first is (all c.args.place _ c.in-Some.ensures) c.in_default-free_but.ensures) is)
+    (Forces-unit f d c.in-Some.clause.now _ _ _ c.in-Some-free.first is (all c.args.place _ c.in-Some.ensures.some) c.in_default-free_but.ensures) is)
 
 pub returns-clause-conflict : goal.returns-clause-conflict
 returns-clause-conflict g c =
     IfOk-weaker c.propagate.result _ _
     (λ b h. on_true_then b h (λ shows f d all is. shows f d all
     (c.assign.ensures f d
-    (Forces-unit f d c.in-Some.clause.now _ _ _ c.in-Some-free.first is (all c.args.place _ c.in-Some.ensures) c.in_default-free_but.ensures) is)))
+    (Forces-unit f d c.in-Some.clause.now _ _ _ c.in-Some-free.first is (all c.args.place _ c.in-Some.ensures.some) c.in_default-free_but.ensures) is)))
     c.propagate.ensures.conflict

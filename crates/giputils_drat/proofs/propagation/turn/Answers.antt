@@ -5,15 +5,15 @@ use Rattle.giputils_drat.proofs.propagation.turn.Goals as goal
 
 pub returns-then-is_false-clause-conflict : goal.returns-then-is_false-clause-conflict
 returns-then-is_false-clause-conflict g c = λ f d all is.
-    Implies-unit f d c.in-Some-get.clause.now _ _ _ c.in-Some.unit is (all c.args.watch.place _ c.in-Some-get.ensures) c.in_default-free_but.ensures
+    Implies-unit f d c.in-Some-get.clause.now _ _ _ c.in-Some.unit is (all c.args.watch.place _ c.in-Some-get.ensures.some) c.in_default-free_but.ensures
     (sym c.is_false.ensures ∙ c.if-is_false.true)
 
 pub returns-in_err-assign-clause-stays : goal.returns-in_err-assign-clause-stays
 returns-in_err-assign-clause-stays g c = λ f d all is.
     c.assign.ensures f d
-    (Forces-unit f d c.in-Some-get.clause.now _ _ _ c.in-Some.unit is (all c.args.watch.place _ c.in-Some-get.ensures) c.in_default-free_but.ensures) is
+    (Forces-unit f d c.in-Some-get.clause.now _ _ _ c.in-Some.unit is (all c.args.watch.place _ c.in-Some-get.ensures.some) c.in_default-free_but.ensures) is
 
 pub returns-clause-stays : goal.returns-clause-stays
 returns-clause-stays g c = λ f d all is.
     c.assign.ensures f d
-    (Forces-unit f d c.in-Some-get.clause.now _ _ _ c.in-Some.unit is (all c.args.watch.place _ c.in-Some-get.ensures) c.in_default-free_but.ensures) is
+    (Forces-unit f d c.in-Some-get.clause.now _ _ _ c.in-Some.unit is (all c.args.watch.place _ c.in-Some-get.ensures.some) c.in_default-free_but.ensures) is

@@ -1,7 +1,7 @@
 -- What became of the trail, and what a conflict shows.
 use Rattle.std.proofs.Common.{◌≡◌, ◌≤◌, length, true}
 use Rattle.giputils_sat.specs.Formulas.{Clause, Formula, Implies}
-use Rattle.giputils_drat.specs.Forcing.{AreImplied}
+use Rattle.giputils_drat.specs.Slots.{AreImpliedAt}
 use Rattle.giputils_drat.specs.Trails.{IsForced}
 use Rattle.giputils_drat.proofs.propagation.visit.Given as goal
 
@@ -9,9 +9,9 @@ abbrev pub invariant-loop-place : goal.invariant-loop-place
 invariant-loop-place g l = record {
   list : length l.list.items ≡ length l.initial.list.items;
   kept : l.kept ≤ l.place;
-  stays : (f : Formula) (c : Clause) → AreImplied f l.clauses
+  stays : (f : Formula) (c : Clause) → AreImpliedAt f l.clauses
       → IsForced f c l.initial.trail.truths.items l.initial.trail.steps.items l.initial.trail.root
       → IsForced f c l.trail.truths.items l.trail.steps.items l.trail.root;
-  shows : l.conflict ≡ true → (f : Formula) (c : Clause) → AreImplied f l.clauses
+  shows : l.conflict ≡ true → (f : Formula) (c : Clause) → AreImpliedAt f l.clauses
       → IsForced f c l.initial.trail.truths.items l.initial.trail.steps.items l.initial.trail.root → Implies f c;
 }

@@ -1,15 +1,45 @@
--- Each clause that is left was held before.
-use Rattle.giputils_drat.proofs.Holding.{no_other-after, no_other-same}
+-- A place is emptied where such a clause stood.
+use Rattle.std.proofs.Common.{ap, ◌∙◌}
+use Rattle.giputils_sat.proofs.Places.{OnErr-always}
+use Rattle.giputils_drat.specs.Slots.{held_among}
+use Rattle.giputils_drat.proofs.Holding.{parts_of, follow_of}
+use Rattle.giputils_drat.proofs.Slots.{Deletes-emptied, implied-emptied, none_held}
 use Rattle.giputils_drat.proofs.checker.Checker.delete.Goals as goal
 
-pub returns-in_default-clause-no_other : goal.returns-in_default-clause-no_other
-returns-in_default-clause-no_other g c = no_other-same _ _ c.self.view_is
+pub returns-in_default-clause-none : goal.returns-in_default-clause-none
+returns-in_default-clause-none g c =
+    none_held c.self.inside.clauses c.args.clause.now c.args.self.now (ap (λ held. held.clauses) c.self.view_is) c.in_default.ensures.none
 
-pub returns-in_err-close_up-clause-no_other : goal.returns-in_err-close_up-clause-no_other
-returns-in_err-close_up-clause-no_other g c = no_other-after _ _ c.close_up.new.self c.self.view_is c.close_up.ensures.no_other
+pub returns-in_err-close_up-clause-stays : goal.returns-in_err-close_up-clause-stays
+returns-in_err-close_up-clause-stays g c = λ f follow.
+    let parts = parts_of f c.self.inside.clauses _ _ _ _ _ c.self.view_is c.self.invariant follow in
+    let left = implied-emptied f c.self.inside.clauses c.delete.new.self c.in-Some.place c.args.clause.now c.in-Some.ensures.found c.delete.ensures parts.held in
+    c.close_up.ensures.stays f (follow_of f _ _ _ _ _ left parts.forced parts.shown)
 
-pub returns-in_ok-close_up-clause-no_other : goal.returns-in_ok-close_up-clause-no_other
-returns-in_ok-close_up-clause-no_other g c = no_other-after _ _ c.close_up.new.self c.self.view_is c.close_up.ensures.no_other
+pub returns-in_err-close_up-clause-err : goal.returns-in_err-close_up-clause-err
+returns-in_err-close_up-clause-err g c =
+    OnErr-always c.from_residual.result
+    (Deletes-emptied c.self.inside.clauses c.in-Some.place c.args.clause.now c.args.self.now _ c.in-Some.ensures.found
+    (ap (λ held. held.clauses) c.self.view_is) (c.close_up.ensures.clauses ∙ ap held_among c.delete.ensures))
 
-pub returns-else-is_sparse-clause-no_other : goal.returns-else-is_sparse-clause-no_other
-returns-else-is_sparse-clause-no_other g c = no_other-same _ _ c.self.view_is
+pub returns-in_ok-close_up-clause-stays : goal.returns-in_ok-close_up-clause-stays
+returns-in_ok-close_up-clause-stays g c = λ f follow.
+    let parts = parts_of f c.self.inside.clauses _ _ _ _ _ c.self.view_is c.self.invariant follow in
+    let left = implied-emptied f c.self.inside.clauses c.delete.new.self c.in-Some.place c.args.clause.now c.in-Some.ensures.found c.delete.ensures parts.held in
+    c.close_up.ensures.stays f (follow_of f _ _ _ _ _ left parts.forced parts.shown)
+
+pub returns-in_ok-close_up-clause-deleted : goal.returns-in_ok-close_up-clause-deleted
+returns-in_ok-close_up-clause-deleted g c =
+    Deletes-emptied c.self.inside.clauses c.in-Some.place c.args.clause.now c.args.self.now _ c.in-Some.ensures.found (ap (λ held. held.clauses) c.self.view_is)
+    (c.close_up.ensures.clauses ∙ ap held_among c.delete.ensures)
+
+pub returns-else-is_sparse-clause-stays : goal.returns-else-is_sparse-clause-stays
+returns-else-is_sparse-clause-stays g c = λ f follow.
+    let parts = parts_of f c.self.inside.clauses _ _ _ _ _ c.self.view_is c.self.invariant follow in
+    let left = implied-emptied f c.self.inside.clauses c.delete.new.self c.in-Some.place c.args.clause.now c.in-Some.ensures.found c.delete.ensures parts.held in
+    follow_of f _ _ _ _ _ left parts.forced parts.shown
+
+pub returns-else-is_sparse-clause-deleted : goal.returns-else-is_sparse-clause-deleted
+returns-else-is_sparse-clause-deleted g c =
+    Deletes-emptied c.self.inside.clauses c.in-Some.place c.args.clause.now c.args.self.now _ c.in-Some.ensures.found (ap (λ held. held.clauses) c.self.view_is)
+    (ap held_among c.delete.ensures)
