@@ -301,7 +301,7 @@ fn follow<A: Allocator + Copy>(
     if let Some(_) = trail.value(l) {
         return Ok(());
     }
-    if let Some(_) = free_place(trail, clause, literal) {
+    if let Some(_) = free_place(trail, clause, literal, 0) {
         return Ok(());
     }
     trail.assign(l, place)?;
@@ -359,7 +359,7 @@ pub(crate) fn learn<A: Allocator + Copy>(
 
 // A place of a clause but one: the first whose literal isn't false, if there is one.
 fn second_place<A: Allocator + Copy>(trail: &Trail<A>, clause: &[Literal], first: usize) -> usize {
-    match free_place(trail, clause, first) {
+    match free_place(trail, clause, first, 0) {
         Some(place) => place,
         None => usize::from(first == 0),
     }
@@ -401,7 +401,7 @@ pub(crate) fn attach_all<A: Allocator + Copy>(
 {
     for place in watches.len()..database.len() {
         let clause = database.clause(place);
-        let Some(first) = free_place(trail, clause, clause.len()) else {
+        let Some(first) = free_place(trail, clause, clause.len(), 0) else {
             return Ok(Some(place));
         };
         let second = second_place(trail, clause, first);

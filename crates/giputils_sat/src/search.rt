@@ -5,7 +5,7 @@ ghost use Rattle.giputils_sat.specs.Formulas.{AreBelow, Has};
 ghost use Rattle.giputils_sat.specs.Obstacles.{MeetsObstacle};
 ghost use Rattle.giputils_sat.specs.Trailed.{KeepsDecisions, MeetsConflict, SatisfiesUnless, StandsBy, reach, total};
 ghost use Rattle.giputils_sat.specs.Trails.{Extends};
-ghost use Rattle.giputils_sat.specs.Values.{AreAllSet, AreFalseBut, AreTrue, unset, value_of};
+ghost use Rattle.giputils_sat.specs.Values.{AreAllSet, AreFalseBetween, AreFalseBut, AreTrue, unset, value_of};
 
 use crate::activity::Activity;
 use crate::assume::{Obstacle, assume};
@@ -38,24 +38,42 @@ fn seen(clause: u32, blocker: Literal, stays: bool) -> Look
     }
 }
 
-// The first place but one whose literal isn't false.
-pub(crate) fn free_place<A: Allocator + Copy>(
+// The first place but one, from `start` on and before `end`, whose literal isn't false.
+fn free_between<A: Allocator + Copy>(
     trail: &Trail<A>,
     clause: &[Literal],
     but: usize,
+    start: usize,
+    end: usize,
 ) -> Option<usize>
     ensures some { IfSome result (λ i. i < length clause.now) }
-    ensures none { IfNone result (AreFalseBut but trail.now.values.items clause.now) }
+    ensures none { IfNone result (AreFalseBetween but start end trail.now.values.items clause.now) }
 {
-    for (i, l) in clause.iter().enumerate() {
+    for i in start..end.min(clause.len()) {
         if i != but {
-            match trail.value(*l) {
+            match trail.value(clause[i]) {
                 Some(false) => {}
                 _ => return Some(i),
             }
         }
     }
     None
+}
+
+// A place but one whose literal isn't false: the first from `start` on, or else the first.
+pub(crate) fn free_place<A: Allocator + Copy>(
+    trail: &Trail<A>,
+    clause: &[Literal],
+    but: usize,
+    start: usize,
+) -> Option<usize>
+    ensures some { IfSome result (λ i. i < length clause.now) }
+    ensures none { IfNone result (AreFalseBut but trail.now.values.items clause.now) }
+{
+    match free_between(trail, clause, but, start, clause.len()) {
+        Some(place) => Some(place),
+        None => free_between(trail, clause, but, 0, start),
+    }
 }
 
 // Looks at a clause one of whose watched literals has become false.
@@ -100,7 +118,7 @@ fn turn<A: Allocator + Copy>(
     if let Some(true) = trail.value(unit) {
         return Ok(seen(short, unit, true));
     }
-    if let Some(place) = free_place(trail, clause, other) {
+    if let Some(place) = free_place(trail, clause, other, pair.partner(other)) {
         watches.set_pair(
             home,
             Pair {
