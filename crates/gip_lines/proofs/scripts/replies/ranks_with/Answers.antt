@@ -1,6 +1,5 @@
 -- One more key has the rank that it is given, if any.
 use Rattle.std.proofs.Common.{◌<◌, length, arith}
-use Rattle.std.proofs.lemmas.Grind.{common_steps}
 use Rattle.gip_lines.proofs.Pairs.{ranks_with-more_some, ranks_with-more_none}
 use Rattle.gip_lines.proofs.scripts.replies.ranks_with.Goals as goal
 use Rattle.gip_lines.proofs.scripts.replies.ranks_with.Goals.{in-Some, in_default}
@@ -17,6 +16,3 @@ loop-key-preserved c =
       | in_default w ↦
           rw (w.ranks-is, c.loop-key.invariant) (ranks_with-more_none given ranks key within w.in_default.is)
     ]
-
-pub loop-key-init : goal.loop-key-init
-loop-key-init c = grind (arith, common_steps)

@@ -1,5 +1,4 @@
 use Rattle.std.proofs.Common.{◌≡◌, ◌*◌, arith}
-use Rattle.std.proofs.lemmas.Grind.{common_steps}
 use Rattle.giputils_bits.proofs.Places.{place-past, IsPacked-word}
 use Rattle.giputils_bits.proofs.bitvec.BitVec.new_rand.Goals as goal
 
@@ -10,6 +9,3 @@ invariant_of-result g c =
 
 pub invariant_of-result-2 : goal.invariant_of-result-2
 invariant_of-result-2 g c = rw c.of_words-words.ensures record { count = omega arith; padding = λ i past. place-past _ i (omega arith) }
-
-pub returns-then-num_word-clause-err : goal.returns-then-num_word-clause-err
-returns-then-num_word-clause-err g c = grind (arith, common_steps)

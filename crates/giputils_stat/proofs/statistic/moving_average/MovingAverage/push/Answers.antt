@@ -1,5 +1,4 @@
 use Rattle.std.proofs.Common.{arith}
-use Rattle.std.proofs.lemmas.Grind.{common_steps}
 use Rattle.giputils_stat.proofs.Sums.{sum-fits}
 use Rattle.giputils_stat.proofs.statistic.moving_average.MovingAverage.push.Goals as goal
 
@@ -8,6 +7,3 @@ overflow_add-self g c =
     let i = c.self.invariant in
     let before = sum-fits c.self.inside.numbers.items c.self.inside.numbers.capacity i.1 i.2 i.3 in
     record { fits = omega (arith, i.0, before, c.ranges.number.fits) }
-
-pub invariant_of-self : goal.invariant_of-self
-invariant_of-self g c = grind (arith, common_steps)
