@@ -1,6 +1,6 @@
-//! What a call under assumptions costs: its search, and not what the formula says besides.
+//! What a call costs: its search, and not what the formula says besides.
 
-use crate::formulas::literal;
+use crate::formulas::{Said, add_all, literal, say};
 use giputils_refusing::Refusing;
 use giputils_sat::{AnswerUnder, Literal, Solver};
 use std::alloc::{AllocError, Allocator};
@@ -69,4 +69,23 @@ fn a_second_call_costs_its_search_alone(rt: HostRuntime) {
         }),
         "{costs:?}"
     );
+}
+
+// What is said twice, each time within one conflict: the root's literals contradict each other, and the clauses over
+// three other variables would take more than one.
+fn said_twice<A: Allocator + Copy>(alloc: A) -> Result<(Said, Said), AllocError> {
+    let formula = [
+        -1, 2, 0, -1, -2, 0, 1, 0, 3, 4, 5, 0, 3, 4, -5, 0, 3, -4, 5, 0, 3, -4, -5, 0, -3, 4, 5, 0,
+        -3, 4, -5, 0, -3, -4, 5, 0, -3, -4, -5, 0,
+    ];
+    let mut solver = Solver::new(alloc);
+    add_all(alloc, &mut solver, &formula)?;
+    let first = say(&mut solver, &formula, 1)?;
+    let second = say(&mut solver, &formula, 1)?;
+    Ok((first, second))
+}
+
+#[test]
+fn a_conflict_at_the_root_is_met_again(rt: HostRuntime) {
+    assert_eq!(rt; said_twice(rt.alloc()), Ok((Said::Unsat, Said::Unsat)));
 }
