@@ -570,9 +570,9 @@ class Run(NamedTuple):
 
 
 def number_of(name, text):
-    """The number that stands in a text before a name, or behind it and a colon, or 0."""
-    found = re.search(rf"(\d+) {name}|^(?:c )?{name} *: *(\d+)", text, re.MULTILINE)
-    return int(found[1] or found[2]) if found else 0
+    """The last number that stands in a text before a name, or behind it and a colon, or 0."""
+    found = re.findall(rf"(\d+) {name}|^(?:c )?{name} *: *(\d+)", text, re.MULTILINE)
+    return int(found[-1][0] or found[-1][1]) if found else 0
 
 
 def answer(program, path):
