@@ -89,8 +89,8 @@ impl<A: Allocator + Copy> Checker<A> {
         self.keep(copy)
     }
 
-    /// Holds a clause, if unit propagation shows that it follows, and answers whether it does. Once the empty clause was
-    /// shown, each does.
+    /// Holds a clause, if unit propagation shows that it follows, and answers whether it does. Once the empty clause
+    /// was shown, each does.
     ///
     /// # Errors
     /// `AllocError` where memory is refused. The clause may be held then.
@@ -111,8 +111,8 @@ impl<A: Allocator + Copy> Checker<A> {
         Ok(true)
     }
 
-    /// Deletes one clause with these literals, in whatever order and however often each is there. False if there is none.
-    /// What is true by the clauses held before stays true.
+    /// Deletes one clause with these literals, in whatever order and however often each is there. False if there is
+    /// none. What is true by the clauses held before stays true.
     ///
     /// # Errors
     /// `AllocError` where memory is refused, as the memory of deleted clauses is given back. One was deleted then.
@@ -184,7 +184,7 @@ impl<A: Allocator + Copy> Checker<A> {
         Ok(())
     }
 
-    // Gives the memory of deleted clauses back.
+    // Closes the places of deleted clauses up, and makes the index anew.
     fn close_up(&mut self) -> Result<(), AllocError>
         ensures stays { Stays self.old self.new }
         ensures clauses { self.new.clauses ≡ self.old.clauses }

@@ -12,7 +12,7 @@ pub(crate) struct Span {
     pub end: u32,
 }
 
-// Where so many literals lie behind others. None past 2^32.
+// Where so many literals lie behind others. None where they would be 2^32.
 fn span_behind(others: usize, len: usize) -> Option<Span>
     ensures start { IfSome result (λ s. s.start ≡ others) }
     ensures end { IfSome result (λ s. s.end ≡ others + len) }

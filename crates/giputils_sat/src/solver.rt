@@ -93,8 +93,8 @@ impl<A: Allocator + Copy> Solver<A> {
     /// Adds a clause to the formula: one of its literals has to be true. What was learned before is kept.
     ///
     /// # Errors
-    /// `AllocError` where memory for the clause is refused, or where all known clauses would have 2^32 literals. Nothing
-    /// changes then.
+    /// `AllocError` where memory for the clause is refused, or where all known clauses would have 2^32 literals.
+    /// Nothing changes then.
     pub fn add_clause(&mut self, clause: &[Literal]) -> Result<(), AllocError>
         ensures formula { OnOk result (self.new.formula ≡ self.old.formula ++ clause.now ∷ []) }
         ensures clauses { OnOk result (self.new.clauses ≡ self.old.clauses ++ clause.now ∷ []) }
