@@ -5,14 +5,15 @@ use giputils_refusing::Refusing;
 use giputils_sat::{AnswerUnder, Literal, Solver};
 use std::alloc::{AllocError, Allocator};
 
-// So many variables: the first has to be true, and each next one where the one before it is.
-fn add_chain<A: Allocator + Copy>(
-    solver: &mut Solver<A>,
-    variables: i32,
-) -> Result<(), AllocError> {
-    solver.add_clause(&[literal(1)])?;
-    for variable in 1..variables {
-        solver.add_clause(&[literal(-variable), literal(variable + 1)])?;
+// Variables up to this one: the first has to be true, and each next one where the one before it is.
+fn add_chain<A: Allocator + Copy>(solver: &mut Solver<A>, last: u16) -> Result<(), AllocError> {
+    solver.add_clause(&[Literal::new(1, true)])?;
+    for variable in 1..last {
+        let variable = u32::from(variable);
+        solver.add_clause(&[
+            Literal::new(variable, false),
+            Literal::new(variable + 1, true),
+        ])?;
     }
     Ok(())
 }
@@ -71,21 +72,28 @@ fn a_second_call_costs_its_search_alone(rt: HostRuntime) {
     );
 }
 
-// What is said twice, each time within one conflict: the root's literals contradict each other, and the clauses over
-// three other variables would take more than one.
-fn said_twice<A: Allocator + Copy>(alloc: A) -> Result<(Said, Said), AllocError> {
-    let formula = [
+// Literals of the root that contradict each other, beside eight clauses over three other variables.
+fn contradicted() -> [i32; 40] {
+    [
         -1, 2, 0, -1, -2, 0, 1, 0, 3, 4, 5, 0, 3, 4, -5, 0, 3, -4, 5, 0, 3, -4, -5, 0, -3, 4, 5, 0,
         -3, 4, -5, 0, -3, -4, 5, 0, -3, -4, -5, 0,
-    ];
+    ]
+}
+
+// What is said twice, each time within one conflict. The eight clauses would take more than one.
+fn said_twice<A: Allocator + Copy>(alloc: A, formula: &[i32]) -> Result<(Said, Said), AllocError> {
     let mut solver = Solver::new(alloc);
-    add_all(alloc, &mut solver, &formula)?;
-    let first = say(&mut solver, &formula, 1)?;
-    let second = say(&mut solver, &formula, 1)?;
+    add_all(alloc, &mut solver, formula)?;
+    let first = say(&mut solver, formula, 1)?;
+    let second = say(&mut solver, formula, 1)?;
     Ok((first, second))
 }
 
 #[test]
 fn a_conflict_at_the_root_is_met_again(rt: HostRuntime) {
-    assert_eq!(rt; said_twice(rt.alloc()), Ok((Said::Unsat, Said::Unsat)));
+    let formula = contradicted();
+    assert_eq!(rt;
+        said_twice(rt.alloc(), &formula),
+        Ok((Said::Unsat, Said::Unsat))
+    );
 }
