@@ -329,13 +329,14 @@ fn said_with_a_small_store(alloc: Global) -> Result<(Said, usize, u64), AllocErr
     Ok((said, most, solver.stats().conflicts))
 }
 
-// The formula has 204 clauses, and some 1500 learned ones are watched before half of them are forgotten.
+// The formula has 204 clauses. Some 1500 learned ones are watched before half of them are forgotten, and a tenth more each
+// time that the conflicts have grown by half.
 #[test]
 fn a_store_stays_small(rt: HostRuntime) {
     let outcome = said_with_a_small_store(rt.alloc());
     assert!(rt;
         outcome.is_ok_and(|(said, most, conflicts)| {
-            said == Said::Unsat && most < 2500 && conflicts > 2600
+            said == Said::Unsat && most < 3000 && conflicts > 5000
         }),
         "{outcome:?}"
     );
