@@ -329,8 +329,8 @@ fn said_with_a_small_store(alloc: Global) -> Result<(Said, usize, u64), AllocErr
     Ok((said, most, solver.stats().conflicts))
 }
 
-// The formula has 204 clauses. Some 1500 learned ones are watched before half of them are forgotten, and a tenth more each
-// time that the conflicts have grown by half.
+// The formula has 204 clauses. Some 1500 learned ones are watched before half of them are forgotten, and a tenth more
+// each time that the conflicts have grown by half.
 #[test]
 fn a_store_stays_small(rt: HostRuntime) {
     let outcome = said_with_a_small_store(rt.alloc());
