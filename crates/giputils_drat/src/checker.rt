@@ -228,7 +228,8 @@ fn refute<A: Allocator + Copy>(
     index: &mut Index<A>,
     clause: &[Literal],
 ) -> Result<bool, AllocError>
-    ensures stays { (f : Formula) → AreImpliedAt f clauses.now → IsTrail f [] trail.old → IsTrail f clause.now trail.new }
+    ensures stays { (f : Formula) →
+        AreImpliedAt f clauses.now → IsTrail f [] trail.old → IsTrail f clause.now trail.new }
     ensures shown { IfOk result (λ shown. OnTrue shown ((f : Formula) →
         AreImpliedAt f clauses.now → IsTrail f [] trail.old → Implies f clause.now)) }
 {
