@@ -16,7 +16,7 @@ const JOINTS: u32 = 64;
 const APPENDS: u32 = 16;
 
 /// Makes the workload of this name, if it is one of this file.
-pub fn run(
+pub(crate) fn run(
     alloc: Global,
     workload: &str,
     size: u32,
@@ -196,7 +196,7 @@ fn count_true(bits: &BitVec) -> u64
 }
 
 /// Mixes the words, in order.
-pub fn mix_words(bits: &BitVec, checksum: &mut Checksum) {
+pub(crate) fn mix_words(bits: &BitVec, checksum: &mut Checksum) {
     for word in bits.words() {
         checksum.mix(*word);
     }

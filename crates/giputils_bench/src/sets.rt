@@ -25,7 +25,7 @@ const NODES: usize = 64;
 const GATES: u32 = 1024;
 
 /// Makes the workload of this name, if it is one of this file.
-pub fn run(
+pub(crate) fn run(
     alloc: Global,
     workload: &str,
     size: u32,

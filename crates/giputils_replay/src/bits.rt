@@ -8,7 +8,7 @@ use std::alloc::Global;
 use std::io::{self, Write};
 
 /// Makes the calls on a vector that is empty at first, and writes a line for each reply.
-pub fn replay<W: Write>(alloc: Global, out: &mut W, lines: &[String]) -> anyhow::Result<()> {
+pub(crate) fn replay<W: Write>(alloc: Global, out: &mut W, lines: &[String]) -> anyhow::Result<()> {
     let mut bits = BitVec::new(alloc);
     for (i, line) in lines.iter().enumerate() {
         answer(alloc, out, &mut bits, line).context(format_args!("call {}", i + 1))?;

@@ -5,7 +5,7 @@ use giputils_calls::NotACall;
 use std::alloc::Global;
 
 /// What each line stands for, where `parse` tells it of the line's words.
-pub fn parse_each<T: Drop, F: Fn(&[&str]) -> Result<T, NotACall>>(
+pub(crate) fn parse_each<T: Drop, F: Fn(&[&str]) -> Result<T, NotACall>>(
     alloc: Global,
     lines: &[String],
     parse: F,

@@ -13,7 +13,7 @@ use std::io::Write;
 const LIMIT: usize = 1_000_000;
 
 /// Writes the answer to each line.
-pub fn replay<W: Write>(alloc: Global, out: &mut W, lines: &[String]) -> Result<()> {
+pub(crate) fn replay<W: Write>(alloc: Global, out: &mut W, lines: &[String]) -> Result<()> {
     for (i, line) in lines.iter().enumerate() {
         let answer = answer(alloc, line).context(format_args!("call {}", i + 1))?;
         writeln!(out, "{answer}")?;

@@ -8,7 +8,7 @@ use std::alloc::Global;
 use std::io::{self, Write};
 
 /// Runs the calls from the empty allocator, and writes a line for each reply.
-pub fn replay<W: Write>(alloc: Global, out: &mut W, lines: &[String]) -> anyhow::Result<()> {
+pub(crate) fn replay<W: Write>(alloc: Global, out: &mut W, lines: &[String]) -> anyhow::Result<()> {
     let calls = parse_each(alloc, lines, parse_call)?;
     let (_, replies) = galloc_run(alloc, &calls)?;
     for reply in &replies {

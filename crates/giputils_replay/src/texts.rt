@@ -14,7 +14,7 @@ use std::io::Write;
 use std::time::Duration;
 
 /// Writes the text that each line asks for.
-pub fn replay<W: Write>(alloc: Global, out: &mut W, lines: &[String]) -> Result<()> {
+pub(crate) fn replay<W: Write>(alloc: Global, out: &mut W, lines: &[String]) -> Result<()> {
     for (i, line) in lines.iter().enumerate() {
         let text = text_of_line(alloc, line.as_str()).context(format_args!("call {}", i + 1))?;
         writeln!(out, "{text}")?;
