@@ -1,8 +1,15 @@
--- Worked examples of command lines, and of a line of a proof.
-use Rattle.std.proofs.Common.{◌≡◌, [], ◌∷◌, refl, codes, Some, None, true, false}
+-- Worked examples of command lines, of lines of a proof, of what a run comes to and of its status.
+use Rattle.std.proofs.Common.{◌≡◌, [], ◌∷◌, refl, codes, Some, None, Ok, Err, true, false}
 use Rattle.std.specs.Fmt.{digits}
-use Rattle.gipsat.specs.Lines.{clause_line}
+use Rattle.std.proofs.lemmas.Bool.{false≢true}
+use Rattle.giputils_dimacs.specs.declared.dimacs.answers.Verdict.TheVariants.{Satisfiable, Unsatisfiable, Unknown}
+use Rattle.giputils_dimacs.specs.declared.dimacs.error.DimacsError.TheVariants.{Memory}
+use Rattle.giputils_drat.specs.declared.error.Flaw.TheVariants.{NotShown}
+use Rattle.giputils_drat.specs.declared.error.Outcome.TheVariants.{Verified, Refused}
+use Rattle.gipsat.specs.Lines.{clause_line, end_line}
 use Rattle.gipsat.specs.Options.{no_request, number_of, with_file, asked, work_asked, Solve, Check}
+use Rattle.gipsat.specs.Runs.{HasForm, HasOtherForm, HasClauses, IsRefusedAt}
+use Rattle.gipsat.specs.Statuses.{checking_status, solving_status}
 
 number-plus : number_of (codes "+07") ≡ Some 7
 number-plus = refl
@@ -76,3 +83,48 @@ line = refl
 
 line-empty : clause_line [] ≡ codes "0\n"
 line-empty = refl
+
+-- the empty clause stands at the end where nothing satisfies the formula, and there alone
+end-unsatisfiable : end_line Unsatisfiable ≡ codes "0\n"
+end-unsatisfiable = refl
+
+end-open : end_line Unknown ≡ []
+end-open = refl
+
+-- a text of one clause; of an input whose bytes are not known nothing is said
+form : HasForm (Some (codes "p cnf 1 1\n1 0\n"))
+form = refl
+
+form-unknown : HasForm None
+form-unknown = tt
+
+form-refused : HasForm (Some (codes "p cnf 1 1\n2 0\n")) → ⊥
+form-refused has = false≢true has
+
+other_form : HasOtherForm (Some (codes "p cnf 1 1\n2 0\n"))
+other_form = refl
+
+-- a clause is lacking when the second line ends
+refused-at_the_end : IsRefusedAt (Some (codes "p cnf 1 2\n1 0")) 2
+refused-at_the_end = (codes "p cnf 1 2\n1 0", [], refl, refl, refl)
+
+clauses : HasClauses (Some (codes "p cnf 1 1\n1 0\n")) ((record { variable = 0; positive = true } ∷ []) ∷ [])
+clauses = refl
+
+status-model : solving_status (Ok Satisfiable) ≡ 10
+status-model = refl
+
+status-none : solving_status (Ok Unsatisfiable) ≡ 20
+status-none = refl
+
+status-open : solving_status (Ok Unknown) ≡ 0
+status-open = refl
+
+status-no_memory : solving_status (Err Memory) ≡ 1
+status-no_memory = refl
+
+status-verified : checking_status (Ok Verified) ≡ 0
+status-verified = refl
+
+status-refused : checking_status (Ok (Refused (record { line = 3; flaw = NotShown }))) ≡ 1
+status-refused = refl

@@ -32,28 +32,28 @@ with_file r name =
     if (slice_index name 0 == byte "-") || is_some r.file then None else Some (record r { file = Some name })
 
 -- what a word is for: the number behind `--conflicts`, the name behind `--proof`, or something of its own
-pub data Place : Type 0 where
-  Number : Place
-  Proof : Place
-  Own : Place
+pub data Role : Type 0 where
+  Number : Role
+  Proof : Role
+  Own : Role
 
--- what is asked for where r was asked for before these words, the first of which has this place
-abbrev pub asked_at : Place → Request → List (List ℕ) → Option Request
-asked_at Own r [] = Some r
-asked_at Number r [] = None
-asked_at Proof r [] = None
-asked_at Number r (word ∷ words) =
-    option_and_then (λ n. asked_at Own (record r { conflicts = n }) words) (number_of word)
-asked_at Proof r (word ∷ words) = asked_at Own (record r { proof = Some word }) words
-asked_at Own r (word ∷ words) =
-    if bytes_eq word (codes "--conflicts") then asked_at Number r words
-    else if bytes_eq word (codes "--stats") then asked_at Own (record r { stats = true }) words
-    else if bytes_eq word (codes "--proof") then asked_at Proof r words
-    else option_and_then (λ s. asked_at Own s words) (with_file r word)
+-- what is asked for where r was asked for before these words, the first of which has this role
+abbrev pub asked_as : Role → Request → List (List ℕ) → Option Request
+asked_as Own r [] = Some r
+asked_as Number r [] = None
+asked_as Proof r [] = None
+asked_as Number r (word ∷ words) =
+    option_and_then (λ n. asked_as Own (record r { conflicts = n }) words) (number_of word)
+asked_as Proof r (word ∷ words) = asked_as Own (record r { proof = Some word }) words
+asked_as Own r (word ∷ words) =
+    if bytes_eq word (codes "--conflicts") then asked_as Number r words
+    else if bytes_eq word (codes "--stats") then asked_as Own (record r { stats = true }) words
+    else if bytes_eq word (codes "--proof") then asked_as Proof r words
+    else option_and_then (λ s. asked_as Own s words) (with_file r word)
 
 -- what is asked for where r was asked for before these words
 abbrev pub asked : Request → List (List ℕ) → Option Request
-asked r words = asked_at Own r words
+asked r words = asked_as Own r words
 
 -- the file to read has this name; standard input has none
 abbrev pub reads : Request → List ℕ → Bool
