@@ -45,11 +45,17 @@ fn cost_of_a_call(
     })
 }
 
-// The first call and the second, where a chain of 1000 variables stands beside the clause that is asked for.
-fn costs_of_two_calls(memory: &Refusing) -> Result<(Cost, Cost), AllocError> {
+// A solver of a clause, with a chain of 1000 variables beside it.
+fn beside_a_chain(memory: &Refusing) -> Result<Solver<&Refusing>, AllocError> {
     let mut solver = Solver::new(memory);
     add_chain(&mut solver, 1000)?;
     solver.add_clause(&[literal(-2001), literal(2002)])?;
+    Ok(solver)
+}
+
+// The first call and the second under assumptions that contradict the clause.
+fn costs_of_two_calls(memory: &Refusing) -> Result<(Cost, Cost), AllocError> {
+    let mut solver = beside_a_chain(memory)?;
     let assumptions = [literal(2001), literal(-2002)];
     let first = cost_of_a_call(memory, &mut solver, &assumptions)?;
     let second = cost_of_a_call(memory, &mut solver, &assumptions)?;

@@ -251,16 +251,25 @@ fn colourings(rt: HostRuntime) {
     }
 }
 
+// What a solver says of a formula within a limit, once it has been given the rest of its clauses.
+fn said_after(
+    alloc: Global,
+    solver: &mut Solver<Global>,
+    rest: &[i32],
+    formula: &[i32],
+    limit: usize,
+) -> Result<Said, AllocError> {
+    add_all(alloc, solver, rest)?;
+    say(solver, formula, limit)
+}
+
 // What a solver says that is given clauses after each answer, and is then allowed no conflict before it is asked again.
 fn said_as_clauses_come(alloc: Global) -> Result<[Said; 4], AllocError> {
     let formula = [1, 2, 0, -1, 2, 0, 1, -2, 0, -1, -2, 0];
     let mut solver = Solver::new(alloc);
-    add_all(alloc, &mut solver, &formula[..6])?;
-    let two = say(&mut solver, &formula[..6], 100)?;
-    add_all(alloc, &mut solver, &formula[6..9])?;
-    let three = say(&mut solver, &formula[..9], 100)?;
-    add_all(alloc, &mut solver, &formula[9..])?;
-    let none = say(&mut solver, &formula, 0)?;
+    let two = said_after(alloc, &mut solver, &formula[..6], &formula[..6], 100)?;
+    let three = said_after(alloc, &mut solver, &formula[6..9], &formula[..9], 100)?;
+    let none = said_after(alloc, &mut solver, &formula[9..], &formula, 0)?;
     Ok([two, three, none, say(&mut solver, &formula, 100)?])
 }
 
@@ -274,12 +283,10 @@ fn clauses_after_an_answer(rt: HostRuntime) {
 fn said_as_variables_come(alloc: Global) -> Result<[Said; 3], AllocError> {
     let formula = [1, 2, 0, -1, 7, 0, -2, -7, 0, 7, 9, 0, -9, 0, -7, 0];
     let mut solver = Solver::new(alloc);
-    add_all(alloc, &mut solver, &formula[..3])?;
-    let one = say(&mut solver, &formula[..3], 100)?;
-    add_all(alloc, &mut solver, &formula[3..12])?;
-    let four = say(&mut solver, &formula[..12], 100)?;
-    add_all(alloc, &mut solver, &formula[12..])?;
-    Ok([one, four, say(&mut solver, &formula, 100)?])
+    let one = said_after(alloc, &mut solver, &formula[..3], &formula[..3], 100)?;
+    let four = said_after(alloc, &mut solver, &formula[3..12], &formula[..12], 100)?;
+    let all = said_after(alloc, &mut solver, &formula[12..], &formula, 100)?;
+    Ok([one, four, all])
 }
 
 #[test]
@@ -346,14 +353,12 @@ fn a_store_stays_small(rt: HostRuntime) {
 fn said_as_clauses_come_later(alloc: Global) -> Result<[Said; 3], AllocError> {
     let formula = [1, 2, 0, -1, 7, 0, -2, -7, 0, 7, 9, 0, -9, 0, -7, 0];
     let mut solver = Solver::new(alloc);
-    add_all(alloc, &mut solver, &formula[..3])?;
-    let one = say(&mut solver, &formula[..3], 100)?;
+    let one = said_after(alloc, &mut solver, &formula[..3], &formula[..3], 100)?;
     solver.compact()?;
-    add_all(alloc, &mut solver, &formula[3..12])?;
-    let four = say(&mut solver, &formula[..12], 100)?;
+    let four = said_after(alloc, &mut solver, &formula[3..12], &formula[..12], 100)?;
     solver.compact()?;
-    add_all(alloc, &mut solver, &formula[12..])?;
-    Ok([one, four, say(&mut solver, &formula, 100)?])
+    let all = said_after(alloc, &mut solver, &formula[12..], &formula, 100)?;
+    Ok([one, four, all])
 }
 
 #[test]
@@ -406,16 +411,24 @@ fn models_with_no_limit(rt: HostRuntime) {
     }
 }
 
+// What a solver finds of a formula once it has been given the rest of its clauses.
+fn found_after(
+    alloc: Global,
+    solver: &mut Solver<Global>,
+    rest: &[i32],
+    formula: &[i32],
+) -> Result<Said, AllocError> {
+    add_all(alloc, solver, rest)?;
+    find(solver, formula)
+}
+
 // What is found by a solver that is given clauses after each answer, also after one that was left open.
 fn found_as_clauses_come(alloc: Global) -> Result<[Said; 4], AllocError> {
     let formula = [1, 2, 0, -1, 2, 0, 1, -2, 0, -1, -2, 0];
     let mut solver = Solver::new(alloc);
-    add_all(alloc, &mut solver, &formula[..6])?;
-    let two = find(&mut solver, &formula[..6])?;
-    add_all(alloc, &mut solver, &formula[6..9])?;
-    let three = find(&mut solver, &formula[..9])?;
-    add_all(alloc, &mut solver, &formula[9..])?;
-    let none = say(&mut solver, &formula, 0)?;
+    let two = found_after(alloc, &mut solver, &formula[..6], &formula[..6])?;
+    let three = found_after(alloc, &mut solver, &formula[6..9], &formula[..9])?;
+    let none = said_after(alloc, &mut solver, &formula[9..], &formula, 0)?;
     Ok([two, three, none, find(&mut solver, &formula)?])
 }
 
