@@ -1,3 +1,4 @@
 pub mod Galloc
 pub mod Heap
+pub mod Texts
 pub mod Words
