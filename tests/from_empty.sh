@@ -1,5 +1,5 @@
 #!/usr/bin/env bash
-# Tries what README says of another repository that takes the heap or the solver: makes an empty repository with the
+# Tries what docs/ELSEWHERE.md says of a repository that takes the heap or the solver: makes an empty one with the
 # folders and the lines of crates.txt that are named there and no others, and writes a caller of each. The heap's is
 # proved, with all that it stands on, from nothing; the solver's is built and run with no proof, since a proof of the
 # solver takes as long as all else here: the gate proves it, from the same sources.

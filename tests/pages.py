@@ -20,11 +20,11 @@ In a contract `S` is what `self` points to at the call, and `S'` at the return. 
 public module, or if a public module names it by `pub use`. A public function that is not quoted stands on the page by
 name.
 
-Of the README, each example in Rust stands in the tests of the crate `giputils`, the script is the one that `gip` is
-run on, and lines of crates.txt are as they stand there. docs/DEFINITIONS.md lists, in items that begin with `- `, each
-word of specs/ that a public contract uses, and no name that no specs/ defines; the crate `giputils` hands out the
-files that have these words, and all public lemmas. Each file that a page names is there, and no line has more than 120
-columns, but for imports that are quoted.
+Of the README, each example in Rust stands in the tests of the crate `giputils`, and the script is the one that `gip` is
+run on; the lines that docs/ELSEWHERE.md names are as crates.txt has them. docs/DEFINITIONS.md lists, in items that
+begin with `- `, each word of specs/ that a public contract uses, and no name that no specs/ defines; the crate
+`giputils` hands out the files that have these words, and all public lemmas. Each file that a page names is there, and
+no line has more than 120 columns, but for imports that are quoted.
 """
 
 import pathlib
@@ -281,10 +281,15 @@ def readme(page):
     script = ", ".join(f"`{line}`" for line in (CRATES / "gip/stdin").read_text(encoding="utf-8").splitlines())
     if script not in " ".join(text.split()):
         complaints.append("its script is not the one of crates/gip/stdin")
+    return complaints
+
+
+def elsewhere(page):
+    """What is wrong with the page on other repositories: lines that crates.txt does not have."""
+    text = page.read_text(encoding="utf-8")
     lines = (ROOT / "crates.txt").read_text(encoding="utf-8").splitlines()
     named = re.findall(r"`(\w+: [^`]*)`", text)
-    complaints += [f"crates.txt has no line {line}" for line in named if line not in lines]
-    return complaints
+    return sound(text) + [f"crates.txt has no line {line}" for line in named if line not in lines]
 
 
 def handed_on():
@@ -341,7 +346,8 @@ def main():
     pages = {page: page_for_callers for page in sorted(CRATES.glob("*/CALLING.md"))}
     plain = lambda page: sound(page.read_text(encoding="utf-8"))
     pages |= {page: plain for page in sorted((ROOT / "docs").glob("*.md"))}
-    pages |= {ROOT / "docs/DEFINITIONS.md": definitions, ROOT / "README.md": readme}
+    pages |= {ROOT / "docs/DEFINITIONS.md": definitions, ROOT / "docs/ELSEWHERE.md": elsewhere}
+    pages |= {ROOT / "README.md": readme}
     failed = 0
     for page, look in pages.items():
         complaints = look(page)
