@@ -1,5 +1,5 @@
 //! What lines ask for texts of.
-ghost use Rattle.giputils_calls.specs.Texts.{AreOfDecimal};
+ghost use Rattle.giputils_calls.specs.Texts.{AskForDecimal};
 ghost use Rattle.std.specs.Prelude.{◌≡◌, ◌↔◌, IfOk, IsOk, slice_index};
 
 use anyhow::{Result, bail, ensure};
@@ -10,7 +10,7 @@ use giputils_stat::decimal::Decimal;
 /// # Errors
 /// What is wrong with the numbers, where they are not three, there is a division by 0, or there are not 1 to 19 places.
 pub fn decimal_of(numbers: &[u64]) -> Result<Decimal>
-    ensures accepted { IsOk result ↔ AreOfDecimal numbers.now }
+    ensures accepted { IsOk result ↔ AskForDecimal numbers.now }
     ensures numerator { IfOk result (λ d. d.numerator ≡ slice_index numbers.now 0) }
     ensures denominator { IfOk result (λ d. d.denominator ≡ slice_index numbers.now 1) }
     ensures places { IfOk result (λ d. d.places ≡ slice_index numbers.now 2) }
