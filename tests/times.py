@@ -1,24 +1,49 @@
 #!/usr/bin/env python3
-"""Runs ./test, and prints where its processor time went, crate by crate.
+"""Runs ./test, and prints where its processor time went, by crate and part, beside the time of a yardstick.
 
     tests/times.py            runs ./test, shows what it prints, and then a table in Markdown
 
+The yardstick is the check of one small crate from nothing, before ./test and after it. By it the figures of two machines
+compare, and of one whose processors are lent out to others.
+
 The prover's processes are looked at five times a second, and their processor time is added up by crate and by what they
-prove: the crate, its tests, or its must-fail edits. What they take between the last look and their end is not seen. On a
-machine that does other work too, the times are too high.
+prove: the crate, its tests, the wrong bodies that `rt ci` tries, or those of the crate whose turn it is. What they take
+between the last look and their end is in the whole alone, as is what is no proof: compilers, programs, scripts.
 """
 
 import collections
 import os
 import pathlib
 import re
+import resource
+import shutil
 import subprocess
 import sys
+import tempfile
 import time
 
 ROOT = pathlib.Path(__file__).resolve().parent.parent
-STAGES = ("proof", "tests", "edits")
+# It stands on the kit alone.
+YARDSTICK = "giputils_refusing"
+STAGES = ("proof", "tests", "must-fail", "turn")
 TICKS = os.sysconf("SC_CLK_TCK")
+
+
+def children_seconds():
+    """The processor time of all processes that have ended below this one."""
+    used = resource.getrusage(resource.RUSAGE_CHILDREN)
+    return used.ru_utime + used.ru_stime
+
+
+def yardstick():
+    """The processor time that a check of the yardstick takes from nothing."""
+    line = next(line for line in (ROOT / "crates.txt").read_text().splitlines() if line.startswith(f"{YARDSTICK}:"))
+    with tempfile.TemporaryDirectory(prefix="giputils-times-") as room:
+        shutil.copytree(ROOT / "crates" / YARDSTICK, f"{room}/crates/{YARDSTICK}", ignore=shutil.ignore_patterns("out"))
+        pathlib.Path(room, "crates.txt").write_text(line + "\n")
+        before = children_seconds()
+        subprocess.run(["rt", "check", "--jobs", "1"], cwd=f"{room}/crates/{YARDSTICK}", stdout=subprocess.DEVNULL, check=True)
+        return children_seconds() - before
 
 
 def processes():
@@ -42,9 +67,11 @@ def stage_of(process):
     if "--crate-name" not in words or not words[0].endswith("rattle"):
         return None
     crate = words[words.index("--crate-name") + 1]
-    # An edit is checked in a copy of the crate, and the caller in an empty repository is no crate's.
+    # A wrong body is checked in a copy of the crate; what stands elsewhere is no crate of this repository.
     if not pathlib.Path(folder).is_relative_to(ROOT):
-        return (crate, "edits") if "/rt-edit-" in folder else None
+        stages = {"/rt-edit-": "must-fail", "/giputils-wrong-": "turn"}
+        stage = next((stage for part, stage in stages.items() if part in folder), None)
+        return (crate, stage) if stage else None
     return crate, "tests" if "--test" in words else "proof"
 
 
@@ -63,23 +90,28 @@ def look(gate, taken):
 
 
 def main():
-    taken = {}
-    began = time.monotonic()
+    before = yardstick()
+    taken, start, began = {}, children_seconds(), time.monotonic()
     gate = subprocess.Popen([ROOT / "test"], cwd=ROOT)
     while gate.poll() is None:
         look(gate.pid, taken)
         time.sleep(0.2)
-    minutes = (time.monotonic() - began) / 60
+    minutes, seconds = (time.monotonic() - began) / 60, children_seconds() - start
+    after = yardstick()
     sums = collections.Counter()
-    for (_, stage), seconds in taken.items():
-        sums[stage] += seconds
+    for (_, stage), each in taken.items():
+        sums[stage] += each
     lines = (ROOT / "crates.txt").read_text(encoding="utf-8").splitlines()
-    print("\n| Crate | Proof | Tests' proof | Edits | Number of edits |\n|---|---|---|---|---|")
-    for crate in (match[1] for match in map(re.compile(r"(\w+).*:").match, lines) if match):
+    crates = [match[1] for match in map(re.compile(r"(\w+)[^#:]*:").match, lines) if match]
+    print("\n| Crate | Proof | Tests' proof | Wrong bodies of `rt ci` | Those of the turn |\n|---|---|---|---|---|")
+    for crate in crates:
         cells = [f"{sums[crate, stage]:.0f}" if sums[crate, stage] else "" for stage in STAGES]
-        count = len(list((ROOT / "crates" / crate / "must-fail").glob("*.edit")))
-        print(f"| `{crate}` | {' | '.join(cells)} | {count or ''} |")
-    print(f"\n{sum(sums.values()) / 60:.0f} processor minutes of the prover in {minutes:.0f} minutes")
+        print(f"| `{crate}` | {' | '.join(cells)} |")
+    parts = [sum(sums[crate, stage] for crate in crates) / 60 for stage in STAGES]
+    rest = seconds / 60 - sum(parts)
+    print(f"| all, in minutes | {' | '.join(f'{part:.1f}' for part in parts)} |")
+    print(f"\n{seconds / 60:.0f} processor minutes in {minutes:.0f} minutes, {rest:.0f} of them no proof of a crate")
+    print(f"yardstick: {before:.0f} s before, {after:.0f} s after; the whole took {2 * seconds / (before + after):.0f} of it")
     return gate.returncode
 
 

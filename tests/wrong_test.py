@@ -1,0 +1,197 @@
+#!/usr/bin/env python3
+"""Tests tests/wrong.py in a repository of three small crates: what it tells of wrong bodies of each kind, and which changes
+make a crate's line not current. The last line is 'N passed, M failed'."""
+
+import pathlib
+import re
+import shutil
+import subprocess
+import sys
+import tempfile
+
+HERE = pathlib.Path(__file__).resolve().parent
+
+LOW = """\
+//! Multiples of a number.
+#![tactic(auto)]
+ghost use Rattle.std.specs.Prelude.{◌≡◌, ◌+◌};
+
+/// Twice the number.
+pub fn double(n: u8) -> u16
+    ensures { result ≡ n + n }
+{
+    u16::from(n) + u16::from(n)
+}
+
+/// Four times the number.
+pub fn quadruple(n: u8) -> u16
+    ensures { result ≡ n + n + n + n }
+{
+    let twice = double(n);
+    twice + twice
+}
+"""
+
+HIGH = """\
+//! Five times a number.
+#![tactic(auto)]
+ghost use Rattle.std.specs.Prelude.{◌≡◌, ◌+◌};
+
+use low::quadruple;
+
+/// Five times the number.
+pub fn quintuple(n: u8) -> u16
+    ensures { result ≡ n + n + n + n + n }
+{
+    quadruple(n) + u16::from(n)
+}
+"""
+
+ODD = """\
+//! Functions with faulty wrong bodies.
+#![tactic(auto)]
+ghost use Rattle.std.specs.Prelude.{◌≡◌, ◌+◌};
+
+/// The number itself.
+pub fn same(n: u8) -> u8
+    ensures { result ≡ n }
+{
+    let copy = n;
+    copy
+}
+
+/// The number after it.
+pub fn next(n: u8) -> u16
+    ensures { result ≡ n + 1 }
+{
+    u16::from(n) + 1
+}
+
+/// The number after it, proved by an answer that names the call.
+pub fn following(n: u8) -> u16
+    ensures { result ≡ n + 1 }
+{
+    let after = next(n);
+    after
+}
+
+/// The same.
+pub fn succeeding(n: u8) -> u16
+    ensures { result ≡ n + 1 }
+{
+    let after_it = next(n);
+    after_it
+}
+"""
+
+ANSWERS = """\
+use Rattle.odd.proofs.{}.Goals as goal
+
+pub returns : goal.returns
+returns c = c.{}.ensures
+"""
+
+FILES = {
+    "crates.txt": "low:\nhigh: low\nodd:\n",
+    "HANDLES": "Handles allowed: none.\n",
+    "crates/low/src/lib.rt": LOW,
+    "crates/high/src/lib.rt": HIGH,
+    "crates/odd/src/lib.rt": ODD,
+    "crates/odd/proofs/following/Answers.antt": ANSWERS.format("following", "next-after"),
+    "crates/odd/proofs/succeeding/Answers.antt": ANSWERS.format("succeeding", "next-after_it"),
+}
+
+# Wrong bodies: a line of their files before the texts, the old text, the new one, and how what is told of them begins.
+BODIES = {
+    "low/must-fail/double_is_one_more": ("", "u16::from(n) + u16::from(n)", "u16::from(n) + u16::from(n) + 1", "refused (goal)"),
+    "low/wrong/quadruple_is_triple": ("", "twice + twice", "twice + u16::from(n)", "refused (goal)"),
+    "high/wrong/quintuple_is_quadruple": ("", "quadruple(n) + u16::from(n)", "quadruple(n)", "refused (goal)"),
+    "odd/wrong/proves": ("", "let copy = n;", "let copy = n + 0;", "NOT REFUSED"),
+    "odd/wrong/does_not_compile": ("", "u16::from(n) + 1", "u16::form(n) + 1", "WRONG REASON (other, and not goal): it does not compile"),
+    "odd/wrong/misses_a_name": ("", "let after = next(n);", "let after = u16::from(n) + 1;", "WRONG REASON (name, and not goal)"),
+    "odd/wrong/says_that_it_misses_a_name": (
+        "refused: name",
+        "let after_it = next(n);",
+        "let after_it = u16::from(n) + 1;",
+        "refused (name)",
+    ),
+    "odd/wrong/stands_twice": ("", "= next(n);", "= 0;", "WRONG REASON (other, and not goal): an 'old:' text does not stand once"),
+}
+
+
+def write(path, text):
+    path.parent.mkdir(parents=True, exist_ok=True)
+    path.write_text(text, encoding="utf-8")
+
+
+class Repository:
+    """The repository of the tests, in a folder."""
+
+    def __init__(self, folder):
+        self.folder = folder
+        for name, text in FILES.items():
+            write(folder / name, text)
+        for name, (first, old, new, _) in BODIES.items():
+            write(folder / "crates" / f"{name}.edit", f"{first}\nfile: src/lib.rt\nold: {old}\nnew: {new}\n")
+        (folder / "tests").mkdir()
+        shutil.copy(HERE / "wrong.py", folder / "tests")
+        subprocess.run(["git", "init", "--quiet"], cwd=folder, check=True)
+
+    def run(self, *words):
+        """What the script says, and its status."""
+        ran = subprocess.run([self.folder / "tests" / "wrong.py", *words], stdout=subprocess.PIPE, stderr=subprocess.STDOUT, text=True)
+        return ran.stdout, ran.returncode
+
+    def stale(self):
+        """The crates whose lines are not current."""
+        return re.findall(r"^(\w+): its wrong bodies were not tried", self.run("--current")[0], re.MULTILINE)
+
+    def stale_with(self, file, old, new):
+        """The same, where a text of a file is another one."""
+        path = self.folder / "crates" / file
+        text = path.read_text(encoding="utf-8")
+        if text.count(old) != 1:
+            raise ValueError(f"{old} does not stand once in {file}")
+        path.write_text(text.replace(old, new), encoding="utf-8")
+        stale = self.stale()
+        path.write_text(text, encoding="utf-8")
+        return stale
+
+
+def cases(repository):
+    """Each case: what is tested, what was found, and what is wanted."""
+    said, status = repository.run()
+    verdicts = dict(re.findall(r"^(\w+/\w+): (.*)", said, re.MULTILINE))
+    for name, (*_, wanted) in BODIES.items():
+        crate, _, body = name.split("/")
+        found = verdicts.get(f"{crate}/{body}", said)
+        yield f"{body} is told", found[: len(wanted)], wanted
+    yield "it fails where not all were refused", status, 1
+    yield "a crate with a faulty one has no line", repository.stale(), ["odd"]
+    body = ("low/src/lib.rt", "    twice + twice", "    2 * twice")
+    yield "a body of a library is no matter to those above", repository.stale_with(*body), ["low", "odd"]
+    clause = ("low/src/lib.rt", "ensures { result ≡ n + n }", "ensures twice { result ≡ n + n }")
+    yield "a clause of a library is", repository.stale_with(*clause), ["low", "high", "odd"]
+    wrong = ("low/wrong/quadruple_is_triple.edit", "+ u16", "+ 1 + u16")
+    yield "a wrong body is a matter of its crate", repository.stale_with(*wrong), ["low", "odd"]
+    line = ("../crates.txt", "low:", "low: log")
+    yield "a line of crates.txt is a matter of all above", repository.stale_with(*line), ["low", "high", "odd"]
+    said, status = repository.run("low")
+    yield "those of one crate are tried again", (said.splitlines()[-1], status), ("2 passed, 0 failed", 0)
+
+
+def main():
+    passed = failed = 0
+    with tempfile.TemporaryDirectory(prefix="giputils-wrong-test-") as folder:
+        for name, found, wanted in cases(Repository(pathlib.Path(folder))):
+            if found == wanted:
+                passed += 1
+            else:
+                failed += 1
+                print(f"{name}: found {found!r}, and not {wanted!r}")
+    print(f"{passed} passed, {failed} failed")
+    return 1 if failed else 0
+
+
+if __name__ == "__main__":
+    sys.exit(main())
