@@ -1,9 +1,9 @@
 //! Lists of calls of a bit vector.
 ghost use Rattle.std.specs.Prelude.{◌<◌, IfOk};
 
+use crate::calls::NotACall;
 use anyhow::Context;
 use giputils_bits::bitvec::BitVec;
-use giputils_calls::NotACall;
 use std::alloc::Global;
 use std::io::{self, Write};
 

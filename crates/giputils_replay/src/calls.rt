@@ -1,8 +1,28 @@
 //! The lines of a list, one after another.
 
 use anyhow::{Context, Result};
-use giputils_calls::NotACall;
 use std::alloc::Global;
+use std::error::Error;
+use std::fmt;
+use std::num::ParseIntError;
+
+/// A line that stands for no call of the container.
+#[derive(Clone, Copy, Debug, PartialEq, Eq)]
+pub(crate) struct NotACall;
+
+impl fmt::Display for NotACall {
+    fn fmt<W: fmt::Write>(&self, f: &mut fmt::Formatter<W>) -> fmt::Result {
+        f.write_str("not a call of the container")
+    }
+}
+
+impl Error for NotACall {}
+
+impl From<ParseIntError> for NotACall {
+    fn from(_error: ParseIntError) -> NotACall {
+        NotACall
+    }
+}
 
 /// What each line stands for, where `parse` tells it of the line's words.
 pub(crate) fn parse_each<T: Drop, F: Fn(&[&str]) -> Result<T, NotACall>>(

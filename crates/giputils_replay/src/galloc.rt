@@ -1,9 +1,9 @@
 //! Lists of calls of the index allocator.
+ghost use Rattle.giputils_replay.specs.Galloc.{Parses};
 
-use crate::calls::parse_each;
-use giputils_base::allocator::{GallocReply, galloc_run};
+use crate::calls::{NotACall, parse_each};
+use giputils_base::allocator::{GallocCall, GallocReply, galloc_run};
 use giputils_base::hash::GHashMap;
-use giputils_calls::galloc::parse_call;
 use std::alloc::Global;
 use std::io::{self, Write};
 
@@ -15,6 +15,23 @@ pub(crate) fn replay<W: Write>(alloc: Global, out: &mut W, lines: &[String]) -> 
         write_reply(alloc, out, reply)?;
     }
     Ok(())
+}
+
+// The call that the words of a line stand for: `alloc VALUE`, `dealloc INDEX`, `is_removed INDEX`, `read INDEX`,
+// `write INDEX VALUE`, `gc` or `len`. Any others stand for none.
+fn parse_call(words: &[&str]) -> Result<GallocCall<u32>, NotACall>
+    ensures { Parses words.now result }
+{
+    match *words {
+        ["alloc", value] => Ok(GallocCall::Alloc(value.parse()?)),
+        ["dealloc", index] => Ok(GallocCall::Dealloc(index.parse()?)),
+        ["is_removed", index] => Ok(GallocCall::IsRemoved(index.parse()?)),
+        ["read", index] => Ok(GallocCall::Read(index.parse()?)),
+        ["write", index, value] => Ok(GallocCall::Write(index.parse()?, value.parse()?)),
+        ["gc"] => Ok(GallocCall::Gc),
+        ["len"] => Ok(GallocCall::Len),
+        _ => Err(NotACall),
+    }
 }
 
 // Writes a reply as a line: a number, a truth value, `ok`, `skipped`, `refused`, or a map by rising key, as in

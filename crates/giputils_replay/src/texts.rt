@@ -3,9 +3,11 @@
 //! A line is the name of a statistic and numbers: `decimal NUMERATOR DENOMINATOR PLACES`,
 //! `average NUMBER..`, `average_duration NANOSECONDS..`, `counted_duration NANOSECONDS..`,
 //! `success_rate SUCCESSES FAILURES` or `running_time BEGINNING NOW`.
+ghost use Rattle.giputils_replay.specs.Texts.{AskForDecimal};
+ghost use Rattle.std.specs.Prelude.{◌≡◌, ◌↔◌, IfOk, IsOk, slice_index};
 
 use anyhow::{Context, Result, bail, ensure};
-use giputils_calls::texts::decimal_of;
+use giputils_stat::decimal::Decimal;
 use giputils_stat::statistic::{
     Average, AverageDuration, CountedDuration, RunningTime, SuccessRate,
 };
@@ -49,6 +51,26 @@ fn text_of(alloc: Global, name: &str, numbers: &[u64]) -> Result<String> {
 fn decimal(alloc: Global, numbers: &[u64]) -> Result<String> {
     let decimal = decimal_of(numbers)?;
     Ok(format!(in alloc; "{decimal}")?)
+}
+
+// The decimal that the numbers of a line ask for: a numerator, a denominator, and how many places.
+fn decimal_of(numbers: &[u64]) -> Result<Decimal>
+    ensures accepted { IsOk result ↔ AskForDecimal numbers.now }
+    ensures numerator { IfOk result (λ d. d.numerator ≡ slice_index numbers.now 0) }
+    ensures denominator { IfOk result (λ d. d.denominator ≡ slice_index numbers.now 1) }
+    ensures places { IfOk result (λ d. d.places ≡ slice_index numbers.now 2) }
+{
+    let &[numerator, denominator, places] = numbers else {
+        bail!("a decimal is of three numbers");
+    };
+    ensure!(denominator > 0, "division by 0");
+    ensure!(places > 0, "no decimals");
+    ensure!(places <= 19, "too many decimals");
+    Ok(Decimal {
+        numerator: numerator as u128,
+        denominator,
+        places: places as u32,
+    })
 }
 
 fn average(alloc: Global, numbers: &[u64]) -> Result<String> {

@@ -2,11 +2,11 @@
 use Rattle.std.specs.Prelude.{◌≡◌, ℕ, ◌<◌, ◌⊎◌, List, codes, Result, Ok, IsOk}
 use Rattle.std.specs.Result.{OkIff}
 use Rattle.std.specs.Str.Parse.{IsNumeral, digits_value, without_leading_plus}
-use Rattle.giputils_calls.specs.declared.heap.Call.{Call}
-use Rattle.giputils_calls.specs.declared.heap.TheConstants.{KEYS}
-use Rattle.giputils_calls.specs.declared.heap.Call.TheVariants.{Push, Pop, Up, Down, Update, Rank, Clear, Len, IsEmpty, Elements}
-use Rattle.giputils_calls.specs.Words.{Words, IsCall, IsNumber, number, word}
-use Rattle.giputils_calls.specs.declared.fault.NotACall.{NotACall}
+use Rattle.giputils_replay.specs.declared.heap.Call.{Call}
+use Rattle.giputils_replay.specs.declared.heap.TheConstants.{KEYS}
+use Rattle.giputils_replay.specs.declared.heap.Call.TheVariants.{Push, Pop, Up, Down, Update, Rank, Clear, Len, IsEmpty, Elements}
+use Rattle.giputils_replay.specs.Words.{Words, IsCall, IsNumber, number, word}
+use Rattle.giputils_replay.specs.declared.calls.NotACall.{NotACall}
 
 -- the number that a word writes in decimal digits
 abbrev pub key_number : List ℕ → ℕ

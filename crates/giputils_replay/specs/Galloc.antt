@@ -3,8 +3,8 @@ use Rattle.std.specs.Prelude.{◌≡◌, ℕ, ◌⊎◌, List, codes, Result, Ok
 use Rattle.std.specs.Result.{OkIff}
 use Rattle.giputils_base.specs.declared.allocator.run.GallocCall.{GallocCall}
 use Rattle.giputils_base.specs.declared.allocator.run.GallocCall.TheVariants.{Alloc, Dealloc, IsRemoved, Read, Write, Gc, Len}
-use Rattle.giputils_calls.specs.Words.{Words, IsCall, IsNumber, number}
-use Rattle.giputils_calls.specs.declared.fault.NotACall.{NotACall}
+use Rattle.giputils_replay.specs.Words.{Words, IsCall, IsNumber, number}
+use Rattle.giputils_replay.specs.declared.calls.NotACall.{NotACall}
 
 -- `NAME INDEX` is the call of the index, and is refused where that is no index
 abbrev pub ReadsIndex : Words → Result (GallocCall ℕ) NotACall → List ℕ → (ℕ → GallocCall ℕ) → Type 0
