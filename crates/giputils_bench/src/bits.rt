@@ -1,9 +1,9 @@
 //! Workloads of the bit vectors.
 ghost use Rattle.std.specs.Prelude.{◌<◌, ◌^◌, length};
 
+use crate::common::{Checksum, Generator, scaled};
+use crate::vectors::vector;
 use giputils_bits::bitvec::{BitVec, BitVecError};
-use giputils_workloads::common::{Checksum, Generator, scaled};
-use giputils_workloads::vectors::vector;
 use std::alloc::Global;
 
 // How often two vectors are compared.

@@ -7,12 +7,14 @@
 #![tactic(auto)]
 
 mod bits;
+mod common;
+mod galloc;
 mod heap;
 mod sets;
+mod vectors;
 
+use crate::common::{Checksum, Generator};
 use anyhow::{Context, bail};
-use giputils_workloads::common::{Checksum, Generator};
-use giputils_workloads::galloc;
 use std::alloc::Global;
 use std::env;
 use std::process::ExitCode;

@@ -3,9 +3,9 @@ ghost use Rattle.std.specs.Prelude.{◌≡◌, length, IfOk};
 ghost use Rattle.giputils_bench.specs.Bits.{AreOfLength};
 
 use crate::bits::mix_words;
+use crate::common::{Checksum, Generator};
+use crate::vectors::vector;
 use giputils_bits::bitvec::{BitVec, BitVecError};
-use giputils_workloads::common::{Checksum, Generator};
-use giputils_workloads::vectors::vector;
 use std::alloc::Global;
 use std::mem;
 

@@ -6,7 +6,7 @@ use giputils_bits::bitvec::{BitVec, BitVecError};
 use std::alloc::Global;
 
 /// A vector of `size` drawn bits, by words.
-pub fn vector(alloc: Global, size: u32, rng: &mut Generator) -> Result<BitVec, BitVecError>
+pub(crate) fn vector(alloc: Global, size: u32, rng: &mut Generator) -> Result<BitVec, BitVecError>
     ensures { IfOk result (λ bits. length bits ≡ size) }
 {
     let mut bits = BitVec::zero(alloc, size as usize)?;

@@ -1,6 +1,6 @@
 -- The renamed indexes are below the new length.
-use Rattle.giputils_workloads.proofs.Renamed.{All-filter_map}
-use Rattle.giputils_workloads.proofs.galloc.galloc_table.Goals as goal
+use Rattle.giputils_bench.proofs.Renamed.{All-filter_map}
+use Rattle.giputils_bench.proofs.galloc.galloc_table.Goals as goal
 
 pub mix_values-requires : goal.mix_values-requires
 mix_values-requires c =

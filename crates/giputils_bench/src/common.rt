@@ -10,29 +10,29 @@ const STREAM: u64 = 54;
 
 /// The numbers that a workload draws: those of PCG32 from a seed on.
 #[derive(Drop)]
-pub struct Generator(Pcg32);
+pub(crate) struct Generator(Pcg32);
 
 impl Generator {
-    pub fn new(seed: u64) -> Self {
+    pub(crate) fn new(seed: u64) -> Self {
         Generator(Pcg32::new(seed, STREAM))
     }
 
     /// The next number.
     #[inline]
-    pub fn draw(&mut self) -> u32 {
+    pub(crate) fn draw(&mut self) -> u32 {
         self.0.next_u32()
     }
 
     /// A word, made of the next two numbers, the first of them above the second.
     #[inline]
-    pub fn draw_word(&mut self) -> u64 {
+    pub(crate) fn draw_word(&mut self) -> u64 {
         let high = u64::from(self.draw());
         (high << 32) | u64::from(self.draw())
     }
 
     /// A number below `bound`, made of the next one.
     #[inline]
-    pub fn below(&mut self, bound: usize) -> usize
+    pub(crate) fn below(&mut self, bound: usize) -> usize
         requires positive { 0 < bound }
         requires fits { bound ≤ 2 ^ 32 }
         ensures { result < bound }
@@ -43,7 +43,7 @@ impl Generator {
 
 /// A drawn number as one below `bound`.
 #[inline]
-pub fn scaled(drawn: u32, bound: usize) -> usize
+pub(crate) fn scaled(drawn: u32, bound: usize) -> usize
     requires positive { 0 < bound }
     requires fits { bound ≤ 2 ^ 32 }
     ensures { result < bound }
@@ -53,20 +53,20 @@ pub fn scaled(drawn: u32, bound: usize) -> usize
 
 /// A checksum of 64-bit words, FNV-1a taken a word at a time. `{}` writes 16 hexadecimal digits.
 #[derive(Clone, Copy)]
-pub struct Checksum(u64);
+pub(crate) struct Checksum(u64);
 
 impl Checksum {
-    pub fn new() -> Self {
+    pub(crate) fn new() -> Self {
         Checksum(0xcbf2_9ce4_8422_2325)
     }
 
     #[inline]
-    pub fn mix(&mut self, word: u64) {
+    pub(crate) fn mix(&mut self, word: u64) {
         self.0 = (self.0 ^ word).wrapping_mul(0x100_0000_01b3);
     }
 
     /// Mixes the bytes of a text, eight a word, the first of them lowest, and then how many they are.
-    pub fn mix_text(&mut self, text: &str) {
+    pub(crate) fn mix_text(&mut self, text: &str) {
         let (chunks, rest) = text.as_bytes().as_chunks::<8>();
         for bytes in chunks {
             self.mix(u64::from_le_bytes(*bytes));

@@ -1,6 +1,6 @@
 //! A workload of the index allocator.
 ghost use Rattle.std.specs.Prelude.{◌≡◌, length, OnOk, IfOk};
-ghost use Rattle.giputils_workloads.specs.Galloc.{AreIndexes, LeadsTo};
+ghost use Rattle.giputils_bench.specs.Galloc.{AreIndexes, LeadsTo};
 
 use crate::common::{Checksum, Generator};
 use giputils_base::allocator::{Gallocator, rename};
@@ -11,7 +11,7 @@ use std::alloc::{AllocError, Global};
 const ROUNDS: u32 = 8;
 
 /// Makes the workload of this name, if it is one of the index allocator.
-pub fn run(
+pub(crate) fn run(
     alloc: Global,
     workload: &str,
     size: u32,
