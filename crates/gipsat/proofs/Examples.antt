@@ -2,8 +2,8 @@
 use Rattle.std.proofs.Common.{◌≡◌, [], ◌∷◌, refl, codes, Some, None, Ok, Err, true, false}
 use Rattle.std.specs.Fmt.{digits}
 use Rattle.std.proofs.lemmas.Bool.{false≢true}
-use Rattle.giputils_dimacs.specs.declared.dimacs.answers.Verdict.TheVariants.{Satisfiable, Unsatisfiable, Unknown}
 use Rattle.giputils_dimacs.specs.declared.dimacs.error.DimacsError.TheVariants.{Memory}
+use Rattle.gipsat_answers.specs.declared.answers.Verdict.TheVariants.{Satisfiable, Unsatisfiable, Unknown}
 use Rattle.giputils_drat.specs.declared.error.Flaw.TheVariants.{NotShown}
 use Rattle.giputils_drat.specs.declared.error.Outcome.TheVariants.{Verified, Refused}
 use Rattle.gipsat.specs.Lines.{clause_line, end_line}

@@ -2,9 +2,9 @@
 use Rattle.std.proofs.Common.{◌≡◌, ◌∙◌, ℕ, List, [], ◌++◌, Option, Some, None, ap, subst}
 use Rattle.std.proofs.lemmas.Option.{IfSome_then}
 use Rattle.std.specs.Io.KnownBytes.{Appends}
-use Rattle.giputils_dimacs.specs.Dimacs.Answers.{WritesAnswer}
 use Rattle.giputils_dimacs.specs.Dimacs.Texts.{Problem, problem_of}
-use Rattle.giputils_dimacs.specs.declared.dimacs.answers.Solved.{Solved}
+use Rattle.gipsat_answers.specs.Answers.{WritesAnswer}
+use Rattle.gipsat_answers.specs.declared.answers.Solved.{Solved}
 use Rattle.gipsat.specs.Runs.{OfProblem}
 
 -- what follows from what holds of the problem

@@ -2,9 +2,9 @@
 use Rattle.std.specs.Prelude.{ℕ, List, [], ◌∷◌, ◌++◌, codes}
 use Rattle.giputils_sat.specs.Formulas.{Clause}
 use Rattle.giputils_sat.specs.Literals.{Lit}
-use Rattle.giputils_dimacs.specs.Dimacs.Answers.{literal_word}
-use Rattle.giputils_dimacs.specs.declared.dimacs.answers.Verdict.{Verdict}
-use Rattle.giputils_dimacs.specs.declared.dimacs.answers.Verdict.TheVariants.{Unsatisfiable}
+use Rattle.gipsat_answers.specs.Answers.{literal_word}
+use Rattle.gipsat_answers.specs.declared.answers.Verdict.{Verdict}
+use Rattle.gipsat_answers.specs.declared.answers.Verdict.TheVariants.{Unsatisfiable}
 
 -- a literal, and a space behind it
 abbrev pub literal_text : Lit → List ℕ

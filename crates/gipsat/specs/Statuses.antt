@@ -1,8 +1,8 @@
 -- The status that a run ends with.
 use Rattle.std.specs.Prelude.{ℕ, Result, Ok, Err}
-use Rattle.giputils_dimacs.specs.Dimacs.Answers.{verdict_status}
-use Rattle.giputils_dimacs.specs.declared.dimacs.answers.Verdict.{Verdict}
 use Rattle.giputils_dimacs.specs.declared.dimacs.error.DimacsError.{DimacsError}
+use Rattle.gipsat_answers.specs.Answers.{verdict_status}
+use Rattle.gipsat_answers.specs.declared.answers.Verdict.{Verdict}
 use Rattle.giputils_drat.specs.declared.error.DratError.{DratError}
 use Rattle.giputils_drat.specs.declared.error.Outcome.{Outcome}
 use Rattle.giputils_drat.specs.declared.error.Outcome.TheVariants.{Verified, Refused}

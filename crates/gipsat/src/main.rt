@@ -13,7 +13,7 @@
 ghost use Rattle.std.specs.Prelude.{◌≡◌, ◌≢◌, ℕ, IfOk, IfErr, OnOk, IsErrOf, IsTrue};
 ghost use Rattle.std.specs.Io.KnownBytes.{IsAtEnd};
 ghost use Rattle.std.specs.Process.{exit_status};
-ghost use Rattle.giputils_dimacs.specs.Dimacs.Answers.{WritesAnswer};
+ghost use Rattle.gipsat_answers.specs.Answers.{WritesAnswer};
 ghost use Rattle.giputils_drat.specs.Outcomes.{WritesOutcome};
 ghost use Rattle.gipsat.specs.Options.{reads, request_of};
 ghost use Rattle.gipsat.specs.Runs.{HasClauses, HasForm, HasOtherForm, IsRefusedAt, OfProblem};
@@ -23,7 +23,8 @@ mod options;
 mod proof;
 mod watch;
 
-use giputils_dimacs::dimacs::{DimacsError, Reason, Solved, Verdict, solve_text};
+use gipsat_answers::{Solved, Verdict, solve_text};
+use giputils_dimacs::dimacs::{DimacsError, Reason};
 use giputils_drat::error::{DratError, Outcome};
 use giputils_drat::task::check_text;
 use options::{Options, Task};

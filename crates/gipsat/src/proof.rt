@@ -6,8 +6,9 @@ ghost use Rattle.gipsat.specs.Faults.{fault_error};
 ghost use Rattle.gipsat.specs.Lines.{clause_line, end_line, literal_text};
 ghost use Rattle.gipsat.specs.declared.proof.Fault.TheVariants as fault;
 
-use giputils_dimacs::dimacs::progress::Progress;
-use giputils_dimacs::dimacs::{DimacsError, Verdict};
+use gipsat_answers::Verdict;
+use gipsat_answers::progress::Progress;
+use giputils_dimacs::dimacs::DimacsError;
 use giputils_sat::{Literal, Solver};
 use std::alloc::{AllocError, Allocator, Global};
 use std::io::Write;

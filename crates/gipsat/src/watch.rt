@@ -1,7 +1,7 @@
 //! How far the search is, in lines on standard error.
 ghost use Rattle.std.specs.Prelude.{◌≡◌, IfOk};
 
-use giputils_dimacs::dimacs::progress::Progress;
+use gipsat_answers::progress::Progress;
 use giputils_sat::{Solver, Stats};
 use giputils_stat::logger::IntervalLogger;
 use giputils_stat::statistic::MovingAverage;

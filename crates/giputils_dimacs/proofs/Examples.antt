@@ -1,9 +1,7 @@
--- Worked examples of texts and answers.
-use Rattle.std.proofs.Common.{◌≡◌, ℕ, [], ◌∷◌, ◌==◌, refl, codes, Some, None, true, false}
-use Rattle.std.specs.Fmt.{digits}
+-- Worked examples of texts.
+use Rattle.std.proofs.Common.{◌≡◌, ℕ, [], ◌∷◌, refl, codes, Some, None, true, false}
 use Rattle.giputils_sat.specs.Literals.{Lit}
 use Rattle.giputils_dimacs.specs.Dimacs.Texts.{Problem, problem_of, number_of, line_on}
-use Rattle.giputils_dimacs.specs.Dimacs.Answers.{values_text, laid_out}
 
 -- a variable of a formula and its negation
 abbrev yes_of : ℕ → Lit
@@ -81,18 +79,6 @@ refused-greater = refl
 
 refused-no_digits : number_of [] ≡ None
 refused-no_digits = refl
-
--- the values of two variables
-of_two : values_text (λ k. k == 1) 2 ≡ codes "v -1 2 0\n"
-unfolding digits
-of_two = refl
-
--- a word that ends at the 78th byte, and one that does not
-full_line : laid_out 75 (codes "-1" ∷ codes "0" ∷ []) ≡ codes " -1\nv 0\n"
-full_line = refl
-
-next_line : laid_out 76 (codes "-1" ∷ codes "0" ∷ []) ≡ codes "\nv -1 0\n"
-next_line = refl
 
 -- the byte behind these stands in the second line
 second_line : line_on 1 (codes "p cnf 1 1\n1 x") ≡ 2

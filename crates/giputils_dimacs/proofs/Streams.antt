@@ -1,5 +1,5 @@
 -- What a reader has left, and what its text says.
-use Rattle.std.proofs.Common.{◌≡◌, ℕ, List, [], ◌∷◌, ◌++◌, refl, sym, ap, ◌∙◌, subst, arith, append_assoc, append-nil, take, take_all, length, Option, Some, None, IfSome}
+use Rattle.std.proofs.Common.{◌≡◌, ℕ, List, [], ◌∷◌, ◌++◌, refl, sym, ap, ◌∙◌, arith, append_assoc, append-nil, take, take_all, length, Option, Some, None, IfSome}
 use lib.Seq.{take-append-le}
 use Rattle.std.specs.Io.KnownBytes.{Consumes, IsAtEnd}
 use Rattle.giputils_dimacs.specs.Dimacs.Texts.{Problem, problem_of, line_on, IsRefusedIn}
@@ -10,12 +10,6 @@ use Rattle.giputils_dimacs.proofs.Lines.{line_on-append, refused-none}
 -- a buffer that was written as a whole
 pub written_whole : (new old : List ℕ) (n : ℕ) → length new ≡ n → take n (new ++ old) ≡ new
 written_whole new old n e = take-append-le n new old (omega arith) ∙ take_all n new (omega arith)
-
--- what holds of the problem that a text writes
-pub of_problem : (text : Option (List ℕ)) (problem : Problem) (P : Problem → Type 0)
-    → IfSome text (λ text. problem_of text ≡ Some problem) → P problem → IfSome text (λ text. IfSome (problem_of text) P)
-of_problem None problem P e h = tt
-of_problem (Some text) problem P e h = subst (λ found. IfSome found P) (sym e) h
 
 -- a refused text has not the form
 pub refused-says_none : (text : Option (List ℕ)) (line : ℕ) → IfSome text (λ text. IsRefusedIn text line)

@@ -1,5 +1,5 @@
--- Formulas as texts in the DIMACS form, and the texts of answers.
+-- Formulas as texts in the DIMACS form.
 pub mod Texts
 pub mod Reading
-pub mod Answers
+pub mod Instances
 pub mod Errors

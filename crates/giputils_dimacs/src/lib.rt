@@ -1,4 +1,4 @@
-//! Formulas as texts in the DIMACS form: a reader of them, and a solver from the bytes in to the bytes out.
+//! A reader of formulas as texts in the DIMACS form.
 #![tactic(auto)]
 
 pub mod dimacs;

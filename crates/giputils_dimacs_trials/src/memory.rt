@@ -1,7 +1,8 @@
 //! Formulas where each request for memory is refused in turn.
 
 use crate::devices::Count;
-use giputils_dimacs::dimacs::{DimacsError, solve_text};
+use gipsat_answers::solve_text;
+use giputils_dimacs::dimacs::DimacsError;
 use giputils_refusing::{Refusing, refuse_each, refuse_from_each};
 
 // Two variables, one of which is true.

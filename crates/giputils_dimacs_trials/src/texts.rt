@@ -1,6 +1,7 @@
 //! Texts from the bytes in to the bytes out.
 
-use giputils_dimacs::dimacs::{DimacsError, Reason, Verdict, solve_text};
+use gipsat_answers::{Verdict, solve_text};
+use giputils_dimacs::dimacs::{DimacsError, Reason};
 use std::alloc::Global;
 
 // What is answered to a text, with what is written.

@@ -1,7 +1,8 @@
 //! A formula on devices that move one byte at a time or fail.
 
 use crate::devices::{Failure, Sink, Source};
-use giputils_dimacs::dimacs::{DimacsError, Verdict, solve_text};
+use gipsat_answers::{Verdict, solve_text};
+use giputils_dimacs::dimacs::DimacsError;
 use std::alloc::Global;
 
 const TEXT: &[u8] = b"p cnf 2 2\n-1 0\n1 2 0\n";

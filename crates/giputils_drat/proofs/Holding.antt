@@ -1,5 +1,5 @@
 -- What a checker holds, and outcomes that say whether.
-use Rattle.std.proofs.Common.{◌≡◌, ℕ, List, [], ◌∷◌, length, Bool, true, false, sym, subst, Option, Some, None, IfSome}
+use Rattle.std.proofs.Common.{◌≡◌, ℕ, List, [], ◌∷◌, length, Bool, true, false, sym, subst, Option}
 use Rattle.std.specs.Bool.{OnTrue}
 use Rattle.std.proofs.lemmas.Bool.{false≢true}
 use Rattle.giputils_sat.specs.Literals.{Lit}
@@ -8,7 +8,6 @@ use Rattle.giputils_drat.specs.Forcing.{AreForced, AreImplied}
 use Rattle.giputils_drat.specs.Trails.{Stand, IsForced}
 use Rattle.giputils_drat.specs.Held.{Held, Follow}
 use Rattle.giputils_drat.specs.Slots.{AreImpliedAt, held_among}
-use Rattle.giputils_dimacs.specs.Dimacs.Texts.{Problem, problem_of}
 use Rattle.giputils_drat.proofs.Forced.{IsForced-held}
 
 pub on_true : {P : Type 0} (b : Bool) → OnTrue b P → b ≡ true → P
@@ -59,9 +58,3 @@ settled_trail truths steps root settled = IsForced-held nothing truths steps roo
 -- where the empty clause follows, each clause does
 pub Implies-each : (f : Formula) (c : Clause) → Implies f [] → Implies f c
 Implies-each f c empty = record { follows = λ a sat. absurd (false≢true (empty.follows a sat)) }
-
--- what holds of the problem that a text writes
-pub of_problem : (text : Option (List ℕ)) (problem : Problem) (P : Problem → Type 0)
-    → IfSome text (λ text. problem_of text ≡ Some problem) → P problem → IfSome text (λ text. IfSome (problem_of text) P)
-of_problem None problem P e h = tt
-of_problem (Some text) problem P e h = subst (λ found. IfSome found P) (sym e) h

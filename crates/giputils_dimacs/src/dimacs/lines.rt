@@ -1,6 +1,6 @@
 //! A parser that knows in which line it is.
 ghost use Rattle.std.specs.Prelude.{◌≡◌, [], ℕ, List, Some, None, IfOk, OnOk, IsErrOf};
-ghost use Rattle.giputils_dimacs.specs.Dimacs.Answers.{HasLearnedNone};
+ghost use Rattle.giputils_dimacs.specs.Dimacs.Instances.{HasLearnedNone};
 ghost use Rattle.giputils_dimacs.specs.Dimacs.Texts.{problem_of, line_after, line_on};
 ghost use Rattle.giputils_dimacs.specs.Dimacs.Reading.{IsReading, IsStopped, SaysOn, problem_from};
 

@@ -1,6 +1,6 @@
 //! A parser that is given a text in parts.
 ghost use Rattle.std.specs.Prelude.{◌≡◌, ◌<◌, ◌++◌, ◌∷◌, [], ℕ, Bool, true, false, List, length, slice_index, ◌==◌, Some, None, IfOk, IfErr, OnOk, OnErr};
-ghost use Rattle.giputils_dimacs.specs.Dimacs.Answers.{HasLearnedNone};
+ghost use Rattle.giputils_dimacs.specs.Dimacs.Instances.{HasLearnedNone};
 ghost use Rattle.giputils_dimacs.specs.Dimacs.Texts.{problem_of};
 ghost use Rattle.giputils_dimacs.specs.Dimacs.Reading.{IsReading, OnRefusal, SaysOn, SaysNothing, begins_comment, begins_line, problem_from, problem_next, EndsWord, EndsNoWord, TakesWord, TakesNoWord};
 ghost use Rattle.giputils_dimacs.specs.declared.dimacs.stage.Stage.TheVariants.{Words};

@@ -1,7 +1,7 @@
 //! A text from a reader to a formula.
 ghost use Rattle.std.specs.Prelude.{◌≡◌, Some, None, ℕ, vec_len, IfOk, OnOk, IfSome, IsErrOf};
 ghost use Rattle.std.specs.Io.KnownBytes.{IsAtEnd};
-ghost use Rattle.giputils_dimacs.specs.Dimacs.Answers.{HasLearnedNone};
+ghost use Rattle.giputils_dimacs.specs.Dimacs.Instances.{HasLearnedNone};
 ghost use Rattle.giputils_dimacs.specs.Dimacs.Texts.{problem_of, IsRefusedIn};
 
 use crate::dimacs::error::{DimacsError, Reason};

@@ -2,8 +2,8 @@
 use Rattle.std.proofs.Common.{subst}
 use Rattle.std.specs.Io.KnownBytes.{Appends}
 use Rattle.giputils_drat.specs.Outcomes.{WritesOutcome}
+use Rattle.giputils_dimacs.proofs.Problems.{of_problem}
 use Rattle.giputils_drat.proofs.Failing.{not_formula}
-use Rattle.giputils_drat.proofs.Holding.{of_problem}
 use Rattle.giputils_drat.proofs.task.check_text.Goals as goal
 
 pub returns-in-Ok-clause-written : goal.returns-in-Ok-clause-written

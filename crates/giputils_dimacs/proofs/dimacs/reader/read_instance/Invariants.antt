@@ -1,6 +1,6 @@
 -- What the reader has left is what the parser leaves to say.
 use Rattle.std.proofs.Common.{◌≡◌, vec_len}
-use Rattle.giputils_dimacs.specs.Dimacs.Answers.{HasLearnedNone}
+use Rattle.giputils_dimacs.specs.Dimacs.Instances.{HasLearnedNone}
 use Rattle.giputils_dimacs.specs.Dimacs.Reading.{IsReading, HasRead}
 use Rattle.giputils_dimacs.proofs.dimacs.reader.read_instance.Given as goal
 

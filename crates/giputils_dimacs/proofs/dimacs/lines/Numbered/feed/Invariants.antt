@@ -1,6 +1,6 @@
 -- What the bytes so far leave to say, and the line that they lead to.
 use Rattle.std.proofs.Common.{◌≡◌, take}
-use Rattle.giputils_dimacs.specs.Dimacs.Answers.{HasLearnedNone}
+use Rattle.giputils_dimacs.specs.Dimacs.Instances.{HasLearnedNone}
 use Rattle.giputils_dimacs.specs.Dimacs.Texts.{line_on}
 use Rattle.giputils_dimacs.specs.Dimacs.Reading.{IsReading, SaysOn}
 use Rattle.giputils_dimacs.proofs.dimacs.lines.Numbered.feed.Given as goal

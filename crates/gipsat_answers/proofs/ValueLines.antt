@@ -2,7 +2,7 @@
 use Rattle.std.proofs.Common.{◌≡◌, ◌<◌, ◌≤◌, ℕ, suc, ◌+◌, ◌-◌, List, [], ◌∷◌, ◌++◌, refl, sym, ap, ◌∙◌, arith, codes}
 use Rattle.giputils_sat.specs.Formulas.{Assignment}
 use Rattle.giputils_dimacs.specs.Dimacs.Texts.{Word}
-use Rattle.giputils_dimacs.specs.Dimacs.Answers.{laid_out, literal_word, value_words}
+use Rattle.gipsat_answers.specs.Answers.{laid_out, literal_word, value_words}
 
 value_words-cons : (a : Assignment) (k n : ℕ) → k < n
     → value_words a k (n - k) ≡ literal_word (a k) k ∷ value_words a (k + 1) (n - (k + 1))

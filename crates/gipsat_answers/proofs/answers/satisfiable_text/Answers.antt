@@ -1,9 +1,9 @@
 -- A variable more, and the end.
 use Rattle.std.proofs.Common.{◌≡◌, ◌++◌, ◌∙◌, ap, refl, codes}
 use Rattle.giputils_sat.specs.Values.{assignment_in}
-use Rattle.giputils_dimacs.specs.Dimacs.Answers.{literal_word, values_text}
-use Rattle.giputils_dimacs.proofs.ValueLines.{value_more, value_last}
-use Rattle.giputils_dimacs.proofs.dimacs.answers.satisfiable_text.Goals as goal
+use Rattle.gipsat_answers.specs.Answers.{literal_word, values_text}
+use Rattle.gipsat_answers.proofs.ValueLines.{value_more, value_last}
+use Rattle.gipsat_answers.proofs.answers.satisfiable_text.Goals as goal
 
 pub loop-variable-preserved : goal.loop-variable-preserved
 loop-variable-preserved g c =

@@ -5,10 +5,11 @@ use Rattle.giputils_sat.specs.Formulas.{Assignment, satisfies, IsSatisfiable}
 use Rattle.giputils_sat.specs.Stores.{Known}
 use Rattle.giputils_sat.specs.Answers.{IsRight}
 use Rattle.giputils_sat.specs.declared.solver.Answer.{Answer}
+use Rattle.giputils_dimacs.specs.Dimacs.Instances.{HasLearnedNone}
 use Rattle.giputils_dimacs.specs.Dimacs.Texts.{Problem, Word}
-use Rattle.giputils_dimacs.specs.declared.dimacs.answers.Solved.{Solved}
-use Rattle.giputils_dimacs.specs.declared.dimacs.answers.Verdict.{Verdict}
-use Rattle.giputils_dimacs.specs.declared.dimacs.answers.Verdict.TheVariants.{Satisfiable, Unsatisfiable, Unknown}
+use Rattle.gipsat_answers.specs.declared.answers.Solved.{Solved}
+use Rattle.gipsat_answers.specs.declared.answers.Verdict.{Verdict}
+use Rattle.gipsat_answers.specs.declared.answers.Verdict.TheVariants.{Satisfiable, Unsatisfiable, Unknown}
 
 -- the most bytes of a line
 abbrev pub width : ℕ
@@ -43,10 +44,6 @@ laid_out column (word ∷ words) = separator column word ++ word ++ laid_out (co
 -- the lines of the values of so many variables
 abbrev pub values_text : Assignment → ℕ → List ℕ
 values_text a variables = codes "v" ++ laid_out 1 (value_words a 0 variables)
-
--- no clause was learned so far
-abbrev pub HasLearnedNone : Known → Type 0
-HasLearnedNone known = known.learned ≡ 0
 
 -- the text of a right answer: values that satisfy the problem's clauses, or that nothing does, or that it is open, where
 -- as many clauses were learned as the limit says

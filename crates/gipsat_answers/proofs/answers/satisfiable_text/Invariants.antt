@@ -1,8 +1,8 @@
 -- The text so far, and what is to come.
 use Rattle.std.proofs.Common.{◌≡◌, ◌++◌, ◌-◌, codes}
 use Rattle.giputils_sat.specs.Values.{assignment_in}
-use Rattle.giputils_dimacs.specs.Dimacs.Answers.{laid_out, value_words, values_text}
-use Rattle.giputils_dimacs.proofs.dimacs.answers.satisfiable_text.Given as goal
+use Rattle.gipsat_answers.specs.Answers.{laid_out, value_words, values_text}
+use Rattle.gipsat_answers.proofs.answers.satisfiable_text.Given as goal
 
 abbrev pub invariant-loop-variable : goal.invariant-loop-variable
 invariant-loop-variable g l =

@@ -1,8 +1,8 @@
 //! Answers, and their texts.
 ghost use Rattle.std.specs.Prelude.{◌≡◌, ◌++◌, ◌<◌, ◌-◌, ◌^◌, ◌∷◌, [], List, codes, decimal, IfOk, OnOk};
 ghost use Rattle.giputils_sat.specs.Values.{assignment_in};
-ghost use Rattle.giputils_dimacs.specs.Dimacs.Answers.{laid_out, literal_word, values_text, verdict_status, TellsRight};
 ghost use Rattle.giputils_dimacs.specs.Dimacs.Texts.{Word};
+ghost use Rattle.gipsat_answers.specs.Answers.{laid_out, literal_word, values_text, verdict_status, TellsRight};
 
 use giputils_sat::{Answer, Solver};
 use std::alloc::{AllocError, Allocator, Global};

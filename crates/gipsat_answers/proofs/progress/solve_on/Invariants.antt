@@ -1,6 +1,6 @@
 -- As many clauses were learned as conflicts are gone.
 use Rattle.std.proofs.Common.{◌≡◌, ◌≤◌, ◌+◌}
-use Rattle.giputils_dimacs.proofs.dimacs.progress.solve_on.Given as goal
+use Rattle.gipsat_answers.proofs.progress.solve_on.Given as goal
 
 abbrev pub invariant-loop-left : goal.invariant-loop-left
 invariant-loop-left g l = record {

@@ -1,9 +1,9 @@
 -- The answer is right for the formula that was read.
 use Rattle.std.proofs.Common.{subst}
 use Rattle.std.specs.Io.KnownBytes.{Appends}
-use Rattle.giputils_dimacs.specs.Dimacs.Answers.{WritesAnswer}
-use Rattle.giputils_dimacs.proofs.Streams.{of_problem}
-use Rattle.giputils_dimacs.proofs.dimacs.task.solve_text.Goals as goal
+use Rattle.giputils_dimacs.proofs.Problems.{of_problem}
+use Rattle.gipsat_answers.specs.Answers.{WritesAnswer}
+use Rattle.gipsat_answers.proofs.task.solve_text.Goals as goal
 
 pub returns-in-Ok-clause-written : goal.returns-in-Ok-clause-written
 returns-in-Ok-clause-written g c =

@@ -2,12 +2,11 @@
 ghost use Rattle.std.specs.Prelude.{◌≡◌, ◌≢◌, ℕ, IfOk, IfErr, OnOk, IfSome, IsErrOf, IsTrue, is_some};
 ghost use Rattle.std.specs.Io.KnownBytes.{IsAtEnd};
 ghost use Rattle.giputils_dimacs.specs.Dimacs.Texts.{problem_of, IsRefusedIn};
-ghost use Rattle.giputils_dimacs.specs.Dimacs.Answers.{WritesAnswer};
+ghost use Rattle.gipsat_answers.specs.Answers.{WritesAnswer};
 
-use crate::dimacs::answers::{Solved, answer_text};
-use crate::dimacs::error::{DimacsError, Reason};
-use crate::dimacs::progress::{Progress, solve_in_slices};
-use crate::dimacs::reader::read_instance;
+use crate::answers::{Solved, answer_text};
+use crate::progress::{Progress, solve_in_slices};
+use giputils_dimacs::dimacs::{DimacsError, Reason, read_instance};
 use std::alloc::Allocator;
 use std::io::{Read, Write};
 
