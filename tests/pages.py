@@ -20,7 +20,7 @@ In a contract `S` is what `self` points to at the call, and `S'` at the return. 
 public module, or if a public module names it by `pub use`. A public function that is not quoted stands on the page by
 name.
 
-Of the README, each example in Rust stands in the tests of the crate `giputils`, and the script is the one that `gip` is
+Of the README, each example in Rust stands in giputils_trials/src/examples.rt, and the script is the one that `gip` is
 run on; the lines that docs/ELSEWHERE.md names are as crates.txt has them. docs/DEFINITIONS.md lists, in items that
 begin with `- `, each word of specs/ that a public contract uses, and no name that no specs/ defines; the crate
 `giputils` hands out the files that have these words, and all public lemmas. Each file that a page names is there, and
@@ -273,7 +273,7 @@ def packed(text):
 def readme(page):
     """What is wrong with the README: lines of examples that no test has, and another script than the one that is run."""
     text = page.read_text(encoding="utf-8")
-    tests = packed((CRATES / "giputils/src/tests.rt").read_text(encoding="utf-8"))
+    tests = packed((CRATES / "giputils_trials/src/examples.rt").read_text(encoding="utf-8"))
     complaints = sound(text)
     for example in re.findall(r"^```rust\n(.*?)^```", text, re.DOTALL | re.MULTILINE):
         lines = [line for line in example.split("\n") if packed(line) and packed(line) not in tests]

@@ -3,9 +3,6 @@
 //! This crate has no code of its own: it gathers the crates beside it.
 #![tactic(auto)]
 
-#[cfg(test)]
-mod tests;
-
 pub use giputils_base::others::{OptionU8, OptionU32};
 pub use giputils_base::{allocator, grc, gvec, hash, others};
 pub use giputils_bits::bitvec;

@@ -10,8 +10,6 @@ ghost use Rattle.std.specs.Prelude.{◌≡◌, ◌+◌, ◌↔◌, IsTrue, IfSom
 ghost use Rattle.giputils_refusing.specs.Refused.{Includes};
 
 mod in_turn;
-#[cfg(test)]
-mod tests;
 
 pub use in_turn::{MOST_RUNS, TurnFault, refuse_each, refuse_from_each};
 use std::alloc::{AllocError, Allocator, Global};
@@ -129,7 +127,7 @@ impl<B> Refusing<B> {
 
     /// How many requests were made so far, the refused ones among them. At `u64::MAX` it stays.
     ///
-    /// The count changes behind a `&`, so no clause can say it: the crate's tests show it.
+    /// The count changes behind a `&`, so no clause can say it: `giputils_trials` tests it.
     pub fn requests(&self) -> u64 {
         self.tally.get().requests
     }
@@ -137,7 +135,7 @@ impl<B> Refusing<B> {
     /// The size in bytes of the largest block that was asked for so far, be it by a refused request.
     /// It is 0 where there was no request.
     ///
-    /// The size changes behind a `&`, so no clause can say it: the crate's tests show it.
+    /// The size changes behind a `&`, so no clause can say it: `giputils_trials` tests it.
     pub fn largest(&self) -> usize {
         self.tally.get().largest
     }

@@ -1,15 +1,15 @@
-// The examples of the README, and of what else is named here.
+//! The examples of the README, and of what else `giputils` names.
 
-use crate::OptionU8;
-use crate::allocator::Gallocator;
-use crate::bitvec::BitVec;
-use crate::decimal::{Decimal, rounded};
-use crate::grc::Grc;
-use crate::gvec::Gvec;
-use crate::hash::GHashMap;
-use crate::heap::{BinaryHeap, ByRank};
-use crate::logger::IntervalLogger;
-use crate::statistic::Average;
+use giputils::OptionU8;
+use giputils::allocator::Gallocator;
+use giputils::bitvec::BitVec;
+use giputils::decimal::{Decimal, rounded};
+use giputils::grc::Grc;
+use giputils::gvec::Gvec;
+use giputils::hash::GHashMap;
+use giputils::heap::{BinaryHeap, ByRank};
+use giputils::logger::IntervalLogger;
+use giputils::statistic::Average;
 use log::Level;
 use log::sink::Memory;
 use std::test::Fail;

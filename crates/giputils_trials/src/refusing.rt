@@ -1,7 +1,8 @@
 //! What is refused, counted and passed on, and runs that are refused in turn.
 
-use super::*;
+use giputils_refusing::{MOST_RUNS, Refusing, TurnFault, refuse_each, refuse_from_each};
 use linked_list_allocator::LocalHeap;
+use std::alloc::Allocator;
 use std::collections::HashMap;
 use std::test::Fail;
 
