@@ -6,7 +6,7 @@
 A page for callers, crates/NAME/CALLING.md, quotes the sources between a line `<!-- quote ... -->` and the next line
 `<!-- end -->`; all else is written by hand.
 
-    <!-- quote file giputils_uses/src/drain.rt -->   a file below crates/, but for its tests' declaration
+    <!-- quote file giputils_uses/src/drain.rt -->   a file below crates/
     <!-- quote file giputils_uses/src/activity.rt: bump pick -->
                                                     the same, with these methods alone in its impls
     <!-- quote functions gipsat/src/main.rt: solve -->
@@ -206,7 +206,7 @@ def quote(page, what, complaints):
         if not file.is_file():
             complaints.append(f"there is no {kind}")
             return []
-        text = file.read_text(encoding="utf-8").replace("#[cfg(test)]\nmod tests;\n\n", "")
+        text = file.read_text(encoding="utf-8")
         if kind.startswith("functions "):
             lines, lost = functions_of(text, chosen)
             complaints += [f"{file.name} has no function {name}" for name in lost]
@@ -220,7 +220,7 @@ def quote(page, what, complaints):
     crate, named, met = Crate(page.parent), set(), set()
     lines = ["```text"]
     for file, text in crate.texts.items():
-        found = [] if file.stem == "tests" else contracts(crate, text, set(chosen), named, met)
+        found = contracts(crate, text, set(chosen), named, met)
         lines += [f"// {file.relative_to(page.parent)}", *found, ""] if found else []
     words = re.findall(r"`([^`]+)`", QUOTE.sub("", page.read_text(encoding="utf-8")))
     told = {each for name in chosen for each in name.split("::")} | set(re.findall(r"\w+", " ".join(words)))
@@ -304,11 +304,10 @@ def words_of_contracts():
     found = {}
     for folder in sorted(path.parent for path in CRATES.glob("*/CALLING.md")):
         crate = Crate(folder)
-        for path, text in crate.texts.items():
+        for text in crate.texts.values():
             lines = "\n".join(contracts(crate, text, set(), set(), set()))
             names = [(name, file) for file, group in imports.findall(text) for name in re.split(r",\s*", group.strip())]
-            used = {name: file for name, file in names if re.search(rf"\b{re.escape(name)}\b", lines)}
-            found |= used if path.stem != "tests" else {}
+            found |= {name: file for name, file in names if re.search(rf"\b{re.escape(name)}\b", lines)}
     kits = handed_on()
     return {name: file for name, file in found.items() if file.startswith("gip") or file in kits}
 

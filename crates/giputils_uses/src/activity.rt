@@ -4,9 +4,6 @@ ghost use Rattle.std.specs.List.Sorted.{IsPermutation};
 ghost use Rattle.giputils.specs.Keys.{HoldAlike};
 ghost use Rattle.giputils_uses.specs.Activity.{IsMostActive, bumped};
 
-#[cfg(test)]
-mod tests;
-
 use giputils::heap::{BinaryHeap, ByRank};
 use std::alloc::{AllocError, Allocator, Global};
 use std::marker::Model;

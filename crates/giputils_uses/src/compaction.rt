@@ -4,9 +4,6 @@ ghost use Rattle.std.specs.List.{filter_map};
 ghost use Rattle.giputils.specs.Allocator.{index_map, survivors, unmarked_slots};
 ghost use Rattle.giputils_uses.specs.Compaction.{ReadsAlike};
 
-#[cfg(test)]
-mod tests;
-
 use giputils::allocator::{Gallocator, rename};
 use std::alloc::{AllocError, Allocator};
 

@@ -2,9 +2,6 @@
 ghost use Rattle.std.specs.Prelude.{◌≡◌, nat_eq, IfOk};
 ghost use Rattle.giputils.specs.Hash.{last_value};
 
-#[cfg(test)]
-mod tests;
-
 use giputils::hash::GHashMap;
 use std::alloc::{AllocError, Allocator};
 

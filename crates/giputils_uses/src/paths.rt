@@ -3,9 +3,6 @@ ghost use Rattle.std.specs.Prelude.{◌≡◌, ◌<◌, length, nat_lt, slice_in
 ghost use Rattle.std.specs.List.{list_all};
 ghost use Rattle.giputils_uses.specs.Paths.{edges_from, ends_at_nodes, AreCosts, AreLeast, HasWait, ComesNearer, Relaxes};
 
-#[cfg(test)]
-mod tests;
-
 use giputils::gvec::Gvec;
 use giputils::heap::{BinaryHeap, ByRank};
 use std::alloc::{AllocError, Allocator};

@@ -6,9 +6,6 @@ ghost use Rattle.giputils.specs.Due.{is_due};
 ghost use Rattle.giputils.specs.Tally.{with_term};
 ghost use Rattle.giputils.specs.Texts.{average_text};
 
-#[cfg(test)]
-mod tests;
-
 use giputils::logger::IntervalLogger;
 use giputils::statistic::Average;
 use log::{Level, Log};

@@ -3,9 +3,6 @@ ghost use Rattle.std.specs.Prelude.{◌≡◌, ◌<◌, length};
 ghost use Rattle.std.specs.Bool.{OnTrue, OnFalse};
 ghost use Rattle.giputils_uses.specs.Rows.{joined};
 
-#[cfg(test)]
-mod tests;
-
 use giputils::bitvec::BitVec;
 use std::alloc::Allocator;
 

@@ -2,9 +2,6 @@
 ghost use Rattle.std.specs.Prelude.{◌≡◌, length, OnOk, OnErr, IfOk};
 ghost use Rattle.giputils.specs.Logic.{and_of, xor_of};
 
-#[cfg(test)]
-mod tests;
-
 use giputils::bitvec::{BitVec, BitVecError};
 use std::alloc::Allocator;
 

@@ -3,9 +3,6 @@ ghost use Rattle.std.specs.Prelude.{◌≡◌, ◌↔◌, ◌<◌, not, length, 
 ghost use Rattle.giputils.specs.Ones.{true_places, IsNextOne};
 ghost use Rattle.giputils_uses.specs.SmallSet.{has, HasNone, Inserts, Removes, IsUnion, IsIntersection, IsDifference, IsWithin, ListsMembers};
 
-#[cfg(test)]
-mod tests;
-
 use giputils::bitvec::{BitVec, BitVecError};
 use std::alloc::{AllocError, Allocator, Global};
 use std::marker::Model;

@@ -4,9 +4,6 @@ ghost use Rattle.std.specs.Bool.{beq};
 ghost use Rattle.std.specs.Cmp.Lexicographic.{pointwise};
 ghost use Rattle.giputils.specs.Hash.{IsSetOf};
 
-#[cfg(test)]
-mod tests;
-
 use giputils::bitvec::BitVec;
 use giputils::hash::GHashSet;
 use std::alloc::{AllocError, Allocator};

@@ -4,9 +4,6 @@ ghost use Rattle.std.specs.List.Sorted.{IsPermutation};
 ghost use Rattle.giputils.specs.Keys.{is_held, IsAbsent, HoldAlike};
 ghost use Rattle.giputils_uses.specs.Clock.{Runs, IsEarliest};
 
-#[cfg(test)]
-mod tests;
-
 use giputils::heap::{BinaryHeap, ByRank};
 use std::alloc::{AllocError, Allocator, Global};
 use std::cmp::Reverse;

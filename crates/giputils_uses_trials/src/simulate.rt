@@ -1,5 +1,7 @@
-use super::half_add;
+//! A step of a simulator over two vectors of bits.
+
 use giputils::bitvec::BitVec;
+use giputils_uses::simulate::half_add;
 use std::test::Fail;
 
 #[test]

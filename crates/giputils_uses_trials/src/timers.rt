@@ -1,4 +1,6 @@
-use super::Timers;
+//! A queue of timers: the earliest deadline first.
+
+use giputils_uses::timers::Timers;
 use std::process::Abort;
 use std::test::Fail;
 

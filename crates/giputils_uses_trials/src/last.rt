@@ -1,4 +1,6 @@
-use super::last_of;
+//! Of several values of one key, the last.
+
+use giputils_uses::last::last_of;
 use std::test::Fail;
 
 #[test]

@@ -1,4 +1,6 @@
-use super::Activity;
+//! The order in which a solver picks its variables: the most active first.
+
+use giputils_uses::activity::Activity;
 use std::process::Abort;
 use std::test::Fail;
 

@@ -1,5 +1,7 @@
-use super::join;
+//! Rows of a table of bits, as of a relation.
+
 use giputils::bitvec::BitVec;
+use giputils_uses::rows::join;
 use std::test::Fail;
 
 #[test]

@@ -1,5 +1,7 @@
-use super::{distances, ends_at_nodes};
+//! Shortest distances over a graph that is given by the edges that begin at each node.
+
 use giputils::gvec::Gvec;
+use giputils_uses::paths::{distances, ends_at_nodes};
 use std::test::Fail;
 
 #[test]

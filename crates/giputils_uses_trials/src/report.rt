@@ -1,6 +1,8 @@
-use super::{Labelled, observe, report};
+//! An average with a label, passed on now and then.
+
 use giputils::logger::IntervalLogger;
 use giputils::statistic::Average;
+use giputils_uses::report::{Labelled, observe, report};
 use log::sink::Memory;
 use std::process::Abort;
 use std::test::Fail;

@@ -1,5 +1,7 @@
-use super::SmallSet;
+//! A set of small numbers, kept in a vector of bits.
+
 use giputils::bitvec::BitVecError;
+use giputils_uses::small_set::SmallSet;
 use std::alloc::Allocator;
 use std::process::Abort;
 use std::test::Fail;

@@ -1,5 +1,7 @@
-use super::compact;
+//! Lists of indexes into an index allocator, renamed by a collection.
+
 use giputils::allocator::Gallocator;
+use giputils_uses::compaction::compact;
 use std::process::Abort;
 use std::test::Fail;
 

@@ -1,5 +1,7 @@
-use super::visited;
+//! The states of a run, each once.
+
 use giputils::bitvec::BitVec;
+use giputils_uses::states::visited;
 use std::test::Fail;
 
 #[test]
