@@ -12,8 +12,8 @@ use std::io::{Read, Write};
 
 /// Reads a formula in the DIMACS form, finds out whether anything satisfies it, and writes the answer.
 ///
-/// It gives up after `limit` conflicts, of each of which the solver that it answers has learned a clause. Now and then it
-/// tells `progress` how far it is.
+/// It gives up after `limit` conflicts, of each of which the solver that it answers has learned a clause. Now and then
+/// it tells `progress` how far it is.
 ///
 /// # Errors
 /// - [`DimacsError::Input`] where a read fails.
