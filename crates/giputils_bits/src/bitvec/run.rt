@@ -9,7 +9,6 @@ use super::{BitVec, BitVecError};
 use std::alloc::{AllocError, Allocator, Global};
 
 /// A call on a bit vector, with its arguments. What it borrows may be of another allocator.
-#[derive_where(Debug)]
 pub enum BitCall<'a, A: Allocator = Global> {
     /// [`BitVec::push`] of this bit.
     Push(bool),
