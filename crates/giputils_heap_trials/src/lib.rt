@@ -1,5 +1,5 @@
-//! A plain heap over a list, and all tests of the heap: its calls at concrete types, against the plain one, through
-//! every order of some calls, and where memory is refused.
+//! A plain heap over a list, a caller of the heap, and all tests of the heap: its calls at concrete types, against the
+//! plain one, through every order of some calls, and where memory is refused.
 //!
 //! The tests hold what no clause can say: that a call answers want of memory only where a request was refused, that
 //! some calls make no request, and that the plain calls ask no oftener than the counted ones. They stand apart from the
@@ -8,6 +8,7 @@
 
 #[cfg(test)]
 mod bounded;
+pub mod caller;
 #[cfg(test)]
 mod calls;
 #[cfg(test)]
