@@ -11,7 +11,7 @@ The kept answers come from a program over the Rust crate giputils 0.3.6 that mak
 own container (command: `tests/make_lists.py giputils-oracle`). A call whose condition doesn't hold it answers by
 `skipped`, without making it. What it answers of a heap is compared with what a set of keys with ranks would.
 
-The list `new texts` is of lines that ask for a text of a statistic. PROGRAM isn't asked: texts.py beside this answers.
+The list `new texts` is of questions on statistics. PROGRAM isn't asked: texts.py beside this answers.
 
 Each sort of list comes from a seed of its own, so that a change of one sort leaves the others as they are.
 """
@@ -314,7 +314,7 @@ def heap_answers(calls):
 
 
 def text_list(rng):
-    """Lines that ask for texts."""
+    """Questions on statistics."""
     yield "new texts"
     for words in texts.questions(rng):
         yield " ".join(map(str, words))

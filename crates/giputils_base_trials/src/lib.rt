@@ -1,5 +1,5 @@
-//! All tests of `giputils_base` and of `giputils_stat`: worked examples of their calls, and tests in which they are
-//! refused memory, request by request.
+//! All tests of `giputils_base`, and those of `giputils_stat` that no list of `giputils_replay` holds: worked examples of
+//! their calls, and tests in which they are refused memory, request by request.
 //!
 //! The latter hold what no clause can say: that a call answers want of memory only where a request was refused, how many
 //! requests it makes, and that some calls make none. What a refused call leaves is proved, and not tested again. They
@@ -26,7 +26,5 @@ mod owners;
 mod slots;
 #[cfg(test)]
 mod statistics;
-#[cfg(test)]
-mod texts;
 #[cfg(test)]
 mod vectors;
