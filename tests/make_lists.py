@@ -11,7 +11,8 @@ The kept answers come from a program over the Rust crate giputils 0.3.6 that mak
 own container (command: `tests/make_lists.py giputils-oracle`). A call whose condition doesn't hold it answers by
 `skipped`, without making it. What it answers of a heap is compared with what a set of keys with ranks would.
 
-The list `new texts` is of questions on statistics. PROGRAM isn't asked: texts.py beside this answers.
+The list `new texts` is of questions on statistics. PROGRAM isn't asked: texts.py beside this answers. Nor
+is it of the lists `new solver ..` and `new tables ..`, which solver_lists.py makes with their answers.
 
 Each sort of list comes from a seed of its own, so that a change of one sort leaves the others as they are.
 """
@@ -21,6 +22,7 @@ import subprocess
 import sys
 from pathlib import Path
 
+import solver_lists
 import texts
 
 REPLAY = Path(__file__).resolve().parent.parent / "crates" / "giputils_replay"
@@ -362,6 +364,9 @@ def main():
     for header, *calls in all_lists():
         questions += [header, *calls]
         answers += [header, *answers_of(sys.argv[1], header, calls)]
+    for header, calls, wanted in solver_lists.lists():
+        questions += [header, *calls]
+        answers += [header, *wanted]
     for name, lines in (("stdin", questions), ("stdout", answers)):
         (REPLAY / name).write_text("".join(f"{line}\n" for line in lines))
 

@@ -74,8 +74,8 @@ fn literal(digit: u8, letter: u8, positive: bool) -> Literal {
     Literal::new(26 * u32::from(digit) + u32::from(letter), positive)
 }
 
-// Whether each clause has a true literal. Variables past the end of the model are false.
-fn satisfies(model: &[bool], formula: &[Vec<Literal>]) -> bool {
+/// Whether each clause has a true literal. Variables past the end of the model are false.
+pub(crate) fn satisfies(model: &[bool], formula: &[Vec<Literal>]) -> bool {
     formula.iter().all(|clause| holds(model, clause))
 }
 
@@ -83,6 +83,7 @@ fn holds(model: &[bool], clause: &[Literal]) -> bool {
     clause.iter().any(|l| value(model, *l) == l.is_positive())
 }
 
-fn value(model: &[bool], l: Literal) -> bool {
+/// The value of a literal's variable.
+pub(crate) fn value(model: &[bool], l: Literal) -> bool {
     model.get(l.variable() as usize).copied().unwrap_or(false)
 }

@@ -2,12 +2,13 @@
 //!
 //! A line `new NAME ..` begins a list and names the container that its calls are made on, which is
 //! empty at first. It is answered by itself. A container has a module of its own, which parses its
-//! calls and writes its replies. `new texts` begins a list of lines that ask for texts of statistics,
-//! and `new formulas` one of formulas.
+//! calls and writes its replies. `new texts` begins a list of questions on statistics, `new solver`
+//! one of calls of a solver, `new tables` one of small formulas, and `new formulas` one of formulas.
 //!
 //! The lists of the file `stdin` and the answers of the file `stdout` are made by
-//! `tests/make_lists.py` and `tests/formulas.py`: the texts are python's, the answers to formulas
-//! those of minisat, all others those of the Rust crate.
+//! `tests/make_lists.py` and `tests/formulas.py`: the texts are python's, the answers of a solver are
+//! those of tables of truth and of a search by cases, those to formulas are minisat's, and all others
+//! those of the Rust crate.
 #![tactic(auto)]
 
 mod bits;
@@ -15,6 +16,8 @@ mod calls;
 mod formulas;
 mod galloc;
 mod heap;
+mod solver;
+mod tables;
 mod texts;
 
 use anyhow::{Context, bail};
@@ -69,6 +72,8 @@ fn replay<W: Write>(alloc: Global, out: &mut W, list: &List) -> anyhow::Result<(
         "new galloc" => galloc::replay(alloc, out, &list.calls),
         "new heap" => heap::replay(alloc, out, &list.calls),
         "new texts" => texts::replay(alloc, out, &list.calls),
+        header if header.starts_with("new solver ") => solver::replay(alloc, out, &list.calls),
+        header if header.starts_with("new tables ") => tables::replay(alloc, out, &list.calls),
         _ => bail!("line {}: no container has this name", list.first),
     };
     outcome.context(format_args!("the list at line {}", list.first))

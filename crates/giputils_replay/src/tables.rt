@@ -1,0 +1,111 @@
+//! Formulas over three variables, each of which is asked again and again.
+//!
+//! A clause is a number below 27, whose three digits to base 3, the last one first, tell of each variable whether the
+//! clause has it (1), has its negation (2), or neither. A line of such numbers gives one clause after the other to a
+//! solver that has none at first, and has an answer behind each. A line `under A B` asks for two clauses under the
+//! literals of each clause as assumptions, and has an answer for each.
+
+use crate::calls::NotACall;
+use crate::solver::{Given, Said};
+use anyhow::{Context, Result};
+use giputils_sat::Literal;
+use std::alloc::{AllocError, Global};
+use std::io::{self, Write};
+
+// How many clauses there are.
+const CLAUSES: u32 = 27;
+
+// How many conflicts an answer may take.
+const LIMIT: usize = 100;
+
+/// Writes a line of answers for each line.
+pub(crate) fn replay<W: Write>(alloc: Global, out: &mut W, lines: &[String]) -> Result<()> {
+    for (i, line) in lines.iter().enumerate() {
+        let answers = answer(alloc, line).context(format_args!("call {}", i + 1))?;
+        write_line(out, &answers)?;
+    }
+    Ok(())
+}
+
+// The answers to a line.
+fn answer(alloc: Global, line: &str) -> Result<Vec<Said>> {
+    let words: Vec<&str> = line.split(' ').collect(alloc)?;
+    match *words {
+        ["under", ref clauses @ ..] => said_under_each(alloc, clauses),
+        _ => said_after_each(alloc, &words),
+    }
+}
+
+// What is said after each clause.
+fn said_after_each(alloc: Global, clauses: &[&str]) -> Result<Vec<Said>> {
+    let mut given = Given::new(alloc);
+    let mut answers = Vec::new(alloc);
+    for word in clauses {
+        given.add(literals(alloc, parse(word)?)?)?;
+        answers.push(given.solve(LIMIT)?)?;
+    }
+    Ok(answers)
+}
+
+// What is said of all clauses under the literals of each one there is, by one solver.
+fn said_under_each(alloc: Global, clauses: &[&str]) -> Result<Vec<Said>> {
+    let mut given = Given::new(alloc);
+    for word in clauses {
+        given.add(literals(alloc, parse(word)?)?)?;
+    }
+    let mut answers = Vec::new(alloc);
+    for assumed in 0..CLAUSES {
+        let (said, _) = given.solve_under(alloc, &literals(alloc, assumed)?, LIMIT)?;
+        answers.push(said)?;
+    }
+    Ok(answers)
+}
+
+// The clause of a word.
+fn parse(word: &str) -> Result<u32, NotACall> {
+    let clause: u32 = word.parse()?;
+    if clause < CLAUSES {
+        Ok(clause)
+    } else {
+        Err(NotACall)
+    }
+}
+
+// The literals of a clause.
+fn literals(alloc: Global, clause: u32) -> Result<Vec<Literal>, AllocError> {
+    let mut literals = Vec::new(alloc);
+    add_literal(&mut literals, 1, clause % 3)?;
+    add_literal(&mut literals, 2, clause / 3 % 3)?;
+    add_literal(&mut literals, 3, clause / 9 % 3)?;
+    Ok(literals)
+}
+
+// Adds the literal of a variable that a digit stands for.
+fn add_literal(literals: &mut Vec<Literal>, variable: u8, digit: u32) -> Result<(), AllocError> {
+    let variable = u32::from(variable);
+    match digit {
+        0 => {}
+        1 => literals.push(Literal::new(variable, true))?,
+        _ => literals.push(Literal::new(variable, false))?,
+    }
+    Ok(())
+}
+
+// Writes answers, with gaps between them.
+fn write_line<W: Write>(out: &mut W, answers: &[Said]) -> io::Result<()> {
+    for (i, said) in answers.iter().enumerate() {
+        write_gap(out, i)?;
+        write_word(out, *said)?;
+    }
+    writeln!(out)
+}
+
+// Writes what stands before the answer of this index.
+fn write_gap<W: Write>(out: &mut W, i: usize) -> io::Result<()> {
+    if i == 0 { Ok(()) } else { write!(out, " ") }
+}
+
+fn write_word<W: Write>(out: &mut W, said: Said) -> io::Result<()> {
+    let word = said.word();
+    write!(out, "{word}")
+}
