@@ -4,6 +4,7 @@ A formula is a list of clauses, which are lists of literals; variable 1 is 1, an
 stands in the rows by hand, and is compared here with a search by cases; the tables come from tables of truth.
 """
 
+import functools
 import itertools
 import sys
 
@@ -70,19 +71,25 @@ def selected(clauses, first):
 
 
 def has_model(clauses):
-    """Whether anything satisfies the formula: by the cases of a literal of a shortest clause."""
+    """Whether anything satisfies the formula."""
+    return splits(tuple(map(tuple, clauses)))
+
+
+@functools.cache
+def splits(clauses):
+    """The same, by the cases of a literal of a shortest clause."""
     if not clauses:
         return True
     shortest = min(clauses, key=len)
     if not shortest:
         return False
     literal = shortest[0]
-    return any(has_model(assigned(clauses, case)) for case in (literal, -literal))
+    return any(splits(assigned(clauses, case)) for case in (literal, -literal))
 
 
 def assigned(clauses, literal):
     """What is left of the clauses where the literal is true."""
-    return [[other for other in clause if other != -literal] for clause in clauses if literal not in clause]
+    return tuple(tuple(o for o in clause if o != -literal) for clause in clauses if literal not in clause)
 
 
 # A list is made with its answers: each step is a call with its answer.

@@ -83,10 +83,8 @@ fn literals(alloc: Global, clause: u32) -> Result<Vec<Literal>, AllocError> {
 // Adds the literal of a variable that a digit stands for.
 fn add_literal(literals: &mut Vec<Literal>, variable: u8, digit: u32) -> Result<(), AllocError> {
     let variable = u32::from(variable);
-    match digit {
-        0 => {}
-        1 => literals.push(Literal::new(variable, true))?,
-        _ => literals.push(Literal::new(variable, false))?,
+    if digit > 0 {
+        literals.push(Literal::new(variable, digit == 1))?;
     }
     Ok(())
 }
