@@ -21,11 +21,11 @@ the reason for which its wrong body is refused:
     goal    a goal does not hold
     limit   a search for a goal's proof gave up at its limit: the goal may hold
     type    an answer or a lemma does not fit what the wrong body makes of its goal
-    name    an answer cites a name that the wrong body has not
+    name    an answer or a lemma cites a name that the wrong body has not, or that is closed to it
     form    the borrow checker does not cover the wrong body: no clause was tried
-    other   another error
+    other   another error: it does not compile, or a text of it does not stand once
 
-Where this is not a goal, the file of the wrong body says so, in a line 'refused: REASON'.
+Where this is not a goal, the file of the wrong body says so, in a line 'refused: REASON'. Another error is no refusal.
 
 A line of tests/wrong.txt is a crate and a sum of all that its refusals rest on: the kit, this script, the crate's line
 of crates.txt, its src, specs, proofs and wrong bodies, and of each library of the repository below it what others read:
@@ -39,6 +39,7 @@ import functools
 import hashlib
 import importlib.machinery
 import importlib.util
+import itertools
 import os
 import pathlib
 import re
@@ -197,11 +198,12 @@ def files(folder, parts):
 
 
 def public_proofs(folder):
-    """The files of proofs that other crates can name: those that a `pub mod` of Lib.antt declares, and all below these."""
+    """The files of proofs that other crates can name: Lib.antt, those that a `pub mod` of it declares, and all below them."""
     lib = folder / "proofs" / "Lib.antt"
     names = re.findall(r"^pub mod (\w+)", lib.read_text(encoding="utf-8"), re.MULTILINE) if lib.is_file() else []
     inside = [folder / "proofs" / name for name in names]
-    return [lib, *(file.with_suffix(".antt") for file in inside), *files(folder / "proofs", names)] if names else []
+    found = [lib, *(file.with_suffix(".antt") for file in inside), *files(folder / "proofs", names)]
+    return [file for file in found if file.is_file()]
 
 
 @functools.cache
@@ -227,7 +229,7 @@ def sum_of(crate, uses, root=ROOT):
         folder = root / "crates" / library
         add(library, " ".join(uses[library]))
         for file in [*files(folder, ["specs"]), *public_proofs(folder)]:
-            add(str(file.relative_to(root)), file.read_bytes() if file.is_file() else "")
+            add(str(file.relative_to(root)), file.read_bytes())
         for file in files(folder, ["src"]):
             add(str(file.relative_to(root)), without_bodies(file.read_text(encoding="utf-8")))
     return total.hexdigest()
@@ -264,7 +266,7 @@ class WrongBody:
     def __init__(self, file, folder):
         self.name, self.wanted, self.hunks, self.fault = file.stem, "goal", [], None
         self.places, texts, path, old = set(), {}, None, None
-        for line in file.read_text(encoding="utf-8").splitlines():
+        for line in filter(None, file.read_text(encoding="utf-8").splitlines()):
             key, _, value = line.partition(":")
             value = value.removeprefix(" ")
             if key == "refused":
@@ -273,7 +275,7 @@ class WrongBody:
                 path = value
             elif key == "old":
                 old = value
-            elif key == "new":
+            elif key == "new" and path:
                 if path not in texts:
                     texts[path] = (folder / path).read_text(encoding="utf-8") if (folder / path).is_file() else ""
                 if not old or texts[path].count(old) != 1:
@@ -282,10 +284,17 @@ class WrongBody:
                 self.places.add(place_of(path, texts[path], texts[path].index(old), len(old)))
                 self.hunks.append((path, old, value))
                 texts[path] = texts[path].replace(old, value)
+            else:
+                self.fault = f"it has a line {line[:40]!r}"
+                return
         if not self.hunks:
             self.fault = "it has no pair of 'old:' and 'new:' lines"
-        elif self.wanted not in REASONS:
+        elif self.wanted not in REASONS or self.wanted == "other":
             self.fault = f"'refused: {self.wanted}' is no reason"
+
+    def stands_apart_from(self, other):
+        """Whether both stand in functions that are known, in different ones."""
+        return "" not in self.functions | other.functions and not self.functions & other.functions
 
 
 def place_of(path, text, at, length):
@@ -308,6 +317,8 @@ def texts_with(bodies, folder):
     for body in bodies:
         for path, old, new in body.hunks:
             text = texts.get(path) or (folder / path).read_text(encoding="utf-8")
+            if text.count(old) != 1:
+                raise ValueError(f"{body.name}: {old!r} does not stand once in {path} beside other wrong bodies")
             texts[path] = text.replace(old, new)
     return texts
 
@@ -316,13 +327,13 @@ def texts_with(bodies, folder):
 
 JUDGED = re.compile(r"^fn \w+::(\S+): (.*)", re.MULTILINE)
 # A goal that no search closed, and one at which an answer's tactic ended.
-OPEN = re.compile(r"^note: \S+?:\d+:\d+: it is not proved that .*?\(`([^`]+)`\)(.*)", re.MULTILINE)
+OPEN = re.compile(r"^note: \S+?:\d+:\d+: .*?\(`([^`]+)`\)(.*)", re.MULTILINE)
 UNPROVED = re.compile(r"`search` did not prove ((?:`[^`]+`(?:, )?)+)")
 ANSWER = re.compile(r"^(?:\./)?proofs/(\S+?):\d+:\d+: error: (?:`([^`]*)`: )?(.*(?:\n  .*)*)", re.MULTILINE)
 FALSE = re.compile(r"may be false|allow values at which|All of that holds, and the goal fails")
 DOES_NOT_FOLLOW = re.compile(r"does not follow|may be false|did not prove|found no proof|no proof (?:of|was found)")
 LIMIT = re.compile(r"the goal may hold|limit|gave up|ran out")
-NAME = re.compile(r"has no field|is not in scope|has no `|was not admitted|is no name")
+NAME = re.compile(r"has no field|is not in scope|has no `|was not admitted|is no name|cannot be unfolded here")
 TYPE = re.compile(r"expected type|types? first differ|does not fit|has this type|no occurrence of")
 FORM = re.compile(r"(?:is|are) not covered|does not cover|expected a measure")
 WAITS = re.compile(r"declarations? that depends? on")
@@ -354,8 +365,13 @@ class Said:
 
     def __init__(self, text):
         self.text, self.reached = text, bool(REACHED.search(text))
-        self.judged = dict(JUDGED.findall(text))
         self.errors = ANSWER.findall(text)
+        # Of each function its line, and the notes on its open goals, which stand in front of that.
+        self.judged, self.notes, start = {}, collections.defaultdict(list), 0
+        for match in JUDGED.finditer(text):
+            self.judged[match[1]] = match[2]
+            self.notes[match[1]] += OPEN.findall(text, start, match.start())
+            start = match.end()
 
     def reason(self, function):
         """Why the prover refuses a function by its own goals, and what shows it; None where it is proved or only waits."""
@@ -365,7 +381,7 @@ class Said:
         goals, others = {}, {}
         for names in UNPROVED.findall(judged):
             for goal in re.findall(r"`([^`]+)`", names):
-                goals[goal] = "limit" if self.is_at_limit(goal) else ""
+                self.sort_open(function, goal, goals, others)
         self.sort_errors(folder, goals, others)
         if FORM.search(judged):
             others.setdefault("form", judged)
@@ -389,10 +405,13 @@ class Said:
             else:
                 others.setdefault(kind, f"{name}: {error.splitlines()[0]}" if name else error.splitlines()[0])
 
-    def is_at_limit(self, goal):
-        """Whether all that is said of the goals of this name is that a search gave up at its limit."""
-        rests = [rest for name, rest in OPEN.findall(self.text) if name == goal]
-        return bool(rests) and all(LIMIT.search(rest) and not FALSE.search(rest) for rest in rests)
+    def sort_open(self, function, goal, goals, others):
+        """Sorts a goal that no search closed: it does not hold, or all searches for it gave up at their limits."""
+        rests = [rest for name, rest in self.notes[function] if name == goal]
+        if not rests:
+            others.setdefault("other", f"nothing is said of {goal}")
+        else:
+            goals[goal] = "limit" if all(LIMIT.search(rest) and not FALSE.search(rest) for rest in rests) else ""
 
 
 # Checks, and what they make of wrong bodies.
@@ -408,7 +427,7 @@ class Crate:
         found = [file for each in FOLDERS for file in sorted((self.folder / each).glob("*.edit"))]
         self.bodies = [WrongBody(file, self.folder) for file in found]
         self.outcomes = {body: ("other", body.fault) for body in self.bodies if body.fault}
-        self.names, self.checks = set(), 0
+        self.names, self.checks, self.numbers = set(), 0, itertools.count(1)
 
     def check(self, texts, only=(), kept=None, jobs=1):
         """What the prover says of a copy of the crate with these texts, over a copy of what the last check kept."""
@@ -424,9 +443,9 @@ class Crate:
             words = [*self.commands(jobs), "--incremental", str(kept), *(word for name in only for word in ("--only", name))]
             told = {"stdin": subprocess.DEVNULL, "stdout": subprocess.PIPE, "stderr": subprocess.STDOUT}
             ran = subprocess.run(words, cwd=room, text=True, errors="replace", **told)
-        self.checks += 1
+        self.checks = number = next(self.numbers)
         if self.said_to:
-            (self.said_to / f"{self.name}.{self.checks}.txt").write_text(ran.stdout, encoding="utf-8")
+            (self.said_to / f"{self.name}.{number}.txt").write_text(ran.stdout, encoding="utf-8")
         return Said(ran.stdout)
 
     def learn_names(self, said):
@@ -445,8 +464,7 @@ class Crate:
         for body in self.bodies:
             if body in self.outcomes:
                 continue
-            is_free = lambda batch: not any(body.functions & other.functions for other in batch)
-            batch = next((batch for batch in batches if "" not in body.functions and is_free(batch)), None)
+            batch = next((batch for batch in batches if all(map(body.stands_apart_from, batch))), None)
             if batch is None:
                 batch = []
                 batches.append(batch)
@@ -575,7 +593,8 @@ def main():
     for crate in crates:
         refused, not_refused = report(crate)
         passed, failed = passed + refused, failed + not_refused
-        if not not_refused and not asked.turn and sum_of(crate.name, uses) == sums[crate.name]:
+        kept.pop(crate.name, None)
+        if not not_refused and sum_of(crate.name, uses) == sums[crate.name]:
             kept[crate.name] = sums[crate.name]
     if not asked.turn:
         LEDGER.write_text("".join(f"{crate} {kept[crate]}\n" for crate in having if crate in kept), encoding="utf-8")

@@ -1,6 +1,6 @@
 #!/usr/bin/env python3
-"""Tests tests/wrong.py in a repository of three small crates: what it tells of wrong bodies of each kind, and which changes
-make a crate's line not current. The last line is 'N passed, M failed'."""
+"""Tests tests/wrong.py in a repository of four small crates: what it tells of wrong bodies of each kind but those at a
+search's limit, and which changes make a crate's line not current. The last line is 'N passed, M failed'."""
 
 import pathlib
 import re
@@ -75,6 +75,31 @@ pub fn following(n: u8) -> u16
     after
 }
 
+/// The same, with another name.
+pub fn after(n: u8) -> u16
+    ensures { result ≡ n + 1 }
+{
+    let later = next(n);
+    later
+}
+
+/// The number itself, by a name.
+pub fn marked(n: u8) -> u8
+    ensures { result ≡ n }
+{
+    let mark = n;
+    mark
+}
+
+const STEP: u16 = 1;
+
+/// The number after it, by a constant.
+pub fn stepped(n: u8) -> u16
+    ensures { result ≡ n + 1 }
+{
+    u16::from(n) + STEP
+}
+
 /// The same.
 pub fn succeeding(n: u8) -> u16
     ensures { result ≡ n + 1 }
@@ -82,6 +107,36 @@ pub fn succeeding(n: u8) -> u16
     let after_it = next(n);
     after_it
 }
+"""
+
+TOLD = """\
+//! Names of another crate.
+#![tactic(auto)]
+ghost use Rattle.std.specs.Prelude.{◌≡◌};
+
+/// The number itself.
+pub fn same(n: u8) -> u8
+    ensures { result ≡ n }
+{
+    n
+}
+"""
+
+NUMBERS = """\
+-- Small numbers.
+use Rattle.std.specs.Prelude.{ℕ}
+
+-- the first of them
+abbrev pub first : ℕ
+first = 0
+"""
+
+FACTS = """\
+-- Facts on numbers.
+use Rattle.std.specs.Prelude.{◌≡◌, ℕ, refl}
+
+pub itself : (n : ℕ) → n ≡ n
+itself n = refl
 """
 
 ANSWERS = """\
@@ -92,12 +147,20 @@ returns c = c.{}.ensures
 """
 
 FILES = {
-    "crates.txt": "low:\nhigh: low\nodd:\n",
+    "crates.txt": "low:\nhigh: low told\nodd:\ntold: low\n",
     "HANDLES": "Handles allowed: none.\n",
     "crates/low/src/lib.rt": LOW,
     "crates/high/src/lib.rt": HIGH,
+    "crates/low/specs/Lib.antt": "pub mod Numbers\n",
+    "crates/low/specs/Numbers.antt": NUMBERS,
+    "crates/low/proofs/Lib.antt": "pub mod Facts\nmod Own\n",
+    "crates/low/proofs/Facts.antt": FACTS,
+    "crates/low/proofs/Own.antt": FACTS,
+    "crates/told/src/lib.rt": TOLD,
+    "crates/told/proofs/Lib.antt": "pub use Rattle.low.proofs.Facts\n",
     "crates/odd/src/lib.rt": ODD,
     "crates/odd/proofs/following/Answers.antt": ANSWERS.format("following", "next-after"),
+    "crates/odd/proofs/after/Answers.antt": ANSWERS.format("after", "next-later"),
     "crates/odd/proofs/succeeding/Answers.antt": ANSWERS.format("succeeding", "next-after_it"),
 }
 
@@ -115,6 +178,12 @@ BODIES = {
         "let after_it = u16::from(n) + 1;",
         "refused (name)",
     ),
+    "odd/wrong/turns_for_ever": ("refused: form", "let mark = n;", "let mark = n; while mark > 200 {}", "refused (form)"),
+    "odd/wrong/fits_no_answer": ("refused: type", "    later", "    later.min(3)", "refused (type)"),
+    # It stands in no function, so it is tried by itself.
+    "odd/wrong/a_step_is_two": ("", "u16 = 1;", "u16 = 2;", "refused (goal)"),
+    "odd/wrong/says_nothing_that_is_known": ("refusd: goal", "= next(n);", "= 0;", "WRONG REASON (other, and not goal): it has a line"),
+    "told/wrong/same_is_none": ("", "    n", "    0", "refused (goal)"),
     "odd/wrong/stands_twice": ("", "= next(n);", "= 0;", "WRONG REASON (other, and not goal): an 'old:' text does not stand once"),
 }
 
@@ -148,14 +217,18 @@ class Repository:
 
     def stale_with(self, file, old, new):
         """The same, where a text of a file is another one."""
+        return self.with_text(file, old, new, self.stale)
+
+    def with_text(self, file, old, new, action):
+        """What an action answers while a text of a file is another one."""
         path = self.folder / "crates" / file
         text = path.read_text(encoding="utf-8")
         if text.count(old) != 1:
             raise ValueError(f"{old} does not stand once in {file}")
         path.write_text(text.replace(old, new), encoding="utf-8")
-        stale = self.stale()
+        answer = action()
         path.write_text(text, encoding="utf-8")
-        return stale
+        return answer
 
 
 def cases(repository):
@@ -171,13 +244,24 @@ def cases(repository):
     body = ("low/src/lib.rt", "    twice + twice", "    2 * twice")
     yield "a body of a library is no matter to those above", repository.stale_with(*body), ["low", "odd"]
     clause = ("low/src/lib.rt", "ensures { result ≡ n + n }", "ensures twice { result ≡ n + n }")
-    yield "a clause of a library is", repository.stale_with(*clause), ["low", "high", "odd"]
+    yield "a clause of a library is", repository.stale_with(*clause), ["low", "high", "odd", "told"]
+    word = ("low/specs/Numbers.antt", "first = 0", "first = 1")
+    yield "so is a definition of it", repository.stale_with(*word), ["low", "high", "odd", "told"]
+    lemma = ("low/proofs/Facts.antt", "itself n = refl", "itself m = refl")
+    yield "and a public lemma", repository.stale_with(*lemma), ["low", "high", "odd", "told"]
+    own = ("low/proofs/Own.antt", "itself n = refl", "itself m = refl")
+    yield "a lemma of its own is not", repository.stale_with(*own), ["low", "odd"]
+    names = ("told/proofs/Lib.antt", "Facts", "Facts as Low")
+    yield "the names that a library hands on are", repository.stale_with(*names), ["high", "odd", "told"]
     wrong = ("low/wrong/quadruple_is_triple.edit", "+ u16", "+ 1 + u16")
     yield "a wrong body is a matter of its crate", repository.stale_with(*wrong), ["low", "odd"]
-    line = ("../crates.txt", "low:", "low: log")
-    yield "a line of crates.txt is a matter of all above", repository.stale_with(*line), ["low", "high", "odd"]
+    line = ("../crates.txt", "low:\n", "low: log\n")
+    yield "a line of crates.txt is a matter of all above", repository.stale_with(*line), ["low", "high", "odd", "told"]
     said, status = repository.run("low")
     yield "those of one crate are tried again", (said.splitlines()[-1], status), ("2 passed, 0 failed", 0)
+    right = ("low/wrong/quadruple_is_triple.edit", "twice + u16::from(n)", "twice + twice")
+    repository.with_text(*right, lambda: repository.run("low"))
+    yield "a crate loses its line where one is not refused", repository.stale(), ["low", "odd"]
 
 
 def main():

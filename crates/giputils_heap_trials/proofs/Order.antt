@@ -1,5 +1,5 @@
--- What a caller can show of a heap in order: its laws, and no more. The must-fail edits of this file try to show more: they leave
--- out that a lone key is told to be in order.
+-- What a caller can show of a heap in order: its laws, and no more. The wrong bodies of this file try to show more: they
+-- leave out that a lone key is told to be in order.
 use Rattle.std.proofs.Common.{ℕ, Bool, [], ◌∷◌}
 use Rattle.giputils_heap.specs.InOrder.{IsInOrder}
 use Rattle.giputils_heap.specs.Tree.{IsTree}
