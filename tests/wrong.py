@@ -19,13 +19,15 @@ it that it waits. So one check tries all wrong bodies that stand in different fu
 the reason for which its wrong body is refused:
 
     goal    a goal does not hold
-    limit   a search for a goal's proof gave up at its limit: the goal may hold
     type    an answer or a lemma does not fit what the wrong body makes of its goal
-    name    an answer or a lemma cites a name that the wrong body has not, or that is closed to it
+    limit   a search for a goal's proof gave up at its limit: the goal may hold
     form    the borrow checker does not cover the wrong body: no clause was tried
+    name    an answer or a lemma cites a name that the wrong body has not, or that is closed to it
     other   another error: it does not compile, or a text of it does not stand once
 
-Where this is not a goal, the file of the wrong body says so, in a line 'refused: REASON'. Another error is no refusal.
+Where this is not a goal, the file of the wrong body says so, in a line 'refused: REASON', and a reason further up does as
+well. Another error is no refusal. One that shows less than its file says is tried once more, by itself: beside others its
+goals may wait for one of them.
 
 A line of tests/wrong.txt is a crate and a sum of all that its refusals rest on: the kit, this script, the crate's line
 of crates.txt, its src, specs, proofs and wrong bodies, and of each library of the repository below it what others read:
@@ -265,6 +267,7 @@ class WrongBody:
 
     def __init__(self, file, folder):
         self.name, self.wanted, self.hunks, self.fault = file.stem, "goal", [], None
+        self.is_alone = False
         self.places, texts, path, old = set(), {}, None, None
         for line in filter(None, file.read_text(encoding="utf-8").splitlines()):
             key, _, value = line.partition(":")
@@ -293,8 +296,10 @@ class WrongBody:
             self.fault = f"'refused: {self.wanted}' is no reason"
 
     def stands_apart_from(self, other):
-        """Whether both stand in functions that are known, in different ones."""
-        return "" not in self.functions | other.functions and not self.functions & other.functions
+        """Whether both can be tried in one check: in functions that are known, in different ones."""
+        if self.is_alone or other.is_alone or "" in self.functions | other.functions:
+            return False
+        return not self.functions & other.functions
 
 
 def place_of(path, text, at, length):
@@ -358,6 +363,11 @@ def foremost(goals, others):
 
 def rank(reason):
     return REASONS.index(reason[0])
+
+
+def is_less(found, wanted):
+    """Whether a reason shows less of a contract than another one does."""
+    return found in REASONS and REASONS.index(found) > REASONS.index(wanted)
 
 
 class Said:
@@ -493,7 +503,9 @@ class Crate:
                 outcome = "none", "it is proved"
             if not outcome and len(batch) == 1:
                 outcome = "other", "nothing is told of its function"
-            if outcome:
+            if outcome and len(batch) > 1 and is_less(outcome[0], body.wanted):
+                body.is_alone = True
+            elif outcome:
                 self.outcomes[body] = outcome
 
 
@@ -532,9 +544,11 @@ def report(crate):
     failed = 0
     for body in crate.bodies:
         found, shown = crate.outcomes[body]
-        is_well = found == body.wanted
+        is_well = found in REASONS and not body.fault and not is_less(found, body.wanted)
         failed += not is_well
-        verdict = f"refused ({found})" if is_well else "NOT REFUSED" if found == "none" else f"WRONG REASON ({found}, and not {body.wanted})"
+        verdict = "NOT REFUSED" if found == "none" else f"WRONG REASON ({found}, and not {body.wanted})"
+        if is_well:
+            verdict = f"refused ({found})"
         print(f"{crate.name}/{body.name}: {verdict}: {shown[:160]}")
     reasons = collections.Counter(found for found, _ in crate.outcomes.values())
     counts = ", ".join(f"{count} {reason}" for reason, count in sorted(reasons.items(), key=lambda it: -it[1]))

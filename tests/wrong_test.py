@@ -180,6 +180,7 @@ BODIES = {
     ),
     "odd/wrong/turns_for_ever": ("refused: form", "let mark = n;", "let mark = n; while mark > 200 {}", "refused (form)"),
     "odd/wrong/fits_no_answer": ("refused: type", "    later", "    later.min(3)", "refused (type)"),
+    "odd/wrong/shows_more_than_it_says": ("refused: limit", "let mark = n;", "let mark = 0;", "refused (goal)"),
     # It stands in no function, so it is tried by itself.
     "odd/wrong/a_step_is_two": ("", "u16 = 1;", "u16 = 2;", "refused (goal)"),
     "odd/wrong/says_nothing_that_is_known": ("refusd: goal", "= next(n);", "= 0;", "WRONG REASON (other, and not goal): it has a line"),
