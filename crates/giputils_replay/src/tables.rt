@@ -41,24 +41,45 @@ fn said_after_each(alloc: Global, clauses: &[&str]) -> Result<Vec<Said>> {
     let mut given = Given::new(alloc);
     let mut answers = Vec::new(alloc);
     for word in clauses {
-        given.add(literals(alloc, parse(word)?)?)?;
-        answers.push(given.solve(LIMIT)?)?;
+        answers.push(said_after(alloc, &mut given, word)?)?;
     }
     Ok(answers)
+}
+
+// What is said after one more clause.
+fn said_after(alloc: Global, given: &mut Given, word: &str) -> Result<Said> {
+    give(alloc, given, word)?;
+    Ok(given.solve(LIMIT)?)
+}
+
+// Gives the clause of a word.
+fn give(alloc: Global, given: &mut Given, word: &str) -> Result<()> {
+    let clause = literals(alloc, parse(word)?)?;
+    given.add(clause)
 }
 
 // What is said of all clauses under the literals of each one there is, by one solver.
 fn said_under_each(alloc: Global, clauses: &[&str]) -> Result<Vec<Said>> {
     let mut given = Given::new(alloc);
     for word in clauses {
-        given.add(literals(alloc, parse(word)?)?)?;
+        give(alloc, &mut given, word)?;
     }
+    Ok(answers_under_each(alloc, &mut given)?)
+}
+
+fn answers_under_each(alloc: Global, given: &mut Given) -> Result<Vec<Said>, AllocError> {
     let mut answers = Vec::new(alloc);
     for assumed in 0..CLAUSES {
-        let (said, _) = given.solve_under(alloc, &literals(alloc, assumed)?, LIMIT)?;
-        answers.push(said)?;
+        answers.push(said_under(alloc, given, assumed)?)?;
     }
     Ok(answers)
+}
+
+// What is said under the literals of a clause.
+fn said_under(alloc: Global, given: &mut Given, assumed: u32) -> Result<Said, AllocError> {
+    let assumptions = literals(alloc, assumed)?;
+    let (said, _) = given.solve_under(alloc, &assumptions, LIMIT)?;
+    Ok(said)
 }
 
 // The clause of a word.
