@@ -1,0 +1,23 @@
+mod AdvancesLemmas
+mod AnswerLemmas
+pub mod MakesTrue
+mod AssumptionLemmas
+mod CompactionLemmas
+pub mod Cores
+mod EncodingExamples
+pub mod Encodings
+mod Examples
+mod ImpliedLemmas
+pub mod Formulas
+mod GrowthLemmas
+mod TrailMeasureLemmas
+mod BackjumpLemmas
+pub mod LiteralLemmas
+mod SeenLemmas
+pub mod Places
+mod ReadyLemmas
+mod TrailSteps
+mod DatabaseLemmas
+mod TrailLemmas
+mod UnitLemmas
+mod ValueLemmas

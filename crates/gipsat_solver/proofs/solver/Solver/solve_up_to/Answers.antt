@@ -1,0 +1,43 @@
+use Rattle.std.proofs.Common.{◌∙◌, subst, sym, ◌≡◌, length, ap, arith}
+use Rattle.gipsat_solver.specs.Database.{SolverState}
+use Rattle.gipsat_solver.specs.Trail.{IsTrailOf}
+use Rattle.gipsat_solver.proofs.AnswerLemmas.{IsRightOr-weaker, IsSpent-since}
+use Rattle.gipsat_solver.proofs.solver.Solver.solve_up_to.Goals as goal
+
+pub run-requires : goal.run-requires
+run-requires g c =
+    let clauses = c.self.inside.database.clauses in
+    let taken : IsTrailOf c.self.inside.database.clauses c.replace-trail.result =
+    subst (IsTrailOf c.self.inside.database.clauses) (sym c.replace-trail.ensures.value) c.self.invariant.trail
+    in
+    let stands : IsTrailOf c.self.inside.database.clauses c.backtrack.new.self =
+    c.backtrack.ensures.trail clauses (c.in_ok-trail.ensures.trail clauses taken)
+    in
+    record {
+      none = c.requires.none;
+      within = c.raise_variables.ensures.below;
+      ready = record {
+        len = omega (arith, c.backtrack.ensures.len, c.in_ok-trail.ensures.len, c.variables-variables.ensures.value);
+        trail = subst (λ cs. IsTrailOf cs c.backtrack.new.self) (sym c.raise_variables.ensures.clauses) stands;
+        room = omega (arith, c.in_ok-seen.ensures.len, c.variables-variables.ensures.value);
+        clear = c.in_ok-seen.ensures.clear;
+      };
+    }
+
+pub returns-clause-right : goal.returns-clause-right
+returns-clause-right g c =
+    IsRightOr-weaker c.args.self.now.formula c.raise_variables.new.self.formula c.args.assumptions.now c.in_ok-answer.answer
+    (c.raise_variables.ensures.formula ∙ ap (λ (k : SolverState). k.formula) c.self.view_is)
+    (IsSpent-since c.args.self.now c.raise_variables.new.self c.run.new.database c.args.limit c.budget_from-until.result c.args.budget
+    (c.raise_variables.ensures.learned ∙ ap (λ (k : SolverState). k.learned) c.self.view_is) c.budget_from-until.ensures)
+    c.in_ok-answer.ensures.right
+
+pub invariant_of-self-2 : goal.invariant_of-self-2
+invariant_of-self-2 g c =
+    let rewound : length c.rewind_if_refuted.new.trail.values.items ≡ length c.run.new.trail.values.items =
+    ap (λ v. length v.items) c.rewind_if_refuted.ensures.values
+    in
+    record {
+      within = omega (arith, rewound, c.in_ok-answer.ensures.ready.len);
+      trail = c.rewind_if_refuted.ensures.trail c.run.new.database.clauses c.in_ok-answer.ensures.ready.trail;
+    }

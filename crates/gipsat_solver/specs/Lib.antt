@@ -1,0 +1,15 @@
+pub mod Literals
+pub mod Coding
+pub mod Formulas
+pub mod Encodings
+pub mod TrailMeasure
+pub mod Database
+pub mod Seen
+pub mod Values
+pub mod Choices
+pub mod Answers
+pub mod TrailLists
+pub mod Trail
+pub mod Assumptions
+pub mod Backjump
+pub mod Obstacles

@@ -1,0 +1,131 @@
+//! The heuristics of a search. No contract speaks of them.
+ghost use Rattle.std.specs.Prelude.{◌^◌, ◌<◌};
+
+use crate::activity::Activity;
+use crate::glue::Glue;
+use crate::literal::Literal;
+use crate::restart_policy::RestartPolicy;
+use crate::trail::Trail;
+use crate::watches::Watches;
+use std::alloc::{AllocError, Allocator, Global};
+
+/// How much a solver did since it was made. After a call that was refused memory the counts are those of before it.
+#[derive(Clone, Copy)]
+pub struct Stats {
+    /// Clauses all of whose literals were false.
+    pub conflicts: u64,
+    /// Variables that were given a value with no reason.
+    pub decisions: u64,
+    /// Literals whose clauses were looked at.
+    pub propagations: u64,
+    /// How often all decisions were taken back to begin anew.
+    pub restarts: u64,
+    /// Learned clauses that are not looked at any more.
+    pub deleted: u64,
+    /// How often a clause with no true literal was left where no variable waited to be decided.
+    pub left_open: u64,
+}
+
+impl Stats {
+    // Nothing was done.
+    pub(crate) fn new() -> Self {
+        Stats {
+            conflicts: 0,
+            decisions: 0,
+            propagations: 0,
+            restarts: 0,
+            deleted: 0,
+            left_open: 0,
+        }
+    }
+}
+
+// The decision queue, the watches, the glue, the restart policy, and the statistics.
+#[derive(Drop)]
+pub(crate) struct Heuristics<A: Allocator = Global> {
+    pub activity: Activity<A>,
+    pub watches: Watches<A>,
+    pub glue: Glue<A>,
+    pub restart_policy: RestartPolicy,
+    // How many of the root literals were learned as unit clauses, or need not be.
+    pub units: usize,
+    pub stats: Stats,
+}
+
+impl<A: Allocator + Copy> Heuristics<A> {
+    // Of no variable and no clause.
+    pub(crate) fn new(alloc: A, stats: Stats) -> Result<Self, AllocError> {
+        Ok(Heuristics {
+            activity: Activity::new(alloc)?,
+            watches: Watches::new(alloc),
+            glue: Glue::new(alloc),
+            restart_policy: RestartPolicy::new(),
+            units: 0,
+            stats,
+        })
+    }
+
+    // Those that were kept, or new ones.
+    pub(crate) fn kept_or_new(
+        kept: Option<Self>,
+        alloc: A,
+        stats: Stats,
+    ) -> Result<Self, AllocError> {
+        match kept {
+            Some(heuristics) => Ok(heuristics),
+            None => Heuristics::new(alloc, stats),
+        }
+    }
+
+    // The same with room for so many variables.
+    pub(crate) fn grown(self, alloc: A, variables: usize) -> Result<Self, AllocError>
+        requires { variables < 2 ^ 40 }
+    {
+        let Heuristics {
+            activity,
+            mut watches,
+            mut glue,
+            restart_policy,
+            units,
+            stats,
+        } = self;
+        watches.grow(alloc, variables)?;
+        glue.grow(variables)?;
+        Ok(Heuristics {
+            activity: activity.grown(variables)?,
+            watches,
+            glue,
+            restart_policy,
+            units,
+            stats,
+        })
+    }
+
+    // A conflict was met.
+    pub(crate) fn count_conflict(&mut self) {
+        self.stats.conflicts = self.stats.conflicts.saturating_add(1);
+        self.activity.decay();
+        self.watches.decay();
+    }
+
+    // This clause was learned from a conflict. To be called before the backjump.
+    pub(crate) fn note_learned(&mut self, trail: &Trail<A>, clause: &[Literal]) {
+        let glue = self.glue.of(trail, clause);
+        self.restart_policy.add(glue);
+    }
+
+    // A variable was decided.
+    pub(crate) fn count_decision(&mut self) {
+        self.stats.decisions = self.stats.decisions.saturating_add(1);
+    }
+
+    // A clause was left with no true literal.
+    pub(crate) fn count_open(&mut self) {
+        self.stats.left_open = self.stats.left_open.saturating_add(1);
+    }
+
+    // A literal is propagated.
+    pub(crate) fn count_propagation(&mut self) {
+        self.stats.propagations = self.stats.propagations.saturating_add(1);
+    }
+}

@@ -1,0 +1,443 @@
+//! Conflict analysis: the first UIP, minimization, and the backjump.
+ghost use Rattle.std.specs.Prelude.{◌≡◌, ◌≢◌, ◌<◌, true, length, IfOk, OnOk};
+ghost use Rattle.gipsat_solver.specs.Formulas.{Has, HasBut};
+ghost use Rattle.gipsat_solver.specs.Literals.{code};
+ghost use Rattle.gipsat_solver.specs.Seen.{AddsAtMost, AreSeen, AreSeenBut, Grows, HaveFlags, IsResolvent, is_seen};
+ghost use Rattle.gipsat_solver.specs.Database.{Gains, Learns};
+ghost use Rattle.gipsat_solver.specs.Trail.{Advances, ComesFarther, IsReady, ResolvesAt};
+ghost use Rattle.gipsat_solver.specs.Trail.{IsConflictOf, IsTrailOf, MeetsConflict};
+
+use crate::activity::Activity;
+use crate::database::Database;
+use crate::heuristics::Heuristics;
+use crate::learned_clause::clause_of_conflict;
+use crate::literal::Literal;
+use crate::search::non_false_place;
+use crate::seen::Seen;
+use crate::trail::{Step, Trail};
+use crate::watches::{ClauseStatus, WatchedPair, Watches};
+use std::alloc::{AllocError, Allocator};
+
+// Marks a literal as seen and bumps its variable. 1 if it is new and of the conflict level, else 0.
+fn mark_and_bump<A: Allocator + Copy>(
+    trail: &Trail<A>,
+    activity: &mut Activity<A>,
+    seen: &mut Seen<A>,
+    l: Literal,
+) -> Result<usize, AllocError>
+    requires { code l < length seen.old }
+    ensures len { length seen.new ≡ length seen.old }
+    ensures grows { OnOk result (Grows seen.old seen.new) }
+    ensures marked { OnOk result (is_seen seen.new l ≡ true) }
+    ensures only { OnOk result (AddsAtMost (λ m. m ≡ l) seen.old seen.new) }
+{
+    if seen.has(l) {
+        return Ok(0);
+    }
+    seen.add(l)?;
+    activity.bump(l.variable());
+    Ok(usize::from(trail.level_of(l) == trail.level()))
+}
+
+// Marks a literal as seen, unless it is `but`.
+fn mark_unless<A: Allocator + Copy>(
+    trail: &Trail<A>,
+    activity: &mut Activity<A>,
+    seen: &mut Seen<A>,
+    l: Literal,
+    but: Literal,
+) -> Result<usize, AllocError>
+    requires { code l < length seen.old }
+    ensures len { length seen.new ≡ length seen.old }
+    ensures grows { OnOk result (Grows seen.old seen.new) }
+    ensures marked { OnOk result (l ≢ but → is_seen seen.new l ≡ true) }
+    ensures only { OnOk result (AddsAtMost (λ m. (m ≡ l) × (m ≢ but)) seen.old seen.new) }
+{
+    if l.code() == but.code() {
+        return Ok(0);
+    }
+    mark_and_bump(trail, activity, seen, l)
+}
+
+// Marks the literals of a clause as seen. How many are new and of the conflict level.
+pub(crate) fn mark_all<A: Allocator + Copy>(
+    trail: &Trail<A>,
+    activity: &mut Activity<A>,
+    seen: &mut Seen<A>,
+    clause: &[Literal],
+) -> Result<usize, AllocError>
+    requires { HaveFlags clause.now seen.old }
+    ensures len { length seen.new ≡ length seen.old }
+    ensures marked { OnOk result (AreSeen clause.now seen.new) }
+    ensures only { OnOk result (AddsAtMost (Has clause.now) seen.old seen.new) }
+{
+    let mut count = 0usize;
+    for l in clause {
+        let more = mark_and_bump(trail, activity, seen, *l)?;
+        count = count.saturating_add(more);
+    }
+    Ok(count)
+}
+
+// Marks the literals of a clause but one as seen. How many are new and of the conflict level.
+fn mark_others<A: Allocator + Copy>(
+    trail: &Trail<A>,
+    activity: &mut Activity<A>,
+    seen: &mut Seen<A>,
+    clause: &[Literal],
+    but: Literal,
+) -> Result<usize, AllocError>
+    requires { HaveFlags clause.now seen.old }
+    ensures len { length seen.new ≡ length seen.old }
+    ensures grows { OnOk result (Grows seen.old seen.new) }
+    ensures marked { OnOk result (AreSeenBut but clause.now seen.new) }
+    ensures only { OnOk result (AddsAtMost (HasBut but clause.now) seen.old seen.new) }
+{
+    let mut count = 0usize;
+    for l in clause {
+        let more = mark_unless(trail, activity, seen, *l, but)?;
+        count = count.saturating_add(more);
+    }
+    Ok(count)
+}
+
+// Resolves with the reason of a step of the trail, if the negation of its literal is marked. How many marked literals
+// are of the conflict level then, where `pending` were before.
+pub(crate) fn resolve_with_reason<A: Allocator + Copy>(
+    database: &Database<A>,
+    trail: &Trail<A>,
+    heuristics: &mut Heuristics<A>,
+    seen: &mut Seen<A>,
+    step: Step,
+    pending: usize,
+) -> Result<usize, AllocError>
+    requires resolvent { IsResolvent database.now seen.old }
+    ensures resolvent { OnOk result (IsResolvent database.now seen.new) }
+    ensures resolves { OnOk result (ResolvesAt database.now.clauses trail.now step seen.old seen.new) }
+{
+    let l = step.literal;
+    if !seen.has(l.negated()) {
+        return Ok(pending);
+    }
+    let Some(reason) = step.reason else {
+        return Ok(pending);
+    };
+    if reason >= database.len() {
+        return Ok(pending);
+    }
+    heuristics.watches.bump(reason);
+    seen.remove(l.negated());
+    let more = mark_others(
+        trail,
+        &mut heuristics.activity,
+        seen,
+        database.clause(reason),
+        l,
+    )?;
+    Ok(pending.saturating_add(more).saturating_sub(1))
+}
+
+// Resolves literals of the conflict level with their reasons, the latest first, until one is left: the first UIP.
+fn resolve_to_first_uip<A: Allocator + Copy>(
+    database: &Database<A>,
+    trail: &Trail<A>,
+    heuristics: &mut Heuristics<A>,
+    seen: &mut Seen<A>,
+    pending: usize,
+) -> Result<(), AllocError>
+    requires resolvent { IsResolvent database.now seen.old }
+    ensures resolvent { OnOk result (IsResolvent database.now seen.new) }
+{
+    let mut pending = pending;
+    for place in (0..trail.steps.len()).rev() {
+        if pending < 2 {
+            return Ok(());
+        }
+        pending = resolve_with_reason(
+            database,
+            trail,
+            heuristics,
+            seen,
+            trail.steps[place],
+            pending,
+        )?;
+    }
+    Ok(())
+}
+
+// Whether each literal of a reason but one is marked, or false at the root.
+fn is_redundant<A: Allocator + Copy>(
+    trail: &Trail<A>,
+    seen: &Seen<A>,
+    clause: &[Literal],
+    but: Literal,
+) -> bool {
+    clause.iter().all(|l| l.code() == but.code() || seen.has(*l) || trail.level_of(*l) == 0)
+}
+
+// Resolves the literal at a place of the trail away, if its reason adds no literal that is not marked.
+fn minimize_literal<A: Allocator + Copy>(
+    database: &Database<A>,
+    trail: &Trail<A>,
+    heuristics: &mut Heuristics<A>,
+    seen: &mut Seen<A>,
+    place: usize,
+) -> Result<(), AllocError>
+    requires resolvent { IsResolvent database.now seen.old }
+    ensures resolvent { OnOk result (IsResolvent database.now seen.new) }
+{
+    let Some(step) = trail.steps.get(place) else {
+        return Ok(());
+    };
+    let Some(reason) = step.reason else {
+        return Ok(());
+    };
+    if reason < database.len() && is_redundant(trail, seen, database.clause(reason), step.literal) {
+        resolve_with_reason(database, trail, heuristics, seen, *step, 0)?;
+    }
+    Ok(())
+}
+
+// Minimizes the marked clause: resolves redundant literals below the conflict level away, the latest first.
+fn minimize<A: Allocator + Copy>(
+    alloc: A,
+    database: &Database<A>,
+    trail: &Trail<A>,
+    heuristics: &mut Heuristics<A>,
+    seen: &mut Seen<A>,
+) -> Result<(), AllocError>
+    requires resolvent { IsResolvent database.now seen.old }
+    ensures resolvent { OnOk result (IsResolvent database.now seen.new) }
+{
+    let mut places = places_of(alloc, trail, seen.to_clear())?;
+    places.sort_unstable();
+    for place in places.iter().rev() {
+        minimize_literal(database, trail, heuristics, seen, *place)?;
+    }
+    Ok(())
+}
+
+// The places in the trail of the literals below the conflict level, but for root literals.
+fn places_of<A: Allocator + Copy>(
+    alloc: A,
+    trail: &Trail<A>,
+    literals: &[Literal],
+) -> Result<Vec<usize, A>, AllocError> {
+    let mut places: Vec<usize, A> = Vec::new(alloc);
+    for l in literals {
+        let level = trail.level_of(*l);
+        if 0 < level && level < trail.level() {
+            places.push(trail.place_of(*l))?;
+        }
+    }
+    Ok(places)
+}
+
+// Resolves the marked clause to the first UIP and minimizes it, unless the conflict is at the root.
+fn resolve_and_minimize<A: Allocator + Copy>(
+    alloc: A,
+    database: &Database<A>,
+    trail: &Trail<A>,
+    heuristics: &mut Heuristics<A>,
+    seen: &mut Seen<A>,
+    pending: usize,
+) -> Result<(), AllocError>
+    requires resolvent { IsResolvent database.now seen.old }
+    ensures resolvent { OnOk result (IsResolvent database.now seen.new) }
+{
+    if trail.level() == 0 {
+        return Ok(());
+    }
+    resolve_to_first_uip(database, trail, heuristics, seen, pending)?;
+    minimize(alloc, database, trail, heuristics, seen)
+}
+
+// Drops the mark of a literal that is false at the root: it can't be true.
+fn drop_at_root<A: Allocator + Copy>(
+    database: &Database<A>,
+    trail: &Trail<A>,
+    seen: &mut Seen<A>,
+    l: Literal,
+)
+    requires trail { IsTrailOf database.now.clauses trail.now }
+    requires resolvent { IsResolvent database.now seen.old }
+    ensures only { Grows seen.new seen.old }
+    ensures resolvent { IsResolvent database.now seen.new }
+{
+    if trail.is_true_before(l.negated(), trail.first_start()) {
+        database.all_follow();
+        seen.remove(l);
+    }
+}
+
+// Drops the marks of all literals that are false at the root.
+pub(crate) fn drop_root<A: Allocator + Copy>(
+    database: &Database<A>,
+    trail: &Trail<A>,
+    seen: &mut Seen<A>,
+)
+    requires trail { IsTrailOf database.now.clauses trail.now }
+    requires resolvent { IsResolvent database.now seen.old }
+    ensures only { Grows seen.new seen.old }
+    ensures resolvent { IsResolvent database.now seen.new }
+{
+    for place in 0..seen.to_clear().len() {
+        let Some(l) = seen.to_clear().get(place) else {
+            return;
+        };
+        let l = *l;
+        drop_at_root(database, trail, seen, l);
+    }
+}
+
+// Analyzes a conflict: the marked literals are an implied clause then, of which none is false at the root.
+pub(crate) fn analyze<A: Allocator + Copy>(
+    alloc: A,
+    database: &Database<A>,
+    trail: &Trail<A>,
+    heuristics: &mut Heuristics<A>,
+    seen: &mut Seen<A>,
+    conflict: usize,
+) -> Result<(), AllocError>
+    requires ready { IsReady database.now trail.now seen.old }
+    requires conflict { IsConflictOf database.now.clauses trail.now conflict }
+    ensures resolvent { OnOk result (IsResolvent database.now seen.new) }
+{
+    heuristics.watches.bump(conflict);
+    let pending = mark_all(
+        trail,
+        &mut heuristics.activity,
+        seen,
+        database.clause(conflict),
+    )?;
+    resolve_and_minimize(alloc, database, trail, heuristics, seen, pending)?;
+    drop_root(database, trail, seen);
+    Ok(())
+}
+
+// Assigns a literal of a clause that is unit: the literal has no value and the others are false.
+fn assign_unit<A: Allocator + Copy>(
+    database: &Database<A>,
+    trail: &mut Trail<A>,
+    place: usize,
+    literal: usize,
+) -> Result<(), AllocError>
+    requires len { length trail.old.values.items ≡ database.now.variables }
+    requires trail { IsTrailOf database.now.clauses trail.old }
+    requires within { place < length database.now.clauses }
+    ensures advances { OnOk result (Advances database.now.clauses trail.old trail.new) }
+{
+    let clause = database.clause(place);
+    if literal >= clause.len() {
+        return Ok(());
+    }
+    let l = clause[literal];
+    if let Some(_) = trail.value(l) {
+        return Ok(());
+    }
+    if let Some(_) = non_false_place(trail, clause, literal, 0) {
+        return Ok(());
+    }
+    trail.assign(l, place)?;
+    Ok(())
+}
+
+// What is learned from a conflict: a clause, or that the empty clause follows.
+#[derive(Drop)]
+pub(crate) enum Learned {
+    Clause,
+    Empty,
+}
+
+// Learns from a conflict: adds the learned clause, backjumps, and assigns the asserted literal.
+#[tactic(auto, using(crate::proofs::ImpliedLemmas::Learns_same, crate::proofs::ImpliedLemmas::Learns_pushed))]
+pub(crate) fn learn<A: Allocator + Copy>(
+    alloc: A,
+    database: &mut Database<A>,
+    trail: &mut Trail<A>,
+    heuristics: &mut Heuristics<A>,
+    seen: &mut Seen<A>,
+    conflict: usize,
+) -> Result<Learned, AllocError>
+    requires ready { IsReady database.old trail.old seen.old }
+    requires conflict { IsConflictOf database.old.clauses trail.old conflict }
+    ensures ready { OnOk result (IsReady database.new trail.new seen.new) }
+    ensures variables { database.new.variables ≡ database.old.variables }
+    ensures learns { Learns database.old database.new }
+    ensures gained { IfOk result (Gains database.old database.new) }
+    ensures farther { IfOk result (ComesFarther trail.old trail.new) }
+{
+    let learned_clause = clause_of_conflict(alloc, database, trail, heuristics, seen, conflict)?;
+    heuristics.count_conflict();
+    let Some(learned_clause) = learned_clause else {
+        return Ok(Learned::Empty);
+    };
+    let place = database.len();
+    database.add_learned(&learned_clause.clause, trail, conflict)?;
+    heuristics.note_learned(trail, &learned_clause.clause);
+    trail.backtrack_to(learned_clause.start, &mut heuristics.activity);
+    attach(
+        &mut heuristics.watches,
+        &learned_clause.clause,
+        place,
+        learned_clause.pair,
+        false,
+    )?;
+    trail.assign(learned_clause.clause[learned_clause.pair.first], place)?;
+    Ok(Learned::Clause)
+}
+
+// A second place to watch: the first but `first` whose literal isn't false, if there is one.
+fn second_place<A: Allocator + Copy>(trail: &Trail<A>, clause: &[Literal], first: usize) -> usize {
+    match non_false_place(trail, clause, first, 0) {
+        Some(place) => place,
+        None => usize::from(first == 0),
+    }
+}
+
+// Watches two places of the next clause.
+fn attach<A: Allocator + Copy>(
+    watches: &mut Watches<A>,
+    clause: &[Literal],
+    place: usize,
+    pair: WatchedPair,
+    is_original: bool,
+) -> Result<(), AllocError> {
+    let status = if !is_original {
+        ClauseStatus::Learned(watches.increment())
+    } else if watches.is_tautology(clause) {
+        ClauseStatus::Deleted
+    } else {
+        ClauseStatus::Original
+    };
+    watches.push_pair(pair, status)?;
+    if watches.is_deleted(place) {
+        return Ok(());
+    }
+    watches.watch(clause, place)
+}
+
+// Watches the clauses that are not watched yet, and assigns the literals of units. The place of a falsified clause, if
+// one is met.
+pub(crate) fn attach_all<A: Allocator + Copy>(
+    database: &Database<A>,
+    trail: &mut Trail<A>,
+    watches: &mut Watches<A>,
+) -> Result<Option<usize>, AllocError>
+    requires len { length trail.old.values.items ≡ database.now.variables }
+    requires trail { IsTrailOf database.now.clauses trail.old }
+    ensures advances { OnOk result (Advances database.now.clauses trail.old trail.new) }
+    ensures conflict { IfOk result (MeetsConflict database.now.clauses trail.new) }
+{
+    for place in watches.len()..database.len() {
+        let clause = database.clause(place);
+        let Some(first) = non_false_place(trail, clause, clause.len(), 0) else {
+            return Ok(Some(place));
+        };
+        let second = second_place(trail, clause, first);
+        let pair = WatchedPair { first, second };
+        attach(watches, clause, place, pair, database.is_original(place))?;
+        assign_unit(database, trail, place, first)?;
+    }
+    Ok(None)
+}

@@ -1,0 +1,27 @@
+//! A solver for formulas in conjunctive form, whose answers are proved right.
+#![tactic(auto)]
+
+mod activity;
+mod assumptions;
+mod backjump;
+mod clauses;
+mod compact;
+mod database;
+mod glue;
+mod heuristics;
+mod learn;
+mod learned_clause;
+pub mod literal;
+pub mod progress;
+mod reduce;
+mod restart_policy;
+mod search;
+mod seen;
+pub mod solver;
+mod trail;
+mod trail_calls;
+mod watches;
+
+pub use heuristics::Stats;
+pub use literal::Literal;
+pub use solver::{Answer, AnswerUnder, Budget, Solver};

@@ -1,0 +1,207 @@
+//! A search in slices: between two of them it tells how far it is, and may be stopped.
+ghost use Rattle.std.specs.Prelude.{◌≡◌, ◌||◌, Bool, false, is_some, IfOk, IfSome, IfNone, IsTrue};
+ghost use Rattle.std.specs.ControlFlow.{break_value};
+ghost use Rattle.gipsat_solver.specs.Answers.{IsRight, IsRightAtAnyLimit};
+ghost use Rattle.gipsat_solver.specs.Database.{HasUpTo, Learns};
+
+use crate::solver::{Answer, AnswerUnder, Budget, Solver};
+use std::alloc::{AllocError, Allocator};
+use std::ops::ControlFlow;
+
+// How many clauses a slice learns at most.
+const CLAUSES: usize = 2_000;
+
+// How many literals a slice propagates at first. It is doubled where a slice meets no conflict.
+const PROPAGATIONS: u64 = 4_000_000;
+
+// The database is compacted once one clause of so many was deleted.
+const PARTS: u64 = 4;
+
+/// What is told how far a search is, and may stop it.
+pub trait Progress<A: Allocator> {
+    // Whether it wants the search to stop.
+    ghost wants_stop: { Self → Bool };
+
+    /// A slice of the search begins. The solver's clauses were told, or were given.
+    fn begin(&mut self, solver: &Solver<A>);
+
+    /// A slice has ended without an answer. `Break` stops the search.
+    fn note(&mut self, solver: &Solver<A>) -> ControlFlow<()>
+        ensures { IsTrue (is_some (break_value result)) → IsTrue (wants_stop self.new) };
+
+    /// The deleted clauses ([`Solver::is_deleted`]) leave the database now. `Break` stops the search.
+    fn forget(&mut self, solver: &Solver<A>) -> ControlFlow<()>
+        ensures { IsTrue (is_some (break_value result)) → IsTrue (wants_stop self.new) };
+
+    /// The search has ended, with an answer or without.
+    fn end(&mut self, solver: &Solver<A>)
+        ensures { IsTrue (wants_stop self.old) → IsTrue (wants_stop self.new) };
+}
+
+/// It is told nothing, and stops no search.
+impl<A: Allocator> Progress<A> for () {
+    ghost wants_stop = { λ _. false };
+
+    fn begin(&mut self, _solver: &Solver<A>) {}
+
+    fn note(&mut self, _solver: &Solver<A>) -> ControlFlow<()> {
+        ControlFlow::Continue(())
+    }
+
+    fn forget(&mut self, _solver: &Solver<A>) -> ControlFlow<()> {
+        ControlFlow::Continue(())
+    }
+
+    fn end(&mut self, _solver: &Solver<A>) {}
+}
+
+/// Two that are told, each of which may stop the search.
+#[derive(Drop)]
+pub struct Both<P, Q> {
+    /// The one that is told first.
+    pub first: P,
+    /// The other. It is told as well where the first stops the search.
+    pub second: Q,
+}
+
+impl<A: Allocator, P: Progress<A>, Q: Progress<A>> Progress<A> for Both<P, Q> {
+    ghost wants_stop = { λ both. P.wants_stop both.first || Q.wants_stop both.second };
+
+    fn begin(&mut self, solver: &Solver<A>) {
+        self.first.begin(solver);
+        self.second.begin(solver);
+    }
+
+    fn note(&mut self, solver: &Solver<A>) -> ControlFlow<()> {
+        let first = self.first.note(solver);
+        let second = self.second.note(solver);
+        if first.is_break() { first } else { second }
+    }
+
+    fn forget(&mut self, solver: &Solver<A>) -> ControlFlow<()> {
+        let first = self.first.forget(solver);
+        let second = self.second.forget(solver);
+        if first.is_break() { first } else { second }
+    }
+
+    fn end(&mut self, solver: &Solver<A>) {
+        self.first.end(solver);
+        self.second.end(solver);
+    }
+}
+
+/// Finds out whether anything satisfies the solver's formula, as [`Solver::solve`] does, and tells `progress` now and
+/// then how far it is. None where `progress` stopped the search.
+///
+/// # Errors
+/// Those of [`Solver::solve`].
+pub fn solve_in_slices<A: Allocator + Copy, P: Progress<A>>(
+    solver: &mut Solver<A>,
+    limit: usize,
+    progress: &mut P,
+) -> Result<Option<Answer<A>>, AllocError>
+    ensures right { IfOk result (λ found. IfSome found (IsRight solver.old solver.new limit)) }
+    ensures stopped { IfOk result (λ found. IfNone found (IsTrue (P.wants_stop progress.new))) }
+    ensures formula { solver.new.formula ≡ solver.old.formula }
+{
+    let found = solve_on(solver, limit, progress)?;
+    progress.end(solver);
+    Ok(found)
+}
+
+// The search, without its end.
+fn solve_on<A: Allocator + Copy, P: Progress<A>>(
+    solver: &mut Solver<A>,
+    limit: usize,
+    progress: &mut P,
+) -> Result<Option<Answer<A>>, AllocError>
+    ensures right { IfOk result (λ found. IfSome found (IsRight solver.old solver.new limit)) }
+    ensures stopped { IfOk result (λ found. IfNone found (IsTrue (P.wants_stop progress.new))) }
+    ensures formula { solver.new.formula ≡ solver.old.formula }
+{
+    let mut left = limit;
+    let mut propagations = PROPAGATIONS;
+    let mut compacted = solver.stats().deleted;
+    for _ in 0..usize::MAX {
+        progress.begin(solver);
+        let before = solver.learned();
+        if let Some(answer) = solve_slice(solver, left.min(CLAUSES), propagations)? {
+            return Ok(Some(answer));
+        }
+        let learned = solver.learned() - before;
+        left -= learned;
+        if left == 0 {
+            return Ok(Some(Answer::Unknown));
+        }
+        if learned == 0 {
+            propagations = propagations.saturating_mul(2);
+        }
+        let Some(deleted) = pause(solver, progress, compacted)? else {
+            return Ok(None);
+        };
+        compacted = deleted;
+    }
+    progress.begin(solver);
+    Ok(Some(solver.solve(left)?))
+}
+
+// Solves for one slice. None where no answer was found within it.
+fn solve_slice<A: Allocator + Copy>(
+    solver: &mut Solver<A>,
+    clauses: usize,
+    propagations: u64,
+) -> Result<Option<Answer<A>>, AllocError>
+    ensures some { IfOk result (λ found. IfSome found (IsRightAtAnyLimit solver.old solver.new)) }
+    ensures none { IfOk result (λ found. IfNone found (HasUpTo clauses solver.old solver.new)) }
+    ensures learns { Learns solver.old solver.new }
+{
+    let budget = Budget {
+        clauses,
+        propagations,
+    };
+    Ok(match solver.solve_limited(&[], budget)? {
+        AnswerUnder::Sat(model) => Some(Answer::Sat(model)),
+        AnswerUnder::Unsat(_) => Some(Answer::Unsat),
+        AnswerUnder::Unknown => None,
+    })
+}
+
+// Between two slices: learns units, tells `progress`, and compacts. How many clauses were deleted when it last did, or
+// None where `progress` stops the search.
+fn pause<A: Allocator + Copy, P: Progress<A>>(
+    solver: &mut Solver<A>,
+    progress: &mut P,
+    compacted: u64,
+) -> Result<Option<u64>, AllocError>
+    ensures stopped { IfOk result (λ now. IfNone now (IsTrue (P.wants_stop progress.new))) }
+    ensures formula { solver.new.formula ≡ solver.old.formula }
+    ensures learned { solver.new.learned ≡ solver.old.learned }
+{
+    solver.learn_units()?;
+    if progress.note(solver).is_break() {
+        return Ok(None);
+    }
+    compact(solver, progress, compacted)
+}
+
+// Compacts once a quarter of the clauses were deleted since the last compaction. The deletion count then, or None where
+// `progress` stops the search.
+fn compact<A: Allocator + Copy, P: Progress<A>>(
+    solver: &mut Solver<A>,
+    progress: &mut P,
+    compacted: u64,
+) -> Result<Option<u64>, AllocError>
+    ensures stopped { IfOk result (λ now. IfNone now (IsTrue (P.wants_stop progress.new))) }
+    ensures formula { solver.new.formula ≡ solver.old.formula }
+    ensures learned { solver.new.learned ≡ solver.old.learned }
+{
+    let deleted = solver.stats().deleted;
+    if deleted.saturating_sub(compacted) < solver.len() as u64 / PARTS {
+        return Ok(Some(compacted));
+    }
+    if progress.forget(solver).is_break() {
+        return Ok(None);
+    }
+    solver.compact()?;
+    Ok(Some(deleted))
+}

@@ -1,0 +1,522 @@
+//! The solver.
+ghost use Rattle.std.specs.Prelude.{◌≡◌, ◌++◌, ◌∷◌, ◌<◌, [], None, Some, is_some, length, slice_get, IfNone, IfOk, IfSome, IsTrue, OnOk, OnErr};
+ghost use Rattle.gipsat_solver.specs.Answers.{IsModel, IsRight};
+ghost use Rattle.gipsat_solver.specs.Encodings.{Adds};
+ghost use Rattle.gipsat_solver.specs.Formulas.{AreBelow, Implies, IsSatisfiable, satisfies_clause};
+ghost use Rattle.gipsat_solver.specs.Seen.{NoneSeen};
+ghost use Rattle.gipsat_solver.specs.Database.{AddsUnits, AreAmong, KeepsClauses, Learns};
+ghost use Rattle.gipsat_solver.specs.Trail.{GoesOnUnlessAnswered, IsReady, OneLessOr, KeepsTrail, progress};
+ghost use Rattle.gipsat_solver.specs.Assumptions.{IsRightLimited, IsRightSoFar, IsRightUnder, IsRightWithin};
+ghost use Rattle.gipsat_solver.specs.Values.{model_in};
+
+use crate::assumptions::{Obstacle, failed_assumptions};
+use crate::compact::{compact, is_deleted, learn_units};
+use crate::database::Database;
+use crate::heuristics::{Heuristics, Stats};
+use crate::learn::{Learned, learn};
+use crate::literal::Literal;
+use crate::reduce::reduce;
+use crate::search::{SearchEnd, search};
+use crate::seen::Seen;
+use crate::trail::Trail;
+use std::alloc::{AllocError, Allocator, Global};
+use std::marker::Model;
+use std::mem;
+
+/// What is found out about a formula.
+#[derive(Drop)]
+pub enum Answer<A: Allocator = Global> {
+    /// A value for each variable, by which the formula is satisfied; a variable past the end is false.
+    Sat(Vec<bool, A>),
+    /// No assignment satisfies the formula.
+    Unsat,
+    /// It has learned as many clauses as the limit allows.
+    Unknown,
+}
+
+/// What is found out about a formula under assumptions.
+#[derive(Drop)]
+pub enum AnswerUnder<A: Allocator = Global> {
+    /// A value for each variable, by which the formula is satisfied and each assumption is true; a variable past the
+    /// end is false.
+    Sat(Vec<bool, A>),
+    /// Some of the assumptions: no assignment satisfies the formula and makes all of them true. Where it is empty, none
+    /// satisfies the formula.
+    Unsat(Vec<Literal, A>),
+    /// It has learned as many clauses as the limit allows, or its budget is spent.
+    Unknown,
+}
+
+/// How much a call may do before it gives up.
+#[derive(Clone, Copy)]
+pub struct Budget {
+    /// How many clauses it may learn.
+    pub clauses: usize,
+    /// How many literals it may propagate. It ends at the next decision after as many.
+    pub propagations: u64,
+}
+
+/// A formula to which clauses may be added, and what was learned of it.
+///
+/// It is seen as its formula and all its clauses, original and learned, in the order in which they came; each follows
+/// from the formula.
+#[derive(Drop)]
+pub struct Solver<A: Allocator = Global> {
+    alloc: A,
+    database: Database<A>,
+    trail: Trail<A>,
+    seen: Seen<A>,
+    // The heuristics of the last search, if it was not refused memory.
+    heuristics: Option<Heuristics<A>>,
+    stats: Stats,
+    ghost clear: { NoneSeen seen },
+}
+
+impl<A: Allocator> Model for Solver<A> {
+    ghost use Rattle.gipsat_solver.specs.Database.{SolverState};
+    ghost use Rattle.gipsat_solver.specs.Trail.{IsBelow};
+
+    ghost Value = { SolverState };
+
+    ghost view = { λ s. s.database };
+
+    ghost invariant = { λ s. IsBelow s.database s.trail };
+}
+
+impl<A: Allocator + Copy> Solver<A> {
+    /// The formula of no clause, which everything satisfies. It takes no memory yet.
+    pub fn new(alloc: A) -> Self
+        ensures formula { result.formula ≡ [] }
+        ensures clauses { result.clauses ≡ [] }
+        ensures learned { result.learned ≡ 0 }
+    {
+        Solver {
+            alloc,
+            database: Database::new(alloc),
+            trail: Trail::new(alloc),
+            seen: Seen::new(alloc),
+            heuristics: None,
+            stats: Stats::new(),
+        }
+    }
+
+    /// Adds a clause to the formula: one of its literals has to be true. What was learned before is kept.
+    ///
+    /// # Errors
+    /// `AllocError` where memory for the clause is refused, or where all clauses would have 2^32 literals.
+    /// Nothing changes then.
+    pub fn add_clause(&mut self, clause: &[Literal]) -> Result<(), AllocError>
+        ensures formula { OnOk result (self.new.formula ≡ self.old.formula ++ clause.now ∷ []) }
+        ensures means { OnOk result
+            (Adds (λ a. IsTrue (satisfies_clause a clause.now)) self.old.formula self.new.formula) }
+        ensures clauses { OnOk result (self.new.clauses ≡ self.old.clauses ++ clause.now ∷ []) }
+        ensures learned { self.new.learned ≡ self.old.learned }
+        ensures refused { OnErr result (self.new ≡ self.old) }
+    {
+        self.database.add_original(clause)
+    }
+
+    /// How many clauses it has, original and learned.
+    pub fn len(&self) -> usize
+        ensures { result ≡ length self.now.clauses }
+    {
+        self.database.len()
+    }
+
+    /// How many clauses were learned so far, without the units of [`Solver::learn_units`].
+    pub fn learned(&self) -> usize
+        ensures { result ≡ self.now.learned }
+    {
+        self.database.learned()
+    }
+
+    /// The clause at a place, in the order in which they came.
+    ///
+    /// The place must be below [`Solver::len`].
+    pub fn clause(&self, place: usize) -> &[Literal]
+        requires { place < length self.now.clauses }
+        ensures at { slice_get self.now.clauses place ≡ Some result.now }
+        ensures implied { Implies self.now.formula result.now }
+    {
+        self.database.clause(place)
+    }
+
+    /// How much was done so far. Nothing is proved of it.
+    pub fn stats(&self) -> Stats {
+        self.stats
+    }
+
+    /// Finds out whether anything satisfies the formula, and gives up after it has learned `limit` clauses.
+    ///
+    /// It may be called again: it goes on with what was learned so far.
+    ///
+    /// # Errors
+    /// `AllocError` where memory is refused. The formula stays as it was; some clauses may have been learned.
+    pub fn solve(&mut self, limit: usize) -> Result<Answer<A>, AllocError>
+        ensures right { IfOk result (IsRight self.old self.new limit) }
+        ensures learns { Learns self.old self.new }
+    {
+        Ok(match self.solve_under(&[], limit)? {
+            AnswerUnder::Sat(model) => Answer::Sat(model),
+            AnswerUnder::Unsat(_) => Answer::Unsat,
+            AnswerUnder::Unknown => Answer::Unknown,
+        })
+    }
+
+    /// Finds out whether anything satisfies the formula and makes each assumption true, and gives up after it has
+    /// learned `limit` clauses.
+    ///
+    /// The assumptions hold for this call alone: what is learned follows from the formula. They may repeat or
+    /// contradict each other, and may name variables that no clause has; memory is taken for each number up to the greatest then.
+    ///
+    /// # Errors
+    /// `AllocError` where memory is refused. The formula stays as it was; some clauses may have been learned.
+    pub fn solve_under(
+        &mut self,
+        assumptions: &[Literal],
+        limit: usize,
+    ) -> Result<AnswerUnder<A>, AllocError>
+        ensures right { IfOk result (IsRightUnder assumptions.now self.old self.new limit) }
+        ensures learns { Learns self.old self.new }
+    {
+        self.solve_up_to(assumptions, Some(limit), None)
+    }
+
+    /// Finds out what [`Solver::solve_under`] does, and gives up once its budget is spent, also where no conflict is met.
+    /// Nothing is proved of the propagations.
+    ///
+    /// Each call begins at the root. A budget of fewer propagations than there are variables may be too small to meet a
+    /// conflict or a model.
+    ///
+    /// # Errors
+    /// `AllocError` where memory is refused. The formula stays as it was; some clauses may have been learned.
+    pub fn solve_limited(
+        &mut self,
+        assumptions: &[Literal],
+        budget: Budget,
+    ) -> Result<AnswerUnder<A>, AllocError>
+        ensures right { IfOk result (IsRightLimited assumptions.now self.old self.new budget.clauses) }
+        ensures learns { Learns self.old self.new }
+    {
+        self.solve_up_to(assumptions, Some(budget.clauses), Some(budget.propagations))
+    }
+
+    /// Finds values that satisfy the formula, a variable past the end being false, or that there are none. It has no
+    /// limit: where memory is not refused, it ends with one or the other.
+    ///
+    /// What was learned before is used, and what is learned is kept.
+    ///
+    /// # Errors
+    /// `AllocError` where memory is refused. The formula stays as it was; some clauses may have been learned.
+    pub fn find_model(&mut self) -> Result<Option<Vec<bool, A>>, AllocError>
+        ensures model { IfOk result (λ found. IfSome found (λ model. IsModel self.old.formula model.items)) }
+        ensures none { IfOk result (λ found. IfNone found (¬ (IsSatisfiable self.old.formula))) }
+        ensures learns { Learns self.old self.new }
+    {
+        Ok(match self.solve_up_to(&[], None, None)? {
+            AnswerUnder::Sat(model) => Some(model),
+            AnswerUnder::Unsat(_) => None,
+            AnswerUnder::Unknown => unreachable!(),
+        })
+    }
+
+    // Solves under assumptions, up to a limit of learned clauses and a budget of propagations. Where there is no limit,
+    // nothing may be assumed.
+    fn solve_up_to(
+        &mut self,
+        assumptions: &[Literal],
+        limit: Option<usize>,
+        budget: Option<u64>,
+    ) -> Result<AnswerUnder<A>, AllocError>
+        requires none { limit ≡ None → assumptions.now ≡ [] }
+        ensures right { IfOk result (IsRightWithin assumptions.now self.old self.new limit budget) }
+        ensures learns { Learns self.old self.new }
+    {
+        let alloc = self.alloc;
+        self.database.raise_variables(assumptions);
+        let variables = self.database.variables();
+        // Where memory is refused, the next call begins with new heuristics.
+        let trail = mem::replace(&mut self.trail, Trail::new(alloc));
+        let seen = mem::replace(&mut self.seen, Seen::new(alloc));
+        let heuristics = Heuristics::kept_or_new(self.heuristics.take(), alloc, self.stats)?;
+        let mut trail = trail.grown(variables)?;
+        let mut seen = seen.grown(variables)?;
+        let mut heuristics = heuristics.grown(alloc, variables)?;
+        trail.backtrack(0, &mut heuristics.activity);
+        let until = budget_from(heuristics.stats.propagations, budget);
+        let answer = run(
+            alloc,
+            &mut self.database,
+            &mut trail,
+            &mut heuristics,
+            &mut seen,
+            assumptions,
+            limit,
+            until,
+        )?;
+        rewind_if_refuted(&mut trail, &answer);
+        self.trail = trail;
+        self.seen = seen;
+        self.stats = heuristics.stats;
+        self.heuristics = Some(heuristics);
+        Ok(answer)
+    }
+
+    /// Learns each literal that has to be true, as far as that is known, as a clause of its own.
+    ///
+    /// # Errors
+    /// `AllocError` where memory is refused. Some clauses may have been learned.
+    pub fn learn_units(&mut self) -> Result<(), AllocError>
+        ensures formula { self.new.formula ≡ self.old.formula }
+        ensures learned { self.new.learned ≡ self.old.learned }
+        ensures kept { KeepsClauses self.old self.new }
+        ensures units { AddsUnits self.old self.new }
+    {
+        let Some(heuristics) = &mut self.heuristics else {
+            return Ok(());
+        };
+        self.trail.backtrack(0, &mut heuristics.activity);
+        learn_units(&mut self.database, &self.trail, &mut heuristics.units)
+    }
+
+    /// Whether [`Solver::compact`] would drop the clause at a place: it is learned, has other than one literal, and is
+    /// either not watched any more or satisfied at the root. Nothing is proved of it.
+    ///
+    /// The place must be below [`Solver::len`].
+    pub fn is_deleted(&self, place: usize) -> bool
+        requires { place < length self.now.clauses }
+    {
+        match &self.heuristics {
+            Some(heuristics) => is_deleted(&self.database, &self.trail, &heuristics.watches, place),
+            None => false,
+        }
+    }
+
+    /// Learns units, as [`Solver::learn_units`], and frees the deleted clauses ([`Solver::is_deleted`]): the others
+    /// move together, in their order. It takes memory for those that stay, and then gives the old ones' back. Before the
+    /// first call of [`Solver::solve`], and after one that was refused memory, it does nothing.
+    ///
+    /// # Errors
+    /// `AllocError` where memory is refused. Some units may have been learned; no clause was dropped.
+    pub fn compact(&mut self) -> Result<(), AllocError>
+        ensures formula { self.new.formula ≡ self.old.formula }
+        ensures learned { self.new.learned ≡ self.old.learned }
+        ensures units { AddsUnits self.old self.new }
+        ensures original { OnOk result (AreAmong self.new.clauses self.new.formula) }
+        ensures refused { OnErr result (KeepsClauses self.old self.new) }
+    {
+        if let Some(heuristics) = &mut self.heuristics {
+            compact(self.alloc, &mut self.database, &mut self.trail, heuristics)?;
+        }
+        self.database.all_original();
+        Ok(())
+    }
+}
+
+// The values as a model: an unassigned variable is false.
+fn model_of<A: Allocator + Copy>(alloc: A, trail: &Trail<A>) -> Result<Vec<bool, A>, AllocError>
+    ensures { IfOk result (λ model. model.items ≡ model_in trail.now.values.items) }
+{
+    trail
+        .values
+        .iter()
+        .map(|value| value.unwrap_or(false))
+        .collect(alloc)
+}
+
+// Where the formula is unsatisfiable, lets each literal be propagated once more, so that the next search meets the
+// conflict.
+fn rewind_if_refuted<A: Allocator + Copy>(trail: &mut Trail<A>, answer: &AnswerUnder<A>)
+    ensures values { trail.new.values ≡ trail.old.values }
+    ensures trail { KeepsTrail trail.old trail.new }
+{
+    match answer {
+        AnswerUnder::Unsat(core) if core.is_empty() => trail.rewind(),
+        _ => {}
+    }
+}
+
+// A budget, counted from the propagations of earlier calls.
+fn budget_from(propagations: u64, budget: Option<u64>) -> Option<u64>
+    ensures { is_some result ≡ is_some budget }
+{
+    match budget {
+        Some(more) => Some(propagations.saturating_add(more)),
+        None => None,
+    }
+}
+
+// Restarts and reduces if the policy says so and a restart is left.
+fn restart<A: Allocator + Copy>(
+    alloc: A,
+    database: &Database<A>,
+    trail: &mut Trail<A>,
+    heuristics: &mut Heuristics<A>,
+    left: &mut usize,
+) -> Result<(), AllocError>
+    ensures len { length trail.new.values.items ≡ length trail.old.values.items }
+    ensures trail { KeepsTrail trail.old trail.new }
+    ensures left { OneLessOr left.old left.new (progress trail.new ≡ progress trail.old) }
+{
+    if !heuristics.restart_policy.restart_is_due() {
+        return Ok(());
+    }
+    let Some(fewer) = left.checked_sub(1) else {
+        return Ok(());
+    };
+    *left = fewer;
+    heuristics.stats.restarts = heuristics.stats.restarts.saturating_add(1);
+    trail.backtrack(0, &mut heuristics.activity);
+    reduce(alloc, database, trail, heuristics)
+}
+
+// Searches until a model is found, a conflict is met or the budget is spent, and learns from a conflict. None if a
+// clause was learned. `left` is how many restarts are left.
+#[tactic(auto, using(crate::proofs::ImpliedLemmas::Learns_same))]
+fn solve_one_conflict<A: Allocator + Copy>(
+    alloc: A,
+    database: &mut Database<A>,
+    trail: &mut Trail<A>,
+    heuristics: &mut Heuristics<A>,
+    seen: &mut Seen<A>,
+    assumptions: &[Literal],
+    budget: Option<u64>,
+    left: &mut usize,
+) -> Result<Option<AnswerUnder<A>>, AllocError>
+    requires ready { IsReady database.old trail.old seen.old }
+    requires within { AreBelow database.old.variables assumptions.now }
+    ensures ready { OnOk result (IsReady database.new trail.new seen.new) }
+    ensures right { IfOk result (IsRightSoFar assumptions.now database.old database.new budget) }
+    ensures variables { database.new.variables ≡ database.old.variables }
+    ensures learns { Learns database.old database.new }
+    ensures left { IfOk result (GoesOnUnlessAnswered assumptions.now left.old left.new trail.old trail.new) }
+{
+    let obstacle = match search(alloc, database, trail, heuristics, assumptions, budget)? {
+        SearchEnd::Model => return Ok(Some(AnswerUnder::Sat(model_of(alloc, trail)?))),
+        SearchEnd::BudgetSpent => return Ok(Some(AnswerUnder::Unknown)),
+        SearchEnd::Stopped(obstacle) => obstacle,
+    };
+    let conflict = match obstacle {
+        Obstacle::Conflict(place) => place,
+        Obstacle::FailedAssumption(l) => {
+            let core = failed_assumptions(alloc, database, trail, heuristics, seen, l)?;
+            return Ok(Some(AnswerUnder::Unsat(core)));
+        }
+    };
+    if let Learned::Empty = learn(alloc, database, trail, heuristics, seen, conflict)? {
+        return Ok(Some(AnswerUnder::Unsat(Vec::new(alloc))));
+    }
+    restart(alloc, database, trail, heuristics, left)?;
+    Ok(None)
+}
+
+// Solves up to a limit of learned clauses.
+#[tactic(auto, using(crate::proofs::ImpliedLemmas::Learns_same))]
+fn run_limited<A: Allocator + Copy>(
+    alloc: A,
+    database: &mut Database<A>,
+    trail: &mut Trail<A>,
+    heuristics: &mut Heuristics<A>,
+    seen: &mut Seen<A>,
+    assumptions: &[Literal],
+    limit: usize,
+    budget: Option<u64>,
+) -> Result<AnswerUnder<A>, AllocError>
+    requires ready { IsReady database.old trail.old seen.old }
+    requires within { AreBelow database.old.variables assumptions.now }
+    ensures ready { OnOk result (IsReady database.new trail.new seen.new) }
+    ensures right { IfOk result (IsRightWithin assumptions.now database.old database.new (Some limit) budget) }
+    ensures learns { Learns database.old database.new }
+{
+    let mut left = usize::MAX;
+    for _ in 0..limit {
+        if let Some(answer) = solve_one_conflict(
+            alloc,
+            database,
+            trail,
+            heuristics,
+            seen,
+            assumptions,
+            budget,
+            &mut left,
+        )? {
+            return Ok(answer);
+        }
+    }
+    Ok(AnswerUnder::Unknown)
+}
+
+// Solves without a limit and without assumptions.
+#[tactic(auto, using(crate::proofs::ImpliedLemmas::Learns_same))]
+fn run_unlimited<A: Allocator + Copy>(
+    alloc: A,
+    database: &mut Database<A>,
+    trail: &mut Trail<A>,
+    heuristics: &mut Heuristics<A>,
+    seen: &mut Seen<A>,
+    assumptions: &[Literal],
+    budget: Option<u64>,
+) -> Result<AnswerUnder<A>, AllocError>
+    requires ready { IsReady database.old trail.old seen.old }
+    requires none { assumptions.now ≡ [] }
+    ensures ready { OnOk result (IsReady database.new trail.new seen.new) }
+    ensures right { IfOk result (IsRightWithin assumptions.now database.old database.new None budget) }
+    ensures learns { Learns database.old database.new }
+{
+    let mut left = usize::MAX;
+    loop {
+        if let Some(answer) = solve_one_conflict(
+            alloc,
+            database,
+            trail,
+            heuristics,
+            seen,
+            assumptions,
+            budget,
+            &mut left,
+        )? {
+            return Ok(answer);
+        }
+    }
+}
+
+// Solves up to a limit of learned clauses, if there is one.
+fn run<A: Allocator + Copy>(
+    alloc: A,
+    database: &mut Database<A>,
+    trail: &mut Trail<A>,
+    heuristics: &mut Heuristics<A>,
+    seen: &mut Seen<A>,
+    assumptions: &[Literal],
+    limit: Option<usize>,
+    budget: Option<u64>,
+) -> Result<AnswerUnder<A>, AllocError>
+    requires ready { IsReady database.old trail.old seen.old }
+    requires within { AreBelow database.old.variables assumptions.now }
+    requires none { limit ≡ None → assumptions.now ≡ [] }
+    ensures ready { OnOk result (IsReady database.new trail.new seen.new) }
+    ensures right { IfOk result (IsRightWithin assumptions.now database.old database.new limit budget) }
+    ensures learns { Learns database.old database.new }
+{
+    match limit {
+        Some(limit) => run_limited(
+            alloc,
+            database,
+            trail,
+            heuristics,
+            seen,
+            assumptions,
+            limit,
+            budget,
+        ),
+        None => run_unlimited(
+            alloc,
+            database,
+            trail,
+            heuristics,
+            seen,
+            assumptions,
+            budget,
+        ),
+    }
+}
