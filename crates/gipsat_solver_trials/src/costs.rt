@@ -1,8 +1,8 @@
 //! What a call costs: its search, and not what the formula says besides.
 
 use crate::formulas::{Said, add_all, literal, say};
+use gipsat_solver::{AnswerUnder, Literal, Solver};
 use giputils_refusing::Refusing;
-use giputils_sat::{AnswerUnder, Literal, Solver};
 use std::alloc::{AllocError, Allocator};
 
 // Variables up to this one: the first has to be true, and each next one where the one before it is.
@@ -75,6 +75,71 @@ fn a_second_call_costs_its_search_alone(rt: HostRuntime) {
                 && second.requests <= 8
         }),
         "{costs:?}"
+    );
+}
+
+// What a call did after a clause was added.
+fn cost_after_a_clause(memory: &Refusing) -> Result<Cost, AllocError> {
+    let mut solver = beside_a_chain(memory)?;
+    let assumptions = [literal(2001), literal(-2002)];
+    let _ = cost_of_a_call(memory, &mut solver, &assumptions)?;
+    solver.add_clause(&[literal(2001), literal(2003)])?;
+    cost_of_a_call(memory, &mut solver, &assumptions)
+}
+
+#[test]
+fn a_clause_more_costs_itself_alone(rt: HostRuntime) {
+    let memory = Refusing::none(rt.alloc());
+    let cost = cost_after_a_clause(&memory);
+    assert!(rt;
+        cost.is_ok_and(|cost| cost.core == 2 && cost.propagations <= 4 && cost.requests <= 20),
+        "{cost:?}"
+    );
+}
+
+// How many clauses are known after a conflict, and when the database was compacted then; and whether one of them that
+// was learned has a variable.
+fn known_after_a_conflict<A: Allocator + Copy>(
+    alloc: A,
+    formula: &[i32],
+    variable: u32,
+) -> Result<(usize, usize, bool), AllocError> {
+    let mut solver = Solver::new(alloc);
+    add_all(alloc, &mut solver, formula)?;
+    let given = solver.len();
+    solver.solve(1)?;
+    let known = solver.len();
+    let has = has_variable(&solver, given, variable);
+    solver.compact()?;
+    Ok((known, solver.len(), has))
+}
+
+// Whether a known clause, from a place on, has a variable.
+fn has_variable<A: Allocator + Copy>(solver: &Solver<A>, start: usize, variable: u32) -> bool {
+    for place in start..solver.len() {
+        for l in solver.clause(place) {
+            if l.variable() == variable {
+                return true;
+            }
+        }
+    }
+    false
+}
+
+// A literal that has to be true, with its negation in each of eight clauses over three other variables.
+fn guarded() -> [i32; 42] {
+    [
+        1, 0, -1, 3, 4, 5, 0, -1, 3, 4, -5, 0, -1, 3, -4, 5, 0, -1, 3, -4, -5, 0, -1, -3, 4, 5, 0,
+        -1, -3, 4, -5, 0, -1, -3, -4, 5, 0, -1, -3, -4, -5, 0,
+    ]
+}
+
+#[test]
+fn a_learned_clause_is_kept_and_has_no_literal_of_the_root(rt: HostRuntime) {
+    let formula = guarded();
+    assert_eq!(rt;
+        known_after_a_conflict(rt.alloc(), &formula, 1),
+        Ok((10, 10, false))
     );
 }
 

@@ -1,7 +1,7 @@
 //! Solvers that are asked under assumptions, which are numbers as those of a formula.
 
 use crate::formulas::{add_all, literal, satisfies};
-use giputils_sat::{AnswerUnder, Literal, Solver};
+use gipsat_solver::{AnswerUnder, Literal, Solver};
 use std::alloc::{AllocError, Allocator};
 
 // What a solver says under assumptions.

@@ -2,7 +2,7 @@
 //!
 //! A formula is a list of numbers: 1 is the first variable and -1 its negation, and 0 ends each clause.
 
-use giputils_sat::{Answer, Literal, Solver};
+use gipsat_solver::{Answer, Literal, Solver};
 use std::alloc::{AllocError, Allocator};
 
 // What a solver says of a formula.

@@ -2,8 +2,8 @@
 
 use crate::formulas::{Said, add_all, found_of, said_of, say};
 use crate::under::{SaidUnder, said_under};
+use gipsat_solver::{Answer, Literal, Solver};
 use giputils_refusing::{Refusing, refuse_each, refuse_from_each};
-use giputils_sat::{Answer, Literal, Solver};
 use std::alloc::AllocError;
 
 // Four clauses over two variables: no model, which is seen after a conflict alone.
@@ -57,8 +57,8 @@ fn is_found_with_no_limit(memory: &Refusing) -> bool {
     found_of(memory, &[1, 2, 0, -1, 2, 0, 1, -2, 0, -1, -2, 0]) == Ok(Said::Unsat)
 }
 
-// What is said of no model where the store is closed up after the first conflict.
-fn said_when_closed_up(memory: &Refusing) -> Result<Said, AllocError> {
+// What is said of no model where the database is compacted after the first conflict.
+fn said_when_compacted(memory: &Refusing) -> Result<Said, AllocError> {
     let formula = [1, 2, 3, 0, 1, 2, -3, 0, -1, 2, 0, 1, -2, 0, -1, -2, 0];
     let mut solver = Solver::new(memory);
     add_all(memory, &mut solver, &formula)?;
@@ -67,8 +67,8 @@ fn said_when_closed_up(memory: &Refusing) -> Result<Said, AllocError> {
     say(&mut solver, &formula, 100)
 }
 
-fn is_answered_when_closed_up(memory: &Refusing) -> bool {
-    said_when_closed_up(memory) == Ok(Said::Unsat)
+fn is_answered_when_compacted(memory: &Refusing) -> bool {
+    said_when_compacted(memory) == Ok(Said::Unsat)
 }
 
 // Whether it is answered under assumptions; a wrong answer is no refusal.
@@ -98,8 +98,8 @@ fn each_request_of_a_solver_is_refused_in_turn(rt: HostRuntime) {
             refuse_from_each(alloc, is_answered_under),
         ),
         (
-            "closed up",
-            refuse_from_each(alloc, is_answered_when_closed_up),
+            "compacted",
+            refuse_from_each(alloc, is_answered_when_compacted),
         ),
     ];
     for (call, outcome) in outcomes {
