@@ -1,0 +1,6 @@
+-- Formulas as texts in the DIMACS form.
+pub mod Texts
+pub mod Inputs
+pub mod Parsers
+pub mod Instances
+pub mod Errors

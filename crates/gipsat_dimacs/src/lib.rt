@@ -1,0 +1,16 @@
+//! A reader of formulas as texts in the DIMACS form.
+#![tactic(auto)]
+
+pub mod error;
+mod instance;
+mod lines;
+mod parser;
+pub mod reader;
+pub mod rule;
+mod stage;
+mod words;
+
+pub use error::{Compression, DimacsError, Reason};
+pub use instance::Instance;
+pub use reader::{read_instance, read_instance_by};
+pub use rule::HeaderRule;

@@ -1,0 +1,79 @@
+//! A text from a reader to a formula.
+ghost use Rattle.std.specs.Prelude.{◌≡◌, ℕ, vec_len, IfOk, OnOk, IsErrOf};
+ghost use Rattle.std.specs.Io.KnownBytes.{IsAtEnd};
+ghost use Rattle.gipsat_dimacs.specs.Instances.{HasLearnedNone};
+ghost use Rattle.gipsat_dimacs.specs.Inputs.{Writes, WritesNone, IsRefusedAt};
+ghost use Rattle.gipsat_dimacs.specs.declared.rule.HeaderRule.TheVariants.{Strict};
+
+use crate::error::{DimacsError, Reason};
+use crate::instance::Instance;
+use crate::lines::LineParser;
+use crate::rule::HeaderRule;
+use std::alloc::{AllocError, Allocator};
+use std::io::Read;
+
+// How many bytes are asked for at a time.
+const BUFFER_SIZE: usize = 65_536;
+
+/// Reads a text to its end: the formula that it writes. The counts of its header hold.
+///
+/// # Errors
+/// As [`read_instance_by`].
+pub fn read_instance<R: Read, A: Allocator + Copy>(
+    alloc: A,
+    reader: &mut R,
+) -> Result<Instance<A>, DimacsError>
+    ensures end { OnOk result (IsAtEnd (R.remaining reader.new)) }
+    ensures ok { IfOk result (λ f. Writes Strict (R.remaining reader.old)
+        (record { variables = f.variables; clauses = f.solver.formula })) }
+    ensures fresh { IfOk result (λ f. HasLearnedNone f.solver) }
+    ensures line { (line : ℕ) (reason : Reason) → IsErrOf result (DimacsError.Line line reason) →
+        WritesNone Strict (R.remaining reader.old) }
+    ensures in_line { (line : ℕ) (reason : Reason) → IsErrOf result (DimacsError.Line line reason) →
+        IsRefusedAt Strict (R.remaining reader.old) line }
+{
+    read_instance_by(alloc, reader, HeaderRule::Strict)
+}
+
+/// Reads a text to its end: the formula that it writes by a rule for its header.
+///
+/// # Errors
+/// - [`DimacsError::Input`] where a read fails.
+/// - [`DimacsError::Line`] with the number of the line at which the text has another form, and why.
+/// - [`DimacsError::Memory`] where memory is refused.
+///
+/// How much was read then is open.
+pub fn read_instance_by<R: Read, A: Allocator + Copy>(
+    alloc: A,
+    reader: &mut R,
+    rule: HeaderRule,
+) -> Result<Instance<A>, DimacsError>
+    ensures end { OnOk result (IsAtEnd (R.remaining reader.new)) }
+    ensures ok { IfOk result (λ f. Writes rule (R.remaining reader.old)
+        (record { variables = f.variables; clauses = f.solver.formula })) }
+    ensures fresh { IfOk result (λ f. HasLearnedNone f.solver) }
+    ensures line { (line : ℕ) (reason : Reason) → IsErrOf result (DimacsError.Line line reason) →
+        WritesNone rule (R.remaining reader.old) }
+    ensures in_line { (line : ℕ) (reason : Reason) → IsErrOf result (DimacsError.Line line reason) →
+        IsRefusedAt rule (R.remaining reader.old) line }
+{
+    let mut buf = zeros(alloc, BUFFER_SIZE)?;
+    let mut parser = LineParser::new(alloc, rule);
+    for _ in 0..u64::MAX {
+        let Ok(n) = reader.read(&mut buf) else {
+            return Err(DimacsError::Input);
+        };
+        if n == 0 {
+            return parser.finish();
+        }
+        parser.feed(&buf[..n])?;
+    }
+    Err(DimacsError::Input)
+}
+
+// So many zeros.
+fn zeros<A: Allocator>(alloc: A, len: usize) -> Result<Vec<u8, A>, AllocError>
+    ensures { IfOk result (λ zeros. vec_len zeros ≡ len) }
+{
+    vec![in alloc; 0u8; len]
+}

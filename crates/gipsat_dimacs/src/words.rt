@@ -1,0 +1,92 @@
+//! Words of a text.
+ghost use Rattle.std.specs.Prelude.{◌≡◌, ◌<◌, ◌^◌, ◌==◌, ◌||◌, Some, None, slice_index, IfOk, IfSome, OnErr, Bool};
+ghost use Rattle.gipsat_dimacs.specs.Texts.{number_of, item_of, signed_item, is_blank, greatest_number};
+
+use crate::error::{Compression, Reason};
+use gipsat_solver::Literal;
+
+// What a word of a clause says.
+#[derive(Clone, Copy)]
+pub enum Item {
+    // A literal of the clause.
+    Literal(Literal),
+    // The end of the clause.
+    End,
+}
+
+// The greatest number that a text may name.
+const GREATEST_NUMBER: u64 = 2_147_483_647;
+
+// Whether a byte stands between words.
+pub fn is_blank(byte: u8) -> bool
+    ensures { result ≡ is_blank byte }
+{
+    matches!(byte, b' ' | b'\t' | 0x0b | 0x0c | b'\r')
+}
+
+// How data with this first word is compressed, if its first bytes tell that it is.
+pub fn compression_of(word: &[u8]) -> Option<Compression> {
+    match word {
+        [0x1f, 0x8b, ..] => Some(Compression::Gzip),
+        [0xfd, b'7', b'z', b'X', b'Z', ..] => Some(Compression::Xz),
+        [b'B', b'Z', b'h', ..] => Some(Compression::Bzip2),
+        _ => None,
+    }
+}
+
+// Why a word is no number.
+fn not_a_number(word: &[u8]) -> Reason {
+    match compression_of(word) {
+        Some(compression) => Reason::Compressed(compression),
+        None => Reason::Word,
+    }
+}
+
+// The number that a word writes.
+pub fn number(word: &[u8]) -> Result<u32, Reason>
+    ensures ok { IfOk result (λ n. number_of word.now ≡ Some n) }
+    ensures small { IfOk result (λ n. n < 2 ^ 31) }
+    ensures err { OnErr result (number_of word.now ≡ None) }
+{
+    if word.is_empty() {
+        return Err(Reason::Word);
+    }
+    let mut value: u64 = 0;
+    for digit in word {
+        if !digit.is_ascii_digit() {
+            return Err(not_a_number(word));
+        }
+        value = value * 10 + u64::from(*digit - b'0');
+        if value > GREATEST_NUMBER {
+            return Err(Reason::Number);
+        }
+    }
+    Ok(value as u32)
+}
+
+// What a word of a clause says, where there are so many variables.
+pub fn item_in(word: &[u8], variables: u32) -> Result<Item, Reason>
+    ensures ok { IfOk result (λ item. item_of variables word.now ≡ Some item) }
+    ensures err { OnErr result (item_of variables word.now ≡ None) }
+{
+    match word {
+        [b'p'] => Err(Reason::SecondHeader),
+        [b'-', digits @ ..] => signed_item(number(digits)?, false, variables),
+        _ => signed_item(number(word)?, true, variables),
+    }
+}
+
+// What a number with a sign says, where there are so many variables.
+fn signed_item(n: u32, positive: bool, variables: u32) -> Result<Item, Reason>
+    requires { n < 2 ^ 31 }
+    ensures ok { IfOk result (λ item. signed_item variables positive n ≡ Some item) }
+    ensures err { OnErr result (signed_item variables positive n ≡ None) }
+{
+    if n == 0 {
+        return Ok(Item::End);
+    }
+    if n > variables {
+        return Err(Reason::Variable);
+    }
+    Ok(Item::Literal(Literal::new(n - 1, positive)))
+}

@@ -1,0 +1,59 @@
+//! A formula on devices that move one byte at a time or fail.
+
+use crate::devices::{Failure, Sink, Source};
+use gipsat_answers::{Verdict, solve_text};
+use gipsat_dimacs::DimacsError;
+use std::alloc::Global;
+
+const TEXT: &[u8] = b"p cnf 2 2\n-1 0\n1 2 0\n";
+
+const ANSWER: &[u8] = b"s SATISFIABLE\nv -1 2 0\n";
+
+// What is found out, where all memory is there.
+fn solve(
+    alloc: Global,
+    reader: &mut Source<'_>,
+    writer: &mut Sink,
+) -> Result<Verdict, DimacsError> {
+    let solved = solve_text(alloc, reader, writer, 100, &mut ())?;
+    Ok(solved.verdict)
+}
+
+#[test]
+fn moves_one_byte_at_a_time(rt: HostRuntime) {
+    let mut reader = Source::new(TEXT, 0);
+    let mut writer = Sink::new(rt.alloc(), 0, Failure::Refuses);
+    let outcome = solve(rt.alloc(), &mut reader, &mut writer);
+    assert_eq!(rt; outcome, Ok(Verdict::Satisfiable));
+    assert_eq!(rt; writer.text.as_slice(), ANSWER);
+    assert_eq!(rt; reader.calls, 1 + TEXT.len() as u64);
+    assert_eq!(rt; writer.calls, ANSWER.len() as u64);
+}
+
+#[test]
+fn stops_at_each_failed_read(rt: HostRuntime) {
+    for call in 1..=1 + TEXT.len() as u64 {
+        let mut reader = Source::new(TEXT, call);
+        let mut writer = Sink::new(rt.alloc(), 0, Failure::Refuses);
+        let outcome = solve(rt.alloc(), &mut reader, &mut writer);
+        assert_eq!(rt; outcome, Err(DimacsError::Input), "at call {call}");
+        assert_eq!(rt; (reader.calls, writer.calls), (call, 0));
+    }
+}
+
+#[test]
+fn stops_at_each_failed_write(rt: HostRuntime) {
+    for failure in [Failure::Refuses, Failure::TakesNone] {
+        for call in 1..=ANSWER.len() as u64 {
+            let mut reader = Source::new(TEXT, 0);
+            let mut writer = Sink::new(rt.alloc(), call, failure);
+            let outcome = solve(rt.alloc(), &mut reader, &mut writer);
+            assert_eq!(rt;
+                outcome,
+                Err(DimacsError::Output),
+                "{failure:?} at call {call}"
+            );
+            assert_eq!(rt; (writer.calls, writer.text.len() as u64), (call, call - 1));
+        }
+    }
+}

@@ -1,4 +1,0 @@
-//! A reader of formulas as texts in the DIMACS form.
-#![tactic(auto)]
-
-pub mod dimacs;
