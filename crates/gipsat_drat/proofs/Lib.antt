@@ -1,0 +1,10 @@
+mod ClauseLemmas
+mod Examples
+mod GroupLemmas
+mod HeldLemmas
+mod ModelLemmas
+mod OutcomeLemmas
+mod PropagationLemmas
+mod RatLemmas
+mod StepLemmas
+mod TrailLemmas

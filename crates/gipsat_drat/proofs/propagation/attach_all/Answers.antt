@@ -1,0 +1,16 @@
+-- A clause more is watched.
+use Rattle.gipsat_drat.proofs.HeldLemmas.{on_true}
+use Rattle.gipsat_drat.proofs.propagation.attach_all.Goals as goal
+
+pub returns-in_err-conflict-clause-stays : goal.returns-in_err-conflict-clause-stays
+returns-in_err-conflict-clause-stays g c = λ f d all is. c.attach.ensures.stays f d all (c.loop-place.invariant f d all is)
+
+pub returns-then-conflict-clause-stays : goal.returns-then-conflict-clause-stays
+returns-then-conflict-clause-stays g c = λ f d all is. c.attach.ensures.stays f d all (c.loop-place.invariant f d all is)
+
+pub returns-then-conflict-clause-conflict : goal.returns-then-conflict-clause-conflict
+returns-then-conflict-clause-conflict g c = λ f d all is.
+    on_true c.in_ok-conflict.conflict c.in_ok-conflict.ensures.conflict c.if-conflict.true f d all (c.loop-place.invariant f d all is)
+
+pub loop-place-preserved : goal.loop-place-preserved
+loop-place-preserved g c = λ f d all is. c.attach.ensures.stays f d all (c.loop-place.invariant f d all is)

@@ -1,0 +1,44 @@
+-- The steps of a proof in the DRAT form, as text and as bytes.
+use Rattle.std.specs.Prelude.{ℕ, zero, suc, ◌+◌, ◌*◌, ◌/◌, ◌%◌, Bool, false, List, [], ◌∷◌, ◌++◌, nat_lt, if◌then◌else◌, codes, decimal}
+use Rattle.std.specs.Str.{byte}
+use Rattle.gipsat_solver.specs.Formulas.{Clause}
+use Rattle.gipsat_solver.specs.Literals.{Lit}
+use Rattle.gipsat_drat.specs.declared.writer.Format.{Format}
+use Rattle.gipsat_drat.specs.declared.writer.Format.TheVariants.{Text, Binary}
+
+-- a literal in a text, and a space behind it: variable k of a formula is k + 1 in a text
+abbrev pub literal_text : Lit → List ℕ
+literal_text l = (if l.positive then decimal (l.variable + 1) else byte "-" ∷ decimal (l.variable + 1)) ++ codes " "
+
+-- a clause in a text, with a 0 behind its literals
+abbrev pub clause_line : Clause → List ℕ
+clause_line [] = codes "0\n"
+clause_line (l ∷ clause) = literal_text l ++ clause_line clause
+
+-- a number in groups of 7 bits, the lowest first; each but the last has 128 added, and so many follow at most
+abbrev pub groups : ℕ → ℕ → List ℕ
+groups zero n = n ∷ []
+groups (suc more) n = if nat_lt n 128 then n ∷ [] else (128 + n % 128) ∷ groups more (n / 128)
+
+-- the number of a literal in bytes: twice that in a text, and 1 more where it is negative
+abbrev pub literal_number : Lit → ℕ
+literal_number l = if l.positive then 2 * (l.variable + 1) else 2 * (l.variable + 1) + 1
+
+-- a clause in bytes, with a 0 behind its literals
+abbrev pub clause_bytes : Clause → List ℕ
+clause_bytes [] = 0 ∷ []
+clause_bytes (l ∷ clause) = groups 4 (literal_number l) ++ clause_bytes clause
+
+-- a step: a clause is deleted, or else added
+abbrev pub step_bytes : Format → Bool → Clause → List ℕ
+step_bytes Text deleted clause = (if deleted then codes "d " else []) ++ clause_line clause
+step_bytes Binary deleted clause = (if deleted then codes "d" else codes "a") ++ clause_bytes clause
+
+-- the steps of some clauses: each is deleted, or else added
+abbrev pub steps_bytes : Format → Bool → List Clause → List ℕ
+steps_bytes format deleted [] = []
+steps_bytes format deleted (clause ∷ clauses) = step_bytes format deleted clause ++ steps_bytes format deleted clauses
+
+-- what stands at the end: the empty clause is added, where nothing satisfies the formula
+abbrev pub end_bytes : Format → Bool → List ℕ
+end_bytes format refuted = if refuted then step_bytes format false [] else []

@@ -1,0 +1,56 @@
+//! A proof in either of the forms that are read.
+ghost use Rattle.std.specs.Prelude.{IfOk};
+ghost use Rattle.gipsat_drat.specs.Held.{Stays};
+ghost use Rattle.gipsat_drat.specs.Outcomes.{Tells};
+
+use crate::binary::BinaryParser;
+use crate::checker::Checker;
+use crate::error::{Failure, Outcome, Place, Stop};
+use crate::form::Form;
+use crate::text::TextParser;
+use std::alloc::{Allocator, Global};
+
+// What has been read of a proof.
+#[derive(Drop)]
+pub(crate) enum Parser<A: Allocator = Global> {
+    Text(TextParser<A>),
+    Binary(BinaryParser<A>),
+}
+
+impl<A: Allocator + Copy> Parser<A> {
+    // Before a proof of this form about so many variables.
+    pub(crate) fn new(alloc: A, form: Form, variables: u32) -> Self {
+        match form {
+            Form::Text => Parser::Text(TextParser::new(alloc, variables)),
+            Form::Binary => Parser::Binary(BinaryParser::new(alloc, variables)),
+        }
+    }
+
+    // Where it reads.
+    pub(crate) fn place(&self) -> Place {
+        match self {
+            Parser::Text(parser) => parser.place(),
+            Parser::Binary(parser) => parser.place(),
+        }
+    }
+
+    // Reads some bytes more, as far as the empty clause.
+    pub(crate) fn feed(&mut self, checker: &mut Checker<A>, bytes: &[u8]) -> Result<(), Stop>
+        ensures { Stays checker.old checker.new }
+    {
+        match self {
+            Parser::Text(parser) => parser.feed(checker, bytes),
+            Parser::Binary(parser) => parser.feed(checker, bytes),
+        }
+    }
+
+    // Ends the proof.
+    pub(crate) fn finish(&mut self, checker: &mut Checker<A>) -> Result<Outcome, Failure>
+        ensures { IfOk result (Tells checker.old) }
+    {
+        match self {
+            Parser::Text(parser) => parser.finish(checker),
+            Parser::Binary(parser) => parser.finish(checker),
+        }
+    }
+}

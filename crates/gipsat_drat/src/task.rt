@@ -1,0 +1,177 @@
+//! The whole task: from the bytes of a formula and of a proof to those of the outcome.
+ghost use Rattle.std.specs.Prelude.{◌≡◌, ◌≢◌, ℕ, IfOk, IfErr, OnOk, IsErrOf, vec_len};
+ghost use Rattle.std.specs.Io.KnownBytes.{IsAtEnd};
+ghost use Rattle.gipsat_dimacs.specs.Inputs.{HasForm, OfProblem, WritesNone};
+ghost use Rattle.gipsat_dimacs.specs.declared.rule.HeaderRule.TheVariants.{Strict};
+ghost use Rattle.gipsat_drat.specs.Held.{Follow};
+ghost use Rattle.gipsat_drat.specs.Outcomes.{IsRight, Tells, WritesOutcome};
+
+use crate::checker::Checker;
+use crate::error::{DratError, Failure, Outcome};
+use crate::form::{START_SIZE, form_of};
+use crate::parser::Parser;
+use gipsat_dimacs::{DimacsError, Reason, read_instance};
+use gipsat_solver::{Literal, Solver};
+use std::alloc::{AllocError, Allocator};
+use std::io::{Read, Write};
+
+// How many bytes are asked for at a time.
+const BUFFER_SIZE: usize = 65_536;
+
+/// Reads a formula in the DIMACS form, and in the DRAT form, as text or binary, a proof that nothing satisfies it;
+/// checks that, and writes `s VERIFIED` or `s NOT VERIFIED`.
+///
+/// Each clause that the proof adds has to be RUP, or RAT on its first literal. The proof is read until the empty clause
+/// is shown, or to its end; where the formula shows it by itself, no byte of the proof is read.
+///
+/// # Errors
+/// - [`DratError::Formula`] where the formula is not read, as in [`read_instance`].
+/// - [`DratError::Proof`] where a read of the proof fails.
+/// - [`DratError::Form`] where the first bytes of the proof are those of a form that is not read.
+/// - [`DratError::Memory`] where memory is refused.
+/// - [`DratError::Output`] where a write fails. What was written by then is open.
+///
+/// At all but the last nothing was written. How much of the inputs was read is open.
+pub fn check_text<A: Allocator + Copy, F: Read, P: Read, W: Write>(
+    alloc: A,
+    formula: &mut F,
+    proof: &mut P,
+    writer: &mut W,
+) -> Result<Outcome, DratError>
+    // Success means that all of a formula of the form was read, and that a right outcome and nothing else was written.
+    ensures read_to_end { OnOk result (IsAtEnd (F.remaining formula.new)) }
+    ensures has_form { OnOk result (HasForm Strict (F.remaining formula.old)) }
+    ensures written { IfOk result (λ outcome. OfProblem Strict (F.remaining formula.old)
+        (λ problem. WritesOutcome problem outcome (W.contents writer.old) (W.contents writer.new))) }
+
+    // When the formula is refused, and what was written then.
+    ensures line { (line : ℕ) (reason : Reason) → IsErrOf result (DratError.Formula (DimacsError.Line line reason)) →
+        WritesNone Strict (F.remaining formula.old) }
+    ensures unwritten { IfErr result (λ error. error ≢ DratError.Output → writer.new ≡ writer.old) }
+{
+    let instance = read_instance(alloc, formula)?;
+    let outcome = check(alloc, instance.solver, proof)?;
+    match writer.write_all(outcome.text()) {
+        Ok(()) => Ok(outcome),
+        Err(_) => Err(DratError::Output),
+    }
+}
+
+// Checks a proof that nothing satisfies the formula of a solver.
+fn check<A: Allocator + Copy, P: Read>(
+    alloc: A,
+    solver: Solver<A>,
+    proof: &mut P,
+) -> Result<Outcome, Failure>
+    ensures { IfOk result (IsRight solver.formula) }
+{
+    let variables = variables_of(&solver);
+    let mut checker = Checker::new(alloc, variables)?;
+    give_all(&mut checker, &solver)?;
+    drop(solver);
+    check_proof(alloc, &mut checker, variables, proof)
+}
+
+// A number that each variable of the clauses is below.
+fn variables_of<A: Allocator + Copy>(solver: &Solver<A>) -> u32 {
+    let mut variables = 0;
+    for place in 0..solver.len() {
+        variables = variables_with(solver.clause(place), variables);
+    }
+    variables
+}
+
+// A number that each variable of a clause is below, and at least another.
+fn variables_with(clause: &[Literal], least: u32) -> u32 {
+    let mut variables = least;
+    for l in clause {
+        variables = variables.max(l.variable() + 1);
+    }
+    variables
+}
+
+// Lets a checker hold all clauses of a solver.
+fn give_all<A: Allocator + Copy>(
+    checker: &mut Checker<A>,
+    solver: &Solver<A>,
+) -> Result<(), AllocError>
+    ensures { Follow solver.now.formula checker.old → Follow solver.now.formula checker.new }
+{
+    for place in 0..solver.len() {
+        checker.give(solver.clause(place))?;
+    }
+    Ok(())
+}
+
+// Reads a proof and checks it. Where what is held is refuted by itself, none is read.
+fn check_proof<A: Allocator + Copy, P: Read>(
+    alloc: A,
+    checker: &mut Checker<A>,
+    variables: u32,
+    proof: &mut P,
+) -> Result<Outcome, Failure>
+    ensures { IfOk result (Tells checker.old) }
+{
+    if checker.is_refuted() {
+        return Ok(Outcome::Verified);
+    }
+    let start = read_start(alloc, proof)?;
+    let mut parser = Parser::new(alloc, form_of(&start)?, variables);
+    if let Err(stop) = parser.feed(checker, &start) {
+        return stop.at(parser.place());
+    }
+    check_rest(alloc, checker, &mut parser, proof)
+}
+
+// The first bytes of a proof: as many as tell its form, or all of one that is shorter.
+fn read_start<A: Allocator + Copy, P: Read>(
+    alloc: A,
+    proof: &mut P,
+) -> Result<Vec<u8, A>, Failure> {
+    let mut start = Vec::new(alloc);
+    let mut buf = [0u8; START_SIZE];
+    for _ in 0..START_SIZE {
+        let Ok(n) = proof.read(&mut buf) else {
+            return Err(Failure::Proof);
+        };
+        start.extend_from_slice(&buf[..n])?;
+        if n == 0 || start.len() >= START_SIZE {
+            break;
+        }
+    }
+    Ok(start)
+}
+
+// Reads the rest of a proof, as far as the empty clause, and checks it.
+fn check_rest<A: Allocator + Copy, P: Read>(
+    alloc: A,
+    checker: &mut Checker<A>,
+    parser: &mut Parser<A>,
+    proof: &mut P,
+) -> Result<Outcome, Failure>
+    ensures { IfOk result (Tells checker.old) }
+{
+    let mut buf = zeros(alloc, BUFFER_SIZE)?;
+    for _ in 0..u64::MAX {
+        if checker.is_refuted() {
+            return Ok(Outcome::Verified);
+        }
+        let Ok(n) = proof.read(&mut buf) else {
+            return Err(Failure::Proof);
+        };
+        if n == 0 {
+            return parser.finish(checker);
+        }
+        if let Err(stop) = parser.feed(checker, &buf[..n]) {
+            return stop.at(parser.place());
+        }
+    }
+    Err(Failure::Proof)
+}
+
+// So many zeros.
+fn zeros<A: Allocator>(alloc: A, len: usize) -> Result<Vec<u8, A>, AllocError>
+    ensures { IfOk result (λ zeros. vec_len zeros ≡ len) }
+{
+    vec![in alloc; 0u8; len]
+}

@@ -1,5 +1,0 @@
-mod Examples
-mod Forced
-mod Holding
-mod Failing
-mod Slots
