@@ -1,7 +1,7 @@
 -- The lines of an answer's values, as far as they are written.
 use Rattle.std.proofs.Common.{◌≡◌, ◌<◌, ◌≤◌, ℕ, suc, ◌+◌, ◌-◌, List, [], ◌∷◌, ◌++◌, refl, sym, ap, ◌∙◌, arith, codes}
-use Rattle.giputils_sat.specs.Formulas.{Assignment}
-use Rattle.giputils_dimacs.specs.Dimacs.Texts.{Word}
+use Rattle.gipsat_solver.specs.Formulas.{Assignment}
+use Rattle.gipsat_dimacs.specs.Texts.{Word}
 use Rattle.gipsat_answers.specs.Answers.{laid_out, literal_word, value_words}
 
 value_words-cons : (a : Assignment) (k n : ℕ) → k < n

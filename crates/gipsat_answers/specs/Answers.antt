@@ -1,15 +1,17 @@
 -- The texts of answers.
-use Rattle.std.specs.Prelude.{◌≡◌, ℕ, zero, suc, ◌+◌, Bool, List, [], ◌∷◌, ◌++◌, length, nat_le, if◌then◌else◌, codes, decimal, IsTrue, Option}
+use Rattle.std.specs.Prelude.{◌≡◌, ℕ, zero, suc, ◌+◌, Bool, true, List, [], ◌∷◌, ◌++◌, length, nat_le, if◌then◌else◌, codes, decimal, IsTrue, Option}
 use Rattle.std.specs.Io.KnownBytes.{Appends}
-use Rattle.giputils_sat.specs.Formulas.{Assignment, satisfies, IsSatisfiable}
-use Rattle.giputils_sat.specs.Stores.{Known}
-use Rattle.giputils_sat.specs.Answers.{IsRight}
-use Rattle.giputils_sat.specs.declared.solver.Answer.{Answer}
-use Rattle.giputils_dimacs.specs.Dimacs.Instances.{HasLearnedNone}
-use Rattle.giputils_dimacs.specs.Dimacs.Texts.{Problem, Word}
+use Rattle.gipsat_solver.specs.Formulas.{Assignment, satisfies, IsSatisfiable}
+use Rattle.std.specs.Str.{byte}
+use Rattle.gipsat_solver.specs.Database.{SolverState}
+use Rattle.gipsat_solver.specs.Answers.{IsRight}
+use Rattle.gipsat_solver.specs.declared.solver.Answer.{Answer}
+use Rattle.gipsat_dimacs.specs.Instances.{HasLearnedNone}
+use Rattle.gipsat_dimacs.specs.Texts.{Problem, Word}
+use Rattle.gipsat_dimacs.specs.declared.instance.Instance.{Instance}
 use Rattle.gipsat_answers.specs.declared.answers.Solved.{Solved}
 use Rattle.gipsat_answers.specs.declared.answers.Verdict.{Verdict}
-use Rattle.gipsat_answers.specs.declared.answers.Verdict.TheVariants.{Satisfiable, Unsatisfiable, Unknown}
+use Rattle.gipsat_answers.specs.declared.answers.Verdict.TheVariants.{Satisfiable, Unsatisfiable, Unknown, Stopped}
 
 -- the most bytes of a line
 abbrev pub width : ℕ
@@ -17,7 +19,7 @@ width = 78
 
 -- the literal of a variable that has this value: variable k of a formula is k + 1 in a text
 abbrev pub literal_word : Bool → ℕ → Word
-literal_word value k = if value then decimal (k + 1) else 45 ∷ decimal (k + 1)
+literal_word value k = if value then decimal (k + 1) else byte "-" ∷ decimal (k + 1)
 
 -- the true literals of n variables from number k on, and a 0
 abbrev pub value_words : Assignment → ℕ → ℕ → List Word
@@ -45,29 +47,43 @@ laid_out column (word ∷ words) = separator column word ++ word ++ laid_out (co
 abbrev pub values_text : Assignment → ℕ → List ℕ
 values_text a variables = codes "v" ++ laid_out 1 (value_words a 0 variables)
 
--- the text of a right answer: values that satisfy the problem's clauses, or that nothing does, or that it is open, where
--- as many clauses were learned as the limit says
-abbrev pub IsRightText : Problem → ℕ → Known → Verdict → List ℕ → Type 0
-IsRightText problem limit known Satisfiable text =
+-- what stands behind the first line: these values, if they are wanted
+abbrev pub witness_text : Bool → Assignment → ℕ → List ℕ
+witness_text witness a variables = if witness then values_text a variables else []
+
+-- the text of a right answer: values that satisfy the problem's clauses, if they are wanted, or that nothing does, or
+-- that it is open: as many clauses were learned as the limit says, or the search was stopped
+abbrev pub IsRightText : Bool → Problem → ℕ → SolverState → Verdict → List ℕ → Type 0
+IsRightText witness problem limit known Satisfiable text =
     (a : Assignment) × IsTrue (satisfies a problem.clauses)
-    × (text ≡ codes "s SATISFIABLE\n" ++ values_text a problem.variables)
-IsRightText problem limit known Unsatisfiable text =
+    × (text ≡ codes "s SATISFIABLE\n" ++ witness_text witness a problem.variables)
+IsRightText witness problem limit known Unsatisfiable text =
     ¬ (IsSatisfiable problem.clauses) × (text ≡ codes "s UNSATISFIABLE\n")
-IsRightText problem limit known Unknown text = (known.learned ≡ limit) × (text ≡ codes "s UNKNOWN\n")
+IsRightText witness problem limit known Unknown text = (known.learned ≡ limit) × (text ≡ codes "s UNKNOWN\n")
+IsRightText witness problem limit known Stopped text = text ≡ codes "s UNKNOWN\n"
 
 -- the exit status of an answer
 abbrev pub verdict_status : Verdict → ℕ
 verdict_status Satisfiable = 10
 verdict_status Unsatisfiable = 20
 verdict_status Unknown = 0
+verdict_status Stopped = 0
 
 -- the verdict and the text are right for each formula for which the answer is
-abbrev pub TellsRight : {A : Type 0} → ℕ → Answer A → Verdict → List ℕ → Type 0
-TellsRight variables answer verdict text =
-    (old new : Known) (limit : ℕ) → HasLearnedNone old → IsRight old new limit answer
-    → IsRightText (record { variables = variables; clauses = old.formula }) limit new verdict text
+abbrev pub TellsRight : {A : Type 0} → Bool → ℕ → Answer A → Verdict → List ℕ → Type 0
+TellsRight witness variables answer verdict text =
+    (old new : SolverState) (limit : ℕ) → HasLearnedNone old → IsRight old new limit answer
+    → IsRightText witness (record { variables = variables; clauses = old.formula }) limit new verdict text
+
+-- a writer that held the one holds the other after the text of a right answer, with values if they are wanted
+abbrev pub WritesAnswerWith : {A : Type 0} → Bool → Problem → ℕ → Solved A → Option (List ℕ) → Option (List ℕ) → Type 0
+WritesAnswerWith witness problem limit solved old new =
+    (text : List ℕ) × IsRightText witness problem limit solved.solver solved.verdict text × Appends old new text
 
 -- a writer that held the one holds the other after the text of a right answer
 abbrev pub WritesAnswer : {A : Type 0} → Problem → ℕ → Solved A → Option (List ℕ) → Option (List ℕ) → Type 0
-WritesAnswer problem limit solved old new =
-    (text : List ℕ) × IsRightText problem limit solved.solver solved.verdict text × Appends old new text
+WritesAnswer problem limit solved old new = WritesAnswerWith true problem limit solved old new
+
+-- the problem of a formula that was read
+abbrev pub problem_in : {A : Type 0} → Instance A → Problem
+problem_in instance = record { variables = instance.variables; clauses = instance.solver.formula }

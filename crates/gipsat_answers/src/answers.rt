@@ -1,10 +1,10 @@
 //! Answers, and their texts.
-ghost use Rattle.std.specs.Prelude.{◌≡◌, ◌++◌, ◌<◌, ◌-◌, ◌^◌, ◌∷◌, [], List, codes, decimal, IfOk, OnOk};
-ghost use Rattle.giputils_sat.specs.Values.{assignment_in};
-ghost use Rattle.giputils_dimacs.specs.Dimacs.Texts.{Word};
-ghost use Rattle.gipsat_answers.specs.Answers.{laid_out, literal_word, values_text, verdict_status, TellsRight};
+ghost use Rattle.std.specs.Prelude.{◌≡◌, ◌≢◌, ◌++◌, ◌<◌, ◌-◌, ◌^◌, ◌∷◌, [], List, codes, decimal, IfOk, OnOk};
+ghost use Rattle.gipsat_solver.specs.Values.{assignment_in};
+ghost use Rattle.gipsat_dimacs.specs.Texts.{Word};
+ghost use Rattle.gipsat_answers.specs.Answers.{laid_out, literal_word, values_text, verdict_status, witness_text, TellsRight};
 
-use giputils_sat::{Answer, Solver};
+use gipsat_solver::{Answer, Solver};
 use std::alloc::{AllocError, Allocator, Global};
 use std::io::Write;
 
@@ -15,8 +15,10 @@ pub enum Verdict {
     Satisfiable,
     /// Nothing satisfies it.
     Unsatisfiable,
-    /// As many conflicts were met as were allowed.
+    /// As many clauses were learned as were allowed.
     Unknown,
+    /// The search was stopped by what is told how far it is.
+    Stopped,
 }
 
 impl Verdict {
@@ -27,7 +29,7 @@ impl Verdict {
         match self {
             Verdict::Satisfiable => 10,
             Verdict::Unsatisfiable => 20,
-            Verdict::Unknown => 0,
+            Verdict::Unknown | Verdict::Stopped => 0,
         }
     }
 }
@@ -44,18 +46,20 @@ pub struct Solved<A: Allocator = Global> {
 // The most bytes of a line.
 const WIDTH: usize = 78;
 
-// What an answer finds out, and its text, where there are so many variables.
+// What an answer finds out, and its text, where there are so many variables, with their values if they are wanted.
 pub(crate) fn answer_text<A: Allocator + Copy>(
     alloc: A,
+    witness: bool,
     variables: u32,
     answer: &Answer<A>,
 ) -> Result<(Verdict, Vec<u8, A>), AllocError>
-    ensures { IfOk result (λ made. TellsRight variables answer.now made.0 made.1.items) }
+    ensures right { IfOk result (λ made. TellsRight witness variables answer.now made.0 made.1.items) }
+    ensures found { IfOk result (λ made. made.0 ≢ Verdict.Stopped) }
 {
     let (verdict, text) = match answer {
         Answer::Sat(model) => (
             Verdict::Satisfiable,
-            satisfiable_text(alloc, variables, model)?,
+            model_text(alloc, witness, variables, model)?,
         ),
         Answer::Unsat => (Verdict::Unsatisfiable, bytes(alloc, b"s UNSATISFIABLE\n")?),
         Answer::Unknown => (Verdict::Unknown, bytes(alloc, b"s UNKNOWN\n")?),
@@ -70,6 +74,22 @@ fn bytes<A: Allocator>(alloc: A, text: &[u8]) -> Result<Vec<u8, A>, AllocError>
     let mut made = Vec::new(alloc);
     made.extend_from_slice(text)?;
     Ok(made)
+}
+
+// The text of an answer by a model of so many variables, with their values if they are wanted.
+fn model_text<A: Allocator + Copy>(
+    alloc: A,
+    witness: bool,
+    variables: u32,
+    model: &[bool],
+) -> Result<Vec<u8, A>, AllocError>
+    ensures { IfOk result (λ text. text.items ≡
+        codes "s SATISFIABLE\n" ++ witness_text witness (assignment_in model.now) variables) }
+{
+    if witness {
+        return satisfiable_text(alloc, variables, model);
+    }
+    bytes(alloc, b"s SATISFIABLE\n")
 }
 
 // The text of an answer by a model of so many variables; those past its end are false.

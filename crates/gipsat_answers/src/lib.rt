@@ -1,10 +1,9 @@
-//! What is found out about a formula: answers and their texts, a search in slices, and the whole task, from the bytes of a
-//! text in the DIMACS form to those of its answer.
+//! What is found out about a formula: answers and their texts, and the whole task, from the bytes of a text in the
+//! DIMACS form to those of its answer.
 #![tactic(auto)]
 
 pub mod answers;
-pub mod progress;
 pub mod task;
 
 pub use answers::{Solved, Verdict};
-pub use task::solve_text;
+pub use task::{solve_instance, solve_text};

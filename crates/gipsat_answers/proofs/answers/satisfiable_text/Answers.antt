@@ -1,6 +1,6 @@
 -- A variable more, and the end.
 use Rattle.std.proofs.Common.{◌≡◌, ◌++◌, ◌∙◌, ap, refl, codes}
-use Rattle.giputils_sat.specs.Values.{assignment_in}
+use Rattle.gipsat_solver.specs.Values.{assignment_in}
 use Rattle.gipsat_answers.specs.Answers.{literal_word, values_text}
 use Rattle.gipsat_answers.proofs.ValueLines.{value_more, value_last}
 use Rattle.gipsat_answers.proofs.answers.satisfiable_text.Goals as goal
