@@ -1,3 +1,3 @@
-mod CommandLines
 mod Examples
 mod Handed
+mod Numbers

@@ -1,5 +1,4 @@
-pub mod Faults
-pub mod Lines
+pub mod Misuses
 pub mod Options
-pub mod Runs
 pub mod Statuses
+pub mod Words

@@ -1,58 +1,59 @@
-//! `gipsat [--conflicts N] [--stats] [--proof PROOF] [FILE]` reads a formula in the DIMACS form, from standard input or
-//! the file, and writes whether anything satisfies it. It gives up after N conflicts. To the file PROOF it writes the
-//! clauses that it learns, and those that it forgets, in the DRAT form, as text: a proof where nothing satisfies the
-//! formula.
+//! `gipsat [OPTION]... [FORMULA]` reads a formula in the DIMACS form, from the file or from standard input, and writes
+//! whether anything satisfies it. `gipsat --check FORMULA PROOF` checks a proof that nothing does. `gipsat --help`
+//! tells what each option does.
 //!
-//! `gipsat --check FORMULA PROOF` reads a formula and a proof in the DRAT form, as text, that nothing satisfies it, and
-//! writes whether the proof is one.
-//!
-//! As it works it writes lines that begin with `c` to standard error, at most one in some seconds, and at `--stats` one
-//! more at the end.
+//! Answers go to standard output; errors, and lines that begin with `c` and tell how far the search is, to standard
+//! error.
 #![tactic(auto)]
 
-ghost use Rattle.std.specs.Prelude.{◌≡◌, ◌≢◌, ℕ, IfOk, IfErr, OnOk, IsErrOf, IsTrue};
+ghost use Rattle.std.specs.Prelude.{◌≡◌, ◌≢◌, ℕ, IfOk, IfErr, OnOk, IsErrOf};
 ghost use Rattle.std.specs.Io.KnownBytes.{IsAtEnd};
 ghost use Rattle.std.specs.Process.{exit_status};
-ghost use Rattle.gipsat_answers.specs.Answers.{WritesAnswer};
-ghost use Rattle.giputils_drat.specs.Outcomes.{WritesOutcome};
-ghost use Rattle.gipsat.specs.Options.{reads, request_of};
-ghost use Rattle.gipsat.specs.Runs.{HasClauses, HasForm, HasOtherForm, IsRefusedAt, OfProblem};
-ghost use Rattle.gipsat.specs.Statuses.{checking_status, refused_status, solving_status, usage_status};
+ghost use Rattle.gipsat_drat.specs.Outcomes.{WritesOutcome};
+ghost use Rattle.gipsat_dimacs.specs.Inputs.{HasForm, OfProblem, WritesNone};
+ghost use Rattle.gipsat_dimacs.specs.declared.rule.HeaderRule.TheVariants.{Strict};
+ghost use Rattle.gipsat.specs.Statuses.{checking_status, refused_status, solving_status, telling_status, usage_status};
 
+mod errors;
+mod files;
+mod help;
 mod options;
-mod proof;
+mod proof_file;
+mod solve;
 mod watch;
 
-use gipsat_answers::{Solved, Verdict, solve_text};
-use giputils_dimacs::dimacs::{DimacsError, Reason};
-use giputils_drat::error::{DratError, Outcome};
-use giputils_drat::task::check_text;
+use errors::{Cause, Failure, UsageError};
+use files::{Output, Source};
+use gipsat_answers::Verdict;
+use gipsat_dimacs::{DimacsError, Reason};
+use gipsat_drat::error::{DratError, Outcome};
+use gipsat_drat::task::check_text;
+use help::{HELP, VERSION};
 use options::{Options, Task};
-use proof::{Both, Proof};
+use solve::{SolveError, solve};
 use std::env;
 use std::fmt::Display;
-use std::fs::File;
 use std::io::{self, Read, Write};
 use std::process::ExitCode;
-use watch::Watch;
+use watch::WatchedReader;
 
-// The exit status where the input or the proof is refused, and after the usage lines.
+// The exit status where nothing is answered, or a proof is refused.
 const REFUSED: u8 = 1;
 
+// The exit status where the arguments have no meaning.
 const USAGE: u8 = 2;
-
-const USAGE_LINES: &str =
-    "usage: gipsat [--conflicts N] [--stats] [--proof FILE] [FILE]\n       gipsat --check FORMULA PROOF";
 
 fn main(rt: HostRuntime) -> ExitCode {
     let words = match words_of(&rt) {
         Ok(words) => words,
-        Err(error) => return refuse(&rt, &format_args!("arguments: {error}")),
+        Err(error) => return refuse(&rt, &format_args!("arguments: {}", Cause(Some(error)))),
     };
     match Task::parse(&words) {
-        Some(Task::Solve(options)) => end_search(&rt, solve_file(&rt, &options)),
-        Some(Task::Check(formula, proof)) => end_check(&rt, check_files(&rt, formula, proof)),
-        None => explain(&rt),
+        Ok(Task::Help) => tell(&rt, HELP),
+        Ok(Task::Version) => tell(&rt, VERSION),
+        Ok(Task::Solve(options)) => end_search(&rt, solve_file(&rt, &options)),
+        Ok(Task::Check(formula, proof)) => end_check(&rt, proof, check_files(&rt, formula, proof)),
+        Err(error) => explain(&rt, &error),
     }
 }
 
@@ -61,9 +62,23 @@ fn words_of(rt: &HostRuntime) -> io::Result<Vec<String>> {
     Ok(env::args(rt)?.skip(1).collect(rt.alloc())?)
 }
 
+// The status after a text that is told. Writes why it could not be.
+fn tell(rt: &HostRuntime, text: &str) -> ExitCode {
+    end_telling(rt, rt.stdout().write_all(text.as_bytes()))
+}
+
+fn end_telling(rt: &HostRuntime, ended: io::Result<()>) -> ExitCode
+    ensures { exit_status result ≡ telling_status ended }
+{
+    match ended {
+        Ok(()) => ExitCode::SUCCESS,
+        Err(error) => refuse(rt, &Failure::Write(None, Some(error))),
+    }
+}
+
 // The status after a search. Writes why nothing is answered.
-fn end_search(rt: &HostRuntime, ended: Result<Verdict, DimacsError>) -> ExitCode
-    ensures { exit_status result ≡ solving_status ended }
+fn end_search(rt: &HostRuntime, ended: Result<Verdict, Failure>) -> ExitCode
+    ensures { exit_status result ≡ solving_status ended.entry }
 {
     match ended {
         Ok(verdict) => ExitCode::from(verdict.status()),
@@ -71,13 +86,13 @@ fn end_search(rt: &HostRuntime, ended: Result<Verdict, DimacsError>) -> ExitCode
     }
 }
 
-// The status after a check. Writes why a proof is refused, or was not checked.
-fn end_check(rt: &HostRuntime, ended: Result<Outcome, DratError>) -> ExitCode
-    ensures { exit_status result ≡ checking_status ended }
+// The status after a check of the proof in this file. Writes why it is refused, or was not checked.
+fn end_check(rt: &HostRuntime, proof: Option<&str>, ended: Result<Outcome, Failure>) -> ExitCode
+    ensures { exit_status result ≡ checking_status ended.entry }
 {
     match ended {
         Ok(Outcome::Verified) => ExitCode::SUCCESS,
-        Ok(Outcome::Refused(refusal)) => refuse(rt, &refusal),
+        Ok(Outcome::Refused(refusal)) => refuse(rt, &Failure::Refused(proof, refusal)),
         Err(error) => refuse(rt, &error),
     }
 }
@@ -90,112 +105,52 @@ fn refuse<E: Display>(rt: &HostRuntime, error: &E) -> ExitCode
     ExitCode::from(REFUSED)
 }
 
-// Writes the usage lines.
-fn explain(rt: &HostRuntime) -> ExitCode
+// Writes why the arguments have no meaning.
+fn explain(rt: &HostRuntime, error: &UsageError) -> ExitCode
     ensures { exit_status result ≡ usage_status }
 {
-    let _ = eprintln!(rt; "{USAGE_LINES}");
+    let _ = eprintln!(rt; "gipsat: {error} (try --help)");
     ExitCode::from(USAGE)
 }
 
+// Tells that a terminal is read.
+fn announce(rt: &HostRuntime, source: &Source) {
+    if source.is_terminal() {
+        let _ = eprintln!(rt; "c reading standard input");
+    }
+}
+
 // Solves the formula of the file that the options name, or of standard input, and writes the answer to standard output.
-fn solve_file(rt: &HostRuntime, options: &Options) -> Result<Verdict, DimacsError> {
-    let solved = match options.file {
-        None => solve(rt, options, &mut rt.stdin(), &mut rt.stdout())?,
-        Some(path) => match File::open(rt, path) {
-            Ok(mut file) => solve(rt, options, &mut file, &mut rt.stdout())?,
-            Err(_) => return Err(DimacsError::Input),
-        },
-    };
-    Ok(solved.verdict)
+fn solve_file<'a>(rt: &HostRuntime, options: &Options<'a>) -> Result<Verdict, Failure<'a>> {
+    let mut source = Source::open(rt, options.file)?;
+    let mut output = Output::new(rt);
+    if !options.quiet {
+        announce(rt, &source);
+    }
+    let mut reader = WatchedReader::new(rt, options, &mut source);
+    let ended = solve(rt, options, &mut reader, &mut output);
+    match ended {
+        Ok(solved) => Ok(solved.verdict),
+        Err(SolveError::Task(error)) => Err(source.failure(&output, error)),
+        Err(SolveError::Proof(error)) => Err(Failure::Proof(error)),
+    }
 }
 
-// Solves as `solve_text` does, within as many conflicts as the options allow, and writes a proof where they say so.
-fn solve<R: Read, W: Write>(
+// Checks the proof in a file beside the formula in another. None is standard input.
+fn check_files<'a>(
     rt: &HostRuntime,
-    options: &Options,
-    reader: &mut R,
-    writer: &mut W,
-) -> Result<Solved, DimacsError>
-    ensures read_to_end { OnOk result (IsAtEnd (R.remaining reader.new)) }
-    ensures has_form { OnOk result (HasForm (R.remaining reader.old)) }
-    ensures written { IfOk result (λ solved. OfProblem (R.remaining reader.old) (λ problem.
-        WritesAnswer problem options.now.conflicts solved (W.contents writer.old) (W.contents writer.new))) }
-    ensures formula { IfOk result (λ solved. HasClauses (R.remaining reader.old) solved.solver.formula) }
-    ensures line { (line : ℕ) (reason : Reason) → IsErrOf result (DimacsError.Line line reason) →
-        HasOtherForm (R.remaining reader.old) }
-    ensures in_line { (line : ℕ) (reason : Reason) → IsErrOf result (DimacsError.Line line reason) →
-        IsRefusedAt (R.remaining reader.old) line }
-    ensures unwritten { IfErr result (λ error. error ≢ DimacsError.Output → writer.new ≡ writer.old) }
-{
-    match options.proof {
-        None => {
-            let mut watch = Watch::new(rt, options.stats)?;
-            solve_text(rt.alloc(), reader, writer, options.conflicts, &mut watch)
-        }
-        Some(path) => prove(rt, options, path, reader, writer),
+    formula: Option<&'a str>,
+    proof: Option<&'a str>,
+) -> Result<Outcome, Failure<'a>> {
+    let mut formula = Source::open(rt, formula)?;
+    let mut proof = Source::open(rt, proof)?;
+    let mut output = Output::new(rt);
+    announce(rt, &formula);
+    announce(rt, &proof);
+    match check(rt, &mut formula, &mut proof, &mut output) {
+        Ok(outcome) => Ok(outcome),
+        Err(error) => Err(formula.check_failure(&proof, &output, error)),
     }
-}
-
-// Solves as `solve` does, and writes a proof to the file of this name, which may not be that of the formula. The answer
-// is written where the proof is whole.
-fn prove<R: Read, W: Write>(
-    rt: &HostRuntime,
-    options: &Options,
-    path: &str,
-    reader: &mut R,
-    writer: &mut W,
-) -> Result<Solved, DimacsError>
-    ensures read_to_end { OnOk result (IsAtEnd (R.remaining reader.new)) }
-    ensures has_form { OnOk result (HasForm (R.remaining reader.old)) }
-    ensures written { IfOk result (λ solved. OfProblem (R.remaining reader.old) (λ problem.
-        WritesAnswer problem options.now.conflicts solved (W.contents writer.old) (W.contents writer.new))) }
-    ensures formula { IfOk result (λ solved. HasClauses (R.remaining reader.old) solved.solver.formula) }
-    ensures line { (line : ℕ) (reason : Reason) → IsErrOf result (DimacsError.Line line reason) →
-        HasOtherForm (R.remaining reader.old) }
-    ensures in_line { (line : ℕ) (reason : Reason) → IsErrOf result (DimacsError.Line line reason) →
-        IsRefusedAt (R.remaining reader.old) line }
-    ensures unwritten { IfErr result (λ error. error ≢ DimacsError.Output → writer.new ≡ writer.old) }
-    ensures other_file { IsTrue (reads (request_of options.now) path.now) → IsErrOf result DimacsError.Output }
-{
-    if is_read(options, path) {
-        return Err(DimacsError::Output);
-    }
-    let Ok(file) = File::create(rt, path) else {
-        return Err(DimacsError::Output);
-    };
-    let mut both = Both {
-        first: Watch::new(rt, options.stats)?,
-        second: Proof::new(rt.alloc(), file),
-    };
-    let mut text = Vec::new(rt.alloc());
-    let solved = solve_text(rt.alloc(), reader, &mut text, options.conflicts, &mut both)?;
-    both.second.finish(solved.verdict)?;
-    match writer.write_all(&text) {
-        Ok(()) => Ok(solved),
-        Err(_) => Err(DimacsError::Output),
-    }
-}
-
-// Whether the file of this name is the one that is read.
-fn is_read(options: &Options, path: &str) -> bool
-    ensures { result ≡ reads (request_of options.now) path.now }
-{
-    match options.file {
-        Some(name) => name == path,
-        None => false,
-    }
-}
-
-// Checks the proof in a file beside the formula in another.
-fn check_files(rt: &HostRuntime, formula: &str, proof: &str) -> Result<Outcome, DratError> {
-    let Ok(mut formula) = File::open(rt, formula) else {
-        return Err(DratError::Formula(DimacsError::Input));
-    };
-    let Ok(mut proof) = File::open(rt, proof) else {
-        return Err(DratError::Proof);
-    };
-    check(rt, &mut formula, &mut proof, &mut rt.stdout())
 }
 
 // Checks as `check_text` does.
@@ -206,11 +161,11 @@ fn check<F: Read, P: Read, W: Write>(
     writer: &mut W,
 ) -> Result<Outcome, DratError>
     ensures read_to_end { OnOk result (IsAtEnd (F.remaining formula.new)) }
-    ensures has_form { OnOk result (HasForm (F.remaining formula.old)) }
-    ensures written { IfOk result (λ outcome. OfProblem (F.remaining formula.old) (λ problem.
+    ensures has_form { OnOk result (HasForm Strict (F.remaining formula.old)) }
+    ensures written { IfOk result (λ outcome. OfProblem Strict (F.remaining formula.old) (λ problem.
         WritesOutcome problem outcome (W.contents writer.old) (W.contents writer.new))) }
     ensures line { (line : ℕ) (reason : Reason) → IsErrOf result (DratError.Formula (DimacsError.Line line reason)) →
-        HasOtherForm (F.remaining formula.old) }
+        WritesNone Strict (F.remaining formula.old) }
     ensures unwritten { IfErr result (λ error. error ≢ DratError.Output → writer.new ≡ writer.old) }
 {
     check_text(rt.alloc(), formula, proof, writer)

@@ -1,8 +1,10 @@
-//! How far the search is, in lines on standard error.
-ghost use Rattle.std.specs.Prelude.{◌≡◌, IfOk};
+//! How far a run is, in lines on standard error, and when its time is over.
+ghost use Rattle.std.specs.Prelude.{◌≡◌, false, IfOk};
 
-use gipsat_answers::progress::Progress;
-use giputils_sat::{Solver, Stats};
+use crate::options::Options;
+use gipsat_dimacs::Instance;
+use gipsat_solver::progress::Progress;
+use gipsat_solver::{Solver, Stats};
 use giputils_stat::logger::IntervalLogger;
 use giputils_stat::statistic::MovingAverage;
 use log::kv::Source;
@@ -10,6 +12,9 @@ use log::span::Spans;
 use log::{Level, Log, Metadata, Record};
 use std::alloc::{AllocError, Global};
 use std::fmt::{self, Display};
+use std::fs;
+use std::io::{self, Read};
+use std::ops::ControlFlow;
 use std::time::{Duration, Instant};
 
 // How many of the last clauses count for their average length.
@@ -20,15 +25,15 @@ const INTERVAL_SECONDS: u64 = 5;
 
 // What is known, as it is written in a line.
 #[derive(Clone, Copy)]
-struct Known<'a> {
+struct Snapshot<'a> {
     stats: Stats,
     clauses: usize,
     lengths: &'a MovingAverage,
 }
 
-impl<'a> Known<'a> {
+impl<'a> Snapshot<'a> {
     fn of(solver: &Solver, lengths: &'a MovingAverage) -> Self {
-        Known {
+        Snapshot {
             stats: solver.stats(),
             clauses: solver.len(),
             lengths,
@@ -36,18 +41,70 @@ impl<'a> Known<'a> {
     }
 }
 
-impl Display for Known<'_> {
+impl Display for Snapshot<'_> {
     fn fmt<W: fmt::Write>(&self, f: &mut fmt::Formatter<W>) -> fmt::Result {
         write!(
             f,
-            "{} conflicts, {} restarts, {} clauses kept, {} forgotten, {:?} literals in each of the last learned",
+            "{} conflicts, {} restarts, {} clauses kept, {} deleted{}",
             self.stats.conflicts,
             self.stats.restarts,
             self.clauses,
-            self.stats.forgotten,
-            self.lengths
+            self.stats.deleted,
+            Lengths(self.lengths)
         )
     }
+}
+
+// How long the last learned clauses are, where there are some.
+#[derive(Clone, Copy)]
+struct Lengths<'a>(&'a MovingAverage);
+
+impl Display for Lengths<'_> {
+    fn fmt<W: fmt::Write>(&self, f: &mut fmt::Formatter<W>) -> fmt::Result {
+        if self.0.average().count() == 0 {
+            return Ok(());
+        }
+        write!(f, ", {:?} literals in each of the last learned", self.0)
+    }
+}
+
+// A time in seconds, to a thousandth.
+#[derive(Clone, Copy)]
+struct Seconds(Duration);
+
+impl Display for Seconds {
+    fn fmt<W: fmt::Write>(&self, f: &mut fmt::Formatter<W>) -> fmt::Result {
+        write!(f, "{}.{:03} s", self.0.as_secs(), self.0.subsec_millis())
+    }
+}
+
+// The most memory that was used at a time, where it is known.
+#[derive(Clone, Copy)]
+struct Peak(Option<u64>);
+
+impl Display for Peak {
+    fn fmt<W: fmt::Write>(&self, f: &mut fmt::Formatter<W>) -> fmt::Result {
+        match self.0 {
+            Some(kilobytes) => write!(f, ", {kilobytes} kB of memory at most"),
+            None => Ok(()),
+        }
+    }
+}
+
+impl Peak {
+    // What the system says of this process.
+    fn now(rt: &HostRuntime) -> Self {
+        match fs::read_to_string(rt, "/proc/self/status") {
+            Ok(status) => Peak(peak_in(&status)),
+            Err(_) => Peak(None),
+        }
+    }
+}
+
+// The number of kilobytes behind `VmHWM:` in the system's text on a process.
+fn peak_in(status: &str) -> Option<u64> {
+    let (_, rest) = status.split_once("VmHWM:")?;
+    rest.split_whitespace().next()?.parse().ok()
 }
 
 // Writes each record to standard error, as a line that begins with `c`.
@@ -72,79 +129,208 @@ impl Log for Comments<'_> {
     }
 }
 
-/// Writes now and then how far the search is.
-#[derive(Drop)]
-pub struct Watch<'a> {
+// The time since a beginning, or none where there is no clock.
+#[derive(Clone, Copy)]
+struct Clock<'a> {
     rt: &'a HostRuntime,
     started: Option<Instant>,
-    logger: IntervalLogger,
-    // Of the last learned clauses.
-    lengths: MovingAverage,
-    // How many of the known clauses need not be counted.
-    seen: usize,
-    stats: bool,
 }
 
-impl<'a> Watch<'a> {
-    /// Before the search.
-    pub fn new(rt: &'a HostRuntime, stats: bool) -> Result<Self, AllocError>
-        ensures { IfOk result (λ watch. watch.stats ≡ stats) }
-    {
-        Ok(Watch {
+impl<'a> Clock<'a> {
+    fn start(rt: &'a HostRuntime) -> Self {
+        Clock {
             rt,
             started: Instant::now(rt).ok(),
-            logger: IntervalLogger::new(
-                Duration::from_secs(0),
-                Duration::from_secs(INTERVAL_SECONDS),
-            ),
-            lengths: MovingAverage::with_room(rt.alloc(), LAST)?,
-            seen: 0,
-            stats,
-        })
+        }
     }
 
-    // The time since the beginning, or none where there is no clock.
     fn now(&self) -> Duration {
         match self.started {
             Some(started) => started.elapsed(self.rt).unwrap_or(Duration::from_secs(0)),
             None => Duration::from_secs(0),
         }
     }
+}
 
-    // Counts the last of the clauses that were learned since.
-    fn count(&mut self, solver: &Solver) {
-        let len = solver.len();
-        for place in self.seen.max(len.saturating_sub(LAST))..len {
-            self.lengths.push(solver.clause(place).len());
+// A logger that is first due an interval after the beginning.
+fn every_interval() -> IntervalLogger {
+    IntervalLogger::new(
+        Duration::from_secs(0),
+        Duration::from_secs(INTERVAL_SECONDS),
+    )
+}
+
+/// A reader that writes now and then how much was read.
+#[derive(Drop)]
+pub struct WatchedReader<'a, R: Read> {
+    rt: &'a HostRuntime,
+    reader: R,
+    clock: Clock<'a>,
+    logger: IntervalLogger,
+    quiet: bool,
+    // How many bytes were read.
+    bytes: u64,
+}
+
+impl<'a, R: Read> WatchedReader<'a, R> {
+    /// Before anything is read.
+    pub fn new(rt: &'a HostRuntime, options: &Options, reader: R) -> Self {
+        WatchedReader {
+            rt,
+            reader,
+            clock: Clock::start(rt),
+            logger: every_interval(),
+            quiet: options.quiet,
+            bytes: 0,
         }
-        self.seen = len;
     }
 }
 
+impl<R: Read> Read for WatchedReader<'_, R> {
+    fn read(&mut self, buf: &mut [u8]) -> io::Result<usize> {
+        let read = self.reader.read(buf)?;
+        self.bytes = self.bytes.saturating_add(read as u64);
+        if !self.quiet {
+            let now = self.clock.now();
+            let told = format_args!("{} bytes read", self.bytes);
+            self.logger
+                .log(&Comments { rt: self.rt }, now, Level::Info, &told);
+        }
+        Ok(read)
+    }
+}
+
+/// Writes now and then how far the search is. It stops none.
+#[derive(Drop)]
+pub struct Watch<'a> {
+    rt: &'a HostRuntime,
+    clock: Clock<'a>,
+    logger: IntervalLogger,
+    // Of the last learned clauses.
+    lengths: MovingAverage,
+    // How many of the known clauses need not be counted.
+    seen: usize,
+    // Whether nothing is written.
+    quiet: bool,
+    // Whether a summary is written at the end.
+    stats: bool,
+}
+
+impl<'a> Watch<'a> {
+    /// Before the formula is read: its time counts.
+    pub fn new(rt: &'a HostRuntime, options: &Options) -> Result<Self, AllocError>
+        ensures stats { IfOk result (λ watch. watch.stats ≡ options.now.stats) }
+        ensures quiet { IfOk result (λ watch. watch.quiet ≡ options.now.quiet) }
+    {
+        Ok(Watch {
+            rt,
+            clock: Clock::start(rt),
+            logger: every_interval(),
+            lengths: MovingAverage::with_room(rt.alloc(), LAST)?,
+            seen: 0,
+            quiet: options.quiet,
+            stats: options.stats,
+        })
+    }
+
+    /// This formula was read. It is written where a summary is wanted, or that took long.
+    pub fn note_read(&self, instance: &Instance) {
+        let now = self.clock.now();
+        if self.quiet || !(self.stats || self.logger.due(now)) {
+            return;
+        }
+        let _ = eprintln!(self.rt;
+            "c {} variables, {} clauses read in {}",
+            instance.variables,
+            instance.solver.len(),
+            Seconds(now)
+        );
+    }
+}
+
+// Counts the lengths of the last of the clauses that were learned since `seen` were known.
+fn count(lengths: &mut MovingAverage, seen: &mut usize, solver: &Solver) {
+    let len = solver.len();
+    let start = *seen;
+    for place in start.max(len.saturating_sub(LAST))..len {
+        lengths.push(solver.clause(place).len());
+    }
+    *seen = len;
+}
+
 impl Progress<Global> for Watch<'_> {
+    ghost wants_stop = { λ _. false };
+
     fn begin(&mut self, solver: &Solver) {
         self.seen = solver.len();
     }
 
-    fn note(&mut self, solver: &Solver) {
-        self.count(solver);
-        let now = self.now();
-        let known = Known::of(solver, &self.lengths);
-        self.logger
-            .log(&Comments { rt: self.rt }, now, Level::Info, &known);
+    fn note(&mut self, solver: &Solver) -> ControlFlow<()> {
+        count(&mut self.lengths, &mut self.seen, solver);
+        if !self.quiet {
+            let now = self.clock.now();
+            let snapshot = Snapshot::of(solver, &self.lengths);
+            self.logger
+                .log(&Comments { rt: self.rt }, now, Level::Info, &snapshot);
+        }
+        ControlFlow::Continue(())
     }
 
-    fn forget(&mut self, _solver: &Solver) {}
+    fn forget(&mut self, _solver: &Solver) -> ControlFlow<()> {
+        ControlFlow::Continue(())
+    }
 
     fn end(&mut self, solver: &Solver) {
-        if self.stats {
-            self.count(solver);
-            let stats = solver.stats();
-            let _ = eprintln!(self.rt; "c {}", Known::of(solver, &self.lengths));
-            let _ = eprintln!(self.rt;
-                "c {} decisions, {} propagations",
-                stats.decisions, stats.propagations
-            );
+        if self.quiet || !self.stats {
+            return;
+        }
+        count(&mut self.lengths, &mut self.seen, solver);
+        let stats = solver.stats();
+        let _ = eprintln!(self.rt; "c {}", Snapshot::of(solver, &self.lengths));
+        let _ = eprintln!(self.rt;
+            "c {} decisions, {} propagations",
+            stats.decisions, stats.propagations
+        );
+        let _ = eprintln!(self.rt; "c {}{}", Seconds(self.clock.now()), Peak::now(self.rt));
+    }
+}
+
+/// Stops the search when its time is over.
+#[derive(Clone, Copy)]
+pub struct TimeLimit<'a> {
+    clock: Clock<'a>,
+    limit: Duration,
+    // Whether the search was stopped.
+    is_over: bool,
+}
+
+impl<'a> TimeLimit<'a> {
+    /// So many seconds since the watch began.
+    pub fn new(watch: &Watch<'a>, seconds: u64) -> Self {
+        TimeLimit {
+            clock: watch.clock,
+            limit: Duration::from_secs(seconds),
+            is_over: false,
         }
     }
+}
+
+impl Progress<Global> for TimeLimit<'_> {
+    ghost wants_stop = { λ limit. limit.is_over };
+
+    fn begin(&mut self, _solver: &Solver) {}
+
+    fn note(&mut self, _solver: &Solver) -> ControlFlow<()> {
+        if self.clock.now() < self.limit {
+            return ControlFlow::Continue(());
+        }
+        self.is_over = true;
+        ControlFlow::Break(())
+    }
+
+    fn forget(&mut self, _solver: &Solver) -> ControlFlow<()> {
+        ControlFlow::Continue(())
+    }
+
+    fn end(&mut self, _solver: &Solver) {}
 }

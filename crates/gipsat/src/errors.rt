@@ -1,0 +1,149 @@
+//! Why nothing was answered, as it is told.
+use crate::options::Setting;
+use crate::proof_file::ProofError;
+use gipsat_dimacs::{Compression, Reason};
+use gipsat_drat::error::{OtherForm, Place, Refusal};
+use std::fmt::{self, Display};
+use std::io::{self, ErrorKind};
+
+/// Why the arguments have no meaning.
+#[derive(Clone, Copy)]
+pub enum UsageError<'a> {
+    /// No option has this name.
+    UnknownOption(&'a str),
+    /// No word stands behind this option.
+    NoValue(Setting),
+    /// This word behind the option is no number, or one of 2^64 or more.
+    NoNumber(Setting, &'a str),
+    /// More files are named than are read.
+    ExtraFile(&'a str),
+    /// Fewer than two files are named for a check.
+    MissingFile,
+    /// A check takes no such option.
+    NotForCheck(&'a str),
+    /// Standard input is named as the formula and as the proof.
+    InputTwice,
+}
+
+impl Display for UsageError<'_> {
+    fn fmt<W: fmt::Write>(&self, f: &mut fmt::Formatter<W>) -> fmt::Result {
+        match *self {
+            UsageError::UnknownOption(word) => write!(f, "unknown option '{word}'"),
+            UsageError::NoValue(Setting::Proof) => f.write_str("'--proof' needs a file behind it"),
+            UsageError::NoValue(setting) => write!(f, "'{setting}' needs a number behind it"),
+            UsageError::NoNumber(setting, word) => {
+                write!(f, "'{setting}' takes a number below 2^64, not '{word}'")
+            }
+            UsageError::ExtraFile(name) => write!(f, "one file too many, '{name}'"),
+            UsageError::MissingFile => f.write_str("'--check' takes two files, FORMULA and PROOF"),
+            UsageError::NotForCheck(word) => write!(f, "'--check' takes no option '{word}'"),
+            UsageError::InputTwice => {
+                f.write_str("'--check' takes one file at most from standard input")
+            }
+        }
+    }
+}
+
+// The option, as it is written in full, and what stands behind it.
+impl Display for Setting {
+    fn fmt<W: fmt::Write>(&self, f: &mut fmt::Formatter<W>) -> fmt::Result {
+        match *self {
+            Setting::Conflicts => f.write_str("--conflicts"),
+            Setting::Time => f.write_str("--time"),
+            Setting::Proof => f.write_str("--proof"),
+        }
+    }
+}
+
+/// Why there is no answer. A name is that of a file; that of standard input or output is `None`.
+#[derive(Clone, Copy)]
+pub enum Failure<'a> {
+    /// The file of this name could not be opened.
+    Open(&'a str, io::Error),
+    /// A read of this input failed.
+    Read(Option<&'a str>, Option<io::Error>),
+    /// A write to this output failed.
+    Write(Option<&'a str>, Option<io::Error>),
+    /// At this line, counted from 1, the formula of this input has another form.
+    Line(Option<&'a str>, usize, Reason),
+    /// At this line the formula of a check, in this input, is compressed.
+    Compressed(Option<&'a str>, usize, Compression),
+    /// The proof was not written.
+    Proof(ProofError<'a>),
+    /// The proof in this input is refused.
+    Refused(Option<&'a str>, Refusal),
+    /// The proof in this input has a form that is not read.
+    Form(Option<&'a str>, OtherForm),
+    /// Memory was refused.
+    Memory,
+}
+
+impl Display for Failure<'_> {
+    fn fmt<W: fmt::Write>(&self, f: &mut fmt::Formatter<W>) -> fmt::Result {
+        match *self {
+            Failure::Open(name, error) => write!(f, "{name}: {}", Cause(Some(error))),
+            Failure::Read(name, error) => write!(
+                f,
+                "{}: cannot be read: {}",
+                name.unwrap_or("<stdin>"),
+                Cause(error)
+            ),
+            Failure::Write(name, error) => write!(
+                f,
+                "{}: cannot be written: {}",
+                name.unwrap_or("<stdout>"),
+                Cause(error)
+            ),
+            Failure::Line(name, line, reason) => {
+                write!(f, "{}:{line}: {reason}", name.unwrap_or("<stdin>"))
+            }
+            Failure::Compressed(name, line, compression) => {
+                let name = name.unwrap_or("<stdin>");
+                let tool = tool_of(compression);
+                write!(
+                    f,
+                    "{name}:{line}: {tool} data (try: {tool} -dc FORMULA | gipsat --check - PROOF)"
+                )
+            }
+            Failure::Proof(error) => Display::fmt(&error, f),
+            Failure::Refused(name, refusal) => {
+                let name = name.unwrap_or("<stdin>");
+                let flaw = refusal.flaw;
+                match refusal.place {
+                    Place::Line(line) => write!(f, "{name}:{line}: {flaw}"),
+                    Place::Byte(byte) => write!(f, "{name}: byte {byte}: {flaw}"),
+                }
+            }
+            Failure::Form(name, form) => write!(f, "{}: {form}", name.unwrap_or("<stdin>")),
+            Failure::Memory => f.write_str("memory: refused"),
+        }
+    }
+}
+
+// The program that decompresses a file.
+fn tool_of(compression: Compression) -> &'static str {
+    match compression {
+        Compression::Gzip => "gzip",
+        Compression::Xz => "xz",
+        Compression::Bzip2 => "bzip2",
+    }
+}
+
+/// Why the system refused a call, where it told that.
+#[derive(Clone, Copy)]
+pub struct Cause(pub Option<io::Error>);
+
+impl Display for Cause {
+    fn fmt<W: fmt::Write>(&self, f: &mut fmt::Formatter<W>) -> fmt::Result {
+        let Some(error) = self.0 else {
+            return f.write_str("no cause told");
+        };
+        match error.kind() {
+            ErrorKind::NotFound => f.write_str("no such file"),
+            ErrorKind::InvalidData => f.write_str("not UTF-8 text"),
+            ErrorKind::StorageFull => f.write_str("no space left"),
+            ErrorKind::Uncategorized => Display::fmt(&error, f),
+            kind => Display::fmt(&kind, f),
+        }
+    }
+}

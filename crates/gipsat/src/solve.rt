@@ -1,0 +1,216 @@
+//! From a formula's bytes to those of its answer, with a proof in a file if one is wanted.
+ghost use Rattle.std.specs.Prelude.{◌≡◌, ◌≢◌, ℕ, is_some, IfOk, IfErr, IsTrue, OnOk, IsErrOf};
+ghost use Rattle.std.specs.Io.KnownBytes.{IsAtEnd};
+ghost use Rattle.gipsat_dimacs.specs.Instances.{HasLearnedNone};
+ghost use Rattle.gipsat_answers.specs.Answers.{problem_in, WritesAnswerWith};
+ghost use Rattle.gipsat_dimacs.specs.Inputs.{HasClauses, HasForm, IsRefusedAt, OfProblem, WritesNone};
+ghost use Rattle.gipsat_dimacs.specs.declared.error.DimacsError.TheVariants as dimacs_error;
+ghost use Rattle.gipsat.specs.declared.solve.SolveError.TheVariants as solve_error;
+
+use crate::options::Options;
+use crate::proof_file::{self, ProofError};
+use crate::watch::{TimeLimit, Watch};
+use gipsat_answers::{Solved, Verdict, solve_instance};
+use gipsat_dimacs::{DimacsError, Instance, Reason, read_instance_by};
+use gipsat_drat::writer::{Fault, Format, ProofWriter};
+use gipsat_solver::progress::{Both, Progress};
+use std::alloc::{AllocError, Global};
+use std::fs::File;
+use std::io::{Read, Write};
+
+/// Why a formula was not solved.
+#[derive(Clone, Copy)]
+pub enum SolveError<'a> {
+    /// It was not read, memory was refused, or no answer was written.
+    Task(DimacsError),
+    /// The proof was not written.
+    Proof(ProofError<'a>),
+}
+
+impl From<AllocError> for SolveError<'_> {
+    ghost from_gives = { λ _ error. error ≡ solve_error.Task dimacs_error.Memory };
+
+    fn from(_refused: AllocError) -> Self {
+        SolveError::Task(DimacsError::Memory)
+    }
+}
+
+/// Solves as `solve_text` does, within as many conflicts as the options allow, and writes a proof where they say so.
+///
+/// The proof's file is made once the whole formula was read. The answer is written where the proof is whole.
+pub fn solve<'a, R: Read, W: Write>(
+    rt: &HostRuntime,
+    options: &Options<'a>,
+    reader: &mut R,
+    writer: &mut W,
+) -> Result<Solved, SolveError<'a>>
+    ensures read_to_end { OnOk result (IsAtEnd (R.remaining reader.new)) }
+    ensures has_form { OnOk result (HasForm options.now.rule (R.remaining reader.old)) }
+    ensures written { IfOk result (λ solved. OfProblem options.now.rule (R.remaining reader.old) (λ problem.
+        WritesAnswerWith options.now.witness problem options.now.conflicts solved
+        (W.contents writer.old) (W.contents writer.new))) }
+    ensures formula { IfOk result (λ solved.
+        HasClauses options.now.rule (R.remaining reader.old) solved.solver.formula) }
+    ensures stopped { IfOk result (λ solved. solved.verdict ≡ Verdict.Stopped → IsTrue (is_some options.now.time)) }
+    ensures line { (line : ℕ) (reason : Reason) → IsErrOf result (SolveError.Task (DimacsError.Line line reason)) →
+        WritesNone options.now.rule (R.remaining reader.old) }
+    ensures in_line { (line : ℕ) (reason : Reason) → IsErrOf result (SolveError.Task (DimacsError.Line line reason)) →
+        IsRefusedAt options.now.rule (R.remaining reader.old) line }
+    ensures unwritten { IfErr result (λ error. error ≢ SolveError.Task DimacsError.Output → writer.new ≡ writer.old) }
+{
+    let watch = Watch::new(rt, options)?;
+    let instance = match read_instance_by(rt.alloc(), reader, options.rule) {
+        Ok(instance) => instance,
+        Err(error) => return Err(SolveError::Task(error)),
+    };
+    watch.note_read(&instance);
+    let proof = open_proof(rt, options, reader)?;
+    answer(rt, options, instance, proof, watch, writer)
+}
+
+// The file of the proof, if one is wanted, and its name. It is made once the formula was read to its end.
+fn open_proof<'a, R: Read>(
+    rt: &HostRuntime,
+    options: &Options<'a>,
+    reader: &R,
+) -> Result<Option<(&'a str, File)>, SolveError<'a>>
+    requires read_to_end { IsAtEnd (R.remaining reader.now) }
+    ensures other { (error : DimacsError) → ¬ (IsErrOf result (SolveError.Task error)) }
+{
+    let Some(path) = options.proof else {
+        return Ok(None);
+    };
+    match proof_file::create(rt, options, path, reader) {
+        Ok(file) => Ok(Some((path, file))),
+        Err(error) => Err(SolveError::Proof(error)),
+    }
+}
+
+// Solves a formula that was read, within the time that the options allow.
+fn answer<'a, W: Write>(
+    rt: &HostRuntime,
+    options: &Options<'a>,
+    instance: Instance,
+    proof: Option<(&'a str, File)>,
+    watch: Watch,
+    writer: &mut W,
+) -> Result<Solved, SolveError<'a>>
+    requires fresh { HasLearnedNone instance.solver }
+    ensures written { IfOk result (λ solved. WritesAnswerWith options.now.witness (problem_in instance)
+        options.now.conflicts solved (W.contents writer.old) (W.contents writer.new)) }
+    ensures formula { IfOk result (λ solved. solved.solver.formula ≡ instance.solver.formula) }
+    ensures stopped { IfOk result (λ solved. solved.verdict ≡ Verdict.Stopped → IsTrue (is_some options.now.time)) }
+    ensures other { (line : ℕ) (reason : Reason) →
+        ¬ (IsErrOf result (SolveError.Task (DimacsError.Line line reason))) }
+    ensures unwritten { IfErr result (λ error. error ≢ SolveError.Task DimacsError.Output → writer.new ≡ writer.old) }
+{
+    match options.time {
+        None => Ok(answer_told(rt, options, instance, proof, watch, writer)?.solved),
+        Some(seconds) => {
+            let limit = TimeLimit::new(&watch, seconds);
+            let timed = Both {
+                first: watch,
+                second: limit,
+            };
+            Ok(answer_told(rt, options, instance, proof, timed, writer)?.solved)
+        }
+    }
+}
+
+// What was found out, and what was told how far the search is.
+#[derive(Drop)]
+struct Told<P> {
+    solved: Solved,
+    progress: P,
+}
+
+// Solves a formula that was read, and tells `progress` how far the search is.
+fn answer_told<'a, W: Write, P: Progress<Global> + Drop>(
+    rt: &HostRuntime,
+    options: &Options<'a>,
+    instance: Instance,
+    proof: Option<(&'a str, File)>,
+    mut progress: P,
+    writer: &mut W,
+) -> Result<Told<P>, SolveError<'a>>
+    requires fresh { HasLearnedNone instance.solver }
+    ensures written { IfOk result (λ told. WritesAnswerWith options.now.witness (problem_in instance)
+        options.now.conflicts told.solved (W.contents writer.old) (W.contents writer.new)) }
+    ensures formula { IfOk result (λ told. told.solved.solver.formula ≡ instance.solver.formula) }
+    ensures stopped { IfOk result (λ told.
+        told.solved.verdict ≡ Verdict.Stopped → IsTrue (P.wants_stop told.progress)) }
+    ensures other { (line : ℕ) (reason : Reason) →
+        ¬ (IsErrOf result (SolveError.Task (DimacsError.Line line reason))) }
+    ensures unwritten { IfErr result (λ error. error ≢ SolveError.Task DimacsError.Output → writer.new ≡ writer.old) }
+{
+    if let Some((path, file)) = proof {
+        return prove(rt, options, instance, path, file, progress, writer);
+    }
+    match solve_instance(
+        rt.alloc(),
+        instance,
+        writer,
+        options.witness,
+        options.conflicts,
+        &mut progress,
+    ) {
+        Ok(solved) => Ok(Told { solved, progress }),
+        Err(error) => Err(SolveError::Task(error)),
+    }
+}
+
+// Solves a formula that was read, and writes a proof to a file. The answer is written where the proof is whole.
+fn prove<'a, W: Write, P: Progress<Global> + Drop>(
+    rt: &HostRuntime,
+    options: &Options<'a>,
+    instance: Instance,
+    path: &'a str,
+    file: File,
+    progress: P,
+    writer: &mut W,
+) -> Result<Told<P>, SolveError<'a>>
+    requires fresh { HasLearnedNone instance.solver }
+    ensures written { IfOk result (λ told. WritesAnswerWith options.now.witness (problem_in instance)
+        options.now.conflicts told.solved (W.contents writer.old) (W.contents writer.new)) }
+    ensures formula { IfOk result (λ told. told.solved.solver.formula ≡ instance.solver.formula) }
+    ensures stopped { IfOk result (λ told.
+        told.solved.verdict ≡ Verdict.Stopped → IsTrue (P.wants_stop told.progress)) }
+    ensures other { (line : ℕ) (reason : Reason) →
+        ¬ (IsErrOf result (SolveError.Task (DimacsError.Line line reason))) }
+    ensures unwritten { IfErr result (λ error. error ≢ SolveError.Task DimacsError.Output → writer.new ≡ writer.old) }
+{
+    let format = if options.binary {
+        Format::Binary
+    } else {
+        Format::Text
+    };
+    let mut both = Both {
+        first: progress,
+        second: ProofWriter::new(rt.alloc(), file, format),
+    };
+    let mut text = Vec::new(rt.alloc());
+    let solved = match solve_instance(
+        rt.alloc(),
+        instance,
+        &mut text,
+        options.witness,
+        options.conflicts,
+        &mut both,
+    ) {
+        Ok(solved) => solved,
+        Err(error) => return Err(SolveError::Task(error)),
+    };
+    let Both {
+        first: progress,
+        second: mut proof,
+    } = both;
+    match proof.finish(solved.verdict == Verdict::Unsatisfiable) {
+        Ok(()) => {}
+        Err(Fault::Memory) => return Err(SolveError::Task(DimacsError::Memory)),
+        Err(Fault::Output(error)) => return Err(SolveError::Proof(ProofError::Write(path, error))),
+    }
+    match writer.write_all(&text) {
+        Ok(()) => Ok(Told { solved, progress }),
+        Err(_) => Err(SolveError::Task(DimacsError::Output)),
+    }
+}
