@@ -1,7 +1,11 @@
+mod Cardinalities
 mod Examples
+mod FirstQuestion
 mod Followed
 mod Gathered
 mod Held
+mod Incrementals
+mod MinimalCores
 mod Multiples
 mod Outcomes
 mod Picked

@@ -4,6 +4,8 @@ pub mod Bounded
 pub mod Clock
 pub mod Compaction
 pub mod Drained
+pub mod Incremental
+pub mod MinimalCore
 pub mod Paths
 pub mod Primes
 pub mod Ranked

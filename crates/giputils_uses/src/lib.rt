@@ -4,9 +4,13 @@
 
 pub mod activity;
 pub mod bounded;
+pub mod cardinality;
 pub mod compaction;
 pub mod drain;
+pub mod first_question;
+pub mod incremental;
 pub mod last;
+pub mod minimal_core;
 pub mod paths;
 pub mod reachable;
 pub mod report;

@@ -1,5 +1,5 @@
-//! All tests of `giputils_uses`: each use once on an example, and what no clause can say of the search for a path within
-//! a bound: that it answers.
+//! All tests of `giputils_uses`: each use once on an example, and what no clause can say of the search for a path
+//! within a bound: that it answers.
 //!
 //! They stand apart from the library, so that it is not proved twice for them.
 #![tactic(auto)]
@@ -9,11 +9,19 @@ mod activity;
 #[cfg(test)]
 mod bounded;
 #[cfg(test)]
+mod cardinality;
+#[cfg(test)]
 mod compaction;
 #[cfg(test)]
 mod drain;
 #[cfg(test)]
+mod first_question;
+#[cfg(test)]
+mod incremental;
+#[cfg(test)]
 mod last;
+#[cfg(test)]
+mod minimal_core;
 #[cfg(test)]
 mod paths;
 #[cfg(test)]

@@ -1,0 +1,7 @@
+-- The clauses of the facts so far.
+use Rattle.std.proofs.Common.{◌≡◌}
+use Rattle.giputils_uses.specs.Incremental.{with_first}
+use Rattle.giputils_uses.proofs.incremental.add_facts.Given as goal
+
+abbrev pub invariant-loop-fact : goal.invariant-loop-fact
+invariant-loop-fact g l = l.solver.formula ≡ with_first l.fn.solver.formula l.facts l.fact-index

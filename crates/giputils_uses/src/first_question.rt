@@ -1,0 +1,25 @@
+//! A first question to the solver.
+ghost use Rattle.std.specs.Prelude.{IfOk, IfSome, IsTrue};
+ghost use Rattle.gipsat_solver.specs.Values.{assignment_in};
+
+use gipsat_solver::{AnswerUnder, Literal, Solver};
+use std::alloc::{AllocError, Allocator};
+
+/// Values of a, b and c with `a or b`, `not a or not c`, and c. None where there are none, or the limit was met.
+pub fn values_with_c<A: Allocator + Copy>(alloc: A) -> Result<Option<Vec<bool, A>>, AllocError>
+    ensures b_is_true { IfOk result (λ values. IfSome values (λ model. IsTrue (assignment_in model.items 1))) }
+{
+    let (a, b) = (Literal::new(0, true), Literal::new(1, true));
+    let c = Literal::new(2, true);
+    let mut solver = Solver::new(alloc);
+    solver.add_clause(&[a, b])?;
+    solver.add_clause(&[a.negated(), c.negated()])?;
+    match solver.solve_under(&[c], 1000)? {
+        // The value of each variable, by its number.
+        AnswerUnder::Sat(model) => Ok(Some(model)),
+        // Some of the assumptions, which can't all be true: here it would be c.
+        AnswerUnder::Unsat(_core) => Ok(None),
+        // Left open after 1000 learned clauses.
+        AnswerUnder::Unknown => Ok(None),
+    }
+}

@@ -1,0 +1,95 @@
+//! Formulas to which clauses are added one after another.
+ghost use Rattle.std.specs.Prelude.{◌≡◌, ◌++◌, IfNone, IfOk, IfSome, IsTrue, OnOk};
+ghost use Rattle.gipsat_solver.specs.Answers.{IsModel};
+ghost use Rattle.gipsat_solver.specs.Assumptions.{IsSatisfiableUnder, makes_true};
+ghost use Rattle.gipsat_solver.specs.Formulas.{Assignment, IsSatisfiable};
+ghost use Rattle.gipsat_solver.specs.Values.{assignment_in};
+ghost use Rattle.giputils_uses.specs.Incremental.{Covers, IsLongestStart, units};
+
+use gipsat_solver::{Literal, Solver};
+use std::alloc::{AllocError, Allocator};
+
+/// Values by which at least one literal of each pair is true, as of two workers one is at work each day. None where
+/// there are none.
+///
+/// Shows lemmas on models: one of the formula satisfies the clause at each place, and what satisfies each is one.
+///
+/// # Errors
+/// `AllocError` where memory is refused.
+pub fn cover<A: Allocator + Copy>(
+    alloc: A,
+    pairs: &[(Literal, Literal)],
+) -> Result<Option<Vec<bool, A>>, AllocError>
+    ensures covers { IfOk result (λ found. IfSome found (λ model. Covers pairs.now (assignment_in model.items))) }
+    ensures none { IfOk result (λ found. IfNone found ((a : Assignment) → ¬ (Covers pairs.now a))) }
+{
+    let mut solver = Solver::new(alloc);
+    for (first, second) in pairs {
+        solver.add_clause(&[*first, *second])?;
+    }
+    solver.find_model()
+}
+
+/// A model of the formula in which each of the facts is true. None where there is none.
+///
+/// The facts stay: they are added as clauses, and later questions are about the longer formula.
+///
+/// Shows a lemma on models: one of a formula with more clauses is one of the formula before.
+///
+/// # Errors
+/// `AllocError` where memory is refused. Some of the facts may have been added.
+pub fn model_with<A: Allocator + Copy>(
+    solver: &mut Solver<A>,
+    facts: &[Literal],
+) -> Result<Option<Vec<bool, A>>, AllocError>
+    ensures formula { OnOk result (solver.new.formula ≡ solver.old.formula ++ units facts.now) }
+    ensures model { IfOk result (λ found. IfSome found (λ model. IsModel solver.old.formula model.items)) }
+    ensures facts { IfOk result (λ found. IfSome found (λ model.
+        IsTrue (makes_true (assignment_in model.items) facts.now))) }
+    ensures none { IfOk result (λ found. IfNone found (¬ (IsSatisfiableUnder solver.old.formula facts.now))) }
+{
+    add_facts(solver, facts)?;
+    solver.find_model()
+}
+
+// Adds the clause that a fact is true, for each of the facts.
+fn add_facts<A: Allocator + Copy>(
+    solver: &mut Solver<A>,
+    facts: &[Literal],
+) -> Result<(), AllocError>
+    ensures { OnOk result (solver.new.formula ≡ solver.old.formula ++ units facts.now) }
+{
+    for fact in facts {
+        solver.add_clause(&[*fact])?;
+    }
+    Ok(())
+}
+
+/// How many of the facts, from the first one on, can be true together with the formula. None where the formula has no
+/// model.
+///
+/// They are added as clauses, one after another, until one can't be true.
+///
+/// Shows a lemma on formulas: one without a model has none with more clauses, so there the caller may stop.
+///
+/// # Errors
+/// `AllocError` where memory is refused. Some of the facts may have been added.
+pub fn longest_start<A: Allocator + Copy>(
+    solver: &mut Solver<A>,
+    facts: &[Literal],
+) -> Result<Option<usize>, AllocError>
+    ensures longest { IfOk result (λ found. IfSome found (λ count.
+        IsLongestStart solver.old.formula facts.now count)) }
+    ensures none { IfOk result (λ found. IfNone found (¬ (IsSatisfiable solver.old.formula))) }
+{
+    if solver.find_model()?.is_none() {
+        return Ok(None);
+    }
+    for place in 0..facts.len() {
+        solver.add_clause(&[facts[place]])?;
+        if solver.find_model()?.is_none() {
+            return Ok(Some(place));
+        }
+    }
+    Ok(Some(facts.len()))
+}
