@@ -5,7 +5,7 @@
 //! the clause of no literal. The answer is `sat` or `unsat`; a model is tried on the clauses that were read.
 
 use anyhow::{Context, Result, bail};
-use giputils_sat::{Answer, Literal, Solver};
+use gipsat_solver::{Answer, Literal, Solver};
 use std::alloc::Global;
 use std::io::Write;
 

@@ -13,7 +13,7 @@
 use crate::calls::NotACall;
 use crate::formulas::{satisfies, value};
 use anyhow::{Context, Result};
-use giputils_sat::{Answer, AnswerUnder, Literal, Solver};
+use gipsat_solver::{Answer, AnswerUnder, Literal, Solver};
 use std::alloc::{AllocError, Global};
 use std::io::{self, Write};
 

@@ -8,7 +8,7 @@
 use crate::calls::NotACall;
 use crate::solver::{Given, Said};
 use anyhow::{Context, Result};
-use giputils_sat::Literal;
+use gipsat_solver::Literal;
 use std::alloc::{AllocError, Global};
 use std::io::{self, Write};
 
