@@ -10,12 +10,12 @@ there=$(mktemp -d) || exit 2
 trap 'rm -rf "$there"' EXIT
 cd "$there" && git init -q . || exit 2
 
-for crate in giputils_base giputils_heap giputils_sat; do
+for crate in giputils_base giputils_heap gipsat_solver; do
     mkdir -p "crates/$crate"
     cp -r "$here/crates/$crate"/{src,specs,proofs} "crates/$crate" || exit 2
     grep "^$crate:" "$here/crates.txt" >> crates.txt || exit 2
 done
-printf '%s\n' 'heap_caller: giputils_heap' 'solver_caller: giputils_sat' >> crates.txt
+printf '%s\n' 'heap_caller: giputils_heap' 'solver_caller: gipsat_solver' >> crates.txt
 mkdir -p crates/heap_caller/src crates/solver_caller/src
 cp "$here/crates/giputils_heap_trials/src/caller.rt" crates/heap_caller/src || exit 2
 cat > crates/heap_caller/src/main.rt << 'END'
@@ -50,7 +50,7 @@ cat > crates/solver_caller/src/main.rt << 'END'
 //! A caller of the solver.
 #![tactic(auto)]
 
-use giputils_sat::{Literal, Solver};
+use gipsat_solver::{Literal, Solver};
 use std::alloc::{AllocError, Allocator};
 use std::io;
 

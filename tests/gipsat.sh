@@ -10,8 +10,10 @@ if [ ! -x "$gipsat" ]; then
     exit 1
 fi
 stored=$(cd "$(dirname "$0")/../crates/gipsat" && pwd) || exit 2
+gipsat=$(realpath "$gipsat") || exit 2
 work=$(mktemp -d) || exit 2
 trap 'rm -rf "$work"' EXIT
+cd "$work" || exit 2
 passed=0
 failed=0
 
@@ -30,8 +32,9 @@ try() {
     fi
 }
 
-usage=$(printf '%s\n' 'usage: gipsat [--conflicts N] [--stats] [--proof FILE] [FILE]' '       gipsat --check FORMULA PROOF')
 clash='p cnf 1 2\n1 0\n-1 0\n'
+# shellcheck disable=SC2016
+none='<stdin>:1: no header `p cnf VARIABLES CLAUSES`'
 
 try "a formula in a file" 10 "" "$(cat "$stored/stdout")" "" "$stored/stdin"
 try "no clause" 10 "" "$(printf 's SATISFIABLE\nv -1 -2 0')" 'p cnf 2 0\n'
@@ -40,32 +43,143 @@ try "a clause of no literal" 20 "" "s UNSATISFIABLE" 'p cnf 1 1\n0\n'
 try "no conflict is allowed" 0 "" "s UNKNOWN" "$clash" --conflicts 0
 try "lines with carriage returns, comments, a clause over two lines" 10 "" "$(printf 's SATISFIABLE\nv 1 2 0')" \
     'c one\r\np cnf 2 2\r\n1\r\nc two\r\n0 -1\t2 0\r\n'
-try "an empty input" 1 'line 1: no header `p cnf VARIABLES CLAUSES`' "" ""
-try "a second header" 1 "line 2: a second header" "" 'p cnf 1 1\np cnf 1 1\n'
-try "a word that is no number" 1 "line 2: not a number" "" 'p cnf 1 1\n1 x 0\n'
-try "a variable past the header's" 1 "line 2: a variable that the header does not have" "" 'p cnf 1 1\n2 0\n'
-try "a number that is too great" 1 "line 2: a number past 2147483647" "" 'p cnf 1 1\n1 2147483648 0\n'
-try "a clause too many" 1 "line 3: more clauses than the header says" "" 'p cnf 1 1\n1 0\n1 0\n'
-try "a clause too few" 1 "line 3: fewer clauses than the header says" "" 'p cnf 1 2\n1 0\n'
-try "a clause without its end" 1 "line 3: a clause without its 0" "" 'p cnf 1 1\n1\n'
-try "a file that is not there" 1 "input: cannot be read" "" "" "$work/none"
-try "a folder" 1 "input: cannot be read" "" "" "$work"
-for words in "--other" "a b" "--check" "--check a" "--check a b c" "--stats --check a b" "--proof" "--conflicts" "--conflicts x" "--conflicts 18446744073709551616"; do
-    # shellcheck disable=SC2086
-    try "arguments $words" 2 "$usage" "" "$clash" $words
-done
-try "an argument that is no text" 1 "arguments: invalid data" "" "$clash" $'\xff'
+try "an empty input" 1 "$none" "" ""
+try "a second header" 1 "<stdin>:2: a second header" "" 'p cnf 1 1\np cnf 1 1\n'
+try "a word that is no number" 1 "<stdin>:2: not a number" "" 'p cnf 1 1\n1 x 0\n'
+try "a variable past the header's" 1 "<stdin>:2: a variable that the header does not have" "" 'p cnf 1 1\n2 0\n'
+try "a number that is too great" 1 "<stdin>:2: a number past 2147483647" "" 'p cnf 1 1\n1 2147483648 0\n'
+try "a clause too many" 1 "<stdin>:3: more clauses than the header says" "" 'p cnf 1 1\n1 0\n1 0\n'
+try "a clause too few" 1 "<stdin>:3: fewer clauses than the header says" "" 'p cnf 1 2\n1 0\n'
+try "a clause without its end" 1 "<stdin>:3: a clause without its 0" "" 'p cnf 1 1\n1\n'
 
-# An output that takes nothing.
-"$gipsat" "$stored/stdin" > /dev/full 2> "$work/err"
-status=$?
-if [ "$status" = 1 ] && [ "$(cat "$work/err")" = "output: cannot be written" ]; then
-    echo "ok: a full device"
-    passed=$((passed + 1))
-else
-    echo "FAILED: a full device (status $status, $(head -c 200 "$work/err"))"
-    failed=$((failed + 1))
+# Forms that are found in files.
+two=$(printf 's SATISFIABLE\nv 1 2 0')
+try "comments behind words and behind numbers" 10 "" "$two" 'p cnf 2 2\n1 c one\n0c two\n-1 2 0 c three\n'
+try "tabs, and several clauses in a line" 10 "" "$two" 'p\tcnf\t2\t2\n1\t0\t-1 2 0\n'
+try "no newline at the end" 10 "" "$two" 'p cnf 2 2\n1 0\n-1 2 0'
+try "a header over lines" 10 "" "$two" 'p cnf\n2\n2\n1 0\n-1 2 0\n'
+try "a header whose words are in two lines" 1 "<stdin>:1: no header \`p cnf VARIABLES CLAUSES\`" "" 'p\ncnf 2 2\n1 0\n-1 2 0\n'
+try "a zero with a minus" 10 "" "$two" 'p cnf 2 2\n1 -0\n-1 2 -0\n'
+try "a percent sign behind the last clause" 10 "" "$two" 'p cnf 2 2\n1 0\n-1 2 0\n%\n0\n\n'
+headless='1 0\n-1 2 0\n'
+# shellcheck disable=SC2016
+try "no header" 1 '<stdin>:1: no header `p cnf VARIABLES CLAUSES`' "" "$headless"
+try "no header, with --relaxed" 10 "" "$two" "$headless" --relaxed
+try "too few clauses, with --relaxed" 10 "" "$two" "p cnf 2 9\\n$headless" --relaxed
+try "too many clauses, with --relaxed" 10 "" "$two" "p cnf 2 1\\n$headless" --relaxed
+try "a variable past the header's, with --relaxed" 10 "" "$two" "p cnf 1 2\\n$headless" --relaxed
+try "a word that is no number, with --relaxed" 1 "<stdin>:1: not a number" "" '1 x 0\n' --relaxed
+printf 'p cnf 1 1\n1 0\n' | gzip > "$work/packed.gz"
+try "a formula in gzip" 1 "$work/packed.gz:1: gzip data (try: gzip -dc FILE | gipsat)" "" "" "$work/packed.gz"
+printf '\xfd7zXZ\x00\x00' > "$work/packed.xz"
+try "a formula in xz" 1 "$work/packed.xz:1: xz data (try: xz -dc FILE | gipsat)" "" "" "$work/packed.xz"
+
+# Files that can't be read. A message names the file, the line where there is one, and the cause.
+printf 'p cnf 1 1\n2 0\n' > "$work/broken"
+try "a broken file" 1 "$work/broken:2: a variable that the header does not have" "" "" "$work/broken"
+try "a file that is not there" 1 "$work/none: no such file" "" "" "$work/none"
+try "a folder" 1 "$work: is a directory" "" "" "$work"
+try "a file in a file's place" 1 "$work/broken/a: not a directory" "" "" "$work/broken/a"
+try "a name that is too long" 1 "$(printf 'a%.0s' {1..300}): invalid filename" "" "" "$(printf 'a%.0s' {1..300})"
+try "a file whose read fails" 1 "/proc/self/mem: cannot be read: Input/output error (os error 5)" "" "" /proc/self/mem
+chmod a-r "$work/broken"
+if [ ! -r "$work/broken" ]; then # the superuser reads it
+    try "a file that may not be read" 1 "$work/broken: permission denied" "" "" "$work/broken"
 fi
+try "an argument that is no text" 1 "arguments: not UTF-8 text" "" "$clash" $'\xff'
+
+# The command line. Options stand in any order, and the last of two values counts.
+try "standard input by a minus" 20 "" "s UNSATISFIABLE" "$clash" -
+cp "$stored/stdin" "$work/-odd"
+try "a file that begins with a minus" 10 "" "$(cat "$stored/stdout")" "" -- -odd
+try "a file that is named as an option" 1 "--stats: no such file" "" "" -- --stats
+try "options in any order" 0 "" "s UNKNOWN" "" "$stored/stdin" --conflicts 7 -q --stats --conflicts +0
+try "long options with their values in one word" 0 "" "s UNKNOWN" "" \
+    --time=60 --conflicts=7 "$stored/stdin" --conflicts=0
+try "two hyphens and no file" 20 "" "s UNSATISFIABLE" "$clash" --
+try "the version" 0 "" "gipsat 0.1.0" "" --version
+try "the version behind other words" 0 "" "gipsat 0.1.0" "" a --stats --version --other
+help=$("$gipsat" --help)
+try "the help" 0 "" "$help" "" -h
+for option in --conflicts -t --time -n --no-witness -q --quiet --stats --proof --binary -f --force --relaxed --check -h --help --version --; do
+    if printf '%s\n' "$help" | grep -qE -- "^ *([^ ]+ )?$option[ ,]"; then
+        echo "ok: the help tells of $option"
+        passed=$((passed + 1))
+    else
+        echo "FAILED: the help tells of $option"
+        failed=$((failed + 1))
+    fi
+done
+# MESSAGE [ARGUMENT..]: expects that these arguments have no meaning, for this reason.
+try_usage() {
+    try "arguments ${*:2}" 2 "gipsat: $1 (try --help)" "" "$clash" "${@:2}"
+}
+try_usage "unknown option '--other'" --other
+try_usage "unknown option '-x'" a -x
+try_usage "unknown option '-nq'" -nq
+try_usage "one file too many, 'b'" a b
+try_usage "one file too many, 'b'" - b
+try_usage "one file too many, '-b'" a -- -b
+try_usage "'--conflicts' needs a number behind it" --conflicts
+try_usage "'--time' needs a number behind it" a -t
+try_usage "'--proof' needs a file behind it" --proof
+try_usage "'--conflicts' takes a number below 2^64, not 'x'" --conflicts x
+try_usage "'--conflicts' takes a number below 2^64, not 'x'" --conflicts=x
+try_usage "'--time' takes a number below 2^64, not ''" --time=
+try_usage "unknown option '-t=9'" -t=9
+try_usage "unknown option '--stats=9'" --stats=9
+try_usage "unknown option '--=9'" --=9
+try_usage "'--conflicts' takes a number below 2^64, not '18446744073709551616'" --conflicts 18446744073709551616
+try_usage "'--conflicts' takes a number below 2^64, not '-1'" --conflicts -1
+try_usage "'--time' takes a number below 2^64, not '1.5'" --time 1.5
+try_usage "'--check' takes two files, FORMULA and PROOF" --check
+try_usage "'--check' takes two files, FORMULA and PROOF" --check a
+try_usage "one file too many, 'c'" --check a b c
+try_usage "'--check' takes no option '--stats'" --stats --check a b
+try_usage "'--check' takes no option '--proof'" --check --proof a b c
+try_usage "'--check' takes no option '--time=9'" --check --time=9 a b
+try_usage "'--check' takes one file at most from standard input" --check - -
+
+# On a terminal it tells that it reads standard input, but for `-q`.
+# NAME ERROR [ARGUMENT..]: types a formula, and expects this on standard error.
+try_typed() {
+    printf '%b' "$clash" > "$work/typed"
+    if python3 - "$work/typed" "$gipsat" "${@:3}" 2> "$work/err" <<'END' && [ "$(cat "$work/err")" = "$2" ]; then
+import os
+import pty
+import subprocess
+import sys
+keyboard, terminal = pty.openpty()
+os.write(keyboard, open(sys.argv[1], "rb").read() + b"\x04")
+ran = subprocess.run(sys.argv[2:], stdin=terminal, stdout=subprocess.PIPE, timeout=20)
+sys.exit(ran.returncode != 20 or ran.stdout != b"s UNSATISFIABLE\n")
+END
+        echo "ok: $1"
+        passed=$((passed + 1))
+    else
+        echo "FAILED: $1 ($(head -c 200 "$work/err"))"
+        failed=$((failed + 1))
+    fi
+}
+try_typed "a formula that is typed" "c reading standard input"
+try_typed "a formula that is typed to - and --" "c reading standard input" -- -
+try_typed "a formula that is typed in quiet" "" -q
+
+# An output that takes nothing. [ARGUMENT..]: of a run with these.
+try_full() {
+    "$gipsat" "$@" > /dev/full 2> "$work/err"
+    local status=$?
+    if [ "$status" = 1 ] && [ "$(cat "$work/err")" = "<stdout>: cannot be written: no space left" ]; then
+        echo "ok: a full device, $*"
+        passed=$((passed + 1))
+    else
+        echo "FAILED: a full device, $* (status $status, $(head -c 200 "$work/err"))"
+        failed=$((failed + 1))
+    fi
+}
+try_full "$stored/stdin"
+try_full --help
+try_full --version
 
 # Proofs, beside a formula that nothing satisfies: a square over 2 and 3 without 1, and one over 4 and 5 with it.
 squares='p cnf 5 8\n1 2 3 0\n1 2 -3 0\n1 -2 3 0\n1 -2 -3 0\n-1 4 5 0\n-1 4 -5 0\n-1 -4 5 0\n-1 -4 -5 0\n'
@@ -77,22 +191,107 @@ try_check() {
 }
 # NAME LINE REASON FORMULA PROOF: expects that this proof is refused.
 try_refused() {
-    try_check "$1" 1 "proof line $2: $3" "s NOT VERIFIED" "$4" "$5"
+    try_check "$1" 1 "$work/proof:$2: $3" "s NOT VERIFIED" "$4" "$5"
 }
-not_shown='a clause that unit propagation does not show'
+not_shown='a clause that is neither RUP nor RAT on its first literal'
 try_check "a proof" 0 "" "s VERIFIED" "$squares" '1 2 0\n1 0\n4 0\n0\n'
 try_check "a proof with a comment and a deletion" 0 "" "s VERIFIED" "$squares" 'c one\n1 2 0\nd 2 3 1 0\n1 0\n4 0\n0\n'
-try_refused "a clause left out" 2 "$not_shown" "$squares" '1 2 0\n4 0\n0\n'
+try_refused "a clause left out" 3 "$not_shown" "$squares" '1 2 0\n4 0\n0\n'
 try_refused "a literal turned" 1 "$not_shown" "$squares" '-1 2 0\n1 0\n4 0\n0\n'
-try_refused "another formula" 1 "$not_shown" 'p cnf 5 2\n1 2 3 0\n1 2 4 0\n' '1 2 0\n1 0\n4 0\n0\n'
+try_refused "another formula" 4 "$not_shown" 'p cnf 5 2\n1 2 3 0\n1 2 4 0\n' '1 2 0\n1 0\n4 0\n0\n'
 try_refused "a needed clause deleted" 2 "$not_shown" "$squares" 'd 1 2 3 0\n1 2 0\n1 0\n4 0\n0\n'
 try_refused "a deletion of what is not there" 1 "no such clause to delete" "$squares" 'd 1 2 0\n0\n'
-try_refused "a binary proof" 1 "not a number" "$squares" 'a\x02\x04\x00'
 try_refused "a proof that ends early" 2 "the end without the empty clause" "$squares" '1 2 0\n'
-try_check "a proof beside a broken formula" 1 "formula: line 2: not a number" "" 'p cnf 1 1\nx 0\n' '0\n'
+printf '%b' '\x1f\x8b\x08\x00' > "$work/squares.gz"
+try "a proof beside a formula in gzip" 1 \
+    "$work/squares.gz:1: gzip data (try: gzip -dc FORMULA | gipsat --check - PROOF)" "" "" \
+    --check "$work/squares.gz" "$work/proof"
+try_check "a proof beside a broken formula" 1 "$work/formula:2: not a number" "" 'p cnf 1 1\nx 0\n' '0\n'
 printf '%b' "$squares" > "$work/formula"
-try "no proof" 1 "proof: cannot be read" "" "" --check "$work/formula" "$work/none"
-try "a proof beside no formula" 1 "formula: input: cannot be read" "" "" --check "$work/none" "$work/proof"
+try "no proof" 1 "$work/none: no such file" "" "" --check "$work/formula" "$work/none"
+try "a proof beside no formula" 1 "$work/none: no such file" "" "" --check "$work/none" "$work/proof"
+
+# The forms of proofs. The binary ones write those above, each literal as a code.
+# NAME STATUS ERROR OUTPUT PROOF: checks this proof, which may be any bytes, beside the squares.
+try_bytes() {
+    try_check "$1" "$2" "$3" "$4" "$squares" "$5"
+}
+try_bytes "a binary proof" 0 "" "s VERIFIED" 'a\x02\x04\x00a\x02\x00a\x08\x00a\x00'
+try_bytes "a binary proof with a deletion" 0 "" "s VERIFIED" 'a\x02\x04\x00d\x04\x06\x02\x00a\x02\x00a\x08\x00'
+try_bytes "a binary proof that ends early" 1 "$work/proof: byte 4: the end without the empty clause" "s NOT VERIFIED" \
+    'a\x02\x04\x00'
+try_bytes "a binary clause that is not shown" 1 "$work/proof: byte 3: $not_shown" "s NOT VERIFIED" 'a\x02\x00'
+try_bytes "a binary step of no kind" 1 "$work/proof: byte 5: a step that begins with neither a nor d" "s NOT VERIFIED" \
+    'a\x02\x04\x00x\x02\x00'
+try_bytes "a text that is no proof" 1 "$work/proof:1: not a number" "s NOT VERIFIED" 'hello'
+# TOOL BYTES: a proof that begins with these bytes was compressed by this tool.
+try_compressed() {
+    try_bytes "a proof in $1" 1 "$work/proof: $1 data (try: $1 -dc PROOF | gipsat --check FORMULA -)" "" "$2"
+}
+try_compressed gzip '\x1f\x8b\x08\x00'
+try_compressed xz '\xfd7zXZ\x00'
+try_compressed bzip2 'BZh91AY'
+try_compressed zstd '\x28\xb5\x2f\xfd'
+try_bytes "a proof with picosat's first line" 1 \
+    "$work/proof: a first line with % (try: sed 1d PROOF | gipsat --check FORMULA -)" "" '%RUPD32 5 8\n1 2 0\n'
+for proof in 'o 1 1 2 3 0\n' 'a 9 1 2 0 l 1 2 0\n' 'o\x01\x02\x04\x06\x00'; do
+    try_bytes "a FRAT proof, $proof" 1 "$work/proof: the FRAT form, which is not read (DRAT is)" "" "$proof"
+done
+for proof in '' 'hello' '\x1f\x8b' 'a\x02'; do
+    try_check "a formula that is refuted by itself, beside '$proof'" 0 "" "s VERIFIED" "$clash" "$proof"
+done
+printf '%b' "$squares" > "$work/formula"
+printf '1 2 0\n1 0\n4 0\n0\n' | gzip > "$work/proof"
+for input in /dev/stdin -; do
+    if [ "$(gzip -dc "$work/proof" | "$gipsat" --check "$work/formula" "$input")" = "s VERIFIED" ]; then
+        echo "ok: a proof through gzip -dc from $input"
+        passed=$((passed + 1))
+    else
+        echo "FAILED: a proof through gzip -dc from $input"
+        failed=$((failed + 1))
+    fi
+done
+printf '1 2 0\n1 0\n4 0\n0\n' > "$work/proof"
+printf '%b' "$squares" | gzip > "$work/squares.gz"
+if [ "$(gzip -dc "$work/squares.gz" | "$gipsat" --check - "$work/proof")" = "s VERIFIED" ]; then
+    echo "ok: a formula through gzip -dc"
+    passed=$((passed + 1))
+else
+    echo "FAILED: a formula through gzip -dc"
+    failed=$((failed + 1))
+fi
+try "a proof beside a formula on standard input" 0 "" "s VERIFIED" "$squares" --check - "$work/proof"
+
+# Many deletions: of clauses with a repeated literal, of a clause that is there often, and of one that comes and goes.
+# Each run takes a fraction of a second. It takes some 20 where a deletion looks at each clause.
+python3 - "$work" << 'END'
+import sys
+triples = [(a, b, c) for a in range(1, 36) for b in range(36, 71) for c in range(71, 106)][:40000]
+
+
+def write(name, clauses, steps):
+    with open(f"{sys.argv[1]}/{name}.cnf", "w") as file:
+        file.write(f"p cnf 105 {len(clauses)}\n")
+        file.writelines(clauses)
+    with open(f"{sys.argv[1]}/{name}.drat", "w") as file:
+        file.writelines(steps)
+
+
+write("repeated", [f"{a} {a} {b} {c} 0\n" for a, b, c in triples], [f"d {a} {b} {c} 0\n" for a, b, c in triples])
+write("often", ["1 2 3 0\n"] * 40000, ["d 1 2 3 0\n"] * 40000)
+write("moved", ["1 2 0\n"] + [f"{a} {b} {c} 0\n" for a, b, c in triples], ["1 2 3 0\nd 1 2 3 0\n"] * 40000)
+END
+for name in repeated often moved; do
+    lines=$(wc -l < "$work/$name.drat")
+    timeout 5 "$gipsat" --check "$work/$name.cnf" "$work/$name.drat" > "$work/out" 2> "$work/err"
+    if [ "$(cat "$work/err")" = "$work/$name.drat:$((lines + 1)): the end without the empty clause" ]; then
+        echo "ok: deletions, $name"
+        passed=$((passed + 1))
+    else
+        echo "FAILED: deletions, $name ($(head -c 200 "$work/err"))"
+        failed=$((failed + 1))
+    fi
+done
 
 # Proofs that the program writes: of the squares, of six pigeons in five holes, and of eight in seven, which takes so many
 # conflicts that clauses leave the store.
@@ -113,7 +312,7 @@ END
 pigeons 5 > "$work/pigeons"
 pigeons 7 > "$work/crowd"
 for formula in formula pigeons crowd; do
-    try "a proof of $formula is written" 20 "" "s UNSATISFIABLE" "" --proof "$work/written" "$work/$formula"
+    try "a proof of $formula is written" 20 "" "s UNSATISFIABLE" "" -q --proof "$work/written" "$work/$formula"
     try "the proof of $formula is checked" 0 "" "s VERIFIED" "" --check "$work/$formula" "$work/written"
 done
 if grep -q '^d ' "$work/written"; then
@@ -124,22 +323,130 @@ else
     failed=$((failed + 1))
 fi
 try "a proof of the pigeons beside another formula" 1 \
-    "proof line 1: a variable that the formula does not have" "s NOT VERIFIED" "" --check "$work/formula" "$work/written"
-try "a proof that can't be opened" 1 "output: cannot be written" "" "" --proof "$work/none/proof" "$work/formula"
-try "a proof to a full device" 1 "output: cannot be written" "" "" --proof /dev/full "$work/formula"
-try "a proof in the place of the formula" 1 "output: cannot be written" "" "" --proof "$work/formula" "$work/formula"
-try "the formula still stands" 20 "" "s UNSATISFIABLE" "" "$work/formula"
+    "$work/written:1: a variable that the formula does not have" "s NOT VERIFIED" "" --check "$work/formula" "$work/written"
+try "a proof that can't be opened" 1 "$work/none/proof: no such file" "" "" --proof "$work/none/proof" "$work/formula"
+try "a proof in a folder's place" 1 "$work: is a directory" "" "" --proof "$work" "$work/formula"
+try "a proof to a full device" 1 "/dev/full: cannot be written: no space left" "" "" --proof /dev/full "$work/formula"
 
 # What is told at the end, on standard error. One clause is learned, of one literal.
-told='c 2 conflicts, 0 restarts, 5 clauses kept, 0 forgotten, 1.000000 literals in each of the last learned'
+told='c 2 conflicts, 0 restarts, 5 clauses kept, 0 deleted, 1.000000 literals in each of the last learned'
 printf 'p cnf 2 4\n1 2 0\n-1 2 0\n1 -2 0\n-1 -2 0\n' | "$gipsat" --stats > "$work/out" 2> "$work/err"
-if [ "$(cat "$work/out")" = "s UNSATISFIABLE" ] && [ "$(head -n 1 "$work/err")" = "$told" ]; then
+if [ "$(cat "$work/out")" = "s UNSATISFIABLE" ] && grep -qxF "$told" "$work/err" &&
+    grep -q '^c 2 variables, 4 clauses read in [0-9]*\.[0-9]\{3\} s$' "$work/err" &&
+    grep -q '^c [0-9]*\.[0-9]\{3\} s, [0-9]* kB of memory at most$' "$work/err"; then
     echo "ok: a summary"
     passed=$((passed + 1))
 else
     echo "FAILED: a summary ($(head -c 200 "$work/err"))"
     failed=$((failed + 1))
 fi
+
+# Nothing is lost. The formula is read whole before the proof's file is made, and no formula is written over.
+# NAME STATUS ERROR OUTPUT FILE INPUT [ARGUMENT..]: as `try`, and then that the file still holds what it held.
+try_kept() {
+    local name=$1 file=$5
+    cp "$file" "$work/held"
+    try "$name" "$2" "$3" "$4" "$6" "${@:7}"
+    if cmp -s "$file" "$work/held"; then
+        echo "ok: $name: the file is as it was"
+        passed=$((passed + 1))
+    else
+        echo "FAILED: $name: the file is as it was"
+        failed=$((failed + 1))
+    fi
+}
+kept="$work/kept.cnf"
+printf '%b' "$squares" > "$kept"
+ln -s kept.cnf "$work/link"
+ln "$kept" "$work/hard"
+over='begins as a formula does (--force writes over it)'
+try_kept "the proof's name is forgotten" 1 "$kept: $over" "" "$kept" "$squares" --proof "$kept"
+try_kept "no formula at all" 1 "$none" "" "$kept" "" --proof "$kept"
+try_kept "the formula by its name" 1 "$kept: $over" "" "$kept" "" --proof "$kept" "$kept"
+try_kept "the formula by another name" 1 "$work/./kept.cnf: $over" "" "$kept" "" --proof "$work/./kept.cnf" "$kept"
+try_kept "the formula by a symbolic link" 1 "$work/link: $over" "" "$kept" "" --proof "$work/link" "$kept"
+try_kept "the formula by a hard link" 1 "$work/hard: $over" "" "$kept" "" --proof "$work/hard" "$kept"
+try_kept "the formula on standard input" 1 "$kept: $over" "" "$kept" "$squares" --proof "$kept"
+printf 'c a comment\r\n\n  c another\np  cnf 1 1\n1 0\n' > "$work/other.cnf"
+try_kept "another formula" 1 "$work/other.cnf: $over" "" "$work/other.cnf" "" --proof "$work/other.cnf" "$kept"
+{ yes 'c a comment' | head -c 70000; printf 'p cnf 1 1\n1 0\n'; } > "$work/comments.cnf"
+try_kept "a formula behind many comments" 1 "$work/comments.cnf: $over" "" "$work/comments.cnf" "" \
+    --proof "$work/comments.cnf" "$kept"
+printf '1 0\n0\n' > "$work/old"
+try_kept "an old proof, and a refused formula" 1 "<stdin>:2: not a number" "" "$work/old" 'p cnf 1 1\nx 0\n' --proof "$work/old"
+there='is there, and may be a formula (--force writes over it)'
+try_kept "an old proof, and no formula file" 1 "$work/old: $there" "" "$work/old" "$squares" --proof "$work/old"
+printf '1 0\n-1 0\n' > "$work/bare.cnf"
+ln -s bare.cnf "$work/bare_link"
+ln "$work/bare.cnf" "$work/bare_hard"
+try_kept "a formula without a header by its name" 1 "$work/bare.cnf: $over" "" "$work/bare.cnf" "" \
+    --relaxed --proof "$work/bare.cnf" "$work/bare.cnf"
+try_kept "a formula without a header by another name" 1 "$work/./bare.cnf: $there" "" "$work/bare.cnf" "" \
+    --relaxed --proof "$work/./bare.cnf" "$work/bare.cnf"
+try_kept "a formula without a header by a symbolic link" 1 "$work/bare_link: $there" "" "$work/bare.cnf" "" \
+    --relaxed --proof "$work/bare_link" "$work/bare.cnf"
+try_kept "a formula without a header by a hard link" 1 "$work/bare_hard: $there" "" "$work/bare.cnf" "" \
+    --relaxed --proof "$work/bare_hard" "$work/bare.cnf"
+printf '\vp cnf 1 2\n1 0\n-1 0\n' > "$work/tabbed.cnf"
+try_kept "a formula behind a vertical tab" 1 "$work/./tabbed.cnf: $over" "" "$work/tabbed.cnf" "" \
+    --proof "$work/./tabbed.cnf" "$work/tabbed.cnf"
+try "an old proof is written over" 20 "" "s UNSATISFIABLE" "" --proof "$work/old" "$kept"
+try "that proof is checked" 0 "" "s VERIFIED" "" --check "$kept" "$work/old"
+: > "$work/empty"
+try "an empty file, and no formula file" 20 "" "s UNSATISFIABLE" "$squares" --proof "$work/empty"
+try "that proof is checked too" 0 "" "s VERIFIED" "" --check "$kept" "$work/empty"
+cp "$kept" "$work/forced.cnf"
+try "a formula is written over by force" 20 "" "s UNSATISFIABLE" "" --force --proof "$work/forced.cnf" "$kept"
+try "that proof is checked as well" 0 "" "s VERIFIED" "" --check "$kept" "$work/forced.cnf"
+
+# A proof that can't be written further ends the search, which would take hours.
+pigeons 11 > "$work/many"
+timeout 60 "$gipsat" -q --proof /dev/full "$work/many" > "$work/out" 2> "$work/err"
+status=$?
+if [ "$status" = 1 ] && [ ! -s "$work/out" ] && [ "$(cat "$work/err")" = "/dev/full: cannot be written: no space left" ]; then
+    echo "ok: a proof to a full device ends the search"
+    passed=$((passed + 1))
+else
+    echo "FAILED: a proof to a full device ends the search (status $status, $(head -c 200 "$work/err"))"
+    failed=$((failed + 1))
+fi
+
+# A proof in the binary form: the steps of the clash, which needs none but the last, and proofs that are checked.
+try "a binary proof is written" 20 "" "s UNSATISFIABLE" "" --binary --proof "$work/bytes" "$kept"
+try "that binary proof is checked" 0 "" "s VERIFIED" "" --check "$kept" "$work/bytes"
+if [ "$(head -c 1 "$work/bytes")" = a ] && [ "$(tail -c 2 "$work/bytes" | od -An -tx1)" = " 61 00" ]; then
+    echo "ok: a binary proof has its form"
+    passed=$((passed + 1))
+else
+    echo "FAILED: a binary proof has its form ($(od -An -tx1 "$work/bytes" | head -n 2))"
+    failed=$((failed + 1))
+fi
+try "a proof is written to a name behind =" 20 "" "s UNSATISFIABLE" "" "--proof=$work/joined" "$kept"
+try "that proof behind = is checked" 0 "" "s VERIFIED" "" --check "$kept" "$work/joined"
+try "a larger binary proof is written" 20 "" "s UNSATISFIABLE" "" -q --binary --proof "$work/bytes" "$work/crowd"
+try "that larger binary proof is checked" 0 "" "s VERIFIED" "" --check "$work/crowd" "$work/bytes"
+
+# A summary has no average of nothing.
+printf 'p cnf 2 1\n1 2 0\n' | "$gipsat" --stats > "$work/out" 2> "$work/err"
+if grep -q '^c 0 conflicts, 0 restarts, 1 clauses kept, 0 deleted$' "$work/err" && ! grep -q NaN "$work/err"; then
+    echo "ok: a summary without a conflict"
+    passed=$((passed + 1))
+else
+    echo "FAILED: a summary without a conflict ($(head -c 300 "$work/err"))"
+    failed=$((failed + 1))
+fi
+
+# A time limit ends the search, without an answer.
+timeout 60 "$gipsat" --time 1 "$work/many" > "$work/out" 2> "$work/err"
+status=$?
+if [ "$status" = 0 ] && [ "$(cat "$work/out")" = "s UNKNOWN" ]; then
+    echo "ok: a time limit"
+    passed=$((passed + 1))
+else
+    echo "FAILED: a time limit (status $status, $(head -c 200 "$work/err"), $(head -c 200 "$work/out"))"
+    failed=$((failed + 1))
+fi
+try "no witness is wanted" 10 "" "s SATISFIABLE" 'p cnf 1 1\n1 0\n' -n
 
 echo "$passed passed, $failed failed"
 [ "$failed" -eq 0 ]

@@ -1,14 +1,15 @@
 #!/usr/bin/env python3
 """Compares the pages with the sources, and ends with 'N passed, M failed'.
 
-`tests/pages.py --write` writes the quotes anew.
+`tests/pages.py --write` writes the quotes and docs/DEFINITIONS.md anew.
 
-A page for callers, crates/NAME/CALLING.md, quotes the sources between a line `<!-- quote ... -->` and the next line
-`<!-- end -->`; all else is written by hand.
+Each crate of containers has a page crates/NAME/README.md, with the parts that PARTS lists. A page for callers,
+crates/NAME/CALLING.md, quotes the sources. These and the README of the root may quote, between a line
+`<!-- quote ... -->` and the next line `<!-- end -->`; all else is written by hand.
 
     <!-- quote file giputils_uses/src/drain.rt -->   a file below crates/
     <!-- quote file giputils_uses/src/activity.rt: bump pick -->
-                                                    the same, with these methods alone in its impls
+                                                    the same, with these functions and methods alone
     <!-- quote functions gipsat/src/main.rt: solve -->
                                                     these functions of a file alone
     <!-- quote contracts -->                         the public contracts of the crate
@@ -17,14 +18,16 @@ A page for callers, crates/NAME/CALLING.md, quotes the sources between a line `<
     <!-- quote lemmas Ranks: name name -->           statements of public lemmas of the crate, from proofs/Ranks.antt
 
 In a contract `S` is what `self` points to at the call, and `S'` at the return. An item is public if it is `pub` in a
-public module, or if a public module names it by `pub use`. A public function that is not quoted stands on the page by
-name.
+public module, or if a public module names it by `pub use`. A public function that is not quoted on a page for callers
+stands there, or in the README beside it, by name.
 
-Of the README, each example in Rust stands in giputils_trials/src/examples.rt, and the script is the one that `gip` is
-run on; the lines that docs/ELSEWHERE.md names are as crates.txt has them. docs/DEFINITIONS.md lists, in items that
-begin with `- `, each word of specs/ that a public contract uses, and no name that no specs/ defines; the crate
-`giputils` hands out the files that have these words, and all public lemmas. Each file that a page names is there, and
-no line has more than 120 columns, but for imports that are quoted.
+Each line of an example in Rust on a README stands in giputils_trials/src/examples.rt, its imports under the names that
+`giputils` gives them. The page of `gip` has the script that `gip` is run on, with its replies. The lines that
+docs/ELSEWHERE.md names are as crates.txt has them. docs/DEFINITIONS.md is written by `--write` alone: each word of
+specs/ that a public contract uses, with its arguments and the comment above its definition; and the crate `giputils`
+hands out the files that have these words, and all public lemmas. On the map, docs/DESIGN.md, the entry of each crate
+names all its modules, and no module that is not there. Each file that a page names is there, no line has more than 120
+columns, but for imports that are quoted, and no page is longer than LENGTHS allows.
 """
 
 import pathlib
@@ -36,6 +39,24 @@ ROOT = pathlib.Path(__file__).resolve().parent.parent
 CRATES = ROOT / "crates"
 GATHERED = ("giputils_base", "giputils_bits", "giputils_heap", "giputils_stat")
 WIDTH = 120
+LENGTHS = {"README.md": 80, "crates/README.md": 120, "crates/CALLING.md": 150}
+DIFFERS, PROVED, TESTED = "## What differs from the Rust crate", "## What is proved", "## What is only tested"
+EXAMPLE, CHOICES, COST = "## Example", "## Choices", "## Cost"
+ALL = (EXAMPLE, DIFFERS, PROVED, TESTED, CHOICES, COST)
+# What the READMEs of crates have, besides a heading. Those of other crates may have any parts.
+PARTS = {
+    "giputils": (EXAMPLE, DIFFERS),
+    "giputils_base": ALL,
+    "giputils_bits": ALL,
+    "giputils_heap": ALL,
+    "giputils_stat": ALL,
+    "giputils_refusing": (EXAMPLE, PROVED, TESTED, CHOICES),
+    "gip_lines": (PROVED, TESTED, CHOICES, COST),
+    "gip": (EXAMPLE,),
+    "giputils_uses": (PROVED, TESTED, CHOICES),
+    "giputils_replay": (TESTED,),
+    "giputils_bench": ("## Workloads", "## How to measure"),
+}
 
 QUOTE = re.compile(r"(<!-- quote (.*?) -->\n).*?(<!-- end -->\n)", re.DOTALL)
 TOP = re.compile(r"^(?:pub (?:const )?fn|pub trait|impl)\b.*?(?:^\}|\{\}$)", re.DOTALL | re.MULTILINE)
@@ -45,7 +66,12 @@ OWN = re.compile(r"^(pub )?(?:pub\(\w+\) )?(?:const )?(?:fn|struct|enum|trait|ty
 USE = re.compile(r"^ *pub use ((?:\w+::)*)(\w+|\*|\{[^}]*\});", re.MULTILINE)
 METHOD = re.compile(r"(?:^    (?://|#)[^\n]*\n)*^    (?:pub )?fn (\w+).*?^    \}\n\n?", re.DOTALL | re.MULTILINE)
 FREE = re.compile(r"(?:^(?://|#)[^\n]*\n)*^(?:pub )?fn (\w+).*?^\}$", re.DOTALL | re.MULTILINE)
-DEFINED = re.compile(r"^ *(?:\w+ +)*([^\s:(){}]+)(?=[ :({])", re.MULTILINE)
+DEFINED = re.compile(r"^(?:  )?(?:(?:abbrev|unfoldable|pub|record|data) +)+(?!use |mod )([^\s:(){}]+)(?=[ :({]|$)")
+PREFACE = """# Definitions
+
+What the words of public contracts mean, crate by crate. `tests/pages.py --write` makes this page from the comments in
+`specs/`, where the definitions stand. Parameters that a whole module has, as the numbers of keys, are left out. A
+relation `R s o` on keys says that s is at least o."""
 LEMMA = re.compile(r"^( *)(pub )?(?:unfoldable )?([^\s:(){}]+) :(?= |$)(.*(?:\n(?:\1 +.*)?)*)", re.MULTILINE)
 
 
@@ -153,9 +179,10 @@ def contracts(crate, text, chosen, named, met):
     return in_short(lines)
 
 
-def with_methods(text, chosen):
-    """A text in which the impls have the methods that are chosen alone."""
-    text = METHOD.sub(lambda m: m[0] if m[1] in chosen else "", text)
+def with_functions(text, chosen):
+    """A text that has the functions and methods that are chosen alone."""
+    for function in (METHOD, re.compile(FREE.pattern + r"\n*", FREE.flags)):
+        text = function.sub(lambda m: m[0] if m[1] in chosen else "", text)
     return re.sub(r"\n\n(?=\})", "\n", re.sub(r"(?<=\{\n)\n", "", text))
 
 
@@ -211,7 +238,7 @@ def quote(page, what, complaints):
             lines, lost = functions_of(text, chosen)
             complaints += [f"{file.name} has no function {name}" for name in lost]
             return ["```rust", *lines, "```"]
-        return ["```rust", *(with_methods(text, chosen) if chosen else text).rstrip().split("\n"), "```"]
+        return ["```rust", *(with_functions(text, chosen) if chosen else text).rstrip().split("\n"), "```"]
     if kind.startswith("lemmas "):
         file = page.parent / "proofs" / f"{kind.removeprefix('lemmas ')}.antt"
         lines, lost = lemmas(file, chosen) if file.is_file() else ([], chosen)
@@ -222,7 +249,8 @@ def quote(page, what, complaints):
     for file, text in crate.texts.items():
         found = contracts(crate, text, set(chosen), named, met)
         lines += [f"// {file.relative_to(page.parent)}", *found, ""] if found else []
-    words = re.findall(r"`([^`]+)`", QUOTE.sub("", page.read_text(encoding="utf-8")))
+    beside = [each for each in (page, page.with_name("README.md")) if each.is_file()]
+    words = re.findall(r"`([^`]+)`", "".join(QUOTE.sub("", each.read_text(encoding="utf-8")) for each in beside))
     told = {each for name in chosen for each in name.split("::")} | set(re.findall(r"\w+", " ".join(words)))
     complaints += [f"{name} is neither quoted nor named" for name in sorted(named - told) if chosen]
     complaints += [f"there is no public {name}" for name in chosen if name not in met]
@@ -246,23 +274,44 @@ def lost_files(text):
     return lost
 
 
-def sound(text):
-    """What is wrong with a page's lines and with the files that it names."""
-    return too_wide(text) + lost_files(text)
+def too_long(page, text):
+    """Whether a page has too many lines."""
+    path = page.relative_to(ROOT)
+    kind = f"crates/{path.name}" if path.parts[0] == "crates" else str(path)
+    most = LENGTHS.get(kind)
+    count = text.count("\n")
+    return [f"it has {count} lines, and {most} are allowed"] if most and count > most else []
 
 
-def page_for_callers(page):
-    """What is wrong with a page for callers."""
-    complaints = []
+def lost_pages(page, text):
+    """The links to pages of the repository that are not there."""
+    links = re.findall(r"\]\(([^)#:]+)(?:#[^)]*)?\)", QUOTE.sub("", text))
+    return [f"there is no page {link}" for link in links if not (page.parent / link).exists()]
+
+
+def sound(page, text):
+    """What is wrong with a page's lines, its length, and the files that it names."""
+    return too_wide(text) + too_long(page, text) + lost_files(text) + lost_pages(page, text)
+
+
+def with_quotes(page, complaints):
+    """A page's text with its quotes as they should be, which `--write` writes."""
     text = page.read_text(encoding="utf-8")
     wanted = QUOTE.sub(lambda m: "\n".join([*marker(m[1]), *quote(page, m[2], complaints), m[3]]), text)
     if "--write" in sys.argv:
         page.write_text(wanted, encoding="utf-8")
     elif text != wanted:
         complaints.append("it does not quote the sources as they are: tests/pages.py --write")
+    return wanted
+
+
+def page_for_callers(page):
+    """What is wrong with a page for callers."""
+    complaints = []
+    text = with_quotes(page, complaints)
     if not QUOTE.search(text):
         complaints.append("it quotes nothing")
-    return complaints + sound(wanted)
+    return complaints + sound(page, text)
 
 
 def packed(text):
@@ -270,18 +319,43 @@ def packed(text):
     return re.sub(r"\s", "", re.sub(r"//.*", "", text))
 
 
-def readme(page):
-    """What is wrong with the README: lines of examples that no test has, and another script than the one that is run."""
-    text = page.read_text(encoding="utf-8")
+def examples(text):
+    """The lines of a page's examples in Rust that no test has, imports by the names that `giputils` gives them."""
     tests = packed((CRATES / "giputils_trials/src/examples.rt").read_text(encoding="utf-8"))
-    complaints = sound(text)
-    for example in re.findall(r"^```rust\n(.*?)^```", text, re.DOTALL | re.MULTILINE):
-        lines = [line for line in example.split("\n") if packed(line) and packed(line) not in tests]
-        complaints += [f"no test has the line {line.strip()}" for line in lines]
-    script = ", ".join(f"`{line}`" for line in (CRATES / "gip/stdin").read_text(encoding="utf-8").splitlines())
-    if script not in " ".join(text.split()):
-        complaints.append("its script is not the one of crates/gip/stdin")
+    found = re.findall(r"^```rust\n(.*?)^```", QUOTE.sub("", text), re.DOTALL | re.MULTILINE)
+    lines = [line for example in found for line in example.split("\n") if packed(line)]
+    complaints = []
+    for line in lines:
+        named = re.sub(r"giputils_(?:base(?:::others)?|bits|stat)::", "giputils::", line)
+        if packed(named.replace("giputils_heap::", "giputils::heap::")) not in tests:
+            complaints.append(f"no test has the line {line.strip()}")
     return complaints
+
+
+def readme(page):
+    """What is wrong with the README."""
+    complaints = []
+    text = with_quotes(page, complaints)
+    return complaints + sound(page, text) + examples(text)
+
+
+def readme_of_crate(page):
+    """What is wrong with the README of a crate: the parts that it lacks, and another script than `gip` is run on."""
+    complaints, crate = [], page.parent.name
+    if not page.is_file():
+        return ["it is not there"]
+    text = with_quotes(page, complaints)
+    if crate not in PARTS:
+        return complaints + sound(page, text)
+    heads = re.findall(r"^##? .*$", QUOTE.sub("", text), re.MULTILINE)
+    complaints += [f"it has no part {part}" for part in (f"# `{crate}`", *PARTS[crate]) if part not in heads]
+    if EXAMPLE in PARTS[crate] and crate != "gip" and f"`your_crate: {crate}" not in text:
+        complaints.append("it does not say the line of crates.txt")
+    for name in ("stdin", "stdout") if crate == "gip" else ():
+        lines = (page.parent / name).read_text(encoding="utf-8").splitlines()
+        if ", ".join(f"`{line}`" for line in lines) not in " ".join(text.split()):
+            complaints.append(f"it has not the lines of crates/gip/{name}")
+    return complaints + sound(page, text) + examples(text)
 
 
 def elsewhere(page):
@@ -289,7 +363,7 @@ def elsewhere(page):
     text = page.read_text(encoding="utf-8")
     lines = (ROOT / "crates.txt").read_text(encoding="utf-8").splitlines()
     named = re.findall(r"`(\w+: [^`]*)`", text)
-    return sound(text) + [f"crates.txt has no line {line}" for line in named if line not in lines]
+    return sound(page, text) + [f"crates.txt has no line {line}" for line in named if line not in lines]
 
 
 def handed_on():
@@ -325,28 +399,91 @@ def not_gathered(files):
     return [f"giputils does not hand out {file}" for file in lost]
 
 
+def applied(name, lines):
+    """A definition's name with the names of its arguments, where its one equation or its record tells them."""
+    record = re.match(rf" *(?:pub )?record {re.escape(name)}\b(.*?) : Type", " ".join(lines[:3]))
+    if record:
+        return " ".join([name, *" ".join(re.findall(r"\(([^:()]+) :", record[1])).split()])
+    own = [line for line in lines[1:] if re.match(rf" *{re.escape(name)}(?: [^=]*)? =", line)]
+    plain = re.match(rf" *({re.escape(name)}(?: [a-zA-Z]\w*)*) =", own[0]) if len(own) == 1 else None
+    return plain[1] if plain else name
+
+
+def defined_in(path):
+    """The definitions of a file of specs/, in order: each name, with its arguments, and with the comment above it, or
+    above those before it."""
+    found, comment, section, open_comment = [], "", "", False
+    lines = path.read_text(encoding="utf-8").split("\n")
+    for number, line in enumerate(lines):
+        said = re.match(r" *--( -{3,})? ?(.*)", line)
+        name = DEFINED.match(line)
+        if said and said[1]:
+            section = f"{said[2]}: "
+        elif said:
+            comment = f"{comment} {said[2]}" if open_comment else section + said[2]
+        elif line.startswith("use "):
+            comment = ""
+        elif name:
+            end = next((n for n in range(number, len(lines)) if not lines[n].strip()), len(lines))
+            found.append((name[1], applied(name[1], lines[number:end]), comment))
+        open_comment = bool(said)
+    return found
+
+
 def definitions(page):
-    """What is wrong with the list of definitions: names that no specs/ has, and words of contracts that it lacks."""
-    text = page.read_text(encoding="utf-8")
-    files = sorted(CRATES.glob("*/specs/**/*.antt"))
-    known = {path.stem for path in files} | {path.name for path in CRATES.iterdir()}
-    known |= {f"{path.parent.name}/{path.stem}" for path in files}
+    """What is wrong with the list of definitions: words of contracts that have no comment, and another text."""
     words = words_of_contracts()
-    known |= {*words, *(part for file in handed_on() for part in file.split("."))}
-    known |= {name for path in files for name in DEFINED.findall(path.read_text(encoding="utf-8"))}
-    heads = re.findall(r"^- (.*?)(?:: |$)", re.sub(r"\n  +", " ", text), re.MULTILINE)
-    names = [name for head in heads for name in re.findall(r"`([^`]+)`", head)]
-    complaints = [f"no specs/ has {name}" for name in names if name not in known]
-    complaints += [f"{name} of {file} is not listed" for name, file in words.items() if name not in names]
-    return sound(text) + complaints + not_gathered(set(words.values()))
+    lines, complaints, crate = [PREFACE], not_gathered(set(words.values())), None
+    for file in sorted({file for file in words.values() if file.startswith("gip")}):
+        path = CRATES / f"{file.replace('.', '/')}.antt"
+        if crate != path.parts[-len(file.split("."))]:
+            crate = file.split(".")[0]
+            lines += ["", f"## {crate}"]
+        lines += ["", f"`{path.relative_to(CRATES / crate).with_suffix('')}`", ""]
+        wanted = {name for name, place in words.items() if place == file}
+        defined = [(name, shown, comment) for name, shown, comment in defined_in(path) if name in wanted]
+        told = {name for name, _, comment in defined if comment}
+        complaints += [f"{name} of {file} has no comment" for name in sorted(wanted - told)]
+        for comment in dict.fromkeys(comment for _, _, comment in defined):
+            names = ", ".join(f"`{shown}`" for _, shown, other in defined if other == comment)
+            text = re.sub(r"`[^`]*`", lambda m: m[0].replace(" ", "\0"), f"- {names}: {comment}")
+            text = textwrap.wrap(text, WIDTH, subsequent_indent="  ", break_long_words=False, break_on_hyphens=False)
+            lines += [line.replace("\0", " ") for line in text]
+    wanted = "\n".join([*lines, ""])
+    if "--write" in sys.argv:
+        page.write_text(wanted, encoding="utf-8")
+    elif not page.is_file() or page.read_text(encoding="utf-8") != wanted:
+        complaints.append("it does not say what specs/ says: tests/pages.py --write")
+    return complaints + sound(page, wanted)
+
+
+def map_of_crates(page):
+    """What is wrong with the map: modules that a crate's entry does not name, and names that are no module of it."""
+    text = page.read_text(encoding="utf-8")
+    part = text.partition("## Crates\n")[2].partition("\n## ")[0]
+    complaints, crates = [], {path.name for path in CRATES.iterdir() if (path / "src").is_dir()}
+    entries = re.findall(r"^- \*\*`(\w+)`\*\*(.*?)(?=^\S|\Z)", part, re.DOTALL | re.MULTILINE)
+    complaints += [f"it has no entry of {crate}" for crate in sorted(crates - {crate for crate, _ in entries})]
+    for crate, entry in entries:
+        files = list((CRATES / crate / "src").rglob("*.rt"))
+        modules = {path.stem for path in files} - {"lib", "main"}
+        entry = re.sub(r"^ *\|.*$", "", entry, flags=re.MULTILINE)
+        named = set(re.findall(r"`([a-z_]+)`", entry))
+        sources = "".join(path.read_text(encoding="utf-8") for path in files)
+        known = modules | crates | {word for word in named if re.search(rf"\b{word}\b", sources)}
+        complaints += [f"{crate} has a module {name} that it does not name" for name in sorted(modules - named)]
+        complaints += [f"{crate} has no module {name}" for name in sorted(named - known)]
+    return complaints + sound(page, text)
 
 
 def main():
     pages = {page: page_for_callers for page in sorted(CRATES.glob("*/CALLING.md"))}
-    plain = lambda page: sound(page.read_text(encoding="utf-8"))
+    pages |= {CRATES / crate / "README.md": readme_of_crate for crate in PARTS}
+    pages |= {page: readme_of_crate for page in sorted(CRATES.glob("*/README.md"))}
+    plain = lambda page: sound(page, page.read_text(encoding="utf-8"))
     pages |= {page: plain for page in sorted((ROOT / "docs").glob("*.md"))}
     pages |= {ROOT / "docs/DEFINITIONS.md": definitions, ROOT / "docs/ELSEWHERE.md": elsewhere}
-    pages |= {ROOT / "README.md": readme}
+    pages |= {ROOT / "docs/DESIGN.md": map_of_crates, ROOT / "README.md": readme}
     failed = 0
     for page, look in pages.items():
         complaints = look(page)
