@@ -136,7 +136,10 @@ fn begins_as_formula(mut text: &[u8]) -> Option<bool> {
 
 // What stands behind the first blanks of a text.
 fn behind_blanks(text: &[u8]) -> &[u8] {
-    match text.iter().position(|byte| !byte.is_ascii_whitespace() && *byte != b'\x0B') {
+    match text
+        .iter()
+        .position(|byte| !byte.is_ascii_whitespace() && *byte != b'\x0B')
+    {
         Some(start) => &text[start..],
         None => &[],
     }
