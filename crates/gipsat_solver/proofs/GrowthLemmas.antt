@@ -1,5 +1,5 @@
 -- Lists that are cut or filled up with their default.
-use Rattle.std.proofs.Common.{◌≡◌, ◌∙◌, ℕ, ◌-◌, ◌≤◌, List, [], ◌∷◌, ◌++◌, Bool, false, length, get_or, take, replicate, suc, zero, refl, sym, ap, arith, ⊎_elim}
+use Rattle.std.proofs.Common.{◌≡◌, ◌∙◌, ℕ, ◌-◌, ◌≤◌, List, ◌++◌, length, get_or, take, replicate, refl, sym, ap, arith, ⊎_elim}
 use Rattle.std.proofs.Math.ListN.{get_or-eq_default}
 use Rattle.std.proofs.Math.Path.{fun_ext}
 use Rattle.std.proofs.lemmas.Bool.{cases_lt}
@@ -23,9 +23,3 @@ pub by_rank-filled : (xs : List ℕ) (n k : ℕ) → length xs ≤ n → by_rank
 by_rank-filled xs n k fits =
     ap (λ ys. by_rank (λ v. v) (ys ++ replicate k 0)) (take_all n xs fits)
     ∙ fun_ext (λ s. fun_ext (λ o. rw (filled xs k s, filled xs k o) refl))
-
-none_at : (xs : List Bool) (n k i : ℕ) → get_or xs i false ≡ false → get_or (take n xs ++ replicate k false) i false ≡ false
-none_at xs zero k i none = default_at k i false
-none_at [] (suc n) k i none = default_at k i false
-none_at (x ∷ xs) (suc n) k zero none = none
-none_at (x ∷ xs) (suc n) k (suc i) none = none_at xs n k i none

@@ -146,19 +146,3 @@ Learns_pushed old new c formula pushed more = record {
   kept = kept_pushed old new c pushed;
   adds = adds_pushed old new c pushed more;
 }
-
-pub Learns_both : (u v w : SolverState) → Learns u v → Learns v w → Learns u w
-Learns_both u v w first then = record {
-  formula = then.formula ∙ first.formula;
-  kept = kept_both u v w first.kept then.kept;
-  adds = omega (arith, first.adds, then.adds);
-}
-
--- a state with the same clauses, and room for more variables
-pub Learns_raised : (old new : SolverState) → new.formula ≡ old.formula → new.clauses ≡ old.clauses → new.learned ≡ old.learned
-    → Learns old new
-Learns_raised old new formula clauses learned = record {
-  formula = formula;
-  kept = ap (take (length old.clauses)) clauses ∙ take_all (length old.clauses) old.clauses (omega arith);
-  adds = omega (arith, ap length clauses, learned);
-}

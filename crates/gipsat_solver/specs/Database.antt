@@ -59,6 +59,13 @@ abbrev pub AddsUnits : SolverState → SolverState → Type 0
 AddsUnits old new =
     (k : ℕ) (c : Clause) → slice_get new.clauses k ≡ Some c → IsAmong old.clauses c ⊎ (length c ≡ 1)
 
+-- units are learned, and nothing else changes but what other learned clauses there are
+pub record LearnsUnits (old new : SolverState) : Type 0 where
+  pub formula : new.formula ≡ old.formula
+  pub variables : new.variables ≡ old.variables
+  pub learned : new.learned ≡ old.learned
+  pub units : AddsUnits old new
+
 -- so many clauses more were learned
 abbrev pub HasMore : ℕ → SolverState → SolverState → Type 0
 HasMore n old new = new.learned ≡ old.learned + n

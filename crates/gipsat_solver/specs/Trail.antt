@@ -42,16 +42,20 @@ abbrev pub ComesFarther : {A : Type 0} → Trail A → Trail A → Learned → T
 ComesFarther old new learned.Clause = (old.level_starts.items ≢ []) × (progress old < progress new)
 ComesFarther old new learned.Empty = ⊤
 
--- the search goes on: a trail over the clauses with the same variables, no value lost, as far as before or farther
-pub record Advances {A : Type 0} (clauses : List Clause) (old new : Trail A) : Type 0 where
-  pub len : length new.values.items ≡ length old.values.items
-  pub trail : IsTrailOf clauses new
+-- it is a trail over the solver's clauses, with a value for each of its variables
+pub record IsTrailFor {A : Type 0} (state : SolverState) (t : Trail A) : Type 0 where
+  pub len : length t.values.items ≡ state.variables
+  pub over : IsTrailOf state.clauses t
+
+-- the search goes on: no value is lost, and it is as far as before or farther
+pub record Advances {A : Type 0} (state : SolverState) (old new : Trail A) : Type 0 where
+  pub trail : IsTrailFor state new
   pub stays : Extends old.values.items new.values.items
   pub progress : progress old ≤ progress new
 
 -- the search goes on without a decision
-pub record Propagates {A : Type 0} (clauses : List Clause) (old new : Trail A) : Type 0 where
-  pub advances : Advances clauses old new
+pub record Propagates {A : Type 0} (state : SolverState) (old new : Trail A) : Type 0 where
+  pub advances : Advances state old new
   pub decisions : KeepsDecisions old new
   pub unset : unset new.values.items ≤ unset old.values.items
 
@@ -84,9 +88,8 @@ pub record IsBelow {A : Type 0} (state : SolverState) (t : Trail A) : Type 0 whe
   pub within : length t.values.items ≤ state.variables
   pub trail : IsTrailOf state.clauses t
 
--- it is a trail over the clauses and has all variables; there is a flag for each literal, and none is marked
+-- a search can begin: it is the solver's trail, there is a flag for each literal, and none is marked
 pub record IsReady {A : Type 0} (state : SolverState) (t : Trail A) (seen : List Bool) : Type 0 where
-  pub len : length t.values.items ≡ state.variables
-  pub trail : IsTrailOf state.clauses t
+  pub trail : IsTrailFor state t
   pub room : length seen ≡ 2 * state.variables
   pub clear : NoneSeen seen

@@ -5,7 +5,7 @@ ghost use Rattle.gipsat_solver.specs.Formulas.{AreBelow};
 ghost use Rattle.gipsat_solver.specs.Literals.{negated};
 ghost use Rattle.gipsat_solver.specs.Seen.{Grows, IsResolvent, is_seen};
 ghost use Rattle.gipsat_solver.specs.Obstacles.{AreDecidedAmong, AreDecidedBut, AreFalsifiedFor, IsCoreOf, IsDecidedOr, IsObstacleTo, KeepsDecisionsBut, MeetsFrom, MeetsObstacle, is_conflict};
-ghost use Rattle.gipsat_solver.specs.Trail.{Advances, IsReady, IsTrailOf, progress};
+ghost use Rattle.gipsat_solver.specs.Trail.{Advances, IsReady, IsTrailFor, IsTrailOf, progress};
 ghost use Rattle.gipsat_solver.specs.Values.{AreTrue, value_of};
 
 use crate::database::Database;
@@ -44,10 +44,9 @@ fn assume_one<A: Allocator + Copy>(
     heuristics: &mut Heuristics<A>,
     l: Literal,
 ) -> Result<Option<Obstacle>, AllocError>
-    requires len { length trail.old.values.items ≡ database.now.variables }
-    requires trail { IsTrailOf database.now.clauses trail.old }
+    requires trail { IsTrailFor database.now trail.old }
     requires within { l.variable < database.now.variables }
-    ensures advances { OnOk result (Advances database.now.clauses trail.old trail.new) }
+    ensures advances { OnOk result (Advances database.now trail.old trail.new) }
     ensures decisions { OnOk result (KeepsDecisionsBut l trail.old trail.new) }
     ensures some { IfOk result (λ found. IfSome found (IsObstacleTo database.now.clauses l trail.new)) }
     ensures none { IfOk result (λ found. IfNone found (value_of trail.new.values.items l ≡ Some true)) }
@@ -74,11 +73,9 @@ fn assume_each<A: Allocator + Copy>(
     heuristics: &mut Heuristics<A>,
     assumptions: &[Literal],
 ) -> Result<Option<Obstacle>, AllocError>
-    requires len { length trail.old.values.items ≡ database.now.variables }
-    requires trail { IsTrailOf database.now.clauses trail.old }
+    requires trail { IsTrailFor database.now trail.old }
     requires within { AreBelow database.now.variables assumptions.now }
-    ensures len { OnOk result (length trail.new.values.items ≡ length trail.old.values.items) }
-    ensures trail { OnOk result (IsTrailOf database.now.clauses trail.new) }
+    ensures trail { OnOk result (IsTrailFor database.now trail.new) }
     ensures progress { OnOk result (progress trail.old ≤ progress trail.new) }
     ensures quiet { assumptions.now ≡ [] → IfOk result (λ found. found ≡ None) }
     ensures some { IfOk result (MeetsFrom trail.old.level_starts.items database.now.clauses assumptions.now trail.new) }
@@ -101,11 +98,9 @@ pub(crate) fn assume<A: Allocator + Copy>(
     heuristics: &mut Heuristics<A>,
     assumptions: &[Literal],
 ) -> Result<Option<Obstacle>, AllocError>
-    requires len { length trail.old.values.items ≡ database.now.variables }
-    requires trail { IsTrailOf database.now.clauses trail.old }
+    requires trail { IsTrailFor database.now trail.old }
     requires within { AreBelow database.now.variables assumptions.now }
-    ensures len { OnOk result (length trail.new.values.items ≡ length trail.old.values.items) }
-    ensures trail { OnOk result (IsTrailOf database.now.clauses trail.new) }
+    ensures trail { OnOk result (IsTrailFor database.now trail.new) }
     ensures progress { OnOk result (assumptions.now ≡ [] → progress trail.old ≤ progress trail.new) }
     ensures some { IfOk result (MeetsObstacle database.now.clauses assumptions.now trail.new) }
     ensures none { IfOk result (λ found. IfNone found (AreTrue trail.new.values.items assumptions.now)) }

@@ -1,6 +1,6 @@
 //! Compaction: deleted clauses leave the database.
 ghost use Rattle.std.specs.Prelude.{◌≡◌, ◌<◌, [], length, OnErr};
-ghost use Rattle.gipsat_solver.specs.Database.{AddsUnits, KeepsClauses};
+ghost use Rattle.gipsat_solver.specs.Database.{KeepsClauses, LearnsUnits};
 ghost use Rattle.gipsat_solver.specs.Trail.{IsTrailOf};
 
 use crate::database::Database;
@@ -20,10 +20,7 @@ pub(crate) fn compact<A: Allocator + Copy>(
     requires { IsTrailOf database.old.clauses trail.old }
     ensures len { length trail.new.values.items ≡ length trail.old.values.items }
     ensures trail { IsTrailOf database.new.clauses trail.new }
-    ensures formula { database.new.formula ≡ database.old.formula }
-    ensures variables { database.new.variables ≡ database.old.variables }
-    ensures learned { database.new.learned ≡ database.old.learned }
-    ensures units { AddsUnits database.old database.new }
+    ensures learns { LearnsUnits database.old database.new }
     ensures refused { OnErr result (KeepsClauses database.old database.new) }
 {
     trail.backtrack(0, &mut heuristics.activity);
@@ -46,11 +43,8 @@ pub(crate) fn learn_units<A: Allocator + Copy>(
     requires trail { IsTrailOf database.old.clauses trail.now }
     requires root { trail.now.level_starts.items ≡ [] }
     ensures trail { IsTrailOf database.new.clauses trail.now }
-    ensures formula { database.new.formula ≡ database.old.formula }
-    ensures variables { database.new.variables ≡ database.old.variables }
-    ensures learned { database.new.learned ≡ database.old.learned }
+    ensures learns { LearnsUnits database.old database.new }
     ensures kept { KeepsClauses database.old database.new }
-    ensures units { AddsUnits database.old database.new }
 {
     for place in *units..trail.steps.len() {
         learn_unit(database, trail, place)?;
@@ -69,11 +63,8 @@ fn learn_unit<A: Allocator + Copy>(
     requires root { trail.now.level_starts.items ≡ [] }
     requires within { place < length trail.now.steps.items }
     ensures trail { IsTrailOf database.new.clauses trail.now }
-    ensures formula { database.new.formula ≡ database.old.formula }
-    ensures variables { database.new.variables ≡ database.old.variables }
-    ensures learned { database.new.learned ≡ database.old.learned }
+    ensures learns { LearnsUnits database.old database.new }
     ensures kept { KeepsClauses database.old database.new }
-    ensures units { AddsUnits database.old database.new }
 {
     let step = trail.steps[place];
     if is_unit(database, step.reason) || step.literal.variable() as usize >= database.variables() {

@@ -256,8 +256,8 @@ fn copy<A: Allocator + Copy>(
 
 // Whether a clause is original and has no true literal.
 fn is_unsatisfied<A: Allocator + Copy>(trail: &Trail<A>, original: bool, clause: &[Literal]) -> bool
-    ensures closed { OnFalse result (IsTrue original → IsSatisfiedBy trail.now.values.items clause.now) }
-    ensures open { OnTrue result (HasNoTrue trail.now.values.items clause.now) }
+    ensures satisfied { OnFalse result (IsTrue original → IsSatisfiedBy trail.now.values.items clause.now) }
+    ensures none_true { OnTrue result (HasNoTrue trail.now.values.items clause.now) }
 {
     if !original {
         return false;

@@ -5,7 +5,7 @@ ghost use Rattle.gipsat_solver.specs.Literals.{code};
 ghost use Rattle.gipsat_solver.specs.Seen.{AddsAtMost, AreSeen, AreSeenBut, Grows, HaveFlags, IsResolvent, is_seen};
 ghost use Rattle.gipsat_solver.specs.Database.{Gains, Learns};
 ghost use Rattle.gipsat_solver.specs.Trail.{Advances, ComesFarther, IsReady, ResolvesAt};
-ghost use Rattle.gipsat_solver.specs.Trail.{IsConflictOf, IsTrailOf, MeetsConflict};
+ghost use Rattle.gipsat_solver.specs.Trail.{IsConflictOf, IsTrailFor, IsTrailOf, MeetsConflict};
 
 use crate::activity::Activity;
 use crate::database::Database;
@@ -322,10 +322,9 @@ fn assign_unit<A: Allocator + Copy>(
     place: usize,
     literal: usize,
 ) -> Result<(), AllocError>
-    requires len { length trail.old.values.items ≡ database.now.variables }
-    requires trail { IsTrailOf database.now.clauses trail.old }
+    requires trail { IsTrailFor database.now trail.old }
     requires within { place < length database.now.clauses }
-    ensures advances { OnOk result (Advances database.now.clauses trail.old trail.new) }
+    ensures advances { OnOk result (Advances database.now trail.old trail.new) }
 {
     let clause = database.clause(place);
     if literal >= clause.len() {
@@ -424,9 +423,8 @@ pub(crate) fn attach_all<A: Allocator + Copy>(
     trail: &mut Trail<A>,
     watches: &mut Watches<A>,
 ) -> Result<Option<usize>, AllocError>
-    requires len { length trail.old.values.items ≡ database.now.variables }
-    requires trail { IsTrailOf database.now.clauses trail.old }
-    ensures advances { OnOk result (Advances database.now.clauses trail.old trail.new) }
+    requires trail { IsTrailFor database.now trail.old }
+    ensures advances { OnOk result (Advances database.now trail.old trail.new) }
     ensures conflict { IfOk result (MeetsConflict database.now.clauses trail.new) }
 {
     for place in watches.len()..database.len() {

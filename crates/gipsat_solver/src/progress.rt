@@ -17,12 +17,13 @@ const PROPAGATIONS: u64 = 4_000_000;
 // The database is compacted once one clause of so many was deleted.
 const PARTS: u64 = 4;
 
-/// What is told how far a search is, and may stop it.
+/// A listener: it is told how far a search is, and may stop it.
 pub trait Progress<A: Allocator> {
     // Whether it wants the search to stop.
     ghost wants_stop: { Self → Bool };
 
-    /// A slice of the search begins. The solver's clauses were told, or were given.
+    /// A slice of the search begins. The solver's learned clauses are older than the search, or it had them at the last
+    /// [`Progress::note`].
     fn begin(&mut self, solver: &Solver<A>);
 
     /// A slice has ended without an answer. `Break` stops the search.
@@ -38,7 +39,7 @@ pub trait Progress<A: Allocator> {
         ensures { IsTrue (wants_stop self.old) → IsTrue (wants_stop self.new) };
 }
 
-/// It is told nothing, and stops no search.
+/// The listener that ignores all it is told, and stops no search.
 impl<A: Allocator> Progress<A> for () {
     ghost wants_stop = { λ _. false };
 
@@ -55,7 +56,7 @@ impl<A: Allocator> Progress<A> for () {
     fn end(&mut self, _solver: &Solver<A>) {}
 }
 
-/// Two that are told, each of which may stop the search.
+/// Two listeners, each of which may stop the search.
 #[derive(Drop)]
 pub struct Both<P, Q> {
     /// The one that is told first.

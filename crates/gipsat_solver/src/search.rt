@@ -4,7 +4,7 @@ ghost use Rattle.std.specs.Bool.{OnTrue};
 ghost use Rattle.gipsat_solver.specs.Choices.{FollowsChoice};
 ghost use Rattle.gipsat_solver.specs.Formulas.{AreBelow, Has};
 ghost use Rattle.gipsat_solver.specs.Obstacles.{IsSearchEnd};
-ghost use Rattle.gipsat_solver.specs.Trail.{Advances, IsTrailOf, MeetsConflict, Propagates, progress};
+ghost use Rattle.gipsat_solver.specs.Trail.{Advances, IsTrailFor, MeetsConflict, Propagates, progress};
 ghost use Rattle.gipsat_solver.specs.Values.{AreAllSet, AreFalseBetween, AreFalseBut, value_of};
 
 use crate::activity::Activity;
@@ -84,9 +84,8 @@ fn visit_clause<A: Allocator + Copy>(
     watch: Watch,
     falsified: Literal,
 ) -> Result<Visit, AllocError>
-    requires len { length trail.old.values.items ≡ database.now.variables }
-    requires trail { IsTrailOf database.now.clauses trail.old }
-    ensures propagates { OnOk result (Propagates database.now.clauses trail.old trail.new) }
+    requires trail { IsTrailFor database.now trail.old }
+    ensures propagates { OnOk result (Propagates database.now trail.old trail.new) }
     ensures propagated { trail.new.propagated ≡ trail.old.propagated }
     ensures conflict { IfOk result (λ visit. MeetsConflict database.now.clauses trail.new visit.conflict) }
 {
@@ -150,9 +149,8 @@ fn visit_watches<A: Allocator + Copy>(
     watches: &mut Watches<A>,
     falsified: Literal,
 ) -> Result<Option<usize>, AllocError>
-    requires len { length trail.old.values.items ≡ database.now.variables }
-    requires trail { IsTrailOf database.now.clauses trail.old }
-    ensures propagates { OnOk result (Propagates database.now.clauses trail.old trail.new) }
+    requires trail { IsTrailFor database.now trail.old }
+    ensures propagates { OnOk result (Propagates database.now trail.old trail.new) }
     ensures propagated { trail.new.propagated ≡ trail.old.propagated }
     ensures conflict { IfOk result (MeetsConflict database.now.clauses trail.new) }
 {
@@ -180,9 +178,8 @@ pub(crate) fn propagate<A: Allocator + Copy>(
     trail: &mut Trail<A>,
     heuristics: &mut Heuristics<A>,
 ) -> Result<Option<usize>, AllocError>
-    requires len { length trail.old.values.items ≡ database.now.variables }
-    requires trail { IsTrailOf database.now.clauses trail.old }
-    ensures propagates { OnOk result (Propagates database.now.clauses trail.old trail.new) }
+    requires trail { IsTrailFor database.now trail.old }
+    ensures propagates { OnOk result (Propagates database.now trail.old trail.new) }
     ensures conflict { IfOk result (MeetsConflict database.now.clauses trail.new) }
 {
     while let Some(l) = trail.next() {
@@ -238,9 +235,8 @@ fn choose<A: Allocator + Copy>(
     trail: &mut Trail<A>,
     heuristics: &mut Heuristics<A>,
 ) -> Result<Choice, AllocError>
-    requires len { length trail.old.values.items ≡ database.now.variables }
-    requires trail { IsTrailOf database.now.clauses trail.old }
-    ensures advances { OnOk result (Advances database.now.clauses trail.old trail.new) }
+    requires trail { IsTrailFor database.now trail.old }
+    ensures advances { OnOk result (Advances database.now trail.old trail.new) }
     ensures choice { IfOk result (FollowsChoice database.now trail.old trail.new) }
 {
     heuristics.count_decision();
@@ -286,11 +282,9 @@ pub(crate) fn search<A: Allocator + Copy>(
     assumptions: &[Literal],
     budget: Option<u64>,
 ) -> Result<SearchEnd, AllocError>
-    requires len { length trail.old.values.items ≡ database.now.variables }
-    requires trail { IsTrailOf database.now.clauses trail.old }
+    requires trail { IsTrailFor database.now trail.old }
     requires within { AreBelow database.now.variables assumptions.now }
-    ensures len { OnOk result (length trail.new.values.items ≡ length trail.old.values.items) }
-    ensures trail { OnOk result (IsTrailOf database.now.clauses trail.new) }
+    ensures trail { OnOk result (IsTrailFor database.now trail.new) }
     ensures progress { OnOk result (assumptions.now ≡ [] → progress trail.old ≤ progress trail.new) }
     ensures end { IfOk result (IsSearchEnd database.now assumptions.now budget trail.new) }
 {

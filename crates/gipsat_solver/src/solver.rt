@@ -167,7 +167,8 @@ impl<A: Allocator + Copy> Solver<A> {
     /// learned `limit` clauses.
     ///
     /// The assumptions hold for this call alone: what is learned follows from the formula. They may repeat or
-    /// contradict each other, and may name variables that no clause has; memory is taken for each number up to the greatest then.
+    /// contradict each other, and may name variables that no clause has; memory is taken for each number up to the
+    /// greatest then.
     ///
     /// # Errors
     /// `AllocError` where memory is refused. The formula stays as it was; some clauses may have been learned.
@@ -182,8 +183,8 @@ impl<A: Allocator + Copy> Solver<A> {
         self.solve_up_to(assumptions, Some(limit), None)
     }
 
-    /// Finds out what [`Solver::solve_under`] does, and gives up once its budget is spent, also where no conflict is met.
-    /// Nothing is proved of the propagations.
+    /// Finds out what [`Solver::solve_under`] does, and gives up once its budget is spent, also where no conflict is
+    /// met. Nothing is proved of the propagations.
     ///
     /// Each call begins at the root. A budget of fewer propagations than there are variables may be too small to meet a
     /// conflict or a model.
@@ -293,8 +294,8 @@ impl<A: Allocator + Copy> Solver<A> {
     }
 
     /// Learns units, as [`Solver::learn_units`], and frees the deleted clauses ([`Solver::is_deleted`]): the others
-    /// move together, in their order. It takes memory for those that stay, and then gives the old ones' back. Before the
-    /// first call of [`Solver::solve`], and after one that was refused memory, it does nothing.
+    /// move together, in their order. It takes memory for those that stay, and only then frees the old database. It
+    /// does nothing before the first call of [`Solver::solve`], and after one that was refused memory.
     ///
     /// # Errors
     /// `AllocError` where memory is refused. Some units may have been learned; no clause was dropped.

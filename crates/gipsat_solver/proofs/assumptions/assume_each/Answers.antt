@@ -18,7 +18,6 @@ returns-in-Some-clause-some g c =
 
 pub loop-l-init : goal.loop-l-init
 loop-l-init g c = record {
-  len = refl;
   trail = c.requires.trail;
   progress = omega arith;
   decided = λ none. DecidesAmong-root c.args.assumptions.now c.args.trail.now.steps.items (sym c.args.trail.now.levels ∙ ap length none);
@@ -37,7 +36,6 @@ loop-l-preserved g c =
     none_then c.in_ok-obstacle.field-0 c.in_default.is c.in_ok-obstacle.ensures.none
     in
     record {
-      len = c.in_ok-obstacle.ensures.advances.len ∙ c.loop-l.invariant.len;
       trail = c.in_ok-obstacle.ensures.advances.trail;
       progress = omega (arith, c.in_ok-obstacle.ensures.advances.progress, c.loop-l.invariant.progress);
       decided = λ none. c.in_ok-obstacle.ensures.decisions c.args.assumptions.now (c.loop-l.l-index, at) (c.loop-l.invariant.decided none);

@@ -1,4 +1,4 @@
-use Rattle.std.proofs.Common.{◌≡◌, ◌<◌, None, length, arith}
+use Rattle.std.proofs.Common.{◌≡◌, ◌<◌, ◌∙◌, None, length, arith}
 use Rattle.gipsat_solver.specs.Values.{value_of}
 use Rattle.gipsat_solver.proofs.TrailLemmas.{DecidesAmong-push, Extends-set, IsTrail-decided}
 use Rattle.gipsat_solver.proofs.AdvancesLemmas.{Advances-both}
@@ -18,13 +18,15 @@ returns-in_ok-decide-in-None-clause-advances g c =
     let trail = c.propagate.new.trail in
     let before = c.in_ok-conflict.ensures.propagates.advances in
     let within : c.args.l.variable < length c.propagate.new.trail.values.items =
-    omega (arith, c.requires.within, c.requires.len, before.len)
+    omega (arith, c.requires.within, before.trail.len)
     in
     let none : value_of c.propagate.new.trail.values.items c.args.l ≡ None = cc in
     Advances-both before record {
-      len = c.decide.ensures.len;
-      trail = rw (c.in_ok-decide-in-None.ensures.values, c.in_ok-decide-in-None.ensures.steps)
-          (IsTrail-decided c.args.database.now.clauses trail.values.items trail.steps.items c.args.l within before.trail);
+      trail = record {
+        len = c.decide.ensures.len ∙ before.trail.len;
+        over = rw (c.in_ok-decide-in-None.ensures.values, c.in_ok-decide-in-None.ensures.steps)
+            (IsTrail-decided c.args.database.now.clauses trail.values.items trail.steps.items c.args.l within before.trail.over);
+      };
       stays = rw c.in_ok-decide-in-None.ensures.values (Extends-set trail.values.items c.args.l none);
       progress = c.in_ok-decide-in-None.ensures.progress;
     }

@@ -18,7 +18,7 @@ resolve_to_decisions-requires-clause-resolvent g c =
 
 pub resolve_to_decisions-requires-clause-falsified : goal.resolve_to_decisions-requires-clause-falsified
 resolve_to_decisions-requires-clause-falsified g c = λ assumed refuted.
-    AreFalsifiedBefore-refuted c.args.database.now.clauses c.args.trail.now assumed c.add-2.new.self c.args.failed c.requires.ready.trail refuted
+    AreFalsifiedBefore-refuted c.args.database.now.clauses c.args.trail.now assumed c.add-2.new.self c.args.failed c.requires.ready.trail.over refuted
     (λ m marked.
     ⊎_elim
     (λ was. ⊎_elim (λ before. absurd (false≢true (sym (c.requires.ready.clear m) ∙ before))) (λ same. inl same) (c.in_ok-add.ensures.only m was))

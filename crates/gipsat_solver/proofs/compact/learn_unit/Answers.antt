@@ -15,6 +15,10 @@ pub returns-clause-trail : goal.returns-clause-trail
 returns-clause-trail g c =
     IsTrailOf-learned c.add_implied.result c.args.database.now c.add_implied.new.self _ c.args.trail.now c.add_implied.ensures.ok c.add_implied.ensures.err c.requires.trail
 
-pub returns-clause-units : goal.returns-clause-units
-returns-clause-units g c =
-    AddsUnits-learned c.add_implied.result c.args.database.now c.add_implied.new.self c.index-step.result.now.literal c.add_implied.ensures.ok c.add_implied.ensures.err
+pub returns-clause-learns : goal.returns-clause-learns
+returns-clause-learns g c = record {
+  formula = c.add_implied.ensures.formula;
+  variables = c.add_implied.ensures.variables;
+  learned = c.add_implied.ensures.learned;
+  units = AddsUnits-learned c.add_implied.result c.args.database.now c.add_implied.new.self c.index-step.result.now.literal c.add_implied.ensures.ok c.add_implied.ensures.err;
+}

@@ -18,7 +18,7 @@ assign-requires-clause-unset g c =
     let backjump = backjump_at trail.steps.items learned_clause.clause.items learned_clause.start learned_clause.pair.first c.index.result.now is.backjumps c.index.ensures in
     let stands : IsTrail c.args.database.now.clauses c.backtrack_to.new.self.values.items (take c.in-Some.learned_clause.start c.args.trail.now.steps.items) =
     subst (λ (xs : List Step). IsTrail c.args.database.now.clauses c.backtrack_to.new.self.values.items xs) c.backtrack_to.ensures.steps
-    (c.backtrack_to.ensures.trail c.args.database.now.clauses c.requires.ready.trail)
+    (c.backtrack_to.ensures.trail c.args.database.now.clauses c.requires.ready.trail.over)
     in
     free-backjump trail.steps.items learned_clause.clause.items learned_clause.start learned_clause.pair.first c.index.result.now backjump
     c.args.database.now.clauses c.backtrack_to.new.self.values.items trail.once stands
@@ -34,18 +34,20 @@ returns-clause-ready g c =
     let stands : IsTrail c.add_learned.new.self.clauses c.backtrack_to.new.self.values.items (take c.in-Some.learned_clause.start c.args.trail.now.steps.items) =
     subst (λ (xs : List Step). IsTrail c.add_learned.new.self.clauses c.backtrack_to.new.self.values.items xs) c.backtrack_to.ensures.steps
     (c.backtrack_to.ensures.trail c.add_learned.new.self.clauses
-    (rw c.in_ok-add_learned.ensures.ok (IsTrail-learned c.args.database.now.clauses c.deref.result.now trail.values.items trail.steps.items c.requires.ready.trail)))
+    (rw c.in_ok-add_learned.ensures.ok (IsTrail-learned c.args.database.now.clauses c.deref.result.now trail.values.items trail.steps.items c.requires.ready.trail.over)))
     in
     let at : slice_get c.add_learned.new.self.clauses c.len-place.result ≡ Some c.in-Some.learned_clause.clause.items =
     rw (c.in_ok-add_learned.ensures.ok, c.len-place.ensures, c.deref.ensures.value) (stands_last c.args.database.now.clauses c.in-Some.learned_clause.clause.items)
     in
     let below = is.below learned_clause.pair.first c.index.result.now backjump.at in
-    let within : c.index.result.now.variable < length c.backtrack_to.new.self.values.items = omega (arith, below, c.requires.ready.len, c.backtrack_to.ensures.len) in
+    let within : c.index.result.now.variable < length c.backtrack_to.new.self.values.items = omega (arith, below, c.requires.ready.trail.len, c.backtrack_to.ensures.len) in
     record {
-      len = omega (arith, c.assign.ensures.len, c.backtrack_to.ensures.len, c.requires.ready.len, c.add_learned.ensures.variables);
-      trail = rw (c.in_ok-assign.ensures.values, c.in_ok-assign.ensures.steps, c.backtrack_to.ensures.steps)
-          (IsTrail-backjump trail.steps.items learned_clause.clause.items learned_clause.start learned_clause.pair.first c.index.result.now backjump
-          c.add_learned.new.self.clauses c.backtrack_to.new.self.values.items c.len-place.result at within stands);
+      trail = record {
+        len = omega (arith, c.assign.ensures.len, c.backtrack_to.ensures.len, c.requires.ready.trail.len, c.add_learned.ensures.variables);
+        over = rw (c.in_ok-assign.ensures.values, c.in_ok-assign.ensures.steps, c.backtrack_to.ensures.steps)
+            (IsTrail-backjump trail.steps.items learned_clause.clause.items learned_clause.start learned_clause.pair.first c.index.result.now backjump
+            c.add_learned.new.self.clauses c.backtrack_to.new.self.values.items c.len-place.result at within stands);
+      };
       room = omega (arith, c.in_ok-learned_clause.ensures.ready.room, c.add_learned.ensures.variables);
       clear = c.in_ok-learned_clause.ensures.ready.clear;
     }

@@ -31,7 +31,7 @@ returns-clause-some g c =
     in
     let below : c.index.result.now.literal.variable < c.args.database.now.variables =
     let within = within-true c.args.trail.now.values.items c.index.result.now.literal (c.args.trail.now.valued c.in-Some.start c.index.result.now at) in
-    omega (arith, within, c.requires.ready.len)
+    omega (arith, within, c.requires.ready.trail.len)
     in
     let first : c.len-first.result ≡ length c.in_ok-clause.clause.items = grind (arith, common_steps) in
     record {

@@ -21,7 +21,7 @@ loop-place-init g c =
       };
       falsified = subst (AreFalsifiedBefore [] c.args.trail.now.steps.items c.mark_all.new.seen) all
           (AreFalsifiedBefore-conflict c.args.database.now.clauses trail.values.items trail.steps.items c.mark_all.new.seen c.args.conflict
-          c.clause.result.now c.requires.ready.trail c.requires.conflict c.clause.ensures.at
+          c.clause.result.now c.requires.ready.trail.over c.requires.conflict c.clause.ensures.at
           (λ m marked. ⊎_elim (λ was. absurd (false≢true (sym (c.requires.ready.clear m) ∙ was))) (λ has. has) (c.in_ok-mark_all.ensures.only m marked)));
     }
 
@@ -58,6 +58,6 @@ loop-place-preserved g c =
     let some : is_none c.index.result.now.reason ≡ false = search rules in
     record {
       resolvent = c.in_ok-resolve_with_reason.ensures.resolvent;
-      falsified = c.in_ok-resolve_with_reason.ensures.resolves [] (c.loop-place.place - 1) c.requires.ready.trail at (λ none. absurd (false≢true (sym some ∙ ap is_none none)))
+      falsified = c.in_ok-resolve_with_reason.ensures.resolves [] (c.loop-place.place - 1) c.requires.ready.trail.over at (λ none. absurd (false≢true (sym some ∙ ap is_none none)))
           (rw again c.loop-place.invariant.falsified);
     }

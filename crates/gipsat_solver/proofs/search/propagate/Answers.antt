@@ -5,7 +5,7 @@ use Rattle.gipsat_solver.proofs.search.propagate.Goals as goal
 pub returns-in-Some-conflict-clause-propagates : goal.returns-in-Some-conflict-clause-propagates
 returns-in-Some-conflict-clause-propagates g c =
     let before = c.loop-l.invariant.propagates in
-    let next : Propagates c.args.database.now.clauses c.loop-l.trail c.next.new.self =
+    let next : Propagates c.args.database.now c.loop-l.trail c.next.new.self =
     Propagates-same c.next.ensures.values c.next.ensures.steps before.advances.trail
     in
     Propagates-both before (Propagates-both next c.in_ok-conflict.ensures.propagates)
@@ -13,7 +13,7 @@ returns-in-Some-conflict-clause-propagates g c =
 pub loop-l-preserved : goal.loop-l-preserved
 loop-l-preserved g c =
     let before = c.loop-l.invariant.propagates in
-    let next : Propagates c.args.database.now.clauses c.loop-l.trail c.next.new.self =
+    let next : Propagates c.args.database.now c.loop-l.trail c.next.new.self =
     Propagates-same c.next.ensures.values c.next.ensures.steps before.advances.trail
     in
     record {

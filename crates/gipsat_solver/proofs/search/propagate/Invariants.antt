@@ -5,7 +5,7 @@ use Rattle.gipsat_solver.proofs.search.propagate.Given as goal
 
 abbrev pub invariant-loop-l : goal.invariant-loop-l
 invariant-loop-l g l = record {
-  propagates : Propagates l.database.clauses l.initial.trail l.trail;
+  propagates : Propagates l.database l.initial.trail l.trail;
 }
 
 abbrev pub decreases-loop-l : goal.decreases-loop-l

@@ -1,10 +1,9 @@
-use Rattle.std.proofs.Common.{◌∙◌, true, subst, arith}
+use Rattle.std.proofs.Common.{true, subst, arith}
 use Rattle.gipsat_solver.specs.Choices.{FollowsChoice}
 use Rattle.gipsat_solver.proofs.search.search.Goals as goal
 
 pub loop-conflict-preserved : goal.loop-conflict-preserved
 loop-conflict-preserved g c = record {
-  len = c.in_ok-choose.ensures.advances.len ∙ c.in_ok-conflict-2.ensures.propagates.advances.len ∙ c.loop-conflict.invariant.len;
   trail = c.in_ok-choose.ensures.advances.trail;
   progress = λ none. omega (arith, c.in_ok-choose.ensures.advances.progress, c.in_ok-conflict-2.ensures.propagates.advances.progress, c.loop-conflict.invariant.progress none);
   assumed = λ l has. c.in_ok-choose.ensures.advances.stays l true (c.in_ok-conflict-2.ensures.propagates.advances.stays l true (c.loop-conflict.invariant.assumed l has));

@@ -6,7 +6,7 @@ use Rattle.gipsat_solver.proofs.search.visit_watches.Given as goal
 
 abbrev pub invariant-loop-place : goal.invariant-loop-place
 invariant-loop-place g l = record {
-  propagates : Propagates l.database.clauses l.initial.trail l.trail;
+  propagates : Propagates l.database l.initial.trail l.trail;
   propagated : l.trail.propagated ≡ l.initial.trail.propagated;
   list : length l.list.items ≡ length l.initial.list.items;
   kept : l.kept ≤ l.place;

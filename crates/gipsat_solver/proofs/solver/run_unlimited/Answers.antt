@@ -17,7 +17,7 @@ loop-answer-smaller g c =
     let old = c.loop-answer.trail in
     let new = c.solve_one_conflict.new.trail in
     let same : length c.solve_one_conflict.new.trail.values.items ≡ length c.loop-answer.trail.values.items =
-    omega (arith, c.in_ok-answer.ensures.ready.len, c.solve_one_conflict.ensures.variables, c.loop-answer.invariant.ready.len)
+    omega (arith, c.in_ok-answer.ensures.ready.trail.len, c.solve_one_conflict.ensures.variables, c.loop-answer.invariant.ready.trail.len)
     in
     distance_less c.loop-answer.left c.solve_one_conflict.new.left old new same
     (none_then {P = c.args.assumptions.now ≡ [] → MakesProgress c.loop-answer.left c.solve_one_conflict.new.left c.loop-answer.trail c.solve_one_conflict.new.trail}

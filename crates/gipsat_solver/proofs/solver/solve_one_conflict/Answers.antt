@@ -30,8 +30,10 @@ returns-in-FailedAssumption-clause-right g c =
 
 pub returns-clause-ready : goal.returns-clause-ready
 returns-clause-ready g c = record {
-  len = c.restart.ensures.len ∙ c.in_ok-learn.ensures.ready.len;
-  trail = c.restart.ensures.trail c.learn.new.database.clauses c.in_ok-learn.ensures.ready.trail;
+  trail = record {
+    len = c.restart.ensures.len ∙ c.in_ok-learn.ensures.ready.trail.len;
+    over = c.restart.ensures.trail c.learn.new.database.clauses c.in_ok-learn.ensures.ready.trail.over;
+  };
   room = c.in_ok-learn.ensures.ready.room;
   clear = c.in_ok-learn.ensures.ready.clear;
 }

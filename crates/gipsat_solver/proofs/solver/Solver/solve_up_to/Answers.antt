@@ -17,8 +17,10 @@ run-requires g c =
       none = c.requires.none;
       within = c.raise_variables.ensures.below;
       ready = record {
-        len = omega (arith, c.backtrack.ensures.len, c.in_ok-trail.ensures.len, c.variables-variables.ensures.value);
-        trail = subst (λ cs. IsTrailOf cs c.backtrack.new.self) (sym c.raise_variables.ensures.clauses) stands;
+        trail = record {
+          len = omega (arith, c.backtrack.ensures.len, c.in_ok-trail.ensures.len, c.variables-variables.ensures.value);
+          over = subst (λ cs. IsTrailOf cs c.backtrack.new.self) (sym c.raise_variables.ensures.clauses) stands;
+        };
         room = omega (arith, c.in_ok-seen.ensures.len, c.variables-variables.ensures.value);
         clear = c.in_ok-seen.ensures.clear;
       };
@@ -38,6 +40,6 @@ invariant_of-self-2 g c =
     ap (λ v. length v.items) c.rewind_if_refuted.ensures.values
     in
     record {
-      within = omega (arith, rewound, c.in_ok-answer.ensures.ready.len);
-      trail = c.rewind_if_refuted.ensures.trail c.run.new.database.clauses c.in_ok-answer.ensures.ready.trail;
+      within = omega (arith, rewound, c.in_ok-answer.ensures.ready.trail.len);
+      trail = c.rewind_if_refuted.ensures.trail c.run.new.database.clauses c.in_ok-answer.ensures.ready.trail.over;
     }
