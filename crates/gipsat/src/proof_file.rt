@@ -96,8 +96,8 @@ fn guard<'a>(rt: &HostRuntime, options: &Options, path: &'a str) -> Result<(), P
     }
 }
 
-// Whether a file that does not begin as a formula does may be the one that was read: where it was not named, or needs no
-// header.
+// Whether a file may be the one that was read although it does not begin as a formula does: where that one was not
+// named, or needs no header.
 fn may_be_formula(options: &Options) -> bool {
     options.file.is_none() || matches!(options.rule, HeaderRule::Relaxed)
 }
