@@ -436,14 +436,45 @@ else
     failed=$((failed + 1))
 fi
 
-# A time limit ends the search, without an answer.
-timeout 60 "$gipsat" --time 1 "$work/many" > "$work/out" 2> "$work/err"
+# A time limit ends the search, without an answer. Every five seconds a line tells how far the search is, and how much of
+# an input that comes slowly was read.
+{ printf 'p cnf 1 1\n'; sleep 6; printf '1 0\n'; } | timeout 60 "$gipsat" > "$work/slow" 2> "$work/slow_err" &
+timeout 60 "$gipsat" --time 6 "$work/many" > "$work/out" 2> "$work/err"
 status=$?
+wait
 if [ "$status" = 0 ] && [ "$(cat "$work/out")" = "s UNKNOWN" ]; then
     echo "ok: a time limit"
     passed=$((passed + 1))
 else
     echo "FAILED: a time limit (status $status, $(head -c 200 "$work/err"), $(head -c 200 "$work/out"))"
+    failed=$((failed + 1))
+fi
+if grep -q '^c [0-9]* conflicts, [0-9]* restarts, [0-9]* clauses kept, [0-9]* deleted, ' "$work/err"; then
+    echo "ok: a line of a long search"
+    passed=$((passed + 1))
+else
+    echo "FAILED: a line of a long search ($(head -c 200 "$work/err"))"
+    failed=$((failed + 1))
+fi
+if [ "$(cat "$work/slow")" = "$(printf 's SATISFIABLE\nv 1 0')" ] && grep -q '^c 14 bytes read$' "$work/slow_err" &&
+    grep -q '^c 1 variables, 1 clauses read in [0-9]*\.[0-9]\{3\} s$' "$work/slow_err"; then
+    echo "ok: lines of a slow input"
+    passed=$((passed + 1))
+else
+    echo "FAILED: lines of a slow input ($(head -c 200 "$work/slow_err"), $(head -c 200 "$work/slow"))"
+    failed=$((failed + 1))
+fi
+
+# A conflict costs no more where many literals are fixed: 90 000 units beside eight pigeons in seven holes.
+awk 'NR == 1 { $3 = 100000; $4 += 90000 } { print } END { for (v = 10001; v <= 100000; v++) print v, 0 }' \
+    "$work/crowd" > "$work/fixed"
+timeout 20 "$gipsat" "$work/fixed" > "$work/out" 2> "$work/err"
+status=$?
+if [ "$status" = 20 ] && [ "$(cat "$work/out")" = "s UNSATISFIABLE" ]; then
+    echo "ok: a search beside many fixed literals within 20 seconds"
+    passed=$((passed + 1))
+else
+    echo "FAILED: a search beside many fixed literals within 20 seconds (status $status, $(head -c 200 "$work/err"))"
     failed=$((failed + 1))
 fi
 try "no witness is wanted" 10 "" "s SATISFIABLE" 'p cnf 1 1\n1 0\n' -n
