@@ -2,7 +2,7 @@
 use Rattle.std.specs.Prelude.{◌≡◌, ℕ, ◌+◌, ◌-◌, ◌^◌, min, max, ◌==◌, ◌&&◌, ◌||◌, Bool, true, false, not, List, [], ◌∷◌, ◌++◌, length, drop, filter, map, nat_lt, nat_le, slice_index, if◌then◌else◌, codes, Option, Some, None}
 use Rattle.std.specs.List.{list_any, slice_split}
 use Rattle.std.specs.Option.{option_map, option_and_then}
-use Rattle.std.specs.Str.{all_ascii_digits, bytes_eq}
+use Rattle.std.specs.Str.{all_ascii_digits, byte, bytes_eq}
 use Rattle.std.specs.Str.Parse.{digits_value}
 use Rattle.gipsat_solver.specs.Formulas.{Clause, Formula}
 use Rattle.gipsat_dimacs.specs.declared.rule.HeaderRule.{HeaderRule}
@@ -46,11 +46,11 @@ begins byte word = slice_index word 0 == byte
 
 -- a `c`, with which a comment begins
 abbrev pub comment_byte : ℕ
-comment_byte = 99
+comment_byte = byte "c"
 
 -- a `%`, which ends a text where a line begins with it
 abbrev pub end_byte : ℕ
-end_byte = 37
+end_byte = byte "%"
 
 -- a line with these words says something: it is not empty, and not a comment from its first word on
 abbrev pub says : List Word → Bool
@@ -116,7 +116,7 @@ signed_item variables positive n = if n == 0 then Some End else literal_of varia
 
 -- a minus, which stands before a negation
 abbrev pub minus : ℕ
-minus = 45
+minus = byte "-"
 
 -- what a word of a clause says, where there are so many variables: a number, or a minus and a number
 abbrev pub item_of : ℕ → Word → Option Item
@@ -166,7 +166,7 @@ problem_after rule words (Some (variables, count)) =
 
 -- a `p`, with which a header begins
 abbrev pub header_byte : ℕ
-header_byte = 112
+header_byte = byte "p"
 
 -- this first line that says something is taken as a header: each one is where the counts hold, else one that begins so
 abbrev pub is_header : HeaderRule → List Word → Bool
@@ -225,7 +225,3 @@ abbrev pub IsRefusedBy : HeaderRule → List ℕ → ℕ → Type 0
 IsRefusedBy rule text line =
     (front : List ℕ) × (rest : List ℕ) × (text ≡ front ++ rest) × (line ≡ line_on 1 front)
     × IsRefusedAfter rule front rest
-
--- the same, where the counts of the header hold
-abbrev pub IsRefusedIn : List ℕ → ℕ → Type 0
-IsRefusedIn text line = IsRefusedBy Strict text line

@@ -9,11 +9,6 @@ abbrev pub limit : ℕ → ℕ
 limit zero = 128
 limit (suc more) = limit more * 128
 
--- the last group
-pub groups_last : (more n : ℕ) → n < 128 → groups more n ≡ n ∷ []
-groups_last zero n small = refl
-groups_last (suc more) n small = grind (arith, nat_tests)
-
 -- a group, and those that follow it
 pub groups_more : (more n : ℕ) → 128 ≤ n → n < limit more
     → (fewer : ℕ) × (n / 128 < limit fewer) × (groups more n ≡ (128 + n % 128) ∷ groups fewer (n / 128))
