@@ -10,8 +10,9 @@ crates/NAME/CALLING.md, quotes the sources. These and the README of the root may
     <!-- quote file giputils_uses/src/drain.rt -->   a file below crates/
     <!-- quote file giputils_uses/src/activity.rt: bump pick -->
                                                     the same, with these functions and methods alone
-    <!-- quote functions gipsat/src/main.rt: solve -->
-                                                    these functions of a file alone
+    <!-- quote functions gipsat/src/main.rt: use solve -->
+                                                    these functions of a file alone, behind its imports where `use` is
+                                                    named
     <!-- quote contracts -->                         the public contracts of the crate
     <!-- quote contracts: push HeapStep::new Gvec::Index<u32> -->
                                                     those of these functions, traits, and impls of traits alone
@@ -21,13 +22,14 @@ In a contract `S` is what `self` points to at the call, and `S'` at the return. 
 public module, or if a public module names it by `pub use`. A public function that is not quoted on a page for callers
 stands there, or in the README beside it, by name.
 
-Each line of an example in Rust on a README stands in giputils_trials/src/examples.rt, its imports under the names that
-`giputils` gives them. The page of `gip` has the script that `gip` is run on, with its replies. The lines that
-docs/ELSEWHERE.md names are as crates.txt has them. docs/DEFINITIONS.md is written by `--write` alone: each word of
-specs/ that a public contract uses, with its arguments and the comment above its definition; and the crate `giputils`
-hands out the files that have these words, and all public lemmas. On the map, docs/DESIGN.md, the entry of each crate
-names all its modules, and no module that is not there. Each file that a page names is there, no line has more than 120
-columns, but for imports that are quoted, and no page is longer than LENGTHS allows.
+Each line of an example in Rust on a README that is not quoted stands in giputils_trials/src/examples.rt, its imports
+under the names that `giputils` gives them. The page of `gip` has the script that `gip` is run on, with its replies. The
+lines that docs/ELSEWHERE.md names are as crates.txt has them. docs/DEFINITIONS.md is written by `--write` alone: each
+word of specs/ that a public contract uses, with its arguments and the comment above its definition; and the crate
+`giputils` hands out the files that have these words, and all public lemmas. On the map, docs/DESIGN.md, the entry of
+each crate names all its modules, and no module that is not there. Each file that a page names is there, and each part of
+a page that a link names; no line has more than 120 columns, but for imports that are quoted, and no page is longer than
+LENGTHS allows.
 """
 
 import pathlib
@@ -187,8 +189,9 @@ def with_functions(text, chosen):
 
 
 def functions_of(text, chosen):
-    """These functions of a text, and those that it has not."""
+    """These functions of a text, its imports where `use` is chosen, and those that it has not."""
     found = {match[1]: match[0].split("\n") for match in FREE.finditer(text)}
+    found["use"] = re.findall(r"^use .*;$", text, re.MULTILINE)
     lines = sum(([*found[name], ""] for name in chosen if name in found), [])
     return lines[:-1], [name for name in chosen if name not in found]
 
@@ -283,10 +286,18 @@ def too_long(page, text):
     return [f"it has {count} lines, and {most} are allowed"] if most and count > most else []
 
 
+def anchors(page):
+    """The names by which links lead to the parts of a page."""
+    heads = re.findall(r"^#+ (.*)$", QUOTE.sub("", page.read_text(encoding="utf-8")), re.MULTILINE)
+    return {re.sub(r"[^\w -]", "", head.lower()).replace(" ", "-") for head in heads}
+
+
 def lost_pages(page, text):
-    """The links to pages of the repository that are not there."""
-    links = re.findall(r"\]\(([^)#:]+)(?:#[^)]*)?\)", QUOTE.sub("", text))
-    return [f"there is no page {link}" for link in links if not (page.parent / link).exists()]
+    """The links to pages of the repository, or to parts of them, that are not there."""
+    links = re.findall(r"\]\(([^)#:]+)(?:#([^)]*))?\)", QUOTE.sub("", text))
+    lost = [f"there is no page {link}" for link, _ in links if not (page.parent / link).exists()]
+    parts = [(link, part) for link, part in links if part and (page.parent / link).is_file()]
+    return lost + [f"{link} has no part {part}" for link, part in parts if part not in anchors(page.parent / link)]
 
 
 def sound(page, text):
