@@ -3,9 +3,9 @@
 
 `tests/pages.py --write` writes the quotes and docs/DEFINITIONS.md anew.
 
-Each crate of containers has a page crates/NAME/README.md, with the parts that PARTS lists. A page for callers,
-crates/NAME/CALLING.md, quotes the sources. These and the README of the root may quote, between a line
-`<!-- quote ... -->` and the next line `<!-- end -->`; all else is written by hand.
+Each crate that PARTS names, and each one with a page for callers, has a page crates/NAME/README.md, with the parts that
+PARTS lists. A page for callers, crates/NAME/CALLING.md, quotes the sources. These and the README of the root may quote,
+between a line `<!-- quote ... -->` and the next line `<!-- end -->`; all else is written by hand.
 
     <!-- quote file giputils_uses/src/drain.rt -->   a file below crates/
     <!-- quote file giputils_uses/src/activity.rt: bump pick -->
@@ -24,12 +24,12 @@ stands there, or in the README beside it, by name.
 
 Each line of an example in Rust on a README that is not quoted stands in giputils_trials/src/examples.rt, its imports
 under the names that `giputils` gives them. The page of `gip` has the script that `gip` is run on, with its replies. The
-lines that docs/ELSEWHERE.md names are as crates.txt has them. docs/DEFINITIONS.md is written by `--write` alone: each
-word of specs/ that a public contract uses, with its arguments and the comment above its definition; and the crate
-`giputils` hands out the files that have these words, and all public lemmas. On the map, docs/DESIGN.md, the entry of
-each crate names all its modules, and no module that is not there. Each file that a page names is there, and each part of
-a page that a link names; no line has more than 120 columns, but for imports that are quoted, and no page is longer than
-LENGTHS allows.
+README of the root links to that of each crate. The lines that docs/ELSEWHERE.md names are as crates.txt has them.
+docs/DEFINITIONS.md is written by `--write` alone: each word of specs/ that a public contract uses, with its arguments
+and the comment above its definition; and the crate `giputils` hands out the files that have these words, and all public
+lemmas. On the map, docs/DESIGN.md, the entry of each crate names all its modules, and no module that is not there. Each
+file that a page names is there, and each part of a page that a link names; no line has more than 120 columns, but for
+imports that are quoted, and no page is longer than LENGTHS allows.
 """
 
 import pathlib
@@ -42,8 +42,8 @@ CRATES = ROOT / "crates"
 GATHERED = ("giputils_base", "giputils_bits", "giputils_heap", "giputils_stat")
 WIDTH = 120
 LENGTHS = {"README.md": 80, "crates/README.md": 120, "crates/CALLING.md": 150}
-DIFFERS, PROVED, TESTED = "## What differs from the Rust crate", "## What is proved", "## What is only tested"
-EXAMPLE, CHOICES, COST = "## Example", "## Choices", "## Cost"
+PEER, PROVED, TESTED = "## What differs from ", "## What is proved", "## What is only tested"
+EXAMPLE, DIFFERS, CHOICES, COST = "## Example", PEER + "the Rust crate", "## Choices", "## Cost"
 ALL = (EXAMPLE, DIFFERS, PROVED, TESTED, CHOICES, COST)
 # What the READMEs of crates have, besides a heading. Those of other crates may have any parts.
 PARTS = {
@@ -53,6 +53,10 @@ PARTS = {
     "giputils_heap": ALL,
     "giputils_stat": ALL,
     "giputils_refusing": (EXAMPLE, PROVED, TESTED, CHOICES),
+    "gipsat_solver": (EXAMPLE, PEER + "MiniSat", PROVED, TESTED, CHOICES, COST),
+    "gipsat_dimacs": (EXAMPLE, PEER + "CaDiCaL", PROVED, TESTED, CHOICES, COST),
+    "gipsat_answers": (EXAMPLE, PROVED, TESTED, CHOICES, COST),
+    "gipsat_drat": (EXAMPLE, PEER + "drat-trim", PROVED, TESTED, CHOICES, COST),
     "gip_lines": (PROVED, TESTED, CHOICES, COST),
     "gip": (EXAMPLE,),
     "giputils_uses": (PROVED, TESTED, CHOICES),
@@ -347,6 +351,8 @@ def readme(page):
     """What is wrong with the README."""
     complaints = []
     text = with_quotes(page, complaints)
+    crates = sorted(path.relative_to(ROOT) for path in CRATES.glob("*/README.md"))
+    complaints += [f"it has no link to {path}" for path in crates if f"]({path})" not in text]
     return complaints + sound(page, text) + examples(text)
 
 
@@ -489,6 +495,7 @@ def map_of_crates(page):
 
 def main():
     pages = {page: page_for_callers for page in sorted(CRATES.glob("*/CALLING.md"))}
+    pages |= {page.with_name("README.md"): readme_of_crate for page in list(pages)}
     pages |= {CRATES / crate / "README.md": readme_of_crate for crate in PARTS}
     pages |= {page: readme_of_crate for page in sorted(CRATES.glob("*/README.md"))}
     plain = lambda page: sound(page, page.read_text(encoding="utf-8"))
