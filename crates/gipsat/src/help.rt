@@ -15,7 +15,7 @@ Input:
 
 Limits:
       --conflicts N     give up after N conflicts
-  -t, --time SECONDS    give up after so many seconds
+  -t, --time SECONDS    give up when the search first pauses after so many seconds; reading is not cut short
 
 Output:
   -n, --no-witness      write no values (lines that begin with v)
@@ -23,7 +23,8 @@ Output:
       --stats           write a summary of the search at its end, on standard error
 
 Proofs:
-      --proof PROOF     write to the file PROOF, in the DRAT form, a proof where nothing satisfies the formula
+      --proof PROOF     write the steps of the search to the file PROOF, in the DRAT form, whatever the answer is: at
+                        `s UNSATISFIABLE` they are a proof
       --binary          write it in the binary form
   -f, --force           overwrite PROOF also where it looks like a formula, and where it is not empty and no FORMULA is
                         named or --relaxed is given

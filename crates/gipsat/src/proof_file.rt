@@ -119,7 +119,7 @@ fn has_formula(rt: &HostRuntime, path: &str) -> io::Result<bool> {
     Ok(begins_as_formula(&front).unwrap_or(front.len() as u64 >= FRONT))
 }
 
-// Whether a text begins as a formula does: with `p cnf` behind blanks and comments. None if there is nothing else.
+// Whether a text begins as a formula does: with `p cnf` behind blanks and comments. None if it ends before that is told.
 fn begins_as_formula(mut text: &[u8]) -> Option<bool> {
     // Each turn takes a byte away at least.
     for _ in 0..text.len() {
@@ -127,11 +127,20 @@ fn begins_as_formula(mut text: &[u8]) -> Option<bool> {
         match text {
             [] => return None,
             [b'c', ..] => text = behind_line(text),
-            [b'p', rest @ ..] => return Some(behind_blanks(rest).starts_with(b"cnf")),
+            [b'p', rest @ ..] => return begins_as_format(behind_blanks(rest)),
             _ => return Some(false),
         }
     }
     None
+}
+
+// Whether a text begins with `cnf`. None if it ends before that is told.
+fn begins_as_format(text: &[u8]) -> Option<bool> {
+    match text {
+        [b'c', b'n', b'f', ..] => Some(true),
+        [] | [b'c'] | [b'c', b'n'] => None,
+        _ => Some(false),
+    }
 }
 
 // What stands behind the first blanks of a text.
