@@ -96,33 +96,11 @@ IsSoundDatabase-learned flags variables cs c state follows below = record {
 pub KeepsClauses-push : (cs : List Clause) (c : Clause) → take (length cs) (cs ++ c ∷ []) ≡ cs
 KeepsClauses-push cs c = take-append-le (length cs) cs (c ∷ []) (omega arith) ∙ take_all (length cs) cs (omega arith)
 
-pub KeepsClauses-both : (u v w : List Clause) → take (length u) v ≡ u → take (length v) w ≡ v → take (length u) w ≡ u
-KeepsClauses-both [] v w first then = refl
-KeepsClauses-both (c ∷ u) [] w first then = absurd (omega (arith, ap length first))
-KeepsClauses-both (c ∷ u) (d ∷ v) [] first then = absurd (omega (arith, ap length then))
-KeepsClauses-both (c ∷ u) (d ∷ v) (e ∷ w) first then =
-    ap (λ x. x ∷ take (length u) w) (sym (head_of d e v (take (length v) w) (sym then)) ∙ head_of d c (take (length u) v) u first)
-    ∙ ap (λ xs. c ∷ xs) (KeepsClauses-both u v w (ap tail_of first) (ap tail_of then))
-  where
-    tail_of : Formula → Formula
-    tail_of [] = []
-    tail_of (x ∷ xs) = xs
-
-    head_of : (x y : Clause) (xs ys : Formula) → x ∷ xs ≡ y ∷ ys → x ≡ y
-    head_of x y xs ys same = ap (λ zs. first_of x zs) same
-      where
-        first_of : Clause → Formula → Clause
-        first_of z [] = z
-        first_of z (h ∷ t) = h
-
 pub kept_same : (old new : SolverState) → new ≡ old → KeepsClauses old new
 kept_same old new same = ap (λ (k : SolverState). take (length old.clauses) k.clauses) same ∙ take_all (length old.clauses) old.clauses (omega arith)
 
 pub kept_pushed : (old new : SolverState) (c : Clause) → new.clauses ≡ old.clauses ++ c ∷ [] → KeepsClauses old new
 kept_pushed old new c same = ap (take (length old.clauses)) same ∙ KeepsClauses-push old.clauses c
-
-pub kept_both : (u v w : SolverState) → KeepsClauses u v → KeepsClauses v w → KeepsClauses u w
-kept_both u v w first then = KeepsClauses-both u.clauses v.clauses w.clauses first then
 
 -- as many more are known as were learned
 pub adds_same : (old new : SolverState) → new ≡ old → AddsLearned old new

@@ -109,13 +109,6 @@ get_none zero v = refl
 get_none (suc n) zero = refl
 get_none (suc n) (suc v) = get_none n v
 
--- no literal is true yet
-pub IsTrail-new : (clauses : List Clause) (n : ℕ) → IsTrail clauses (replicate n None) []
-IsTrail-new clauses n = record {
-  stand = λ l is. absurd (some_value (get_or (replicate n None) l.variable None) l.positive true is (get_none n l.variable));
-  reasons = λ k s r at is. none_some s at;
-}
-
 get_resized : (values : List (Option Bool)) (n k v : ℕ)
     → (get_or (take n values ++ replicate k None) v None ≡ get_or values v None) ⊎ (get_or (take n values ++ replicate k None) v None ≡ None)
 get_resized [] zero k v = inr (get_none k v)
