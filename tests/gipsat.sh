@@ -73,6 +73,15 @@ printf 'p cnf 1 1\n1 0\n' | gzip > "$work/packed.gz"
 try "a formula in gzip" 1 "$work/packed.gz:1: gzip data (try: gzip -dc FILE | gipsat)" "" "" "$work/packed.gz"
 printf '\xfd7zXZ\x00\x00' > "$work/packed.xz"
 try "a formula in xz" 1 "$work/packed.xz:1: xz data (try: xz -dc FILE | gipsat)" "" "" "$work/packed.xz"
+printf 'BZh91AY&SY' > "$work/packed.bz2"
+try "a formula in bzip2" 1 "$work/packed.bz2:1: bzip2 data (try: bzip2 -dc FILE | gipsat)" "" "" "$work/packed.bz2"
+try "a byte order mark" 1 "$none" "" '\xef\xbb\xbfp cnf 1 1\n1 0\n'
+try "a formula in UTF-16" 1 "$none" "" 'p\0 \0c\0n\0f\0 \0001\0 \0001\0\n\0'
+try "lines that end with carriage returns alone" 1 "$none" "" 'p cnf 2 2\r1 0\r-1 2 0\r'
+try "two numbers in a word" 1 "<stdin>:2: not a number" "" 'p cnf 2 1\n1-2 0\n'
+try "a number past 2^32" 1 "<stdin>:2: a number past 2147483647" "" 'p cnf 1 1\n4294967297 0\n'
+try "a number with many zeros" 10 "" "$two" 'p cnf 0002 2\n00000000000000000001 00\n-01 000002 0\n'
+try "a device without a byte" 1 '/dev/null:1: no header `p cnf VARIABLES CLAUSES`' "" "" /dev/null
 
 # Files that can't be read. A message names the file, the line where there is one, and the cause.
 printf 'p cnf 1 1\n2 0\n' > "$work/broken"
@@ -372,6 +381,12 @@ try_kept "another formula" 1 "$work/other.cnf: $over" "" "$work/other.cnf" "" --
 { yes 'c a comment' | head -c 70000; printf 'p cnf 1 1\n1 0\n'; } > "$work/comments.cnf"
 try_kept "a formula behind many comments" 1 "$work/comments.cnf: $over" "" "$work/comments.cnf" "" \
     --proof "$work/comments.cnf" "$kept"
+# The guard reads the first 65536 bytes of the file, which may end within the header.
+for place in 65530 65531 65532 65533 65534 65535 65536; do
+    { printf c; head -c $((place - 2)) /dev/zero | tr '\0' a; printf '\np cnf 1 2\n1 0\n-1 0\n'; } > "$work/padded.cnf"
+    try_kept "a formula whose header begins at byte $place" 1 "$work/./padded.cnf: $over" "" "$work/padded.cnf" "" \
+        --proof "$work/./padded.cnf" "$work/padded.cnf"
+done
 printf '1 0\n0\n' > "$work/old"
 try_kept "an old proof, and a refused formula" 1 "<stdin>:2: not a number" "" "$work/old" 'p cnf 1 1\nx 0\n' --proof "$work/old"
 there='is there, and may be a formula (--force writes over it)'
@@ -398,6 +413,15 @@ try "that proof is checked too" 0 "" "s VERIFIED" "" --check "$kept" "$work/empt
 cp "$kept" "$work/forced.cnf"
 try "a formula is written over by force" 20 "" "s UNSATISFIABLE" "" --force --proof "$work/forced.cnf" "$kept"
 try "that proof is checked as well" 0 "" "s VERIFIED" "" --check "$kept" "$work/forced.cnf"
+
+try "a proof's file beside a formula that is satisfied" 10 "" "$two" 'p cnf 2 2\n1 0\n-1 2 0\n' --proof "$work/unneeded"
+if [ -e "$work/unneeded" ]; then
+    echo "ok: that file is written whatever the answer is"
+    passed=$((passed + 1))
+else
+    echo "FAILED: that file is written whatever the answer is"
+    failed=$((failed + 1))
+fi
 
 # A proof that can't be written further ends the search, which would take hours.
 pigeons 11 > "$work/many"
@@ -436,9 +460,17 @@ else
     failed=$((failed + 1))
 fi
 
-# A time limit ends the search, without an answer. Every five seconds a line tells how far the search is, and how much of
-# an input that comes slowly was read.
+# A time limit ends the search, without an answer. Every five seconds a line tells how far the search is, also where it
+# meets no conflict, and how much of an input that comes slowly was read.
+python3 - > "$work/easy" <<'END'
+import random
+random.seed(1)
+print("p cnf 300000 1050000")
+for _ in range(1050000):
+    print(*(random.choice((1, -1)) * variable for variable in random.sample(range(1, 300001), 3)), 0)
+END
 { printf 'p cnf 1 1\n'; sleep 6; printf '1 0\n'; } | timeout 60 "$gipsat" > "$work/slow" 2> "$work/slow_err" &
+timeout 60 "$gipsat" -n --time 8 "$work/easy" > "$work/easy_out" 2> "$work/easy_err" &
 timeout 60 "$gipsat" --time 6 "$work/many" > "$work/out" 2> "$work/err"
 status=$?
 wait
@@ -449,13 +481,16 @@ else
     echo "FAILED: a time limit (status $status, $(head -c 200 "$work/err"), $(head -c 200 "$work/out"))"
     failed=$((failed + 1))
 fi
-if grep -q '^c [0-9]* conflicts, [0-9]* restarts, [0-9]* clauses kept, [0-9]* deleted, ' "$work/err"; then
-    echo "ok: a line of a long search"
-    passed=$((passed + 1))
-else
-    echo "FAILED: a line of a long search ($(head -c 200 "$work/err"))"
-    failed=$((failed + 1))
-fi
+progress='^c [0-9]* conflicts, [0-9]* restarts, [0-9]* clauses kept, [0-9]* deleted'
+for search in err easy_err; do
+    if grep -q "$progress" "$work/$search"; then
+        echo "ok: a line of a long search ($search)"
+        passed=$((passed + 1))
+    else
+        echo "FAILED: a line of a long search ($search: $(head -c 200 "$work/$search"))"
+        failed=$((failed + 1))
+    fi
+done
 if [ "$(cat "$work/slow")" = "$(printf 's SATISFIABLE\nv 1 0')" ] && grep -q '^c 14 bytes read$' "$work/slow_err" &&
     grep -q '^c 1 variables, 1 clauses read in [0-9]*\.[0-9]\{3\} s$' "$work/slow_err"; then
     echo "ok: lines of a slow input"
@@ -465,16 +500,36 @@ else
     failed=$((failed + 1))
 fi
 
-# A conflict costs no more where many literals are fixed: 90 000 units beside eight pigeons in seven holes.
-awk 'NR == 1 { $3 = 100000; $4 += 90000 } { print } END { for (v = 10001; v <= 100000; v++) print v, 0 }' \
-    "$work/crowd" > "$work/fixed"
-timeout 20 "$gipsat" "$work/fixed" > "$work/out" 2> "$work/err"
-status=$?
-if [ "$status" = 20 ] && [ "$(cat "$work/out")" = "s UNSATISFIABLE" ]; then
-    echo "ok: a search beside many fixed literals within 20 seconds"
+# Memory that is refused, while the clauses are read and where a variable has the greatest number.
+(ulimit -v 60000; "$gipsat" "$work/easy") > "$work/out" 2> "$work/err"
+if [ "$?" = 1 ] && [ ! -s "$work/out" ] && [ "$(cat "$work/err")" = "memory: refused" ]; then
+    echo "ok: memory is refused"
     passed=$((passed + 1))
 else
-    echo "FAILED: a search beside many fixed literals within 20 seconds (status $status, $(head -c 200 "$work/err"))"
+    echo "FAILED: memory is refused ($(head -c 200 "$work/err"), $(head -c 200 "$work/out"))"
+    failed=$((failed + 1))
+fi
+printf 'p cnf 2147483647 1\n2147483647 0\n' > "$work/greatest"
+(ulimit -v 2000000; "$gipsat" "$work/greatest") > "$work/out" 2> "$work/err"
+if [ "$?" = 1 ] && [ ! -s "$work/out" ] && [ "$(cat "$work/err")" = "memory: refused" ]; then
+    echo "ok: memory is refused for the greatest variable"
+    passed=$((passed + 1))
+else
+    echo "FAILED: memory is refused for the greatest variable ($(head -c 200 "$work/err"), $(head -c 200 "$work/out"))"
+    failed=$((failed + 1))
+fi
+
+# A conflict costs no more where many literals are fixed: 500 000 units beside eight pigeons in seven holes.
+awk 'NR == 1 { $3 = 510000; $4 += 500000 } { print } END { for (v = 10001; v <= 510000; v++) print v, 0 }' \
+    "$work/crowd" > "$work/fixed"
+TIMEFORMAT=%U
+alone=$( { time "$gipsat" "$work/crowd" > /dev/null 2>&1; } 2>&1)
+beside=$( { time timeout 60 "$gipsat" "$work/fixed" > "$work/out" 2> "$work/err"; } 2>&1)
+if [ "$(cat "$work/out")" = "s UNSATISFIABLE" ] && awk "BEGIN { exit !($beside < 2 * $alone + 3) }"; then
+    echo "ok: a search beside many fixed literals"
+    passed=$((passed + 1))
+else
+    echo "FAILED: a search beside many fixed literals ($alone s alone, $beside s beside them, $(head -c 200 "$work/err"))"
     failed=$((failed + 1))
 fi
 try "no witness is wanted" 10 "" "s SATISFIABLE" 'p cnf 1 1\n1 0\n' -n
