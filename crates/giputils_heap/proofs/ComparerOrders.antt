@@ -1,5 +1,5 @@
 -- The relations of the library's comparers: they order all keys, and a changed rank changes one key.
-use Rattle.std.proofs.Common.{◌≡◌, ◌≢◌, ℕ, ◌<◌, ◌≤◌, Bool, true, ◌&&◌, ◌||◌, not, List, length, ap, sym, ◌∙◌, ⊎_elim, arith, IsTrue, eqb, ltb, leb}
+use Rattle.std.proofs.Common.{◌≡◌, ◌≢◌, ℕ, zero, suc, ◌<◌, ◌≤◌, Bool, true, ◌&&◌, ◌||◌, not, List, [], ◌∷◌, ◌++◌, length, refl, ap, sym, ◌∙◌, ⊎_elim, arith, IsTrue, eqb, ltb, leb}
 use Rattle.std.specs.Prelude.{filter, slice_set}
 use Rattle.std.proofs.Math.ListN.{set}
 use Rattle.std.specs.Bool.{beq}
@@ -24,6 +24,13 @@ at_least_fallen q q' n r m falls = grind (arith, nat_tests)
 
 at_least_itself : (q n : ℕ) (b : Bool) → (not b || (ltb q q || (eqb q q && leb n n))) ≡ true
 at_least_itself q n b = grind (arith, nat_tests)
+
+-- a rank that is appended is that of the number behind the others alone
+rank_of-append : (ranks : List ℕ) (r n : ℕ) → n ≢ length ranks → rank_of (ranks ++ r ∷ []) n ≡ rank_of ranks n
+rank_of-append [] r zero apart = absurd (apart refl)
+rank_of-append [] r (suc n) apart = refl
+rank_of-append (q ∷ ranks) r zero apart = refl
+rank_of-append (q ∷ ranks) r (suc n) apart = rank_of-append ranks r n (λ same. apart (ap suc same))
 
 module _ {T : Type 0} where
   -- a relation that orders all keys does so the other way round
@@ -55,30 +62,48 @@ module _ {T : Type 0} where
     pub HasNoTies-by_rank : (ranks : List ℕ) (keys : List T) → HasNoTies number (by_rank number ranks) keys
     HasNoTies-by_rank ranks keys = HasNoTies-everywhere number (by_rank number ranks) (by_rank-tie ranks) keys
 
+    -- a key apart from v has another number
+    pub apart_from : (v x : T) → not (same_key number v x) ≡ true → number x ≢ number v
+    apart_from v x other same = false≢true (sym (ap not (eq-eqb (number v) (number x) (sym same))) ∙ other)
+
     -- a key of another number keeps its rank
     rank_of-other : (v x : T) (ranks : List ℕ) (r : ℕ) → not (same_key number v x) ≡ true
         → rank_of (set ranks (number v) r) (number x) ≡ rank_of ranks (number x)
-    rank_of-other v x ranks r other =
-        let apart : number x ≢ number v = λ same. false≢true (sym (ap not (eq-eqb (number v) (number x) (sym same))) ∙ other) in
-        get_or-set_other ranks (number v) (number x) r 0 apart
+    rank_of-other v x ranks r other = get_or-set_other ranks (number v) (number x) r 0 (apart_from v x other)
 
-    -- a changed rank changes the comparisons of its key alone
-    pub AgreesExcept-by_rank : (v : T) (ranks : List ℕ) (r : ℕ) (keys : List T)
-        → AgreesExcept number v (by_rank number ranks) (by_rank number (slice_set ranks (number v) r)) keys
-    AgreesExcept-by_rank v ranks r keys =
-        let kept : T → Bool = λ k. not (same_key number v k) in
-        list_all-filter kept (λ x. list_all (λ y. beq (by_rank number ranks x y) (by_rank number (set ranks (number v) r) x y)) (filter kept keys))
-        (λ x x_kept. list_all-filter kept (λ y. beq (by_rank number ranks x y) (by_rank number (set ranks (number v) r) x y))
-        (λ y y_kept. rw (rank_of-other v x ranks r x_kept, rank_of-other v y ranks r y_kept) (beq-refl (by_rank number ranks x y))) keys) keys
+    -- tables that differ at v alone compare the other keys alike
+    module _ (v : T) (ranks now : List ℕ) (alike : (n : ℕ) → n ≢ number v → rank_of now n ≡ rank_of ranks n) (keys : List T) where
+      AgreesExcept-by_ranks : AgreesExcept number v (by_rank number ranks) (by_rank number now) keys
+      AgreesExcept-by_ranks =
+          let kept : T → Bool = λ k. not (same_key number v k) in
+          list_all-filter kept (λ x. list_all (λ y. beq (by_rank number ranks x y) (by_rank number now x y)) (filter kept keys))
+          (λ x x_kept. list_all-filter kept (λ y. beq (by_rank number ranks x y) (by_rank number now x y))
+          (λ y y_kept. rw (alike (number x) (apart_from v x x_kept), alike (number y) (apart_from v y y_kept)) (beq-refl (by_rank number ranks x y))) keys) keys
 
-    -- the other way round too
-    pub AgreesExcept-by_least_rank : (v : T) (ranks : List ℕ) (r : ℕ) (keys : List T)
-        → AgreesExcept number v (reverse_of (by_rank number ranks)) (reverse_of (by_rank number (slice_set ranks (number v) r))) keys
-    AgreesExcept-by_least_rank v ranks r keys =
-        let kept : T → Bool = λ k. not (same_key number v k) in
-        list_all-filter kept (λ x. list_all (λ y. beq (by_rank number ranks y x) (by_rank number (set ranks (number v) r) y x)) (filter kept keys))
-        (λ x x_kept. list_all-filter kept (λ y. beq (by_rank number ranks y x) (by_rank number (set ranks (number v) r) y x))
-        (λ y y_kept. rw (rank_of-other v x ranks r x_kept, rank_of-other v y ranks r y_kept) (beq-refl (by_rank number ranks y x))) keys) keys
+      AgreesExcept-by_least_ranks : AgreesExcept number v (reverse_of (by_rank number ranks)) (reverse_of (by_rank number now)) keys
+      AgreesExcept-by_least_ranks =
+          let kept : T → Bool = λ k. not (same_key number v k) in
+          list_all-filter kept (λ x. list_all (λ y. beq (by_rank number ranks y x) (by_rank number now y x)) (filter kept keys))
+          (λ x x_kept. list_all-filter kept (λ y. beq (by_rank number ranks y x) (by_rank number now y x))
+          (λ y y_kept. rw (alike (number x) (apart_from v x x_kept), alike (number y) (apart_from v y y_kept)) (beq-refl (by_rank number ranks y x))) keys) keys
+
+    module _ (v : T) (ranks : List ℕ) (r : ℕ) (keys : List T) where
+      -- a changed rank changes the comparisons of its key alone
+      pub AgreesExcept-by_rank : AgreesExcept number v (by_rank number ranks) (by_rank number (slice_set ranks (number v) r)) keys
+      AgreesExcept-by_rank = AgreesExcept-by_ranks v ranks (set ranks (number v) r) (λ n apart. get_or-set_other ranks (number v) n r 0 apart) keys
+
+      -- the other way round too
+      pub AgreesExcept-by_least_rank : AgreesExcept number v (reverse_of (by_rank number ranks)) (reverse_of (by_rank number (slice_set ranks (number v) r))) keys
+      AgreesExcept-by_least_rank = AgreesExcept-by_least_ranks v ranks (set ranks (number v) r) (λ n apart. get_or-set_other ranks (number v) n r 0 apart) keys
+
+      module _ (last : number v ≡ length ranks) where
+        -- so does a rank that is appended
+        pub AgreesExcept-by_rank-push : AgreesExcept number v (by_rank number ranks) (by_rank number (ranks ++ r ∷ [])) keys
+        AgreesExcept-by_rank-push = AgreesExcept-by_ranks v ranks (ranks ++ r ∷ []) (λ n apart. rank_of-append ranks r n (λ same. apart (same ∙ sym last))) keys
+
+        pub AgreesExcept-by_least_rank-push : AgreesExcept number v (reverse_of (by_rank number ranks)) (reverse_of (by_rank number (ranks ++ r ∷ []))) keys
+        AgreesExcept-by_least_rank-push =
+            AgreesExcept-by_least_ranks v ranks (ranks ++ r ∷ []) (λ n apart. rank_of-append ranks r n (λ same. apart (same ∙ sym last))) keys
 
     -- where the rank rises, so does the key
     pub HasRisen-by_rank : (v : T) (ranks : List ℕ) (r : ℕ) (keys : List T) → number v < length ranks → rank_of ranks (number v) ≤ r

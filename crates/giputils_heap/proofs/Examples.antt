@@ -644,10 +644,13 @@ drains_a_key_less : Drains number (by_number number) (2 ∷ 3 ∷ []) (3 ∷ [])
 drains_a_key_less d = let same = length_permutation (2 ∷ 3 ∷ []) (3 ∷ []) d.keys in omega (arith, same)
 
 built_of_nothing : Builds number (by_number number) [] []
-built_of_nothing = record { alike = λ q. refl; in_order = λ lawful. IsInOrder-empty (by_number number) }
+built_of_nothing = record { alike = λ q. refl; len = refl; in_order = λ lawful. IsInOrder-empty (by_number number) }
 
 builds_a_key_less : Builds number (by_number number) (2 ∷ 3 ∷ []) (3 ∷ []) → ⊥
 builds_a_key_less b = false≢true (b.alike 2)
 
 builds_another_key_too : Builds number (by_number number) (3 ∷ []) (3 ∷ 2 ∷ []) → ⊥
 builds_another_key_too b = false≢true (sym (b.alike 2))
+
+builds_a_key_twice : Builds number (by_number number) (3 ∷ 3 ∷ []) (3 ∷ 3 ∷ []) → ⊥
+builds_a_key_twice b = let same = b.len in omega (arith, same)

@@ -4,6 +4,7 @@ pub mod Falling
 pub mod Greatest
 pub mod HoldAlike
 pub mod KeySets
+pub mod Lent
 pub mod Levels
 pub mod OrderLaws
 pub mod Orders

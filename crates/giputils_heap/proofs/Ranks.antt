@@ -1,5 +1,5 @@
 -- Keys by rank: what is picked has the greatest rank, and the least where the ranks go the other way.
-use Rattle.std.proofs.Common.{◌≡◌, ℕ, ◌<◌, ◌≤◌, Bool, true, List, ◌∷◌, length, sym, subst, arith}
+use Rattle.std.proofs.Common.{◌≡◌, ℕ, ◌<◌, ◌≤◌, Bool, true, List, [], ◌∷◌, ◌++◌, length, arith}
 use Rattle.std.specs.Prelude.{slice_set}
 use Rattle.std.specs.Bool.{beq}
 use Rattle.std.specs.List.{list_all}
@@ -9,10 +9,10 @@ use Rattle.giputils_heap.specs.Comparers.{by_rank, rank_of, reverse_of}
 use Rattle.giputils_heap.specs.InOrder.{IsInOrder, KeepsOrder, KeepsOrderWith, RepairsChanged, RepairsRisen, RepairsFallen, TakesGreatest}
 use Rattle.giputils_heap.specs.Keys.{is_held, without}
 use Rattle.giputils_heap.specs.Relations.{IsLawful, IsGreatest, AgreesExcept, CanRepair}
-use Rattle.giputils_heap.proofs.ComparerOrders.{IsTotalPreorder-by_rank, IsTotalPreorder-reverse_of, AgreesExcept-by_rank, AgreesExcept-by_least_rank, HasRisen-by_rank, HasFallen-by_rank}
+use Rattle.giputils_heap.proofs.ComparerOrders.{IsTotalPreorder-by_rank, IsTotalPreorder-reverse_of, AgreesExcept-by_rank, AgreesExcept-by_least_rank, AgreesExcept-by_rank-push, AgreesExcept-by_least_rank-push, HasRisen-by_rank, HasFallen-by_rank}
 use Rattle.giputils_heap.proofs.KeySets.{pass_at_held, all_pass_from_held}
 use Rattle.giputils_heap.proofs.Preorders.{IsLawful-everywhere}
-use Rattle.giputils_heap.proofs.Repairs.{IsInOrder-changed, IsInOrder-risen, IsInOrder-fallen}
+use Rattle.giputils_heap.proofs.Lent.{kept-lent, pushed-lent, greatest-lent, CanRepair-lent, repaired-lent, renewed-lent, risen-lent, fallen-lent}
 
 module _ {T : Type 0} (number : T → ℕ) where
   -- ranks are lawful on any keys, and so are they the other way round
@@ -56,114 +56,105 @@ module _ {T : Type 0} (number : T → ℕ) where
   -- ranks of which one has changed can be repaired, and so can they be the other way round
   pub CanRepair-by_rank : (v : T) (ranks : List ℕ) (r : ℕ) (keys : List T)
       → CanRepair number v (by_rank number ranks) (by_rank number (slice_set ranks (number v) r)) keys
-  CanRepair-by_rank v ranks r keys = record {
-    lawful = IsLawful-by_rank ranks keys;
-    agrees = AgreesExcept-by_rank number v ranks r keys;
-    lawful_now = IsLawful-by_rank (slice_set ranks (number v) r) keys;
-  }
+  CanRepair-by_rank v ranks r keys =
+      CanRepair-lent number (by_rank number) IsLawful-by_rank v ranks (slice_set ranks (number v) r) keys (AgreesExcept-by_rank number v ranks r keys)
 
   pub CanRepair-by_least_rank : (v : T) (ranks : List ℕ) (r : ℕ) (keys : List T)
       → CanRepair number v (reverse_of (by_rank number ranks)) (reverse_of (by_rank number (slice_set ranks (number v) r))) keys
-  CanRepair-by_least_rank v ranks r keys = record {
-    lawful = IsLawful-by_least_rank ranks keys;
-    agrees = AgreesExcept-by_least_rank number v ranks r keys;
-    lawful_now = IsLawful-by_least_rank (slice_set ranks (number v) r) keys;
-  }
+  CanRepair-by_least_rank v ranks r keys =
+      CanRepair-lent number (λ rs. reverse_of (by_rank number rs)) IsLawful-by_least_rank v ranks (slice_set ranks (number v) r) keys
+      (AgreesExcept-by_least_rank number v ranks r keys)
+
+  -- so can ranks to which one was appended
+  pub CanRepair-by_rank-push : (v : T) (ranks : List ℕ) (r : ℕ) (keys : List T) → number v ≡ length ranks
+      → CanRepair number v (by_rank number ranks) (by_rank number (ranks ++ r ∷ [])) keys
+  CanRepair-by_rank-push v ranks r keys last =
+      CanRepair-lent number (by_rank number) IsLawful-by_rank v ranks (ranks ++ r ∷ []) keys (AgreesExcept-by_rank-push number v ranks r keys last)
+
+  pub CanRepair-by_least_rank-push : (v : T) (ranks : List ℕ) (r : ℕ) (keys : List T) → number v ≡ length ranks
+      → CanRepair number v (reverse_of (by_rank number ranks)) (reverse_of (by_rank number (ranks ++ r ∷ []))) keys
+  CanRepair-by_least_rank-push v ranks r keys last =
+      CanRepair-lent number (λ rs. reverse_of (by_rank number rs)) IsLawful-by_least_rank v ranks (ranks ++ r ∷ []) keys
+      (AgreesExcept-by_least_rank-push number v ranks r keys last)
 
   -- ---- a call that was lent the ranks `now`, which are these
   module _ (ranks now : List ℕ) (same : now ≡ ranks) (old new : List T) where
     -- keeps order by them
     pub kept-by_rank : KeepsOrder (by_rank number now) old new → IsInOrder (by_rank number ranks) old → IsInOrder (by_rank number ranks) new
-    kept-by_rank keeps ordered =
-        subst (λ rs. IsInOrder (by_rank number rs) new) same
-        (keeps (subst (λ rs. IsInOrder (by_rank number rs) old) (sym same) ordered) (IsLawful-by_rank now old))
+    kept-by_rank = kept-lent number (by_rank number) IsLawful-by_rank ranks now same old new
 
     pub kept-by_least_rank : KeepsOrder (reverse_of (by_rank number now)) old new → IsInOrder (reverse_of (by_rank number ranks)) old
         → IsInOrder (reverse_of (by_rank number ranks)) new
-    kept-by_least_rank keeps ordered =
-        subst (λ rs. IsInOrder (reverse_of (by_rank number rs)) new) same
-        (keeps (subst (λ rs. IsInOrder (reverse_of (by_rank number rs)) old) (sym same) ordered) (IsLawful-by_least_rank now old))
+    kept-by_least_rank = kept-lent number (λ rs. reverse_of (by_rank number rs)) IsLawful-by_least_rank ranks now same old new
 
     module _ (v : T) where
       -- a push keeps it too
       pub pushed-by_rank : KeepsOrderWith (by_rank number now) v old new → IsInOrder (by_rank number ranks) old → IsInOrder (by_rank number ranks) new
-      pushed-by_rank keeps ordered =
-          subst (λ rs. IsInOrder (by_rank number rs) new) same
-          (keeps (subst (λ rs. IsInOrder (by_rank number rs) old) (sym same) ordered) (IsLawful-by_rank now (v ∷ old)))
+      pushed-by_rank = pushed-lent number (by_rank number) IsLawful-by_rank ranks now same old new v
 
       pub pushed-by_least_rank : KeepsOrderWith (reverse_of (by_rank number now)) v old new → IsInOrder (reverse_of (by_rank number ranks)) old
           → IsInOrder (reverse_of (by_rank number ranks)) new
-      pushed-by_least_rank keeps ordered =
-          subst (λ rs. IsInOrder (reverse_of (by_rank number rs)) new) same
-          (keeps (subst (λ rs. IsInOrder (reverse_of (by_rank number rs)) old) (sym same) ordered) (IsLawful-by_least_rank now (v ∷ old)))
+      pushed-by_least_rank = pushed-lent number (λ rs. reverse_of (by_rank number rs)) IsLawful-by_least_rank ranks now same old new v
 
   -- what it takes out of order is a greatest key by them
   module _ (ranks now : List ℕ) (same : now ≡ ranks) (old : List T) (k : T) where
     pub greatest-by_rank : TakesGreatest number (by_rank number now) old k → IsInOrder (by_rank number ranks) old
         → IsGreatest number (by_rank number ranks) old k
-    greatest-by_rank greatest ordered =
-        subst (λ rs. IsGreatest number (by_rank number rs) old k) same
-        (greatest (subst (λ rs. IsInOrder (by_rank number rs) old) (sym same) ordered) (IsLawful-by_rank now old))
+    greatest-by_rank = greatest-lent number (by_rank number) IsLawful-by_rank ranks now same old k
 
     pub greatest-by_least_rank : TakesGreatest number (reverse_of (by_rank number now)) old k → IsInOrder (reverse_of (by_rank number ranks)) old
         → IsGreatest number (reverse_of (by_rank number ranks)) old k
-    greatest-by_least_rank greatest ordered =
-        subst (λ rs. IsGreatest number (reverse_of (by_rank number rs)) old k) same
-        (greatest (subst (λ rs. IsInOrder (reverse_of (by_rank number rs)) old) (sym same) ordered) (IsLawful-by_least_rank now old))
+    greatest-by_least_rank = greatest-lent number (λ rs. reverse_of (by_rank number rs)) IsLawful-by_least_rank ranks now same old k
 
   -- where the rank of v became r, a call that was lent the ranks since
   module _ (v : T) (ranks : List ℕ) (r : ℕ) (now : List ℕ) (same : now ≡ slice_set ranks (number v) r) (old new : List T) where
     -- repairs order, whatever r is
     pub repaired-by_rank : RepairsChanged number v (by_rank number now) old new old → IsInOrder (by_rank number ranks) old
         → IsInOrder (by_rank number (slice_set ranks (number v) r)) new
-    repaired-by_rank repairs ordered =
-        IsInOrder-changed number v (by_rank number ranks) (by_rank number (slice_set ranks (number v) r)) old new (CanRepair-by_rank v ranks r old)
-        (subst (λ rs. RepairsChanged number v (by_rank number rs) old new old) same repairs) ordered
+    repaired-by_rank =
+        repaired-lent number (by_rank number) IsLawful-by_rank v ranks (slice_set ranks (number v) r) now same old new (AgreesExcept-by_rank number v ranks r old)
 
     pub repaired-by_least_rank : RepairsChanged number v (reverse_of (by_rank number now)) old new old → IsInOrder (reverse_of (by_rank number ranks)) old
         → IsInOrder (reverse_of (by_rank number (slice_set ranks (number v) r))) new
-    repaired-by_least_rank repairs ordered =
-        IsInOrder-changed number v (reverse_of (by_rank number ranks)) (reverse_of (by_rank number (slice_set ranks (number v) r))) old new
-        (CanRepair-by_least_rank v ranks r old) (subst (λ rs. RepairsChanged number v (reverse_of (by_rank number rs)) old new old) same repairs) ordered
+    repaired-by_least_rank =
+        repaired-lent number (λ rs. reverse_of (by_rank number rs)) IsLawful-by_least_rank v ranks (slice_set ranks (number v) r) now same old new
+        (AgreesExcept-by_least_rank number v ranks r old)
 
     -- so does `push_or_update`
     pub renewed-by_rank : RepairsChanged number v (by_rank number now) old new (v ∷ old) → IsInOrder (by_rank number ranks) old
         → IsInOrder (by_rank number (slice_set ranks (number v) r)) new
-    renewed-by_rank repairs ordered =
-        (subst (λ rs. RepairsChanged number v (by_rank number rs) old new (v ∷ old)) same repairs) (by_rank number ranks) ordered (IsLawful-by_rank ranks old)
-        (AgreesExcept-by_rank number v ranks r old) (IsLawful-by_rank (slice_set ranks (number v) r) (v ∷ old))
+    renewed-by_rank =
+        renewed-lent number (by_rank number) IsLawful-by_rank v ranks (slice_set ranks (number v) r) now same old new (AgreesExcept-by_rank number v ranks r old)
 
     pub renewed-by_least_rank : RepairsChanged number v (reverse_of (by_rank number now)) old new (v ∷ old) → IsInOrder (reverse_of (by_rank number ranks)) old
         → IsInOrder (reverse_of (by_rank number (slice_set ranks (number v) r))) new
-    renewed-by_least_rank repairs ordered =
-        (subst (λ rs. RepairsChanged number v (reverse_of (by_rank number rs)) old new (v ∷ old)) same repairs) (reverse_of (by_rank number ranks)) ordered
-        (IsLawful-by_least_rank ranks old) (AgreesExcept-by_least_rank number v ranks r old) (IsLawful-by_least_rank (slice_set ranks (number v) r) (v ∷ old))
+    renewed-by_least_rank =
+        renewed-lent number (λ rs. reverse_of (by_rank number rs)) IsLawful-by_least_rank v ranks (slice_set ranks (number v) r) now same old new
+        (AgreesExcept-by_least_rank number v ranks r old)
 
     module _ (inside : number v < length ranks) where
       -- `up` does where it rose, and the other way round where it fell
       pub risen-by_rank : rank_of ranks (number v) ≤ r → RepairsRisen number v (by_rank number now) old new → IsInOrder (by_rank number ranks) old
           → IsInOrder (by_rank number (slice_set ranks (number v) r)) new
-      risen-by_rank rises repairs ordered =
-          IsInOrder-risen number v (by_rank number ranks) (by_rank number (slice_set ranks (number v) r)) old new (CanRepair-by_rank v ranks r old)
-          (HasRisen-by_rank number v ranks r old inside rises) (subst (λ rs. RepairsRisen number v (by_rank number rs) old new) same repairs) ordered
+      risen-by_rank rises =
+          risen-lent number (by_rank number) IsLawful-by_rank v ranks (slice_set ranks (number v) r) now same old new (AgreesExcept-by_rank number v ranks r old)
+          (HasRisen-by_rank number v ranks r old inside rises)
 
       pub risen-by_least_rank : r ≤ rank_of ranks (number v) → RepairsRisen number v (reverse_of (by_rank number now)) old new
           → IsInOrder (reverse_of (by_rank number ranks)) old → IsInOrder (reverse_of (by_rank number (slice_set ranks (number v) r))) new
-      risen-by_least_rank falls repairs ordered =
-          IsInOrder-risen number v (reverse_of (by_rank number ranks)) (reverse_of (by_rank number (slice_set ranks (number v) r))) old new
-          (CanRepair-by_least_rank v ranks r old) (HasFallen-by_rank number v ranks r old inside falls)
-          (subst (λ rs. RepairsRisen number v (reverse_of (by_rank number rs)) old new) same repairs) ordered
+      risen-by_least_rank falls =
+          risen-lent number (λ rs. reverse_of (by_rank number rs)) IsLawful-by_least_rank v ranks (slice_set ranks (number v) r) now same old new
+          (AgreesExcept-by_least_rank number v ranks r old) (HasFallen-by_rank number v ranks r old inside falls)
 
       -- `down` does where it fell, and the other way round where it rose
       pub fallen-by_rank : r ≤ rank_of ranks (number v) → RepairsFallen number v (by_rank number now) old new → IsInOrder (by_rank number ranks) old
           → IsInOrder (by_rank number (slice_set ranks (number v) r)) new
-      fallen-by_rank falls repairs ordered =
-          IsInOrder-fallen number v (by_rank number ranks) (by_rank number (slice_set ranks (number v) r)) old new (CanRepair-by_rank v ranks r old)
-          (HasFallen-by_rank number v ranks r old inside falls) (subst (λ rs. RepairsFallen number v (by_rank number rs) old new) same repairs) ordered
+      fallen-by_rank falls =
+          fallen-lent number (by_rank number) IsLawful-by_rank v ranks (slice_set ranks (number v) r) now same old new (AgreesExcept-by_rank number v ranks r old)
+          (HasFallen-by_rank number v ranks r old inside falls)
 
       pub fallen-by_least_rank : rank_of ranks (number v) ≤ r → RepairsFallen number v (reverse_of (by_rank number now)) old new
           → IsInOrder (reverse_of (by_rank number ranks)) old → IsInOrder (reverse_of (by_rank number (slice_set ranks (number v) r))) new
-      fallen-by_least_rank rises repairs ordered =
-          IsInOrder-fallen number v (reverse_of (by_rank number ranks)) (reverse_of (by_rank number (slice_set ranks (number v) r))) old new
-          (CanRepair-by_least_rank v ranks r old) (HasRisen-by_rank number v ranks r old inside rises)
-          (subst (λ rs. RepairsFallen number v (reverse_of (by_rank number rs)) old new) same repairs) ordered
+      fallen-by_least_rank rises =
+          fallen-lent number (λ rs. reverse_of (by_rank number rs)) IsLawful-by_least_rank v ranks (slice_set ranks (number v) r) now same old new
+          (AgreesExcept-by_least_rank number v ranks r old) (HasRisen-by_rank number v ranks r old inside rises)

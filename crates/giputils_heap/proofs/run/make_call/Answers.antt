@@ -13,7 +13,7 @@ pub returns-in-Ok-clause-stands : goal.returns-in-Ok-clause-stands
 returns-in-Ok-clause-stands g c p stands =
     rw c.in-Push-2.is
     (stands_pushed g.met.T.HeapKey.one_value stands c.args.cmp.now.comparer c.in-Push-2.v c.push_counted.new.self
-    c.in-Ok.ensures.held_stays c.in-Ok.ensures.added c.in-Ok.ensures.in_order)
+    c.in-Ok.ensures.pushes.stays c.in-Ok.ensures.pushes.added c.in-Ok.ensures.pushes.in_order)
 
 pub returns-in-Ok-clause-comparisons : goal.returns-in-Ok-clause-comparisons
 returns-in-Ok-clause-comparisons g c p stands =
@@ -36,13 +36,13 @@ pub returns-in-Pop-clause-reply : goal.returns-in-Pop-clause-reply
 returns-in-Pop-clause-reply g c p stands =
     rw c.in-Pop.is
     (may_pop_so g.met.T.HeapKey.one_value stands c.args.cmp.now.comparer c.pop_counted.result c.pop_counted.new.self
-    c.pop_counted.ensures.some.1 c.pop_counted.ensures.taken c.pop_counted.ensures.greatest)
+    c.pop_counted.ensures.pops.some.1 c.pop_counted.ensures.pops.taken c.pop_counted.ensures.pops.greatest)
 
 pub returns-in-Pop-clause-stands : goal.returns-in-Pop-clause-stands
 returns-in-Pop-clause-stands g c p stands =
     rw c.in-Pop.is
     (stands_after_pop g.met.T.HeapKey.one_value stands c.args.cmp.now.comparer c.pop_counted.result c.pop_counted.new.self
-    c.pop_counted.ensures.taken c.pop_counted.ensures.none c.pop_counted.ensures.in_order)
+    c.pop_counted.ensures.pops.taken c.pop_counted.ensures.pops.none c.pop_counted.ensures.pops.in_order)
 
 pub returns-in-Pop-clause-comparisons : goal.returns-in-Pop-clause-comparisons
 returns-in-Pop-clause-comparisons g c p stands =
@@ -53,8 +53,8 @@ returns-in-Pop-clause-comparisons g c p stands =
 pub returns-in-Up-clause-stands : goal.returns-in-Up-clause-stands
 returns-in-Up-clause-stands g c p stands =
     rw c.in-Up.is
-    (stands_at_up g.met.T.HeapKey.one_value stands c.args.cmp.now.comparer c.in-Up.v c.up_counted.new.self c.up_counted.ensures.moved
-    c.up_counted.ensures.in_order c.up_counted.ensures.repaired)
+    (stands_at_up g.met.T.HeapKey.one_value stands c.args.cmp.now.comparer c.in-Up.v c.up_counted.new.self c.up_counted.ensures.goes_up.moved
+    c.up_counted.ensures.goes_up.in_order c.up_counted.ensures.goes_up.repaired)
 
 pub returns-in-Up-clause-comparisons : goal.returns-in-Up-clause-comparisons
 returns-in-Up-clause-comparisons g c p stands =
@@ -65,8 +65,8 @@ returns-in-Up-clause-comparisons g c p stands =
 pub returns-in-Down-clause-stands : goal.returns-in-Down-clause-stands
 returns-in-Down-clause-stands g c p stands =
     rw c.in-Down.is
-    (stands_at_down g.met.T.HeapKey.one_value stands c.args.cmp.now.comparer c.in-Down.v c.down_counted.new.self c.down_counted.ensures.moved
-    c.down_counted.ensures.in_order c.down_counted.ensures.repaired)
+    (stands_at_down g.met.T.HeapKey.one_value stands c.args.cmp.now.comparer c.in-Down.v c.down_counted.new.self c.down_counted.ensures.goes_down.moved
+    c.down_counted.ensures.goes_down.in_order c.down_counted.ensures.goes_down.repaired)
 
 pub returns-in-Down-clause-comparisons : goal.returns-in-Down-clause-comparisons
 returns-in-Down-clause-comparisons g c p stands =
@@ -78,7 +78,7 @@ pub returns-in-Update-clause-stands : goal.returns-in-Update-clause-stands
 returns-in-Update-clause-stands g c p stands =
     rw c.in-Update.is
     (stands_updated g.met.T.HeapKey.one_value stands c.args.cmp.now.comparer c.in-Update.v c.update_counted.new.self
-    c.update_counted.ensures.moved c.update_counted.ensures.repaired)
+    c.update_counted.ensures.updates.moved c.update_counted.ensures.updates.repaired)
 
 pub returns-in-Update-clause-comparisons : goal.returns-in-Update-clause-comparisons
 returns-in-Update-clause-comparisons g c p stands =
@@ -89,8 +89,8 @@ returns-in-Update-clause-comparisons g c p stands =
 pub returns-in-Rebuild-clause-stands : goal.returns-in-Rebuild-clause-stands
 returns-in-Rebuild-clause-stands g c p stands =
     rw c.in-Rebuild.is
-    (stands_rebuilt g.met.T.HeapKey.one_value stands c.args.cmp.now.comparer c.rebuild_counted.new.self c.rebuild_counted.ensures.moved
-    c.rebuild_counted.ensures.in_order)
+    (stands_rebuilt g.met.T.HeapKey.one_value stands c.args.cmp.now.comparer c.rebuild_counted.new.self c.rebuild_counted.ensures.rebuilds.moved
+    c.rebuild_counted.ensures.rebuilds.in_order)
 
 pub returns-in-Rebuild-clause-comparisons : goal.returns-in-Rebuild-clause-comparisons
 returns-in-Rebuild-clause-comparisons g c p stands =
