@@ -6,6 +6,7 @@ mod Errors
 mod Examples
 mod Gathered
 mod Kept
+pub mod Literals
 pub mod Logic
 mod Lowest
 pub mod Ones
@@ -15,15 +16,17 @@ mod Overlaid
 mod Parsed
 mod Patterns
 mod Places
-mod Rewritten
 mod Replies
+mod Rewritten
+pub mod Rows
 pub mod Runs
 mod SameWords
+pub mod Sets
 pub mod Tables
 mod Taken
 mod Text
-pub mod Sets
 pub mod TruePlaces
+pub mod Walks
 pub mod Words
 mod Written
 mod Writes

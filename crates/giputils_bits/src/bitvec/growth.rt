@@ -129,14 +129,17 @@ impl<A: Allocator> BitVec<A> {
         Ok(())
     }
 
-    /// Makes room for `additional` bits more, by one request for memory at most, and by none for up to 64 bits in all
-    /// or where there is room. The bits stay as they are.
+    /// Makes room for `additional` bits more, by one request for memory at most. None is made for up to 64 bits in all,
+    /// or where the last word or memory that was kept has room for them. The bits stay as they are.
     ///
     /// # Errors
-    /// `TooLong` where the length would be above `usize::MAX`; `Memory` where memory is refused.
+    /// `TooLong` where the length would be above `usize::MAX`; `Memory` where there would be more than 64 bits, which take
+    /// a word more, and the one request for memory is refused.
     pub fn reserve(&mut self, additional: usize) -> Result<(), BitVecError>
         ensures after { self.new ≡ self.old }
         ensures inline { length self.old + additional ≤ 64 → IsOk result }
+        ensures memory { result ≡ Err BitVecError.Memory
+            → word_count (length self.old) < word_count (length self.old + additional) }
         ensures too_long { (result ≡ Err BitVecError.TooLong) ↔ (usize.MAX < length self.old + additional) }
     {
         let Some(len) = self.len.checked_add(additional) else {

@@ -60,7 +60,10 @@ impl<A: Allocator> BitVec<A> {
     pub fn next_one(&self, start: usize) -> Option<usize>
         ensures found { IfSome result (λ place. IsNextOne self.now start place) }
         ensures none { IfNone result (HasNoneFrom self.now start) }
+        ensures fits { length self.now < 2 ^ 64 }
     {
+        // The length is a usize, and so is the place behind each bit.
+        let _ = self.len();
         if start >= self.len {
             return None;
         }

@@ -211,16 +211,16 @@ impl<A: Allocator> Storage<A> {
         Ok(())
     }
 
-    // Makes room for `count` words in all, by one request at most, and by none for a single word.
+    // Makes room for `count` words in all, by one request at most, and by none where there are as many already.
     pub(crate) fn reserve(&mut self, count: usize) -> Result<(), AllocError>
         ensures after { self.new ≡ self.old }
-        ensures inline { count ≤ 1 → IsOk result }
+        ensures same { count ≤ length self.old → IsOk result }
     {
-        if count <= 1 {
+        if count <= self.len() {
             return Ok(());
         }
         let heap: &mut Vec<u64, A> = &mut self.heap;
-        heap.reserve(count.saturating_sub(heap.len()))
+        heap.reserve(count - heap.len())
     }
 
     // Leaves the first `count` words. The memory is kept for the next growth.

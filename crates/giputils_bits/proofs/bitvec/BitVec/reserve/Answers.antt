@@ -1,5 +1,6 @@
-use Rattle.std.proofs.Common.{◌+◌, ◌^◌, refl, arith, inl, inr}
+use Rattle.std.proofs.Common.{◌+◌, ◌^◌, length, refl, arith, inl, inr}
 use Rattle.std.proofs.lemmas.Bool.{cases_lt}
+use Rattle.giputils_bits.specs.Bits.{word_count}
 use Rattle.giputils_bits.proofs.Errors.{memory_from, not_too_long}
 use Rattle.giputils_bits.proofs.Places.{kept-length}
 use Rattle.giputils_bits.proofs.bitvec.BitVec.reserve.Goals as goal
@@ -18,7 +19,16 @@ returns-in_default-clause-too_long g c = (
 
 pub returns-in_err-reserve-clause-inline : goal.returns-in_err-reserve-clause-inline
 returns-in_err-reserve-clause-inline g c = λ short.
-    let never = c.in_err-reserve.ensures.inline (omega (arith, c.word_count.ensures, c.in-Some.ensures.1, kept-length _ _ _ c.self.view_is)) in cc
+    let never = c.in_err-reserve.ensures.same (omega (arith, c.word_count.ensures, c.in-Some.ensures.1, kept-length _ _ _ c.self.view_is, c.self.invariant.count)) in cc
+
+pub returns-in_err-reserve-clause-memory : goal.returns-in_err-reserve-clause-memory
+returns-in_err-reserve-clause-memory g c = λ e.
+    elim (cases_lt (word_count (length c.args.self.now)) (word_count (length c.args.self.now + c.args.additional))) [
+      | inl l ↦ l
+      | inr m ↦
+          let never = c.in_err-reserve.ensures.same (omega (arith, m, c.word_count.ensures, c.in-Some.ensures.1, kept-length _ _ _ c.self.view_is, c.self.invariant.count)) in
+          absurd (cc)
+    ]
 
 pub returns-in_err-reserve-clause-too_long : goal.returns-in_err-reserve-clause-too_long
 returns-in_err-reserve-clause-too_long g c = (
