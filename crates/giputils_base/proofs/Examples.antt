@@ -1,12 +1,13 @@
 -- The definitions, computed on worked examples.
-use Rattle.std.specs.Prelude.{◌≡◌, ℕ, zero, suc, ◌-◌, ◌<◌, pos, negsuc, Bool, true, false, List, [], ◌∷◌, Some, None, nat_eq, slice_index_or, refl}
+use Rattle.std.specs.Prelude.{◌≡◌, ℕ, zero, suc, ◌-◌, ◌<◌, pos, negsuc, Bool, true, false, List, [], ◌∷◌, Some, None, nat_eq, slice_get, slice_index_or, refl}
+use Rattle.std.specs.Option.{option_map_or}
 use Rattle.std.specs.List.{IsDistinct}
-use Rattle.std.proofs.Common.{arith, inl}
+use Rattle.std.proofs.Common.{arith, ap, inl}
 use Rattle.std.proofs.lemmas.Bool.Decides.{nat_tests}
 use Rattle.giputils_base.specs.Others.{option_of}
 use Rattle.giputils_base.specs.Gvec.{swap_remove, FilledTo, IsPlace}
 use Rattle.giputils_base.specs.Hash.{get, last_value, contains, PutsValue, TakesKey, PutsMember, TakesMember, HasUniqueKeys, IsMapOf, IsSetOf}
-use Rattle.giputils_base.specs.Allocator.{value_at, mark_at, live_at, live_count, live_slots, mark, write, survivors, unmarked_slots, new_index, index_map, table_at, IsIndexMap, IsIndexTable, Renumbers}
+use Rattle.giputils_base.specs.Allocator.{value_at, mark_at, live_at, live_count, live_slots, mark, write, survivors, unmarked_slots, new_index, index_map, table_at, IsIndexMap, IsIndexTable, Renumbers, TakesValue}
 use Rattle.giputils_base.specs.AllocatorRun.{Answers}
 use Rattle.giputils_base.proofs.Renumbering.{Renumbers-index_map}
 use Rattle.giputils_base.specs.declared.allocator.run.GallocCall.{GallocCall}
@@ -188,6 +189,20 @@ nor_does_keeping_a_marked_one renumbers = let dropped = (renumbers.kept 0).0 ref
 
 nor_does_exchanging_two : Renumbers {T = ℕ} ((10, false) ∷ (20, false) ∷ []) ((20, false) ∷ (10, false) ∷ []) (λ i. Some (1 - i)) → ⊥
 nor_does_exchanging_two renumbers = let apart = renumbers.increasing 0 1 1 0 refl refl (omega arith) in omega arith
+
+-- what `take` leaves
+
+a_default_is_left : TakesValue {T = ℕ} (λ v. v ≡ 0) 1 ((10, false) ∷ (20, false) ∷ []) ((10, false) ∷ (0, true) ∷ [])
+a_default_is_left = (0, refl, refl)
+
+the_value_is_not_left : TakesValue {T = ℕ} (λ v. v ≡ 0) 0 ((10, false) ∷ []) ((10, true) ∷ []) → ⊥
+the_value_is_not_left takes =
+    let zero = takes.1 in
+    let same : 10 ≡ takes.0 = ap (λ slots. option_map_or (λ slot. slot.0) (slice_get slots 0) 0) takes.2 in
+    omega arith
+
+an_unmarked_slot_is_not_taken : TakesValue {T = ℕ} (λ v. v ≡ 0) 0 ((10, false) ∷ []) ((0, false) ∷ []) → ⊥
+an_unmarked_slot_is_not_taken takes = let same = ap (λ slots. mark_at slots 0) takes.2 in cc
 
 -- the values that fill holes from the end are not the survivors
 holes_are_not_filled_from_the_end : survivors {T = ℕ} ((1, true) ∷ (2, false) ∷ (3, false) ∷ []) ≡ 3 ∷ 2 ∷ [] → ⊥

@@ -1,7 +1,9 @@
+pub mod AsciiDigits
 mod Examples
 mod IndexMaps
 mod LastValues
 pub mod LiveValues
+pub mod MapWrites
 pub mod Members
 mod Renaming
 pub mod Runs

@@ -5,7 +5,8 @@ use Rattle.std.proofs.Common.{arith, ap, sym, ◌∙◌}
 use Rattle.std.proofs.lemmas.Bool.Decides.{nat_tests}
 use Rattle.giputils_base.specs.Hash.{get}
 use Rattle.giputils_base.specs.Allocator.{value_at, mark_at, live_at, live_count, live_slots, mark, write, survivors, unmarked_slots, Renumbers}
-use Rattle.giputils_base.proofs.Slots.{value_at-mark, mark_at-mark, mark_at-mark_other, value_at-write, value_at-write_other, mark_at-write}
+use Rattle.std.proofs.lemmas.Option.{slice_get_within}
+use Rattle.giputils_base.proofs.Slots.{slot_there, value_at-mark, mark_at-mark, mark_at-mark_other, value_at-write, value_at-write_other, mark_at-write}
 
 module _ {T : Type 0} where
   -- the value of an unmarked slot, by the slot's value and its mark
@@ -57,6 +58,12 @@ module _ {T : Type 0} where
       → live_at (write slots i v) i ≡ Some v
   live_at-write slots i v at below =
       live_at-unmarked (write slots i v) i (mark_at-write slots i i v ∙ at) ∙ value_at-write slots i v below
+
+  pub live_at-written : (slots : List (T × Bool)) (i : ℕ) (old v : T) → live_at slots i ≡ Some old → live_at (write slots i v) i ≡ Some v
+  live_at-written slots i old v at =
+      let unmarked : mark_at slots i ≡ Some false = (IsSome-live_at slots i).0 (rw at refl) in
+      let (value, there) = slot_there slots i false unmarked in
+      live_at-write slots i v unmarked (slice_get_within slots i (value, false) there)
 
   pub live_at-write_other : (slots : List (T × Bool)) (i k : ℕ) (v : T) → k ≢ i → live_at (write slots i v) k ≡ live_at slots k
   live_at-write_other slots i k v other =

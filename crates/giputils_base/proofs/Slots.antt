@@ -63,7 +63,7 @@ module _ {X : Type 0} (change : X → X) where
 
 module _ {T : Type 0} where
   -- a slot whose mark is known
-  slot_there : (slots : List (T × Bool)) (i : ℕ) (b : Bool) → mark_at slots i ≡ Some b → (v : T) × (slice_get slots i ≡ Some (v, b))
+  pub slot_there : (slots : List (T × Bool)) (i : ℕ) (b : Bool) → mark_at slots i ≡ Some b → (v : T) × (slice_get slots i ≡ Some (v, b))
   slot_there [] i b at = cc
   slot_there ((v, true) ∷ slots) zero true at = (v, refl)
   slot_there ((v, false) ∷ slots) zero false at = (v, refl)

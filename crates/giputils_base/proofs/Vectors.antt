@@ -1,14 +1,22 @@
--- A vector's items after its last item has taken the place of another.
-use Rattle.std.specs.Prelude.{◌≡◌, ◌≢◌, ℕ, ◌+◌, ◌-◌, ◌<◌, List, [], ◌∷◌, length, slice_index_or, refl}
+-- The items of a vector that are read, and after its last item has taken the place of another.
+use Rattle.std.specs.Prelude.{◌≡◌, ◌≢◌, ℕ, ◌+◌, ◌-◌, ◌<◌, List, [], ◌∷◌, length, slice_index, slice_index_or, refl}
 use Rattle.std.specs.List.{swap_remove as swap_remove_or}
 use Rattle.std.specs.List.Sorted.{IsPermutation}
-use Rattle.std.proofs.Common.{arith}
+use Rattle.std.proofs.Common.{arith, ◌∙◌}
 use Rattle.std.proofs.lemmas.Grind.{common_steps}
 use Rattle.std.proofs.lemmas.List.{get_or_default}
 use Rattle.std.proofs.lemmas.List.Sorted.{IsPermutation-swap_remove}
 use Rattle.giputils_base.specs.Gvec.{swap_remove}
 
+-- an item of a vector of numbers that was read, as `slice_index` has it
+pub slice_index-read : (xs : List ℕ) (i x : ℕ) → i < length xs → x ≡ slice_index_or xs i x → x ≡ slice_index xs i
+slice_index-read xs i x below read = read ∙ get_or_default xs i x 0 below
+
 module _ {X : Type 0} where
+  -- an item that was read, by any other default
+  pub slice_index_or-read : (xs : List X) (i : ℕ) (x d : X) → i < length xs → x ≡ slice_index_or xs i x → x ≡ slice_index_or xs i d
+  slice_index_or-read xs i x d below read = read ∙ get_or_default xs i x d below
+
   -- std's word, which takes an item to fall back on, gives the same list at each such item
   pub swap_remove-swap_remove_or : (xs : List X) (i : ℕ) (d : X) → swap_remove xs i ≡ swap_remove_or xs i d
   swap_remove-swap_remove_or [] i d = refl

@@ -32,6 +32,10 @@ module _ {T : Type 0} where
   abbrev pub write : List (T × Bool) → ℕ → T → List (T × Bool)
   write slots i v = option_map_or (λ slot. slice_set slots i (v, slot.1)) (slice_get slots i) slots
 
+  -- `new` is `old` with slot i marked, which has a default in the place of its value
+  abbrev pub TakesValue : (T → Type 0) → ℕ → List (T × Bool) → List (T × Bool) → Type 0
+  TakesValue is_default i old new = (rest : T) × is_default rest × (new ≡ mark (write old i rest) i)
+
   -- the unmarked values, in order
   abbrev pub survivors : List (T × Bool) → List T
   survivors slots = map (λ slot. slot.0) (filter is_unmarked slots)

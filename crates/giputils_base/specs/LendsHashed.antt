@@ -1,6 +1,7 @@
 -- What a hashed wrapper ends as, where a `&mut` to the collection inside is returned.
-use Rattle.std.specs.Prelude.{List}
-use Rattle.std.specs.Borrow.{Lends, Fml, RattleType, MutBor}
+use Rattle.std.specs.Prelude.{List, Option}
+use Rattle.std.specs.Map.{set_value}
+use Rattle.std.specs.Borrow.{Lends, LendsIf, Fml, RattleType, MutBor}
 use Rattle.std.specs.HashMap.{HashMap}
 use Rattle.std.specs.HashMap.Lent.{HashMembers, map_row}
 use Rattle.std.specs.HashSet.{HashSet}
@@ -26,6 +27,13 @@ module _ (K V A : RattleType) (key : HashMembers K.Denot)
       (gmap.the_row K V A (record { eq = key.eq }) (record { hash_input = key.hash_input }) heap)
       (map_row K V hash_row A fold.the_row key build hash heap)
       g r (λ m. m.entries)
+
+-- once the borrow r ends, the map has at the key k the last value written through r; without a borrow all stays
+abbrev pub lends_map_value : (K V A : RattleType) (key : HashMembers K.Denot) (heap : alloc.Ghosts A.Denot)
+    → MutBor (List (K.Denot × V.Denot)) → K.Denot → Option (MutBor V.Denot) → Fml
+lends_map_value K V A key heap g k r = LendsIf
+    (gmap.the_row K V A (record { eq = key.eq }) (record { hash_input = key.hash_input }) heap)
+    V g r (set_value (key.eq k) g.now) g.now
 
 module _ (T A : RattleType) (key : HashMembers T.Denot)
     (build : builder.Ghosts hash_row.Denot fold.the_row.Denot) (hash : hasher.Ghosts fold.the_row.Denot)

@@ -1,9 +1,9 @@
 //! An allocator of indexes: removed values are marked, and a collection drops them and renumbers the others.
-ghost use Rattle.std.specs.Prelude.{◌≡◌, ◌≢◌, ◌↔◌, ℕ, ◌<◌, [], ◌∷◌, ◌++◌, true, false, Some, length, IsTrue, IfOk, IfErr, OnOk, OnErr, nat_eq};
-ghost use Rattle.std.specs.Option.{option_copied};
+ghost use Rattle.std.specs.Prelude.{◌≡◌, ◌≢◌, ◌↔◌, ℕ, ◌<◌, [], ◌∷◌, ◌++◌, true, false, Some, None, length, IsTrue, IfOk, IfErr, OnOk, OnErr, OnSome, IfNone, nat_eq};
+ghost use Rattle.std.specs.Option.{option_copied, option_copied_mut};
 ghost use Rattle.std.specs.Borrow.{Lends, sem};
 ghost use Rattle.giputils_base.specs.Hash.{get};
-ghost use Rattle.giputils_base.specs.Allocator.{value_at, mark_at, live_at, live_count, mark, write, survivors, unmarked_slots, table_at, IsIndexMap, IsIndexTable, Renumbers};
+ghost use Rattle.giputils_base.specs.Allocator.{value_at, mark_at, live_at, live_count, mark, write, survivors, unmarked_slots, table_at, IsIndexMap, IsIndexTable, Renumbers, TakesValue};
 
 mod live;
 mod renaming;
@@ -114,6 +114,8 @@ impl<T, A: Allocator> Model for Gallocator<T, A> {
 }
 
 impl<T, A: Allocator> Gallocator<T, A> {
+    ghost use Rattle.giputils_base.specs.LendsValue.{lends_live};
+
     /// No values. It takes no memory.
     #[inline]
     pub fn new(alloc: A) -> Self
@@ -204,6 +206,29 @@ impl<T, A: Allocator> Gallocator<T, A> {
         value
     }
 
+    /// Marks slot `index` as removed and takes its value out, in whose place it leaves a default. `None` where there is
+    /// no such slot, or where it is marked as removed: nothing changes then.
+    ///
+    /// A `T` without a default is kept as an `Option<T>`, whose default is `None`.
+    #[inline]
+    pub fn take(&mut self, index: usize) -> Option<T>
+    where
+        T: Default,
+        ensures value { result ≡ live_at self.old index }
+        ensures slots { OnSome result (TakesValue T.is_default index self.old self.new) }
+        ensures none { IfNone result (self.new ≡ self.old) }
+
+        // `slots` and `none` again, slot by slot.
+        ensures len { length self.new ≡ length self.old }
+        ensures taken { live_at self.new index ≡ None }
+        ensures others { (k : ℕ) → k ≢ index → live_at self.new k ≡ live_at self.old k }
+    {
+        if index >= self.len() || self.is_removed(index) {
+            return None;
+        }
+        Some(self.take_out(index, T::default()))
+    }
+
     /// Whether slot `index` is marked as removed.
     ///
     /// The index must be below the length ([`Gallocator::len`]).
@@ -224,6 +249,18 @@ impl<T, A: Allocator> Gallocator<T, A> {
             return None;
         }
         Some(&self[index])
+    }
+
+    /// The value of slot `index` for writing, if there is such a slot and it is not marked as removed.
+    #[inline]
+    pub fn get_mut(&mut self, index: usize) -> Option<&mut T>
+        ensures* writes_back { sem 𝓛 (lends_live T.row A.row A.Allocator self.entry index result) }
+        ensures value { option_copied_mut result ≡ live_at self.old index }
+    {
+        if index >= self.len() || self.is_removed(index) {
+            return None;
+        }
+        Some(&mut self[index])
     }
 
     /// Drops the marked values, and closes the gaps: the others keep their order and are unmarked. Answers the map from

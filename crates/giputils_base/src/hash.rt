@@ -1,7 +1,7 @@
 //! A hashed set and a hashed map, whose hasher has a fixed seed.
 ghost use Rattle.std.specs.Prelude.{◌≡◌, ◌+◌, [], length, false, not, None, is_some, if◌then◌else◌, IfOk, IfErr, OnOk, OnErr};
 ghost use Rattle.std.specs.List.{AllZip, IsDistinct};
-ghost use Rattle.std.specs.Option.{option_copied};
+ghost use Rattle.std.specs.Option.{option_copied, option_copied_mut};
 ghost use Rattle.std.specs.Map.Iter.{GivesInOrder};
 ghost use Rattle.std.specs.Borrow.{sem};
 ghost use Rattle.giputils_base.specs.Hash.{get, contains, PutsValue, TakesKey, PutsMember, TakesMember, IsMapOf, IsSetOf, ListsMembers, ListsEntries, HasUniqueKeys};
@@ -180,6 +180,8 @@ impl<K: Eq + Hash, V, A: Allocator> Model for GHashMap<K, V, A> {
 }
 
 impl<K: Eq + Hash, V, A: Allocator> GHashMap<K, V, A> {
+    ghost use Rattle.giputils_base.specs.LendsHashed.{lends_map_value};
+
     /// The empty map. It takes no memory.
     #[inline]
     pub fn new(alloc: A) -> Self
@@ -196,6 +198,15 @@ impl<K: Eq + Hash, V, A: Allocator> GHashMap<K, V, A> {
         ensures value { option_copied result ≡ get K.eq self.now key.now }
     {
         self.map.get(key)
+    }
+
+    /// The value at `key` for writing, if it has one.
+    #[inline]
+    pub fn get_mut(&mut self, key: &K) -> Option<&mut V>
+        ensures* writes_back { sem 𝓛 (lends_map_value K.row V.row A.row K.Hash A.Allocator self.entry key.now result) }
+        ensures value { option_copied_mut result ≡ get K.eq self.old key.now }
+    {
+        self.map.get_mut(key)
     }
 
     /// Whether `key` has a value.

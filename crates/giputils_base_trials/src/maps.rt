@@ -113,6 +113,26 @@ fn each_pair_and_each_member_is_given_once(rt: HostRuntime) -> Result<(), Fail> 
     Ok(())
 }
 
+// Whether the key had a value, which is one greater then.
+fn raised(map: &mut GHashMap<u32, u32>, key: u32) -> bool {
+    match map.get_mut(&key) {
+        Some(value) => {
+            *value = value.wrapping_add(1);
+            true
+        }
+        None => false,
+    }
+}
+
+#[test]
+fn a_value_is_written_in_place(rt: HostRuntime) -> Result<(), Fail> {
+    let mut map = later_values(rt.alloc())?;
+    let raised = (raised(&mut map, 1), raised(&mut map, 3));
+    assert_eq!(rt; raised, (true, false));
+    assert_eq!(rt; (value_at(&map, 1), value_at(&map, 2)), (Some(8), Some(6)));
+    Ok(())
+}
+
 #[test]
 fn a_key_is_taken_out_once(rt: HostRuntime) -> Result<(), Fail> {
     let mut map = GHashMap::new(rt.alloc());

@@ -178,6 +178,29 @@ fn a_value_is_taken_out_of_its_slot(rt: HostRuntime) -> Result<(), Fail> {
     Ok(())
 }
 
+// Whether the slot had a live value, which is 8 then.
+fn set_to_8(allocator: &mut Gallocator<u32>, index: usize) -> bool {
+    match allocator.get_mut(index) {
+        Some(value) => {
+            *value = 8;
+            true
+        }
+        None => false,
+    }
+}
+
+#[test]
+fn a_live_value_is_written_and_taken_once(rt: HostRuntime) -> Result<(), Fail> {
+    let mut allocator = both_put(Gallocator::new(rt.alloc()), 10, 20)?;
+    let written = (set_to_8(&mut allocator, 1), set_to_8(&mut allocator, 2));
+    let taken = (allocator.take(1), allocator.take(1), allocator.take(2));
+    let again = set_to_8(&mut allocator, 1);
+    assert_eq!(rt; (written, again), ((true, false), false));
+    assert_eq!(rt; taken, (Some(8), None, None));
+    assert_eq!(rt; (allocator.len(), allocator.live_len()), (2, 1));
+    Ok(())
+}
+
 #[test]
 fn a_run_of_no_calls_answers_nothing(rt: HostRuntime) -> Result<(), Fail> {
     let (allocator, replies) = galloc_run(rt.alloc(), [GallocCall::<u32>::Len; 0].as_slice())?;

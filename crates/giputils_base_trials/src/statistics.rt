@@ -16,8 +16,9 @@ fn a_moving_average_asks_for_its_memory_where_it_is_made(rt: HostRuntime) -> Res
     for number in 0..5 {
         average.push(number);
     }
-    let count = average.average().count();
+    let held = (average.average().count(), average.len(), average.capacity());
     average.clear();
-    assert_eq!(rt; (count, memory.requests()), (3, 1));
+    assert_eq!(rt; (held, average.is_empty()), ((3, 3, 3), true));
+    assert_eq!(rt; memory.requests(), 1);
     Ok(())
 }
