@@ -2,7 +2,6 @@
 mod average;
 mod average_duration;
 mod counted_duration;
-mod duration_sum;
 mod moving_average;
 mod running_time;
 mod success_rate;

@@ -4,7 +4,7 @@ ghost use Rattle.std.specs.Duration.{as_nanos};
 ghost use Rattle.giputils_stat.specs.Tally.{no_terms, with_term, with_terms, CanAddNanos, CanAddBoth};
 ghost use Rattle.giputils_stat.specs.Texts.{average_duration_text};
 
-use super::duration_sum::DurationSum;
+use super::counted_duration::CountedDuration;
 use crate::decimal::Seconds;
 use std::fmt::{self, Debug, Display};
 use std::marker::Model;
@@ -14,7 +14,7 @@ use std::time::Duration;
 /// The average of durations, rounded down to whole nanoseconds.
 #[derive(Clone, Copy)]
 pub struct AverageDuration {
-    total: DurationSum,
+    total: CountedDuration,
 }
 
 impl Model for AverageDuration {
@@ -83,7 +83,7 @@ impl Default for AverageDuration {
     #[inline]
     fn default() -> Self {
         AverageDuration {
-            total: DurationSum::default(),
+            total: CountedDuration::default(),
         }
     }
 }

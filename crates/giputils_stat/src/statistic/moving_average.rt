@@ -35,7 +35,7 @@ impl<A: Allocator> Model for MovingAverage<A> {
 }
 
 impl<A: Allocator> MovingAverage<A> {
-    /// No number yet, and room for so many.
+    /// No number yet, and room for `room` of them. With room for none, every number that is pushed is dropped.
     ///
     /// # Errors
     /// The memory for them was refused, or is more than can be asked for.
@@ -60,7 +60,31 @@ impl<A: Allocator> MovingAverage<A> {
         self.total = self.total + number as u128 - gone as u128;
     }
 
-    /// Whether the next number takes the place of the first.
+    /// How many numbers it holds.
+    #[inline]
+    pub fn len(&self) -> usize
+        ensures { result ≡ length self.now.items }
+    {
+        self.numbers.len()
+    }
+
+    /// Whether it holds no number.
+    #[inline]
+    pub fn is_empty(&self) -> bool
+        ensures { IsTrue result ↔ (self.now.items ≡ []) }
+    {
+        self.numbers.is_empty()
+    }
+
+    /// How many numbers it holds at most.
+    #[inline]
+    pub fn capacity(&self) -> usize
+        ensures { result ≡ self.now.capacity }
+    {
+        self.numbers.capacity()
+    }
+
+    /// Whether the next number takes the place of the first. With room for none it always is full.
     #[inline]
     pub fn is_full(&self) -> bool
         ensures { IsTrue result ↔ (length self.now.items ≡ self.now.capacity) }
