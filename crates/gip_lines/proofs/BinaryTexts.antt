@@ -6,9 +6,9 @@ use Rattle.std.specs.Str.{bytes_eq}
 use Rattle.std.proofs.lemmas.Bool.{and_parts}
 use Rattle.std.proofs.lemmas.List.{length-map, length-reverse}
 use Rattle.std.proofs.lemmas.Slice.Eq.{bytes_eq-Decides}
-use Rattle.giputils_bits.specs.Text.{bit_glyph, binary_text, IsNoBinaryText}
+use Rattle.giputils_bits.specs.Text.{bit_glyph, binary_text, is_binary_digit, IsNoBinaryText}
 use Rattle.giputils_bits.proofs.BinaryTexts.{is_one, digits_are_text, text_digits, text_writes, no_brackets}
-use Rattle.gip_lines.specs.Vectors.Lines.{is_binary_digit, bits_of_line}
+use Rattle.gip_lines.specs.Vectors.Lines.{bits_of_line}
 use Rattle.gip_lines.specs.Vectors.Replies.{LinesAreBinaryTexts}
 
 some_digit : (b : Bool) (bits : List Bool) → nat_lt 0 (length (binary_text (b ∷ bits))) ≡ true

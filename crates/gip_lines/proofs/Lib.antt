@@ -1,8 +1,8 @@
 mod BinaryTexts
-mod Digits
 mod Examples
 mod Greatest
 mod MatchingReplies
+mod Numbers
 mod Pairs
 mod Pieces
 mod Readings

@@ -1,18 +1,20 @@
 //! Both tasks on devices that move few bytes at a time or fail, and on inputs that are too long.
 
-use crate::devices::{Failure, Sink, Source};
 use crate::tasks::TASKS;
 use gip_lines::watched::Watched;
 use gip_lines::{GipFault, INPUT_LIMIT, Task};
+use giputils_refusing::devices::{Failure, Sink, Source};
 use std::alloc::{AllocError, Global};
-use std::io::{self, Read};
+use std::io::{self, ErrorKind, Read};
 use std::test::Fail;
+
+const REFUSES: Failure = Failure::Refuses(ErrorKind::Interrupted);
 
 #[test]
 fn moves_one_byte_at_a_time(rt: HostRuntime) {
     for (task, input, output) in TASKS {
         let mut reader = Watched::new(Source::new(input, 1, 0));
-        let mut writer = Watched::new(Sink::new(rt.alloc(), 1, 0, Failure::Refuses));
+        let mut writer = Watched::new(Sink::new(rt.alloc(), 1, 0, REFUSES));
         assert_eq!(rt; task.run(rt.alloc(), &mut reader, &mut writer), Ok(()));
         assert_eq!(rt; writer.device().text.as_slice(), output);
         assert_eq!(rt; reader.device().calls, 1 + input.len() as u64);
@@ -38,7 +40,7 @@ fn stops_at_a_failed_read(rt: HostRuntime) {
 #[test]
 fn stops_at_a_failed_write(rt: HostRuntime) {
     for (task, input, output) in TASKS {
-        for failure in [Failure::Refuses, Failure::TakesNone] {
+        for failure in [REFUSES, Failure::TakesNone] {
             for call in 1..=output.len() as u64 {
                 let mut reader = Watched::new(input);
                 let mut writer = Watched::new(Sink::new(rt.alloc(), 1, call, failure));

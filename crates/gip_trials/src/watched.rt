@@ -1,8 +1,10 @@
 //! A watched device: one call on it for each call, and whether one has failed.
 
-use crate::devices::{Failure, Sink, Source};
 use gip_lines::watched::Watched;
+use giputils_refusing::devices::{Failure, Sink, Source};
 use std::io::ErrorKind;
+
+const REFUSES: Failure = Failure::Refuses(ErrorKind::Interrupted);
 
 #[test]
 fn remembers_a_failed_call(rt: HostRuntime) {
@@ -16,7 +18,7 @@ fn remembers_a_failed_call(rt: HostRuntime) {
     assert!(rt; reader.failed());
 
     // A write of no bytes may take none.
-    let mut writer = Watched::new(Sink::new(rt.alloc(), 1, 2, Failure::Refuses));
+    let mut writer = Watched::new(Sink::new(rt.alloc(), 1, 2, REFUSES));
     assert_eq!(rt; writer.write(b"").map_err(|e| e.kind()), Ok(0));
     assert!(rt; !writer.failed());
     let outcome = writer.write(b"").map_err(|e| e.kind());
@@ -37,7 +39,7 @@ fn makes_one_call_on_the_device(rt: HostRuntime) {
     assert_eq!(rt; reader.device().calls, 5);
 
     for (failure, outcome) in [
-        (Failure::Refuses, Err(ErrorKind::Interrupted)),
+        (REFUSES, Err(ErrorKind::Interrupted)),
         (Failure::TakesNone, Ok(0)),
     ] {
         let mut writer = Watched::new(Sink::new(rt.alloc(), 2, 2, failure));

@@ -5,8 +5,6 @@
 #![tactic(auto)]
 
 #[cfg(test)]
-mod devices;
-#[cfg(test)]
 mod hinted;
 #[cfg(test)]
 mod hints;

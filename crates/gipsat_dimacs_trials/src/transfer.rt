@@ -1,9 +1,12 @@
 //! A formula on devices that move one byte at a time or fail.
 
-use crate::devices::{Failure, Sink, Source};
 use gipsat_answers::{Verdict, solve_text};
 use gipsat_dimacs::DimacsError;
+use giputils_refusing::devices::{Failure, Sink, Source};
 use std::alloc::Global;
+use std::io::ErrorKind;
+
+const REFUSES: Failure = Failure::Refuses(ErrorKind::StorageFull);
 
 const TEXT: &[u8] = b"p cnf 2 2\n-1 0\n1 2 0\n";
 
@@ -13,7 +16,7 @@ const ANSWER: &[u8] = b"s SATISFIABLE\nv -1 2 0\n";
 fn solve(
     alloc: Global,
     reader: &mut Source<'_>,
-    writer: &mut Sink,
+    writer: &mut Sink<Global>,
 ) -> Result<Verdict, DimacsError> {
     let solved = solve_text(alloc, reader, writer, 100, &mut ())?;
     Ok(solved.verdict)
@@ -21,8 +24,8 @@ fn solve(
 
 #[test]
 fn moves_one_byte_at_a_time(rt: HostRuntime) {
-    let mut reader = Source::new(TEXT, 0);
-    let mut writer = Sink::new(rt.alloc(), 0, Failure::Refuses);
+    let mut reader = Source::new(TEXT, 1, 0);
+    let mut writer = Sink::new(rt.alloc(), 1, 0, REFUSES);
     let outcome = solve(rt.alloc(), &mut reader, &mut writer);
     assert_eq!(rt; outcome, Ok(Verdict::Satisfiable));
     assert_eq!(rt; writer.text.as_slice(), ANSWER);
@@ -33,8 +36,8 @@ fn moves_one_byte_at_a_time(rt: HostRuntime) {
 #[test]
 fn stops_at_each_failed_read(rt: HostRuntime) {
     for call in 1..=1 + TEXT.len() as u64 {
-        let mut reader = Source::new(TEXT, call);
-        let mut writer = Sink::new(rt.alloc(), 0, Failure::Refuses);
+        let mut reader = Source::new(TEXT, 1, call);
+        let mut writer = Sink::new(rt.alloc(), 1, 0, REFUSES);
         let outcome = solve(rt.alloc(), &mut reader, &mut writer);
         assert_eq!(rt; outcome, Err(DimacsError::Input), "at call {call}");
         assert_eq!(rt; (reader.calls, writer.calls), (call, 0));
@@ -43,10 +46,10 @@ fn stops_at_each_failed_read(rt: HostRuntime) {
 
 #[test]
 fn stops_at_each_failed_write(rt: HostRuntime) {
-    for failure in [Failure::Refuses, Failure::TakesNone] {
+    for failure in [REFUSES, Failure::TakesNone] {
         for call in 1..=ANSWER.len() as u64 {
-            let mut reader = Source::new(TEXT, 0);
-            let mut writer = Sink::new(rt.alloc(), call, failure);
+            let mut reader = Source::new(TEXT, 1, 0);
+            let mut writer = Sink::new(rt.alloc(), 1, call, failure);
             let outcome = solve(rt.alloc(), &mut reader, &mut writer);
             assert_eq!(rt;
                 outcome,

@@ -3,12 +3,14 @@
 //! A collection borrows it, as in `Vec::<u32, &Refusing>::new(&memory)`, so that a test can ask it afterwards how many
 //! requests there were and how many bytes the largest asked for. Requests are numbered from 1, and one that is refused
 //! counts as well. A block that grows or shrinks is a request for the new block, and giving a block back is none.
-//! [`refuse_each`] refuses each request of a piece of work in turn.
+//! [`refuse_each`] refuses each request of a piece of work in turn. The readers and writers of [`devices`] fail at a
+//! chosen call.
 #![tactic(auto)]
 
 ghost use Rattle.std.specs.Prelude.{◌≡◌, ◌+◌, ◌↔◌, IsTrue, IfSome, min, max};
 ghost use Rattle.giputils_refusing.specs.Refused.{Includes};
 
+pub mod devices;
 mod in_turn;
 
 pub use in_turn::{MOST_RUNS, TurnFault, refuse_each, refuse_from_each};

@@ -1,20 +1,9 @@
 -- The lines of `gip bits`, each of which writes a list of bits.
-use Rattle.std.specs.Prelude.{ℕ, ◌==◌, ◌&&◌, ◌||◌, Bool, List, [], length, nat_lt, map, reverse, if◌then◌else◌, codes, Option, Some, None}
+use Rattle.std.specs.Prelude.{ℕ, ◌&&◌, Bool, List, [], length, nat_lt, if◌then◌else◌, codes, Option, Some, None}
 use Rattle.std.specs.List.{list_all}
 use Rattle.std.specs.Str.{bytes_eq}
+use Rattle.giputils_bits.specs.Text.{is_binary_digit, places_written}
 use Rattle.gip_lines.specs.Texts.{HasForm, said_in, first_other}
-
--- the byte of the digit 0
-abbrev pub digit_0 : ℕ
-digit_0 = 48
-
--- the byte of the digit 1
-abbrev pub digit_1 : ℕ
-digit_1 = 49
-
--- whether a byte is one of these digits
-abbrev pub is_binary_digit : ℕ → Bool
-is_binary_digit byte = (byte == digit_0) || (byte == digit_1)
 
 -- the bits that a line writes, where it has the form: `[]` writes none, and one or more digits `0` and `1` write one
 -- each, the last bit first
@@ -22,7 +11,7 @@ abbrev pub bits_of_line : List ℕ → Option (List Bool)
 bits_of_line line =
     if bytes_eq line (codes "[]") then Some []
     else if nat_lt 0 (length line) && list_all is_binary_digit line
-    then Some (map (λ digit. digit == digit_1) (reverse line))
+    then Some (places_written line)
     else None
 
 -- every line of a text has the form

@@ -4,7 +4,8 @@ use Rattle.std.proofs.lemmas.Int.Digits.{digits_value_more}
 use Rattle.std.proofs.lemmas.Str.Parse.{digits_value-take-le}
 use Rattle.std.specs.Char.{digit_value}
 use Rattle.std.specs.Str.Parse.{digits_value}
-use Rattle.gipsat_dimacs.proofs.NumberLemmas.{all_ascii_digits-other, all_ascii_digits-more, digit_value-ascii, number_of-other, number_of-large, number_of-small}
+use Rattle.giputils_base.proofs.AsciiDigits.{all_ascii_digits-other, all_ascii_digits-more, digit_value-ascii}
+use Rattle.gipsat_dimacs.proofs.NumberLemmas.{number_of-other, number_of-large, number_of-small}
 use Rattle.gipsat_dimacs.proofs.words.number.Goals as goal
 
 -- one more digit, as the code adds it
