@@ -1,9 +1,11 @@
 -- When an answer under assumptions is right.
-use Rattle.std.specs.Prelude.{◌≡◌, ◌⊎◌, ℕ, Bool, List, IsTrue, Option, Some, None, IfSome, is_some}
+use Rattle.std.specs.Prelude.{◌≡◌, ◌⊎◌, ℕ, Bool, List, IsTrue, Option, Some, None, IfSome, is_some, ⊤}
 use Rattle.std.specs.List.{list_all}
 use Rattle.gipsat_solver.specs.Literals.{Lit}
 use Rattle.gipsat_solver.specs.declared.solver.AnswerUnder.{AnswerUnder}
 use Rattle.gipsat_solver.specs.declared.solver.AnswerUnder.TheVariants.{Sat, Unsat, Unknown}
+use Rattle.gipsat_solver.specs.declared.solver.Guess.{Guess}
+use Rattle.gipsat_solver.specs.declared.solver.Guess.TheVariants as guess
 use Rattle.gipsat_solver.specs.Formulas.{Assignment, Formula, Has, is_true, satisfies}
 use Rattle.gipsat_solver.specs.Database.{SolverState, HasMore, HasUpTo}
 use Rattle.gipsat_solver.specs.Values.{assignment_in}
@@ -39,6 +41,12 @@ IsRightUnder assumed old new limit answer = IsRightOr old.formula assumed (HasMo
 -- the same, but at Unknown at most `limit` clauses were learned
 abbrev pub IsRightLimited : {A : Type 0} → List Lit → SolverState → SolverState → ℕ → AnswerUnder A → Type 0
 IsRightLimited assumed old new limit answer = IsRightOr old.formula assumed (HasUpTo limit old new) answer
+
+-- Unsat comes with a core; at Unknown, at most `limit` clauses were learned; Sat promises nothing
+abbrev pub IsRightGuess : {A : Type 0} → List Lit → SolverState → SolverState → ℕ → Guess A → Type 0
+IsRightGuess assumed old new limit guess.Sat = ⊤
+IsRightGuess assumed old new limit (guess.Unsat core) = IsCore old.formula assumed core.items
+IsRightGuess assumed old new limit guess.Unknown = HasUpTo limit old new
 
 -- after one conflict at most: without an answer, a clause was learned; at Unknown, none, and there is a budget
 abbrev pub IsRightSoFar : {A : Type 0}

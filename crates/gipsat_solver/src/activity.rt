@@ -1,6 +1,7 @@
 //! The order in which variables are decided: the most active first.
-ghost use Rattle.std.specs.Prelude.{◌≡◌, ◌+◌, [], length, IfOk, IfSome, IfNone};
+ghost use Rattle.std.specs.Prelude.{◌≡◌, [], IfOk};
 
+use crate::domain::Domain;
 use giputils_heap::{BoundedHeap, ByRank};
 use std::alloc::{AllocError, Allocator, Global};
 use std::marker::Model;
@@ -18,6 +19,7 @@ pub(crate) struct Activity<A: Allocator = Global> {
     scores: Vec<u32, A>,
     // What a bump adds. It grows, so that recent bumps count more.
     increment: u32,
+    domain: Domain<A>,
 }
 
 impl<A: Allocator> Model for Activity<A> {
@@ -41,6 +43,7 @@ impl<A: Allocator + Copy> Activity<A> {
             queue: BoundedHeap::with_bound(alloc, 0)?,
             scores: Vec::new(alloc),
             increment: FIRST_INCREMENT,
+            domain: Domain::new(alloc)?,
         })
     }
 
@@ -50,6 +53,7 @@ impl<A: Allocator + Copy> Activity<A> {
             mut queue,
             mut scores,
             increment,
+            domain,
         } = self;
         let old = scores.len();
         scores.resize(old.max(variables), 0)?;
@@ -58,6 +62,7 @@ impl<A: Allocator + Copy> Activity<A> {
             queue,
             scores,
             increment,
+            domain,
         };
         for variable in old..variables {
             if let Ok(variable) = u32::try_from(variable) {
@@ -67,8 +72,29 @@ impl<A: Allocator + Copy> Activity<A> {
         Ok(activity)
     }
 
+    // Lets only these variables be decided, or all where there is no domain.
+    pub(crate) fn limit_to(&mut self, domain: Option<&[u32]>) -> Result<(), AllocError> {
+        match domain {
+            Some(domain) => self.domain.set(self.scores.len(), domain, &self.scores),
+            None => {
+                self.domain.unset();
+                Ok(())
+            }
+        }
+    }
+
+    // How many variables wait to be decided.
+    pub(crate) fn waiting(&self) -> usize {
+        if self.domain.is_set() {
+            self.domain.waiting()
+        } else {
+            self.queue.len()
+        }
+    }
+
     // Queues a variable.
     pub(crate) fn put_back(&mut self, variable: u32) {
+        self.domain.put_back(variable, &self.scores);
         if variable < self.queue.bound() {
             self.queue.push(variable, &ByRank(&self.scores));
         }
@@ -87,6 +113,7 @@ impl<A: Allocator + Copy> Activity<A> {
             let score = self.scores[variable as usize].saturating_add(self.increment);
             self.scores[variable as usize] = score;
             self.queue.up(variable, &ByRank(&self.scores));
+            self.domain.up(variable, &self.scores);
         }
     }
 
@@ -99,14 +126,15 @@ impl<A: Allocator + Copy> Activity<A> {
                 *score >>= SHIFT;
             }
             self.queue.rebuild(&ByRank(&self.scores));
+            self.domain.rebuild(&self.scores);
         }
     }
 
-    // Takes a variable of greatest score out of the queue. None if it is empty.
-    pub(crate) fn pick(&mut self) -> Option<u32>
-        ensures some { IfSome result (λ _. length self.new + 1 ≡ length self.old) }
-        ensures none { IfNone result (self.old ≡ []) }
-    {
+    // Takes a variable of greatest score out of the queue, or out of that of the domain. None if it is empty.
+    pub(crate) fn pick(&mut self) -> Option<u32> {
+        if self.domain.is_set() {
+            return self.domain.pick(&self.scores);
+        }
         self.queue.pop(&ByRank(&self.scores))
     }
 }

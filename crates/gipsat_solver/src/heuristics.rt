@@ -49,6 +49,9 @@ pub(crate) struct Heuristics<A: Allocator = Global> {
     pub restart_policy: RestartPolicy,
     // How many of the root literals were learned as unit clauses, or need not be.
     pub units: usize,
+    // Whether the search is to end where no variable waits, with the formula unread, and whether it ended there.
+    pub is_guess: bool,
+    pub has_guessed: bool,
     pub stats: Stats,
 }
 
@@ -61,6 +64,8 @@ impl<A: Allocator + Copy> Heuristics<A> {
             glue: Glue::new(alloc),
             restart_policy: RestartPolicy::new(),
             units: 0,
+            is_guess: false,
+            has_guessed: false,
             stats,
         })
     }
@@ -77,8 +82,23 @@ impl<A: Allocator + Copy> Heuristics<A> {
         }
     }
 
+    // The same with room for so many variables, for a search that guesses or not, among all variables or in a domain.
+    pub(crate) fn begun(
+        self,
+        alloc: A,
+        variables: usize,
+        is_guess: bool,
+        domain: Option<&[u32]>,
+    ) -> Result<Self, AllocError>
+        requires { variables < 2 ^ 40 }
+    {
+        let mut heuristics = self.grown(alloc, variables)?;
+        heuristics.begin(is_guess, domain)?;
+        Ok(heuristics)
+    }
+
     // The same with room for so many variables.
-    pub(crate) fn grown(self, alloc: A, variables: usize) -> Result<Self, AllocError>
+    fn grown(self, alloc: A, variables: usize) -> Result<Self, AllocError>
         requires { variables < 2 ^ 40 }
     {
         let Heuristics {
@@ -87,6 +107,8 @@ impl<A: Allocator + Copy> Heuristics<A> {
             mut glue,
             restart_policy,
             units,
+            is_guess,
+            has_guessed,
             stats,
         } = self;
         watches.grow(alloc, variables)?;
@@ -97,8 +119,17 @@ impl<A: Allocator + Copy> Heuristics<A> {
             glue,
             restart_policy,
             units,
+            is_guess,
+            has_guessed,
             stats,
         })
+    }
+
+    // A search begins: whether it guesses, and which variables it may decide, all where there is no domain.
+    fn begin(&mut self, is_guess: bool, domain: Option<&[u32]>) -> Result<(), AllocError> {
+        self.is_guess = is_guess;
+        self.has_guessed = false;
+        self.activity.limit_to(domain)
     }
 
     // A conflict was met.

@@ -7,6 +7,7 @@ mod backjump;
 mod clauses;
 mod compact;
 mod database;
+mod domain;
 mod glue;
 mod heuristics;
 mod learn;
@@ -24,4 +25,4 @@ mod watches;
 
 pub use heuristics::Stats;
 pub use literal::Literal;
-pub use solver::{Answer, AnswerUnder, Budget, Solver};
+pub use solver::{Answer, AnswerUnder, Budget, Guess, Solver};

@@ -192,11 +192,13 @@ pub(crate) fn propagate<A: Allocator + Copy>(
     Ok(None)
 }
 
-// What a choice came to: a decision, a model, or a conflict at a place.
+// What a choice came to: a decision, a model, a conflict at a place, or a guess: no variable waits, and the formula is
+// not read.
 pub(crate) enum Choice {
     Decided,
     Model,
     Conflict(usize),
+    Guessed,
 }
 
 // The first unassigned literal of a clause.
@@ -218,7 +220,8 @@ fn most_active<A: Allocator + Copy>(trail: &Trail<A>, activity: &mut Activity<A>
     ensures within { IfSome result (λ l. l.variable < length trail.now.values.items) }
     ensures unset { IfSome result (λ l. value_of trail.now.values.items l ≡ None) }
 {
-    while let Some(variable) = activity.pick() {
+    for _ in 0..activity.waiting() {
+        let variable = activity.pick()?;
         if (variable as usize) < trail.values.len() {
             let l = Literal::new(variable, trail.phase(variable));
             if let None = trail.value(l) {
@@ -229,20 +232,25 @@ fn most_active<A: Allocator + Copy>(trail: &Trail<A>, activity: &mut Activity<A>
     None
 }
 
-// Decides a variable. Where the queue is empty, an unsatisfied clause says which.
+// Decides a variable. Where the queue is empty, an unsatisfied clause says which, unless this is a guess.
 fn choose<A: Allocator + Copy>(
     database: &Database<A>,
     trail: &mut Trail<A>,
     heuristics: &mut Heuristics<A>,
+    budget: Option<u64>,
 ) -> Result<Choice, AllocError>
     requires trail { IsTrailFor database.now trail.old }
     ensures advances { OnOk result (Advances database.now trail.old trail.new) }
-    ensures choice { IfOk result (FollowsChoice database.now trail.old trail.new) }
+    ensures choice { IfOk result (FollowsChoice database.now budget trail.old trail.new) }
 {
     heuristics.count_decision();
     if let Some(l) = most_active(trail, &mut heuristics.activity) {
         trail.decide(l)?;
         return Ok(Choice::Decided);
+    }
+    if heuristics.is_guess && budget.is_some() {
+        heuristics.has_guessed = true;
+        return Ok(Choice::Guessed);
     }
     let Some(place) = database.unsatisfied_clause(trail) else {
         return Ok(Choice::Model);
@@ -255,7 +263,7 @@ fn choose<A: Allocator + Copy>(
     Ok(Choice::Decided)
 }
 
-// How a search ends: with a model, at an obstacle, or where its budget is spent.
+// How a search ends: with a model, at an obstacle, or where its budget is spent, as it is by a guess.
 pub(crate) enum SearchEnd {
     Model,
     Stopped(Obstacle),
@@ -301,8 +309,9 @@ pub(crate) fn search<A: Allocator + Copy>(
         if is_spent(budget, heuristics.stats.propagations) {
             return Ok(SearchEnd::BudgetSpent);
         }
-        match choose(database, trail, heuristics)? {
+        match choose(database, trail, heuristics, budget)? {
             Choice::Decided => {}
+            Choice::Guessed => return Ok(SearchEnd::BudgetSpent),
             Choice::Model => return Ok(SearchEnd::Model),
             Choice::Conflict(place) => return Ok(SearchEnd::Stopped(Obstacle::Conflict(place))),
         }

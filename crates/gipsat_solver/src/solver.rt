@@ -6,7 +6,7 @@ ghost use Rattle.gipsat_solver.specs.Formulas.{AreBelow, Implies, IsSatisfiable,
 ghost use Rattle.gipsat_solver.specs.Seen.{NoneSeen};
 ghost use Rattle.gipsat_solver.specs.Database.{AddsUnits, AreAmong, KeepsClauses, Learns};
 ghost use Rattle.gipsat_solver.specs.Trail.{GoesOnUnlessAnswered, IsReady, OneLessOr, KeepsTrail, progress};
-ghost use Rattle.gipsat_solver.specs.Assumptions.{IsRightLimited, IsRightSoFar, IsRightUnder, IsRightWithin};
+ghost use Rattle.gipsat_solver.specs.Assumptions.{IsRightGuess, IsRightLimited, IsRightSoFar, IsRightUnder, IsRightWithin};
 ghost use Rattle.gipsat_solver.specs.Values.{model_in};
 
 use crate::assumptions::{Obstacle, failed_assumptions};
@@ -44,6 +44,19 @@ pub enum AnswerUnder<A: Allocator = Global> {
     /// satisfies the formula.
     Unsat(Vec<Literal, A>),
     /// It has learned as many clauses as the limit allows, or its budget is spent.
+    Unknown,
+}
+
+/// What is found out about a formula under assumptions where the formula is not read at the end.
+#[derive(Drop)]
+pub enum Guess<A: Allocator = Global> {
+    /// No conflict was met, and no variable waits to be decided: [`Solver::value`] tells the values. Nothing is promised
+    /// of them; nothing is known to be wrong with them.
+    Sat,
+    /// Some of the assumptions: no assignment satisfies the formula and makes all of them true. Where it is empty, none
+    /// satisfies the formula.
+    Unsat(Vec<Literal, A>),
+    /// It has learned as many clauses as the limit allows.
     Unknown,
 }
 
@@ -180,7 +193,7 @@ impl<A: Allocator + Copy> Solver<A> {
         ensures right { IfOk result (IsRightUnder assumptions.now self.old self.new limit) }
         ensures learns { Learns self.old self.new }
     {
-        self.solve_up_to(assumptions, Some(limit), None)
+        self.solve_up_to(assumptions, Some(limit), None, false, None)
     }
 
     /// Finds out what [`Solver::solve_under`] does, and gives up once its budget is spent, also where no conflict is
@@ -199,7 +212,90 @@ impl<A: Allocator + Copy> Solver<A> {
         ensures right { IfOk result (IsRightLimited assumptions.now self.old self.new budget.clauses) }
         ensures learns { Learns self.old self.new }
     {
-        self.solve_up_to(assumptions, Some(budget.clauses), Some(budget.propagations))
+        self.solve_up_to(
+            assumptions,
+            Some(budget.clauses),
+            Some(budget.propagations),
+            false,
+            None,
+        )
+    }
+
+    /// Looks for a contradiction between the assumptions and the formula, as [`Solver::solve_under`] does, but does not
+    /// read the formula once more before it answers `Sat`, and makes no list of values: [`Solver::value`] tells them one
+    /// by one until the solver is called again. So a call costs no more than its search, however large the formula is.
+    ///
+    /// `Unsat` is as sure as that of `solve_under`, and so is its core. Of `Sat` nothing is proved: each variable that a
+    /// clause has was assigned and no conflict was met. Who needs a model asks `solve_under`, or tries the values.
+    ///
+    /// # Errors
+    /// `AllocError` where memory is refused. The formula stays as it was; some clauses may have been learned.
+    pub fn guess_under(
+        &mut self,
+        assumptions: &[Literal],
+        limit: usize,
+    ) -> Result<Guess<A>, AllocError>
+        ensures right { IfOk result (IsRightGuess assumptions.now self.old self.new limit) }
+        ensures learns { Learns self.old self.new }
+    {
+        self.guess(assumptions, limit, None)
+    }
+
+    /// What [`Solver::guess_under`] does, where only the variables of a domain are decided, apart from the assumptions.
+    ///
+    /// At `Sat` each variable of the domain has a value, and propagation from these values met no conflict. They can be
+    /// extended to a model if the domain is closed, as that of a circuit's gates is with all that they read: nothing is
+    /// proved of it. A number of the domain that the formula and the assumptions don't have is passed over.
+    ///
+    /// # Errors
+    /// Those of [`Solver::guess_under`].
+    pub fn guess_within(
+        &mut self,
+        domain: &[u32],
+        assumptions: &[Literal],
+        limit: usize,
+    ) -> Result<Guess<A>, AllocError>
+        ensures right { IfOk result (IsRightGuess assumptions.now self.old self.new limit) }
+        ensures learns { Learns self.old self.new }
+    {
+        self.guess(assumptions, limit, Some(domain))
+    }
+
+    // Guesses, within a domain where there is one.
+    fn guess(
+        &mut self,
+        assumptions: &[Literal],
+        limit: usize,
+        domain: Option<&[u32]>,
+    ) -> Result<Guess<A>, AllocError>
+        ensures right { IfOk result (IsRightGuess assumptions.now self.old self.new limit) }
+        ensures learns { Learns self.old self.new }
+    {
+        let answer = self.solve_up_to(assumptions, Some(limit), Some(u64::MAX), true, domain)?;
+        if self.has_guessed() {
+            return Ok(Guess::Sat);
+        }
+        match answer {
+            AnswerUnder::Sat(_) => Ok(Guess::Sat),
+            AnswerUnder::Unsat(core) => Ok(Guess::Unsat(core)),
+            AnswerUnder::Unknown => Ok(Guess::Unknown),
+        }
+    }
+
+    // Whether the last search ended by a guess.
+    fn has_guessed(&self) -> bool {
+        match &self.heuristics {
+            Some(heuristics) => heuristics.has_guessed,
+            None => false,
+        }
+    }
+
+    /// The value of a variable where the last search ended; None where it has none. Nothing is proved of it.
+    pub fn value(&self, variable: u32) -> Option<bool> {
+        match self.trail.values.get(variable as usize) {
+            Some(value) => *value,
+            None => None,
+        }
     }
 
     /// Finds values that satisfy the formula, a variable past the end being false, or that there are none. It has no
@@ -214,7 +310,7 @@ impl<A: Allocator + Copy> Solver<A> {
         ensures none { IfOk result (λ found. IfNone found (¬ (IsSatisfiable self.old.formula))) }
         ensures learns { Learns self.old self.new }
     {
-        Ok(match self.solve_up_to(&[], None, None)? {
+        Ok(match self.solve_up_to(&[], None, None, false, None)? {
             AnswerUnder::Sat(model) => Some(model),
             AnswerUnder::Unsat(_) => None,
             AnswerUnder::Unknown => unreachable!(),
@@ -222,12 +318,14 @@ impl<A: Allocator + Copy> Solver<A> {
     }
 
     // Solves under assumptions, up to a limit of learned clauses and a budget of propagations. Where there is no limit,
-    // nothing may be assumed.
+    // nothing may be assumed. A guess with a budget doesn't read the formula at the end.
     fn solve_up_to(
         &mut self,
         assumptions: &[Literal],
         limit: Option<usize>,
         budget: Option<u64>,
+        is_guess: bool,
+        domain: Option<&[u32]>,
     ) -> Result<AnswerUnder<A>, AllocError>
         requires none { limit ≡ None → assumptions.now ≡ [] }
         ensures right { IfOk result (IsRightWithin assumptions.now self.old self.new limit budget) }
@@ -242,7 +340,7 @@ impl<A: Allocator + Copy> Solver<A> {
         let heuristics = Heuristics::kept_or_new(self.heuristics.take(), alloc, self.stats)?;
         let mut trail = trail.grown(variables)?;
         let mut seen = seen.grown(variables)?;
-        let mut heuristics = heuristics.grown(alloc, variables)?;
+        let mut heuristics = heuristics.begun(alloc, variables, is_guess, domain)?;
         trail.backtrack(0, &mut heuristics.activity);
         let until = budget_from(heuristics.stats.propagations, budget);
         let answer = run(

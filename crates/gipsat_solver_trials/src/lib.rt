@@ -13,6 +13,8 @@ mod costs;
 #[cfg(test)]
 mod formulas;
 #[cfg(test)]
+mod guesses;
+#[cfg(test)]
 mod refusals;
 #[cfg(test)]
 mod sessions;

@@ -11,7 +11,11 @@ loop-conflict-preserved g c = record {
 
 pub returns-in-Model-clause-end : goal.returns-in-Model-clause-end
 returns-in-Model-clause-end g c = (
-  subst (FollowsChoice c.args.database.now c.propagate.new.trail c.choose.new.trail) c.in-Model.is c.in_ok-choose.ensures.choice,
+  subst (FollowsChoice c.args.database.now c.args.budget c.propagate.new.trail c.choose.new.trail) c.in-Model.is c.in_ok-choose.ensures.choice,
   λ l has.
       c.in_ok-choose.ensures.advances.stays l true (c.in_ok-conflict-2.ensures.propagates.advances.stays l true (c.loop-conflict.invariant.assumed l has)),
 )
+
+pub returns-in-Guessed-clause-end : goal.returns-in-Guessed-clause-end
+returns-in-Guessed-clause-end g c =
+    subst (FollowsChoice c.args.database.now c.args.budget c.propagate.new.trail c.choose.new.trail) c.in-Guessed.is c.in_ok-choose.ensures.choice

@@ -5,5 +5,5 @@ use Rattle.gipsat_solver.proofs.activity.Activity.put_back.Goals as goal
 
 pub invariant_of-self : goal.invariant_of-self
 invariant_of-self g c =
-    rw (sym c.deref.ensures.value)
-    (c.push.ensures.pushes.in_order (rw c.deref.ensures.value c.self.invariant) (IsLawful-by_rank (λ k. k) c.deref.result.now (c.args.variable ∷ c.self.inside.queue.keys)))
+    rw (sym c.deref-then-variable-bound.ensures.value)
+    (c.push.ensures.pushes.in_order (rw c.deref-then-variable-bound.ensures.value c.self.invariant) (IsLawful-by_rank (λ k. k) c.deref-then-variable-bound.result.now (c.args.variable ∷ c.self.inside.queue.keys)))

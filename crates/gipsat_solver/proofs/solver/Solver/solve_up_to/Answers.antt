@@ -1,5 +1,6 @@
-use Rattle.std.proofs.Common.{◌∙◌, subst, sym, ◌≡◌, length, ap, arith}
+use Rattle.std.proofs.Common.{◌∙◌, subst, sym, ◌≡◌, length, ap, arith, false}
 use Rattle.gipsat_solver.specs.Database.{SolverState}
+use Rattle.gipsat_solver.specs.Seen.{is_seen}
 use Rattle.gipsat_solver.specs.Trail.{IsTrailOf}
 use Rattle.gipsat_solver.proofs.AnswerLemmas.{IsRightOr-weaker, IsSpent-since}
 use Rattle.gipsat_solver.proofs.solver.Solver.solve_up_to.Goals as goal
@@ -43,3 +44,7 @@ invariant_of-self-2 g c =
       within = omega (arith, rewound, c.in_ok-answer.ensures.ready.trail.len);
       trail = c.rewind_if_refuted.ensures.trail c.run.new.database.clauses c.in_ok-answer.ensures.ready.trail.over;
     }
+
+pub invariant_of-self-inside-in-Break-branch-5 : goal.invariant_of-self-inside-in-Break-branch-5
+invariant_of-self-inside-in-Break-branch-5 g c =
+    (λ l. subst (λ seen. is_seen seen l ≡ false) (sym c.replace-seen.ensures.after) (c.new-2.ensures l), record {})
