@@ -12,6 +12,7 @@ mod Picked
 mod Reaching
 mod Searches
 mod SmallSets
+mod TakenPlaces
 mod Unrolling
 mod Worklists
 mod Written

@@ -1,9 +1,9 @@
 -- Sets as lists of truth values, place by place.
-use Rattle.std.proofs.Common.{◌≡◌, ◌↔◌, ℕ, suc, ◌<◌, ◌||◌, ◌&&◌, Bool, true, false, List, [], ◌∷◌, length, get_or, set, arith, refl, sym, ap, ◌∙◌, ⊎_elim}
-use Rattle.std.proofs.lemmas.Bool.{false≢true}
+use Rattle.std.proofs.Common.{◌≡◌, ◌↔◌, ℕ, ◌<◌, ◌||◌, ◌&&◌, Bool, true, false, List, length, set, refl, sym, ⊎_elim}
 use Rattle.giputils.specs.Logic.{zip_with, and_of, or_of, not_of}
 use Rattle.giputils.specs.Ones.{true_count, true_places}
 use Rattle.giputils.proofs.Logic.{length-zip_with, get_or-zip_with_all}
+use Rattle.giputils.proofs.Sets as sets
 use Rattle.giputils.proofs.Sets.{get_or-without, length-without}
 use Rattle.giputils.proofs.TruePlaces.{length-true_places}
 use Rattle.giputils_uses.proofs.Written.{get_or-set_cases}
@@ -31,20 +31,7 @@ pub taken : (xs ys : List Bool) → length xs ≡ length ys → IsDifference xs 
 taken xs ys long q = get_or-without xs ys q long
 
 pub within : (xs ys : List Bool) → length xs ≡ length ys → (and_of xs ys ≡ xs) ↔ IsWithin xs ys
-within xs ys long = (
-  λ same q holds. both (get_or xs q false) (get_or ys q false) (sym (met xs ys long q) ∙ ap (λ zs. get_or zs q false) same ∙ holds),
-  all xs ys long,
-)
-  where
-    both : (x y : Bool) → (x && y) ≡ true → y ≡ true
-    both true y holds = holds
-    both false y holds = absurd (false≢true holds)
-
-    all : (xs ys : List Bool) → length xs ≡ length ys → IsWithin xs ys → and_of xs ys ≡ xs
-    all [] ys long holds = refl
-    all (x ∷ xs) [] long holds = absurd (omega (arith, long))
-    all (true ∷ xs) (y ∷ ys) long holds = rw (holds 0 refl) (ap (λ zs. true ∷ zs) (all xs ys (omega (arith, long)) (λ q. holds (suc q))))
-    all (false ∷ xs) (y ∷ ys) long holds = ap (λ zs. false ∷ zs) (all xs ys (omega (arith, long)) (λ q. holds (suc q)))
+within = sets.within
 
 pub counted : (bs : List Bool) → true_count bs ≡ length (true_places 0 bs)
 counted bs = sym (length-true_places 0 bs)

@@ -5,6 +5,7 @@ pub mod Clock
 pub mod Compaction
 pub mod Drained
 pub mod Incremental
+pub mod Learned
 pub mod MinimalCore
 pub mod Paths
 pub mod Primes

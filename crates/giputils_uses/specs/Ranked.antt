@@ -7,8 +7,3 @@ use Rattle.giputils.specs.Keys.{is_held}
 pub record HasGreatestRank (ranks keys : List ℕ) (k : ℕ) : Type 0 where
   pub held : IsTrue (is_held (λ n. n) keys k)
   pub greatest : (other : ℕ) → IsTrue (is_held (λ n. n) keys other) → rank_of ranks other ≤ rank_of ranks k
-
--- k is one of the keys, and none of them has a smaller rank
-pub record HasLeastRank (ranks keys : List ℕ) (k : ℕ) : Type 0 where
-  pub held : IsTrue (is_held (λ n. n) keys k)
-  pub least : (other : ℕ) → IsTrue (is_held (λ n. n) keys other) → rank_of ranks k ≤ rank_of ranks other

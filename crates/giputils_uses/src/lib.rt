@@ -10,6 +10,7 @@ pub mod drain;
 pub mod first_question;
 pub mod incremental;
 pub mod last;
+pub mod learned;
 pub mod minimal_core;
 pub mod paths;
 pub mod reachable;

@@ -1,5 +1,5 @@
 //! A set of small numbers, kept in a vector of bits.
-ghost use Rattle.std.specs.Prelude.{◌≡◌, ◌↔◌, ◌<◌, not, length, IfSome, IfNone, IfOk, IsTrue};
+ghost use Rattle.std.specs.Prelude.{◌≡◌, ◌↔◌, ◌<◌, not, length, IfSome, IfNone, IfOk, OnErr, OnOk, IsTrue};
 ghost use Rattle.giputils.specs.Ones.{true_places, IsNextOne};
 ghost use Rattle.giputils_uses.specs.SmallSet.{has, HasNone, Inserts, Removes, IsUnion, IsIntersection, IsDifference, IsWithin, ListsMembers};
 
@@ -10,7 +10,7 @@ use std::marker::Model;
 /// A set of numbers below a bound, seen as a list of truth values: place n tells whether n is a member.
 ///
 /// Shows bits as a set: `put` answers whether a member is new, `|=`, `&=` and `difference_with` go whole words at a
-/// time, `count_ones` counts the members, `first_one` and `iter_ones` find them, and `fill` removes all.
+/// time, `count_ones` counts the members, `first_one`, `next_one` and `iter_ones` find them, and `fill` removes all.
 #[derive(Drop)]
 pub struct SmallSet<A: Allocator = Global> {
     bits: BitVec<A>,
@@ -148,6 +148,23 @@ impl<A: Allocator> SmallSet<A> {
         self.places(alloc)
     }
 
+    /// Takes all members out, and lists them, rising.
+    ///
+    /// Shows a walk by `next_one`, which goes on while the vector changes.
+    ///
+    /// # Errors
+    /// `AllocError` where memory for the list is refused. The set is then as it was.
+    pub fn drain(&mut self, alloc: A) -> Result<Vec<usize, A>, AllocError>
+    where
+        A: Copy,
+        ensures members { IfOk result (λ members. ListsMembers self.old members.items) }
+        ensures empty { OnOk result (HasNone self.new) }
+        ensures bound { length self.new ≡ length self.old }
+        ensures err { OnErr result (self.new ≡ self.old) }
+    {
+        take_places(&mut self.bits, alloc)
+    }
+
     fn places(&self, alloc: A) -> Result<Vec<usize, A>, AllocError>
     where
         A: Copy,
@@ -155,4 +172,24 @@ impl<A: Allocator> SmallSet<A> {
     {
         self.bits.iter_ones().collect(alloc)
     }
+}
+
+// Makes each place false, and lists those that were true.
+fn take_places<A: Allocator, B: Allocator>(
+    bits: &mut BitVec<A>,
+    alloc: B,
+) -> Result<Vec<usize, B>, AllocError>
+    ensures places { IfOk result (λ places. places.items ≡ true_places 0 bits.old) }
+    ensures none { OnOk result (HasNone bits.new) }
+    ensures len { length bits.new ≡ length bits.old }
+    ensures err { OnErr result (bits.new ≡ bits.old) }
+{
+    let mut places = Vec::with_capacity(alloc, bits.count_ones())?;
+    let mut start = 0;
+    while let Some(place) = bits.next_one(start) {
+        bits.set(place, false);
+        places.push_reserved(place);
+        start = place + 1;
+    }
+    Ok(places)
 }

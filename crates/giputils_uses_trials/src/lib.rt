@@ -21,6 +21,8 @@ mod incremental;
 #[cfg(test)]
 mod last;
 #[cfg(test)]
+mod learned;
+#[cfg(test)]
 mod minimal_core;
 #[cfg(test)]
 mod paths;

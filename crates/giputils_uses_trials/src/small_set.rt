@@ -57,6 +57,7 @@ fn members_that_are_taken_out(rt: HostRuntime) -> Result<(), Fail> {
     let was_member = (set.remove(3), set.remove(4));
     assert_eq!(rt; was_member, (true, false));
     assert_eq!(rt; set.least(), Some(5));
+    assert_eq!(rt; set.drain(rt.alloc())?.as_slice(), [5, 70].as_slice());
     set.clear();
     assert_eq!(rt; set.least(), None);
     Ok(())

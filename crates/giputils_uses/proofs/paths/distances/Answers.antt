@@ -13,7 +13,7 @@ loop-node-init g c =
 
 pub loop-edge-init : goal.loop-edge-init
 loop-edge-init g c =
-    (IsSearch-taken c.args.graph.now _ _ _ _ _ _ (HoldAlike-IsPermutation (λ k. k) _ _ c.in-Some.ensures.taken) c.loop-node.invariant.1, omega arith)
+    (IsSearch-taken c.args.graph.now _ _ _ _ _ _ (HoldAlike-IsPermutation (λ k. k) _ _ c.in-Some.ensures.pops.taken) c.loop-node.invariant.1, omega arith)
 
 pub loop-node-preserved : goal.loop-node-preserved
 loop-node-preserved g c =
@@ -32,4 +32,4 @@ loop-edge-preserved g c =
 
 pub returns-clause-least : goal.returns-clause-least
 returns-clause-least g c =
-    IsSearch-least c.args.graph.now c.args.source _ c.loop-node.waiting _ (grind (arith, c.in_default.ensures.some)) c.loop-node.invariant.1
+    IsSearch-least c.args.graph.now c.args.source _ c.loop-node.waiting _ (grind (arith, c.in_default.ensures.pops.some)) c.loop-node.invariant.1

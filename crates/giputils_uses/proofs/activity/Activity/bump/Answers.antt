@@ -8,4 +8,4 @@ pub invariant_of-self : goal.invariant_of-self
 invariant_of-self g c =
     let inside : c.args.variable < length c.self.inside.scores.items = rw (ap (λ order. order.scores) c.self.view_is) c.requires in
     risen-by_rank (λ k. k) c.args.variable _ _ _ c.deref.ensures.value _ _ inside
-    (grind (arith, common_steps, c.index.ensures, c.saturating_add-score.ensures)) c.up.ensures.repaired c.self.invariant
+    (grind (arith, common_steps, c.index.ensures, c.saturating_add-score.ensures)) c.up.ensures.goes_up.repaired c.self.invariant
