@@ -1,0 +1,6 @@
+mod Examples
+mod FrameLoops
+mod GroupLemmas
+mod Pieces
+mod Refusals
+mod RowLoops

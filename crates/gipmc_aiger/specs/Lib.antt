@@ -1,0 +1,9 @@
+-- Circuits, their witnesses and their invariants as texts.
+pub mod Reading
+pub mod Lines
+pub mod Tails
+pub mod Circuits
+pub mod CircuitTexts
+pub mod Witnesses
+pub mod Traces
+pub mod Invariants

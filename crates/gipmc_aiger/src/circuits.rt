@@ -1,0 +1,88 @@
+//! A reader of circuits.
+ghost use Rattle.std.specs.Prelude.{◌≡◌, ℕ, None, IfOk, IsErrOf};
+ghost use Rattle.gipmc_aiger.specs.Reading.{Gives};
+ghost use Rattle.gipmc_aiger.specs.Circuits.{body_at, circuit_of, netlist_of, IsReordering, Writes};
+
+use crate::error::{AigerError, Place, Reason, Stop};
+use crate::header::{Form, Header};
+use crate::headers::header;
+use crate::order::order;
+use crate::place::error_at;
+use crate::rows::rows;
+use crate::tails::tail;
+use gipmc_circuits::Circuit;
+use std::alloc::Allocator;
+
+/// Reads a circuit in either form of AIGER 1.9. Where the text has no bad literals, its outputs are taken for them.
+///
+/// Gates of an `aag` text may stand in any order; the circuit has each behind those that it depends on.
+///
+/// # Errors
+/// - [`AigerError::Refused`] with the place and the reason where the text has another form.
+/// - [`AigerError::Twice`], [`AigerError::Undefined`] or [`AigerError::Cycle`] with a variable where an `aag` text
+///   writes no circuit.
+/// - [`AigerError::Memory`] where memory is refused.
+pub fn read_circuit<A: Allocator + Copy>(alloc: A, text: &[u8]) -> Result<Circuit<A>, AigerError>
+    ensures ok { IfOk result (Writes text.now) }
+    ensures refused { (place : Place) (reason : Reason) → IsErrOf result (AigerError.Refused place reason) →
+        circuit_of text.now ≡ None }
+{
+    let (header, circuit) = match whole(alloc, text) {
+        Ok(read) => read,
+        Err(stop) => return Err(error_at(text, stop)),
+    };
+    ordered(alloc, header.form, header.sizes.maximum, circuit)
+}
+
+// The header and the rows.
+#[tactic(auto, unfolding(crate::specs::Circuits::circuit_of))]
+fn whole<A: Allocator + Copy>(alloc: A, text: &[u8]) -> Result<(Header, Circuit<A>), Stop>
+    ensures { Gives (λ x. netlist_of x.1) result (circuit_of text.now) }
+{
+    let (header, rest) = header(text)?;
+    let circuit = body(alloc, &header, rest)?;
+    Ok((header, circuit))
+}
+
+// The circuit that the rows behind a header write.
+#[tactic(auto, unfolding(crate::specs::Circuits::body_at))]
+fn body<A: Allocator + Copy>(alloc: A, header: &Header, bytes: &[u8]) -> Result<Circuit<A>, Stop>
+    ensures { Gives netlist_of result (body_at header.now bytes.now) }
+{
+    let (inputs, rest) = rows(alloc, header, header.sizes.inputs, bytes)?;
+    let (latches, rest) = rows(alloc, header, header.sizes.latches, rest)?;
+    let (outputs, rest) = rows(alloc, header, header.sizes.outputs, rest)?;
+    let (bads, rest) = rows(alloc, header, header.bads, rest)?;
+    let (constraints, rest) = rows(alloc, header, header.constraints, rest)?;
+    let (gates, rest) = rows(alloc, header, header.sizes.gates, rest)?;
+    tail(header, rest)?;
+    let bads = if header.bads == 0 { outputs } else { bads };
+    Ok(Circuit {
+        inputs,
+        latches,
+        gates,
+        bads,
+        constraints,
+    })
+}
+
+// The circuit with its gates in order.
+fn ordered<A: Allocator + Copy>(
+    alloc: A,
+    form: Form,
+    maximum: u32,
+    mut circuit: Circuit<A>,
+) -> Result<Circuit<A>, AigerError>
+    ensures ok { IfOk result (λ c. IsReordering (netlist_of circuit) (netlist_of c)) }
+    ensures defect { (place : Place) (reason : Reason) → ¬ (IsErrOf result (AigerError.Refused place reason)) }
+{
+    match form {
+        Form::Binary => Ok(circuit),
+        Form::Ascii => {
+            if let Err(defect) = order(alloc, maximum, &mut circuit) {
+                return Err(defect.error());
+            }
+            Ok(circuit)
+        }
+    }
+}

@@ -1,0 +1,11 @@
+-- The formula says of an initial moment what it is.
+use Rattle.std.proofs.lemmas.Result.{IfOk-weaker}
+use Rattle.gipsat_solver.proofs.Places.{IfNone-more}
+use Rattle.gipmc_circuits.proofs.Certified.{initiated}
+use Rattle.gipmc_circuits.proofs.certificate.initiation.Goals as goal
+
+pub returns : goal.returns
+returns g c =
+    IfOk-weaker c.first_doubt.result _ _
+    (λ doubt. IfNone-more doubt (initiated c.args.circuit.now c.args.invariant.now _ _ _ c.new-solver.ensures.formula c.in_ok-add_initial.ensures c.in_ok-add_moment.ensures))
+    c.first_doubt.ensures

@@ -1,0 +1,7 @@
+use Rattle.std.proofs.Common.{◌≡◌, map, take}
+use Rattle.gipsat_solver.specs.Literals.{negated}
+use Rattle.gipmc_circuits.specs.Encoding.{shifted}
+use Rattle.gipmc_circuits.proofs.certificate.negations.Given as goal
+
+abbrev pub invariant-loop-place : goal.invariant-loop-place
+invariant-loop-place g l = l.all.items ≡ map (λ x. negated (shifted l.offset x)) (take l.place l.clause)

@@ -1,0 +1,4 @@
+pub mod Circuit
+pub mod Encoding
+pub mod Certificate
+pub mod WellFormed

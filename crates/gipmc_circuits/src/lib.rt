@@ -1,0 +1,11 @@
+//! Circuits of gates and latches, and proved answers to the question whether they are safe.
+#![tactic(auto)]
+
+pub mod certificate;
+pub mod circuit;
+pub mod encoding;
+pub mod trace;
+
+pub use certificate::{Verdict, certify};
+pub use circuit::{And, Circuit, Latch};
+pub use trace::{Trace, replay};

@@ -1,0 +1,8 @@
+//! Tests of circuits: traces, invariants, and whether a circuit is well-formed.
+#![tactic(auto)]
+
+#[cfg(test)]
+mod certificates;
+pub mod latched;
+#[cfg(test)]
+mod traces;
