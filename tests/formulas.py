@@ -3,463 +3,232 @@
 
     tests/formulas.py --list                      puts the list `new formulas` at the end of giputils_replay's stdin and
                                                   stdout, in the place of the one that stands there; it needs minisat
-    tests/formulas.py --write FOLDER              a DIMACS file for each formula of FILES, by name and seed
-    tests/formulas.py --time FOLDER PROGRAM..     runs the programs by turns over the files of a folder
-    tests/formulas.py --check FOLDER GIPSAT       has each file that GIPSAT refutes checked with the proof it writes
-    tests/formulas.py --check FOLDER GIPSAT CADICAL    has the proofs of this program checked by GIPSAT
+    tests/formulas.py --write FOLDER FORMULAS     a DIMACS file for each of the formulas
+    tests/formulas.py --time FORMULAS PROGRAM..   runs the programs by turns on each formula, and prints tables
+    tests/formulas.py --table FILE..              prints the tables of runs that were kept
+    tests/formulas.py --check FORMULAS GIPSAT [CADICAL]    has each formula that GIPSAT refutes checked with the proof
+                                                  that it writes; GIPSAT checks the proofs of CADICAL, if that is given
 
-A line `cnf CLAUSE..` of the list has a word for each clause, and a letter for each literal: `A` is a variable, and `a`
-its negation. A digit tells which 26 variables the letters behind it are; without one they are those of 0, and `0` is
-the clause of no literal. minisat's models are tried here on their formulas.
+FORMULAS is a folder of DIMACS files, or the name of a list: `tuning`, on which the settings of gipsat were chosen, or
+`report`, whose formulas have other sizes and seeds, and in part other families. Of FORMULAS these take a part, and they
+stand behind all other words:
+
+    --family NAME,..    the formulas of these families (how their names begin)
+    --sample N          N formulas, spread over the list
+    --skip N            all but the first N
+
+and these belong to --time:
+
+    --limit SECONDS     processor time that a run may take, 30 where it is not given
+    --processor N       the processor on which all programs run, in their turn
+    --keep FILE         adds each run to a file for --table, as a line
+
+A line `cnf CLAUSE..` of the list `new formulas` has a word for each clause, and a letter for each literal: `A` is a
+variable, and `a` its negation. A digit tells which 26 variables the letters behind it are; without one they are those of
+0, and `0` is the clause of no literal. minisat's models are tried here on their formulas.
 
 A PROGRAM that is named minisat gets the names of a file and of one for its answer, any other the file as its standard
-input, and answers as solvers do at competitions: a line `s SATISFIABLE` with lines `v ..`, or `s UNSATISFIABLE`. Each
-run may take 100 s of processor time. The tables that are printed go family by family over the formulas that all
-programs have answered: user times and how many formulas each program has left, the greatest memory that was resident,
-and, of programs that print them (as `gipsat --stats`), conflicts and propagations. The programs' answers are compared
-with each other and with those that are known, and each model is tried on its formula. It needs /usr/bin/time.
-
-A formula is a list of clauses, which are lists of literals; variable 1 is 1, and its negation is -1.
+input, and answers as solvers do at competitions: a line `s SATISFIABLE` with lines `v ..`, or `s UNSATISFIABLE`. The
+programs' answers are compared with each other and with those that are known, and each model is tried on its formula.
+Times are processor times, of the user and of the system; it needs /usr/bin/time, and taskset.
 """
 
+import argparse
+import collections
 import itertools
+import json
 import math
-import operator
 import random
 import re
 import resource
 import shlex
+import shutil
 import subprocess
 import sys
 import tempfile
 from pathlib import Path
 from typing import NamedTuple
 
+import families
+from families import colouring, mixed, one_model, parity, parity_chains, pigeonhole, random_clauses, units
+
 SECONDS = 100
 REPLAY = Path(__file__).resolve().parent.parent / "crates" / "giputils_replay"
 HEADER = "new formulas"
 
 
-# Formulas. Each sort is made by a function of a generator of random numbers and of sizes.
+# The lists of formulas to time solvers with.
 
 
-def random_clauses(rng, variables, length=3, ratio=4.26):
-    """Clauses of so many literals, of different variables each; at 4.26 of three literals half of them have a model."""
+class Row(NamedTuple):
+    """A formula: its name, what makes it, whether it is known to be `sat` or `unsat`, the seed, and sizes."""
+
+    name: str
+    family: str
+    known: str
+    seed: int
+    sizes: tuple
+
+    def write(self, path):
+        made = getattr(families, self.family)(random.Random(self.seed), *self.sizes)
+        with path.open("w") as file:
+            file.writelines(made if self.family == "easy_text" else lines_of(made))
+
+
+def rows(family, known, *sizes, seeds=(1,)):
+    """The formulas of a family that have these sizes and seeds."""
     return [
-        [rng.choice((1, -1)) * variable for variable in rng.sample(range(1, variables + 1), length)]
-        for _ in range(round(ratio * variables))
+        Row("-".join([family, *map(str, map(float_free, size))]) + f".{seed}", family, known, seed, size)
+        for size in sizes
+        for seed in seeds
     ]
 
 
-def pigeonhole(_rng, holes):
-    """One pigeon more than there are holes, each in a hole of its own: no model."""
-    pigeons = range(holes + 1)
+def float_free(size):
+    """A size as it stands in a name."""
+    return int(size) if isinstance(size, bool) else size
 
-    def sits(pigeon, hole):
-        return pigeon * holes + hole + 1
 
-    clauses = [[sits(pigeon, hole) for hole in range(holes)] for pigeon in pigeons]
-    for hole in range(holes):
-        clauses += [[-sits(a, hole), -sits(b, hole)] for a, b in itertools.combinations(pigeons, 2)]
-    return clauses
+def named(name, family, known, *sizes):
+    """A formula whose name ends with its seed."""
+    return Row(name, family, known, int(name.split("-")[-1]), sizes)
 
 
-def is_odd_sum(variables, is_odd):
-    """That the number of true ones is odd, or even: a clause for each row of the table that is not so."""
-    return [
-        [-sign * variable for sign, variable in zip(signs, variables)]
-        for signs in itertools.product((1, -1), repeat=len(variables))
-        if (signs.count(1) % 2 == 1) != is_odd
-    ]
-
-
-def parity(rng, variables, equations):
-    """Equations between three variables each, modulo 2."""
-    clauses = []
-    for _ in range(equations):
-        clauses += is_odd_sum(rng.sample(range(1, variables + 1), 3), rng.random() < 0.5)
-    return clauses
-
-
-def parity_chains(rng, variables, agree):
-    """The sum of all variables modulo 2, by two chains in different orders; it has a model where the chains agree."""
-    clauses = []
-    last = variables
-    for is_odd in (True, agree):
-        order = rng.sample(range(1, variables + 1), variables)
-        carried = order[0]
-        for variable in order[1:-1]:
-            last += 1
-            clauses += is_odd_sum([carried, variable, last], False)
-            carried = last
-        clauses += is_odd_sum([carried, order[-1]], is_odd)
-    return clauses
-
-
-def coloured(nodes, edges, colours, given):
-    """A colour for each node, such that no edge has one colour at both ends. The given nodes, of which each has an edge
-    to the others, have the first colours."""
-
-    def has(node, colour):
-        return node * colours + colour + 1
-
-    clauses = [[has(node, colour) for colour in range(colours)] for node in range(nodes)]
-    for a, b in edges:
-        clauses += [[-has(a, colour), -has(b, colour)] for colour in range(colours)]
-    return clauses + [[has(node, colour)] for colour, node in enumerate(given)]
-
-
-def colouring(rng, nodes, edges, colours=3):
-    """A colour for each node of a random graph."""
-    return coloured(nodes, rng.sample(list(itertools.combinations(range(nodes), 2)), edges), colours, [])
-
-
-def queens(_rng, size, colours):
-    """A colour for each cell of a board, such that no queen goes from a cell to another of its colour. 9 are the least
-    for 8 by 8."""
-    cells = list(itertools.product(range(size), repeat=2))
-    edges = [
-        (a, b)
-        for (a, (row, column)), (b, (other_row, other_column)) in itertools.combinations(enumerate(cells), 2)
-        if row == other_row or column == other_column or abs(row - other_row) == abs(column - other_column)
-    ]
-    return coloured(len(cells), edges, colours, range(size))
-
-
-def mycielski(_rng, times, colours):
-    """Colours for the graph that Mycielski's construction makes of an edge in so many times. It has no triangle, and
-    needs as many colours and 2 more."""
-    nodes, edges = 2, [(0, 1)]
-    for _ in range(times):
-        edges += [(a, nodes + b) for a, b in edges] + [(b, nodes + a) for a, b in edges]
-        edges += [(nodes + node, 2 * nodes) for node in range(nodes)]
-        nodes = 2 * nodes + 1
-    return coloured(nodes, edges, colours, [0, 1])
-
-
-def sliding(rng, distance, steps):
-    """The puzzle of eight numbers in nine cells: from a drawn place, so many steps away from the goal, to the goal. In
-    each step a number goes into the empty cell, or none does. It has a model where there are as many steps."""
-    cells = range(9)
-    near = [[d for d in cells if abs(c % 3 - d % 3) + abs(c // 3 - d // 3) == 1] for c in cells]
-
-    def after(place):
-        empty = place.index(0)
-        for cell in near[empty]:
-            moved = list(place)
-            moved[empty], moved[cell] = moved[cell], 0
-            yield tuple(moved)
-
-    goal = tuple(cells)
-    seen, places = {goal}, [goal]
-    for _ in range(distance):
-        places = [place for place in dict.fromkeys(itertools.chain(*map(after, places))) if place not in seen]
-        seen.update(places)
-    start = rng.choice(places)
-
-    def has(step, cell, number):
-        return (step * 9 + cell) * 9 + number + 1
-
-    clauses = [[has(0, cell, start[cell])] for cell in cells] + [[has(steps, cell, cell)] for cell in cells]
-    for step in range(steps + 1):
-        for one in cells:
-            clauses += [[has(step, one, number) for number in cells], [has(step, cell, one) for cell in cells]]
-            for a, b in itertools.combinations(cells, 2):
-                clauses += [[-has(step, one, a), -has(step, one, b)], [-has(step, a, one), -has(step, b, one)]]
-    for step in range(steps):
-        for cell in cells:
-            clauses.append([-has(step, cell, 0)] + [has(step + 1, other, 0) for other in [cell, *near[cell]]])
-            for number in cells[1:]:
-                clauses.append([-has(step, cell, number), has(step + 1, cell, 0), has(step + 1, cell, number)])
-                clauses += [
-                    [-has(step, cell, 0), -has(step + 1, d, 0), -has(step, d, number), has(step + 1, cell, number)]
-                    for d in near[cell]
-                ]
-    return clauses
-
-
-def one_model(rng, variables):
-    """Clauses drawn among those that one assignment satisfies, and enough of them that no other one does."""
-    model = [rng.choice((1, -1)) * variable for variable in range(1, variables + 1)]
-    order = rng.sample(model, variables)
-    clauses = [[order[0], order[1]], [order[0], -order[1]], [-order[0], order[1]]]
-    for place in range(2, variables):
-        a, b = rng.sample(order[:place], 2)
-        clauses += [[order[place], -a, -b], [-order[place], a, rng.choice(order)]]
-    rng.shuffle(clauses)
-    return clauses
-
-
-def mixed(rng, variables, count):
-    """Clauses of any few literals: a literal may stand twice, or beside its negation, and a clause may have none."""
-    return [
-        [rng.choice((1, -1)) * rng.randint(1, variables) for _ in range(rng.choice((1, 2, 2, 2, 3, 3, 3, 4, 5)))]
-        for _ in range(count)
-    ] + [[]] * (rng.random() < 0.05)
-
-
-def units(rng, variables, clash):
-    """A chain of implications in a shuffled order, with its first variable; the last one is denied where they clash."""
-    order = [rng.choice((1, -1)) * v for v in rng.sample(range(1, variables + 1), variables)]
-    clauses = [[order[0]]] + [[-a, b] for a, b in itertools.pairwise(order)]
-    clauses += [[-order[-1]]] * clash
-    rng.shuffle(clauses)
-    return clauses
-
-
-class Circuit:
-    """Gates, as clauses over their wires. Wire 1 is true."""
-
-    def __init__(self):
-        self.clauses = [[1]]
-        self.last = 1
-
-    def wire(self):
-        self.last += 1
-        return self.last
-
-    def wires(self, count):
-        return [self.wire() for _ in range(count)]
-
-    def both(self, a, b):
-        out = self.wire()
-        self.clauses += [[-out, a], [-out, b], [out, -a, -b]]
-        return out
-
-    def differ(self, a, b):
-        out = self.wire()
-        self.clauses += is_odd_sum([a, b, out], False)
-        return out
-
-    def choose(self, test, yes, no):
-        out = self.wire()
-        self.clauses += [[-test, -yes, out], [-test, yes, -out], [test, -no, out], [test, no, -out]]
-        return out
-
-    def either(self, a, b):
-        return -self.both(-a, -b)
-
-    def sum(self, a, b, carried):
-        """The digit and the carry of three bits."""
-        half = self.differ(a, b)
-        digit = self.differ(half, carried)
-        carry = -self.both(-self.both(a, b), -self.both(half, carried))
-        return digit, carry
-
-    def product(self, a, b):
-        """The digits of a product, the lowest first: rows of sums."""
-        row = [self.both(bit, b[0]) for bit in a] + [-1]
-        digits = [row.pop(0)]
-        for bit in b[1:]:
-            carried, next_row = -1, []
-            for have, more in zip(row, [self.both(x, bit) for x in a]):
-                digit, carried = self.sum(have, more, carried)
-                next_row.append(digit)
-            row = next_row + [carried]
-            digits.append(row.pop(0))
-        return digits + row
-
-    def product_by_columns(self, a, b):
-        """The same by columns: three bits of a column are one bit of it, and one of the next column."""
-        columns = [[] for _ in range(len(a) + len(b) + 1)]
-        for (i, x), (j, y) in itertools.product(enumerate(a), enumerate(b)):
-            columns[i + j].append(self.both(x, y))
-        for place, column in enumerate(columns[:-1]):
-            while len(column) > 1:
-                digit, carried = self.sum(column.pop(0), column.pop(0), column.pop(0) if column else -1)
-                column.append(digit)
-                columns[place + 1].append(carried)
-        return [column[0] for column in columns[:-1]]
-
-    def step_up(self, state, reset):
-        """A number with 1 more, or 0 where there is a reset."""
-        carried, following = 1, []
-        for bit in state:
-            following.append(self.both(self.differ(bit, carried), -reset))
-            carried = self.both(bit, carried)
-        return following
-
-    def step_down(self, state, reset):
-        """A number with 1 less, or the greatest one where there is a reset."""
-        borrowed, following = 1, []
-        for bit in state:
-            following.append(self.choose(reset, 1, self.differ(bit, borrowed)))
-            borrowed = self.both(-bit, borrowed)
-        return following
-
-    def is_number(self, wires, number):
-        self.clauses += [[wire if number >> place & 1 else -wire] for place, wire in enumerate(wires)]
-
-
-def product_commutes(_rng, bits):
-    """Two numbers whose products in both orders differ: no model."""
-    circuit = Circuit()
-    a, b = circuit.wires(bits), circuit.wires(bits)
-    pairs = zip(circuit.product(a, b), circuit.product(b, a))
-    circuit.clauses.append([circuit.differ(x, y) for x, y in pairs])
-    return circuit.clauses
-
-
-def factors(_rng, number, bits):
-    """Two numbers of so many bits above 1 whose product is the number."""
-    circuit = Circuit()
-    a, b = circuit.wires(bits), circuit.wires(bits)
-    circuit.is_number(circuit.product(a, b), number)
-    circuit.clauses += [a[1:], b[1:]]
-    return circuit.clauses
-
-
-def counter(rng, bits, steps, wanted):
-    """A counter to which a step adds one, or which it resets where an input asks for it: can it be at the wanted number
-    at the end? Before the last steps, twice that many, half of the inputs ask for it."""
-    circuit = Circuit()
-    state = [-1] * bits
-    for step in range(steps):
-        reset = circuit.wire()
-        state = circuit.step_up(state, reset)
-        if step + 2 * wanted < steps and rng.random() < 0.5:
-            circuit.clauses.append([reset])
-    circuit.is_number(state, wanted)
-    return circuit.clauses
-
-
-def counters_differ(_rng, bits, steps):
-    """That counter, and one that counts down with all its bits negated: can they differ at the end? No model."""
-    circuit = Circuit()
-    up, down = [-1] * bits, [1] * bits
-    for _ in range(steps):
-        reset = circuit.wire()
-        up, down = circuit.step_up(up, reset), circuit.step_down(down, reset)
-    circuit.clauses.append([circuit.differ(a, -b) for a, b in zip(up, down)])
-    return circuit.clauses
-
-
-def multipliers(_rng, bits):
-    """Two numbers whose products by rows and by columns differ: no model."""
-    circuit = Circuit()
-    a, b = circuit.wires(bits), circuit.wires(bits)
-    pairs = zip(circuit.product(a, b), circuit.product_by_columns(a, b))
-    circuit.clauses.append([circuit.differ(x, y) for x, y in pairs])
-    return circuit.clauses
-
-
-def arbiter(_rng, clients, steps, wrong):
-    """An arbiter that serves the first client who asks, from the one with the token on, and round; the next one then
-    has the token. Who asks goes on until it is served. Are two ever served at once? Not by the right one; the wrong one
-    also leaves the token where it was, where all ask and the last one is served."""
-    circuit = Circuit()
-    token, waiting = [1] + [-1] * (clients - 1), [-1] * clients
-    twice = []
-    for _ in range(steps):
-        asks = [circuit.either(wait, circuit.wire()) for wait in waiting]
-        passed = -1
-        for have, ask in zip(token, asks):
-            passed = circuit.both(circuit.either(have, passed), -ask)
-        served, one, two, all_ask = [], -1, -1, 1
-        for have, ask in zip(token, asks):
-            here = circuit.either(have, passed)
-            served.append(circuit.both(here, ask))
-            passed = circuit.both(here, -ask)
-            two = circuit.either(two, circuit.both(one, served[-1]))
-            one = circuit.either(one, served[-1])
-            all_ask = circuit.both(all_ask, ask)
-        twice.append(two)
-        waiting = [circuit.both(ask, -done) for ask, done in zip(asks, served)]
-        stays = circuit.either(-one, circuit.both(all_ask, served[-1])) if wrong else -one
-        before = served[-1:] + served[:-1]
-        token = [circuit.either(circuit.both(stays, have), done) for have, done in zip(token, before)]
-    circuit.clauses.append(twice)
-    return circuit.clauses
-
-
-def gray(_rng, bits, steps):
-    """A counter of two bits or more that an input holds, and one that changes one bit a step: are they at other numbers
-    at the end? No model."""
-    circuit = Circuit()
-    state, code = [-1] * bits, [-1] * bits
-    for _ in range(steps):
-        carried = go = circuit.wire()
-        following = []
-        for bit in state:
-            following.append(circuit.differ(bit, carried))
-            carried = circuit.both(bit, carried)
-        odd = -1
-        for bit in code:
-            odd = circuit.differ(odd, bit)
-        # An even code changes its lowest bit, and an odd one the bit above its lowest true one, or the highest.
-        changes, clear = [circuit.both(go, -odd)], circuit.both(go, odd)
-        for bit in code[:-2]:
-            changes.append(circuit.both(clear, bit))
-            clear = circuit.both(clear, -bit)
-        state, code = following, [circuit.differ(*pair) for pair in zip(code, [*changes, clear])]
-    shifted = state[1:] + [-1]
-    circuit.clauses.append([circuit.differ(a, circuit.differ(b, c)) for a, b, c in zip(code, state, shifted)])
-    return circuit.clauses
-
-
-def register(rng, bits, steps, apart):
-    """A register that shifts by one bit a step, the new bit being made of five others: what did it hold at first, where
-    what it gives out, a bit each time that so many steps are over, is what a drawn one gives out?"""
-    taps = rng.sample(range(1, bits), 5)
-
-    def outputs(state, differ, both):
-        for step in range(steps):
-            if step % apart == 0:
-                yield differ(state[bits // 2], both(state[bits // 3], state[-1]))
-            a, b, c, d, e = [state[tap] for tap in taps]
-            state = state[1:] + [differ(differ(state[0], a), differ(both(b, c), both(d, e)))]
-
-    circuit = Circuit()
-    drawn = [rng.random() < 0.5 for _ in range(bits)]
-    wires = outputs(circuit.wires(bits), circuit.differ, circuit.both)
-    for wire, bit in zip(wires, outputs(drawn, operator.xor, operator.and_)):
-        circuit.clauses.append([wire if bit else -wire])
-    return circuit.clauses
-
-
-# Files to time solvers with: a name, what makes the formula, the seed (the last number of the name), and sizes.
-FILES = [
+TUNING = [
     *[
-        (f"random-{size}-{seed}", random_clauses, seed, (size,))
+        named(f"random-{size}-{seed}", "random_clauses", "", size)
         for size in (150, 175, 200, 225, 250)
         for seed in range(1, 7)
     ],
-    *[(f"easy-20000-{seed}", random_clauses, seed, (20000, 3, 3.0)) for seed in (1, 2)],
-    *[(f"pigeonhole-{holes}-0", pigeonhole, 0, (holes,)) for holes in (7, 8, 9)],
-    *[(f"parity-{size}-{seed}", parity, seed, (size, size)) for size, seed in ((40, 1), (60, 2), (100, 3))],
-    *[(f"chains-{size}-{seed}", parity_chains, seed, (size, False)) for size, seed in ((20, 20), (25, 25), (30, 30))],
-    *[(f"chains-{size}-{seed}", parity_chains, seed, (size, True)) for size, seed in ((40, 1), (60, 1))],
+    *[named(f"easy-20000-{seed}", "random_clauses", "", 20000, 3, 3.0) for seed in (1, 2)],
+    *[named(f"pigeonhole-{holes}-0", "pigeonhole", "unsat", holes) for holes in (7, 8, 9)],
+    *[named(f"parity-{size}-{seed}", "parity", "", size, size) for size, seed in ((40, 1), (60, 2), (100, 3))],
+    *[named(f"chains-{size}-{size}", "parity_chains", "unsat", size, False) for size in (20, 25, 30)],
+    *[named(f"chains-{size}-1", "parity_chains", "sat", size, True) for size in (40, 60)],
     *[
-        (f"colouring-{size}-{seed}", colouring, seed, (size, size * 23 // 10))
+        named(f"colouring-{size}-{seed}", "colouring", "", size, size * 23 // 10)
         for size in (200, 300, 400)
         for seed in (1, 2)
     ],
-    ("counter-600-1", counter, 1, (16, 600, 300)),
-    ("counter-700-1", counter, 1, (12, 700, 300)),
-    ("counters-200-0", counters_differ, 0, (8, 200)),
-    ("counters-500-0", counters_differ, 0, (8, 500)),
-    *[(f"product-{bits}-0", product_commutes, 0, (bits,)) for bits in (5, 6, 7)],
-    ("factors-13-0", factors, 0, (5003 * 7919, 13)),
-    ("factors-16-0", factors, 0, (40961 * 52361, 16)),
-    ("factors-18-0", factors, 0, (131101 * 200003, 18)),
-    *[(f"units-100000-{seed}", units, seed, (100000, seed == 1)) for seed in (1, 2)],
-    ("arbiter-30-0", arbiter, 0, (10, 30, False)),
-    ("arbiter-100-0", arbiter, 0, (20, 100, True)),
-    *[(f"multipliers-{bits}-0", multipliers, 0, (bits,)) for bits in (6, 7)],
-    ("gray-36-0", gray, 0, (7, 36)),
-    ("register-132-1", register, 1, (44, 132, 3)),
-    ("sliding-21-1", sliding, 1, (22, 21)),
-    ("sliding-26-2", sliding, 2, (26, 26)),
-    ("queens-9-0", queens, 0, (8, 9)),
-    ("mycielski-5-0", mycielski, 0, (4, 5)),
+    named("counter-600-1", "counter", "sat", 16, 600, 300),
+    named("counter-700-1", "counter", "sat", 12, 700, 300),
+    named("counters-200-0", "counters_differ", "unsat", 8, 200),
+    named("counters-500-0", "counters_differ", "unsat", 8, 500),
+    *[named(f"product-{bits}-0", "product_commutes", "unsat", bits) for bits in (5, 6, 7)],
+    named("factors-13-0", "factors", "sat", 5003 * 7919, 13),
+    named("factors-16-0", "factors", "sat", 40961 * 52361, 16),
+    named("factors-18-0", "factors", "sat", 131101 * 200003, 18),
+    named("units-100000-1", "units", "unsat", 100000, True),
+    named("units-100000-2", "units", "sat", 100000, False),
+    named("arbiter-30-0", "arbiter", "unsat", 10, 30, False),
+    named("arbiter-100-0", "arbiter", "sat", 20, 100, True),
+    *[named(f"multipliers-{bits}-0", "multipliers", "unsat", bits) for bits in (6, 7)],
+    named("gray-36-0", "gray", "unsat", 7, 36),
+    named("register-132-1", "register", "sat", 44, 132, 3),
+    named("sliding-21-1", "sliding", "unsat", 22, 21),
+    named("sliding-26-2", "sliding", "sat", 26, 26),
+    named("queens-9-0", "queens", "sat", 8, 9),
+    named("mycielski-5-0", "mycielski", "unsat", 4, 5),
+    *rows("pipeline", "unsat", (2, 4, 4, False), (4, 3, 4, False)),
+    *rows("pipeline", "sat", (8, 8, 8, True)),
+    *rows("divider", "unsat", (9, False)),
+    *rows("divider", "sat", (12, True)),
+    *rows("popcount", "unsat", (18,), (22,)),
+    *rows("sums", "unsat", (4, 10), (5, 8)),
+    *rows("memory", "unsat", (8, 8, 24)),
+    *rows("coherence", "unsat", (3, 18, False)),
+    *rows("coherence", "sat", (6, 30, True)),
+    *rows("fifo", "unsat", (4, 4, 12), (8, 2, 11)),
+    *rows("miter", "unsat", (30, 160), (30, 180)),
+    *rows("md4", "sat", (24, 32, 26)),
+    *rows("sha", "sat", (20, 32, 16)),
+    *rows("speck", "sat", (5, 16, 28)),
+    *rows("simon", "sat", (8, 16, 40)),
+    *rows("pancakes", "sat", (7, 7, 7), (8, 8, 8)),
+    *rows("pancakes", "unsat", (7, 6, 7)),
+    *rows("robots", "", (8, 10, 10, 10), (6, 8, 7, 4)),
+    *rows("packages", "", (10, 10, 3, 9)),
+    *rows("latin", "sat", (30, 380), (33, 460)),
+    *rows("pebbling", "unsat", (40, 0), (8, 8)),
+    *rows("clique_colouring", "unsat", (10, 5)),
+    *rows("tseitin", "unsat", (15, 4), (26, 3)),
+    *rows("isomorphism", "unsat", (20, 3, False)),
+    *rows("jobs", "", (6, 5, 34), (6, 5, 30)),
+    *rows("packing", "sat", (15, 15, 12, False)),
+    *rows("dominoes", "unsat", (8,)),
+    *rows("progressions", "unsat", (55, 4, 5), (58, 3, 8)),
+    *rows("schur", "sat", (110, 5)),
+    *rows("schur", "unsat", (45, 4)),
+    *rows("langford", "unsat", (9,)),
+    *rows("golomb", "unsat", (7, 24)),
+    *rows("cover", "", (40, 80, 10)),
+    *rows("planted", "sat", (1500, 4.2, 3)),
 ]
 
-# How the names of those formulas begin of which it is known what they answer. Of the others the programs have to agree.
-KNOWN = {
-    "sat": "arbiter-100 chains-40 chains-60 counter- factors- queens-9 register- sliding-26 units-100000-2",
-    "unsat": "arbiter-30 chains-20 chains-25 chains-30 counters- gray- multipliers- mycielski-5 pigeonhole- product- "
-    "sliding-21 units-100000-1",
-}
+REPORT = [
+    # Hardware.
+    *rows("pipeline", "unsat", (2, 5, 4, False), (4, 2, 5, False), (2, 6, 3, False), (4, 4, 4, False)),
+    *rows("pipeline", "sat", (4, 8, 10, True), (8, 16, 7, True)),
+    *rows("divider", "unsat", (8, False), (10, False)),
+    *rows("divider", "sat", (11, True), (13, True), seeds=(3,)),
+    *rows("popcount", "unsat", (17,), (20,)),
+    *rows("sums", "unsat", (4, 9), (4, 11)),
+    *rows("memory", "unsat", (16, 4, 30), (8, 16, 40)),
+    *rows("coherence", "unsat", (3, 16, False), (5, 18, False)),
+    *rows("coherence", "sat", (7, 36, True)),
+    *rows("fifo", "unsat", (4, 8, 11), (8, 3, 12)),
+    *rows("miter", "unsat", (30, 150), (40, 220), seeds=(5,)),
+    *rows("multipliers", "unsat", (5,)),
+    *rows("factors", "sat", (40009 * 60013, 16)),
+    *rows("counters_differ", "unsat", (10, 200)),
+    *rows("arbiter", "unsat", (8, 24, False)),
+    *rows("arbiter", "sat", (16, 80, True)),
+    *rows("gray", "unsat", (6, 32)),
+    *rows("lock", "sat", (30, 16, 30), seeds=(2,)),
+    # Ciphers and digests.
+    *rows("md4", "sat", (24, 32, 22), (27, 32, 16), seeds=(4,)),
+    *rows("sha", "sat", (20, 32, 15), (22, 32, 12), seeds=(4,)),
+    *rows("speck", "sat", (7, 16, 22), (8, 16, 17), seeds=(3,)),
+    *rows("simon", "sat", (9, 16, 17), seeds=(3,)),
+    *rows("register", "sat", (40, 120, 3), seeds=(7,)),
+    # Plans.
+    *rows("pancakes", "sat", (9, 9, 8), (11, 13, 0), seeds=(2,)),
+    *rows("pancakes", "unsat", (9, 7, 8), seeds=(2,)),
+    *rows("sliding", "unsat", (20, 19), seeds=(3,)),
+    *rows("sliding", "sat", (23, 23), seeds=(3,)),
+    *rows("robots", "", (7, 12, 8, 6), (8, 14, 11, 12), seeds=(3,)),
+    *rows("packages", "", (12, 10, 3, 10), (20, 12, 4, 10), seeds=(3,)),
+    # Puzzles, designs and graphs.
+    *rows("latin", "sat", (37, 576), (42, 740), seeds=(2,)),
+    *rows("sudoku", "sat", (5, 215), seeds=(2,)),
+    *rows("pebbling", "unsat", (60, 0), (7, 7), seeds=(2,)),
+    *rows("clique_colouring", "unsat", (9, 5)),
+    *rows("ordering", "unsat", (50,), seeds=(2,)),
+    *rows("tseitin", "unsat", (19, 4), (44, 3), seeds=(2,)),
+    *rows("isomorphism", "unsat", (30, 4, False), seeds=(2,)),
+    *rows("isomorphism", "sat", (50, 3, True), seeds=(2,)),
+    *rows("jobs", "", (8, 8, 46), (8, 8, 51), seeds=(3,)),
+    *rows("packing", "sat", (15, 15, 12, False), seeds=(2,)),
+    *rows("dominoes", "unsat", (10,), (12,)),
+    *rows("progressions", "sat", (76, 3, 9), seeds=(2,)),
+    *rows("progressions", "unsat", (77, 3, 9), seeds=(2,)),
+    *rows("schur", "sat", (44, 4), (105, 5), seeds=(2,)),
+    *rows("langford", "unsat", (10,)),
+    *rows("langford", "sat", (28,)),
+    *rows("golomb", "sat", (9, 44)),
+    *rows("cover", "", (44, 90, 10), seeds=(3,)),
+    *rows("round_trip", "", (50, 3), seeds=(2,)),
+    *rows("tournament", "sat", (8,)),
+    *rows("queens", "sat", (9, 11)),
+    *rows("colouring", "", (350, 805), (110, 480, 4), seeds=(3,)),
+    # Clauses at random.
+    *rows("random_clauses", "", (230,), (75, 4, 9.9), (60, 5, 21.1), (50, 6, 43.4), (45, 7, 87.8), seeds=(11,)),
+    *rows("random_clauses", "", (90, 4, 9.6), (5000, 3, 3.7), (240,), seeds=(12,)),
+    *rows("planted", "sat", (1000, 4.2, 3), seeds=(2,)),
+    *rows("easy_text", "sat", (1200000, 2700000)),
+]
+
+LISTS = {"tuning": TUNING, "report": REPORT}
 
 
 def count_of(clauses):
@@ -467,19 +236,14 @@ def count_of(clauses):
     return max((abs(literal) for clause in clauses for literal in clause), default=0)
 
 
-def dimacs(clauses):
-    lines = [f"p cnf {count_of(clauses)} {len(clauses)}"]
-    lines += [" ".join(map(str, [*clause, 0])) for clause in clauses]
-    return "".join(f"{line}\n" for line in lines)
+def lines_of(clauses):
+    """The lines of a DIMACS file."""
+    yield f"p cnf {count_of(clauses)} {len(clauses)}\n"
+    for clause in clauses:
+        yield f"{' '.join(map(str, [*clause, 0]))}\n"
 
 
-def write(folder):
-    folder.mkdir(parents=True, exist_ok=True)
-    for name, make, seed, sizes in FILES:
-        (folder / f"{name}.cnf").write_text(dimacs(make(random.Random(seed), *sizes)))
-
-
-# The list.
+# The list `new formulas`.
 
 
 def formulas(rng):
@@ -523,7 +287,7 @@ def write_list():
     with tempfile.TemporaryDirectory() as folder:
         path = Path(folder) / "formula.cnf"
         for clauses in formulas(random.Random(1971)):
-            path.write_text(dimacs(clauses))
+            path.write_text("".join(lines_of(clauses)))
             run = answer("minisat", path)
             if run.what == "none" or (run.what == "sat" and not satisfies(run.model, clauses)):
                 sys.exit(f"minisat has no answer to {clauses}")
@@ -538,18 +302,18 @@ def write_list():
 # Timing.
 
 
-def read(path):
-    """The clauses of a file."""
-    clauses, clause = [], []
-    for line in path.read_text().splitlines():
-        if not line.startswith(("c", "p")):
-            for number in map(int, line.split()):
-                if number:
-                    clause.append(number)
-                else:
-                    clauses.append(clause)
-                    clause = []
-    return clauses
+def clauses_of(path):
+    """The clauses of a file, one after another."""
+    clause = []
+    with path.open() as lines:
+        for line in lines:
+            if not line.startswith(("c", "p")):
+                for number in map(int, line.split()):
+                    if number:
+                        clause.append(number)
+                    else:
+                        yield clause
+                        clause = []
 
 
 def satisfies(model, clauses):
@@ -575,22 +339,29 @@ def number_of(name, text):
     return int(found[-1][0] or found[-1][1]) if found else 0
 
 
-def answer(program, path):
+def spent():
+    used = resource.getrusage(resource.RUSAGE_CHILDREN)
+    return used.ru_utime + used.ru_stime
+
+
+def answer(program, path, seconds=SECONDS, processor=None):
     words = shlex.split(program)
 
     def limit():
-        resource.setrlimit(resource.RLIMIT_CPU, (SECONDS, SECONDS))
+        resource.setrlimit(resource.RLIMIT_CPU, (math.ceil(seconds), math.ceil(seconds)))
 
     # `time` is small when it starts the program, as this process is not: what is resident before that counts as well.
     with tempfile.NamedTemporaryFile("r") as result, tempfile.NamedTemporaryFile("r") as peak, path.open() as formula:
         if Path(words[0]).name == "minisat":
             words += ["-verb=1", path, result.name]
         words = ["/usr/bin/time", "-f", "%M", "-o", peak.name, *words]
-        before = resource.getrusage(resource.RUSAGE_CHILDREN).ru_utime
+        if processor is not None:
+            words = ["taskset", "-c", str(processor), *words]
+        before = spent()
         run = subprocess.run(
             words, stdin=formula, stdout=subprocess.PIPE, stderr=subprocess.PIPE, text=True, preexec_fn=limit
         )
-        seconds = resource.getrusage(resource.RUSAGE_CHILDREN).ru_utime - before
+        took = spent() - before
         text = result.read() + run.stdout
         megabytes = int(peak.read().split()[-1]) / 1024
     what, model = "none", []
@@ -601,118 +372,212 @@ def answer(program, path):
         lines = [line.removeprefix("v") for line in text.splitlines() if re.match(r"v |-?\d", line)]
         model = [int(word) for line in lines for word in line.split()]
     counts = [number_of(name, run.stdout + run.stderr) for name in ("conflicts", "propagations")]
-    return Run(what, seconds, megabytes, *counts, model)
+    return Run(what, took, megabytes, *counts, model)
 
 
-def known(name):
-    """What is known to be the answer to the formula of this name, or nothing."""
-    return {what for what, names in KNOWN.items() if name.startswith(tuple(names.split()))}
-
-
-def measure(folder, programs):
-    """Runs the programs, prints a line for each file and then the tables, and tells how many answers were wrong."""
-    faults = 0
-    families = {}
-    for path in sorted(folder.glob("*.cnf"), key=lambda path: re.sub(r"\d+", lambda m: m[0].zfill(6), path.name)):
-        clauses = read(path)
-        runs = [answer(program, path) for program in programs]
+def measure(chosen, programs, seconds, processor, kept):
+    """Runs the programs on the formulas, prints a line for each and then the tables, and tells how many answers were
+    wrong."""
+    faults, results = 0, []
+    for name, family, known, path in chosen:
+        runs = [answer(program, path, seconds, processor) for program in programs]
         given = {run.what for run in runs} - {"none"}
-        fault = " ANSWERS DIFFER" * (len(given) > 1) + " AN ANSWER IS WRONG" * (known(path.stem) not in (set(), given))
-        fault *= bool(given)
-        fault += " A MODEL IS WRONG" * any(run.what == "sat" and not satisfies(run.model, clauses) for run in runs)
+        fault = " ANSWERS DIFFER" * (len(given) > 1) + " AN ANSWER IS WRONG" * bool(known and given - {known})
+        fault += " A MODEL IS WRONG" * any(
+            run.what == "sat" and not satisfies(run.model, clauses_of(path)) for run in runs
+        )
         faults += bool(fault)
         cells = "; ".join(
             f"{run.what} {run.seconds:.2f} s, {run.megabytes:.1f} MB, {run.conflicts} conflicts, "
             f"{run.propagations} propagations"
             for run in runs
         )
-        print(f"{path.stem} ({len(clauses)} clauses): {cells}{fault}", flush=True)
-        families.setdefault(path.stem.split("-")[0], []).append(runs)
-    families["all"] = list(itertools.chain(*families.values()))
-    print("\nSeconds, as sums with the ratio to the first program, and at how many files there was no answer")
-    table(families, programs, seconds_of)
-    print("\nThe greatest memory in MB, as sums with the ratio, and the greatest ratio")
-    table(families, programs, memory_of)
-    print("\nConflicts, conflicts and propagations in a second, all in thousands")
-    table(families, programs, rates_of)
+        print(f"{name}: {cells}{fault}", flush=True)
+        result = {"name": name, "family": family, "limit": seconds}
+        result["runs"] = {program: run[:-1] for program, run in zip(programs, runs)}
+        results.append(result)
+        if kept:
+            with kept.open("a") as file:
+                file.write(json.dumps(result) + "\n")
+    print_tables(results)
     return faults
 
 
-def table(families, programs, cell):
-    """A row for each family, a column for each program. What is counted is of the files that all have answered."""
-    heads = ["Family", "Files", *(Path(shlex.split(program)[0]).name for program in programs)]
+def print_tables(results):
+    """The tables of some runs: of each program beside the first one."""
+    programs = list(results[0]["runs"]) if results else []
+    grouped = collections.defaultdict(list)
+    for result in results:
+        runs = [Run(*result["runs"][program], []) for program in programs]
+        # A run without an answer counts as one that took the limit.
+        runs = [run if run.what != "none" else run._replace(seconds=result["limit"]) for run in runs]
+        grouped[result["family"]].append((result["limit"], runs))
+    every = list(itertools.chain(*grouped.values()))
+    table = dict(sorted(grouped.items())) | {"all": every}
+    heads = [title(program, programs) for program in programs]
+    print("\nSolved, and twice the limit for each that is not, with the seconds of the others")
+    print_table(["Family", "Formulas", *heads], table, lambda group: map(solved, zip(*columns(group))))
+    print(f"\nThe times of {heads[0]} by those of another: geometric mean (of satisfiable, of unsatisfiable ones; how many),")
+    print(f"greatest ratio of unsatisfiable ones. These count where one took more than {NOISE} s and one has an answer")
+    rest = range(1, len(programs))
+    print_table(["Family", "Formulas", *heads[1:]], table, lambda group: (ratios(group, other) for other in rest))
+    print("\nThe greatest memory in MB, in sum, of the formulas that all have answered")
+    print_table(["Family", "Formulas", *heads], table, memory_of)
+    print("\nConflicts, conflicts and propagations in a second, all in thousands")
+    print_table(["Family", "Formulas", *heads], table, lambda group: map(rates_of, columns(group)[1]))
+
+
+# Of two times below this the ratio is noise.
+NOISE = 0.15
+
+
+def title(program, programs):
+    """The program's name, with its options where another has the same name."""
+    short = [Path(shlex.split(other)[0]).name for other in programs]
+    name = Path(shlex.split(program)[0]).name
+    return name if short.count(name) == 1 else " ".join([name, *shlex.split(program)[1:]])
+
+
+def print_table(heads, table, cells):
     print(f"| {' | '.join(heads)} |\n|{'---|' * len(heads)}")
-    for family, rows in families.items():
-        done = [runs for runs in rows if all(run.what != "none" for run in runs)]
-        left = [sum(run.what == "none" for run in column) for column in zip(*rows)]
-        columns = list(zip(*done)) or [()] * len(programs)
-        cells = [cell(column, columns[0], lost) for column, lost in zip(columns, left)]
-        print(f"| {family} | {len(rows)} | {' | '.join(cells)} |")
+    for family, group in table.items():
+        print(f"| {' | '.join([family, str(len(group)), *cells(group)])} |")
 
 
-def ratio(part, whole):
-    return f"{part / whole:.2f}" if whole else "-"
+def columns(group):
+    """For each program: the limits and its runs."""
+    limits, rows_of_runs = zip(*group)
+    return [limits] * len(rows_of_runs[0]), list(zip(*rows_of_runs))
 
 
-def seconds_of(runs, first, lost):
-    total, whole = (sum(run.seconds for run in column) for column in (runs, first))
-    return f"{total:.2f} ({ratio(total, whole)})" + f", {lost} left" * (lost > 0)
+def solved(column):
+    limits, runs = column
+    left = sum(run.what == "none" for run in runs)
+    par2 = sum(2 * limit if run.what == "none" else run.seconds for limit, run in zip(limits, runs))
+    return f"{len(runs) - left}, {par2:.1f} s"
 
 
-def memory_of(runs, first, _lost):
-    total, whole = (sum(run.megabytes for run in column) for column in (runs, first))
-    greatest = max((run.megabytes / other.megabytes for run, other in zip(runs, first)), default=0)
-    return f"{total:.0f} ({ratio(total, whole)}, {greatest:.2f})"
+def ratios(group, other):
+    logs = {"sat": [], "unsat": []}
+    for _, runs in group:
+        pair = (runs[0], runs[other])
+        what = ({run.what for run in pair} - {"none"} or {"none"}).pop()
+        if what != "none" and max(run.seconds for run in pair) > NOISE:
+            logs[what].append(math.log(max(pair[0].seconds, 0.01) / max(pair[1].seconds, 0.01)))
+    means = [mean(part) for part in (logs["sat"] + logs["unsat"], logs["sat"], logs["unsat"])]
+    worst = f"{math.exp(max(logs['unsat'])):.2f}" if logs["unsat"] else "-"
+    return f"{means[0]} ({means[1]}, {means[2]}; {len(logs['sat'])} + {len(logs['unsat'])}), {worst}"
 
 
-def rates_of(runs, _first, _lost):
+def mean(logs):
+    return f"{math.exp(sum(logs) / len(logs)):.2f}" if logs else "-"
+
+
+def memory_of(group):
+    done = [runs for _, runs in group if all(run.what != "none" for run in runs)]
+    count = len(group[0][1])
+    return [f"{sum(runs[k].megabytes for runs in done):.0f}" for k in range(count)]
+
+
+def rates_of(runs):
     conflicts, propagations = (sum(getattr(run, name) for run in runs) for name in ("conflicts", "propagations"))
     seconds = sum(run.seconds for run in runs) or math.inf
     return f"{conflicts / 1000:.0f}, {conflicts / seconds / 1000:.1f}, {propagations / seconds / 1000:.0f}"
 
 
-def check(folder, gipsat, peer):
-    """Prints for each file that is refuted how long it took to refute it and to check the proof, and the proof's size;
+def check(chosen, gipsat, peer):
+    """Prints for each formula that is refuted how long it took to refute it and to check the proof, and the proof's size;
     tells how many proofs were refused."""
     faults = 0
-    for path in sorted(folder.glob("*.cnf")):
+    for name, _, _, path in chosen:
         with tempfile.NamedTemporaryFile() as proof:
-            words = [*peer, path, proof.name] if peer else [gipsat, "--proof", proof.name, path]
+            words = [*peer, path, proof.name] if peer else [*gipsat, "--proof", proof.name, path]
             status, solving = timed(words)[1:]
             if status != 20:
-                print(f"{path.stem}: status {status} in {solving:.2f} s", flush=True)
+                print(f"{name}: status {status} in {solving:.2f} s", flush=True)
                 continue
             size = Path(proof.name).stat().st_size
-            text, status, checking = timed([gipsat, "--check", path, proof.name])
+            text, status, checking = timed([gipsat[0], "--check", path, proof.name])
             faults += (text, status) != ("s VERIFIED\n", 0)
-            print(f"{path.stem}: {solving:.2f} s, {size} bytes, {checking:.2f} s, {text.strip()}", flush=True)
+            print(f"{name}: {solving:.2f} s, {size} bytes, {checking:.2f} s, {text.strip()}", flush=True)
     print(f"{faults} refused")
     return faults
 
 
 def timed(words):
-    """The output of a program, its status, and its user time."""
+    """The output of a program, its status, and its processor time."""
 
     def limit():
         resource.setrlimit(resource.RLIMIT_CPU, (SECONDS, SECONDS))
 
-    before = resource.getrusage(resource.RUSAGE_CHILDREN).ru_utime
+    before = spent()
     run = subprocess.run(words, stdout=subprocess.PIPE, stderr=subprocess.DEVNULL, text=True, preexec_fn=limit)
-    return run.stdout, run.returncode, resource.getrusage(resource.RUSAGE_CHILDREN).ru_utime - before
+    return run.stdout, run.returncode, spent() - before
+
+
+# The command line.
+
+
+def choose(words):
+    """The formulas that the words choose: their names, families, what is known of them, and a file of each, which stands
+    until the next one is asked for."""
+    source = words.formulas
+    if source in LISTS:
+        found = [(row.name, row.family, row.known, row) for row in LISTS[source]]
+    else:
+        paths = sorted(Path(source).glob("*.cnf"), key=lambda path: re.sub(r"\d+", lambda m: m[0].zfill(6), path.name))
+        found = [(path.stem, path.stem.split("-")[0], "", path) for path in paths]
+    if words.family:
+        found = [entry for entry in found if entry[1].startswith(tuple(words.family.split(",")))]
+    found = found[words.skip :]
+    if words.sample and words.sample < len(found):
+        found = [found[k * len(found) // words.sample] for k in range(words.sample)]
+    for name, family, known, made in found:
+        if isinstance(made, Path):
+            yield name, family, known, made
+            continue
+        with tempfile.TemporaryDirectory() as folder:
+            path = Path(folder) / f"{name}.cnf"
+            made.write(path)
+            yield name, family, known, path
+
+
+def parse(words):
+    parser = argparse.ArgumentParser(usage=__doc__)
+    mode = parser.add_mutually_exclusive_group(required=True)
+    mode.add_argument("--list", action="store_true")
+    mode.add_argument("--write", metavar="FOLDER", type=Path)
+    mode.add_argument("--time", action="store_true")
+    mode.add_argument("--table", nargs="+", metavar="FILE", type=Path)
+    mode.add_argument("--check", action="store_true")
+    parser.add_argument("formulas", nargs="?")
+    parser.add_argument("programs", nargs="*")
+    parser.add_argument("--family")
+    parser.add_argument("--sample", type=int)
+    parser.add_argument("--skip", type=int, default=0)
+    parser.add_argument("--limit", type=float, default=30)
+    parser.add_argument("--processor", type=int)
+    parser.add_argument("--keep", type=Path)
+    return parser.parse_intermixed_args(words)
 
 
 def main():
-    match sys.argv[1:]:
-        case ["--list"]:
-            write_list()
-        case ["--write", folder]:
-            write(Path(folder))
-        case ["--time", folder, *programs] if programs:
-            sys.exit(measure(Path(folder), programs) > 0)
-        case ["--check", folder, gipsat, *peer] if len(peer) < 2:
-            sys.exit(check(Path(folder), gipsat, shlex.split(*peer) if peer else []) > 0)
-        case _:
-            sys.exit(__doc__)
+    words = parse(sys.argv[1:])
+    if words.list:
+        write_list()
+    elif words.table:
+        print_tables([json.loads(line) for path in words.table for line in path.read_text().splitlines()])
+    elif words.write and words.formulas:
+        words.write.mkdir(parents=True, exist_ok=True)
+        for name, _, _, path in choose(words):
+            shutil.copy(path, words.write / f"{name}.cnf")
+    elif words.time and words.programs:
+        sys.exit(measure(choose(words), words.programs, words.limit, words.processor, words.keep) > 0)
+    elif words.check and 0 < len(words.programs) < 3:
+        gipsat, *peer = map(shlex.split, words.programs)
+        sys.exit(check(choose(words), gipsat, peer[0] if peer else []) > 0)
+    else:
+        sys.exit(__doc__)
 
 
 if __name__ == "__main__":

@@ -1,0 +1,208 @@
+#!/usr/bin/env python3
+"""Times the workloads of giputils_bench beside those of other programs, and names the ratios that got worse.
+
+    tests/speed.py [--program FILE] [--peers DIR] [--turns N] [--processor N] [--write] [WORKLOAD..]
+
+Run it by hand, where a change touches a container or its workloads. FILE is the program, by default
+crates/giputils_bench/out/giputils_bench, which `rt run` makes in crates/giputils_bench. DIR holds the programs to
+compare with (by default the one that the variable GIPUTILS_PEERS names): bench-giputils, over the Rust crate giputils,
+and others with names bench-*. Each takes WORKLOAD SIZE SEED REPS, runs the workload REPS times, each with the
+generator PCG32 of giputils_bench and the next seed, and writes the same checksum as giputils_bench. Status 3 tells
+that it lacks the workload. Without DIR only the ratios of two workloads of giputils_bench are measured.
+
+A line of tests/speed.txt is a ratio of user times: WORKLOAD SIZE REPS OTHER RATIO NOISE, the time of giputils_bench by
+the time of OTHER, a program, or a workload of giputils_bench. The programs of a workload run by turns, N times (7) on
+one processor. A time is the least of a program's, since other work on the machine only adds to it. In each turn
+giputils_bench runs twice. The noise is how far the least of its first runs is from that of its second runs, or the
+ratio of every other turn from that of the rest, whichever is more. A ratio is worse than the stored one if it is above
+it by more than both noises together; then the status is 1. It is better likewise.
+
+With --write, the ratios that were measured replace the stored ones, and the table of crates/giputils_bench/README.md
+is made of all that are stored.
+"""
+import argparse
+import os
+import pathlib
+import re
+import subprocess
+import sys
+
+TOP = pathlib.Path(__file__).resolve().parent.parent
+STORED = TOP / "tests/speed.txt"
+PAGE = TOP / "crates/giputils_bench/README.md"
+BEGIN, END = "<!-- speed -->\n", "<!-- end -->\n"
+CRATE = "giputils"
+SEED = "7"
+SIZES = (1000, 1000000)
+# How often a workload runs at 1000000; at a lesser size as much oftener.
+REPS = {
+    "bits_hex": 100,
+    "bits_logic": 50,
+    "bits_eq": 50,
+    "bits_count": 50,
+    "bits_push": 20,
+    "bits_bin": 20,
+    "bits_append": 10,
+    "bits_ones": 10,
+    "bits_few": 10,
+    "bits_subset": 10,
+    "bits_get": 5,
+}
+# The other workload that does the same in another way.
+TWINS = {
+    "rebuild": ("rebuild_by_update", "rebuild_std"),
+    "bits_append": ("bits_append_by_push",),
+    "vsids_up": ("vsids",),
+    "galloc_table": ("galloc",),
+}
+# A peer that lacks a workload may have the same under another name.
+ALIASES = {"galloc_table": "galloc"}
+
+
+def workloads():
+    source = (TOP / "crates/giputils_bench/src/main.rt").read_text()
+    return re.findall(r'"(\w+)"', re.search(r"const WORKLOADS.*?= \[(.*?)\];", source, re.S)[1])
+
+
+def run(program, workload, size, reps):
+    """The user time of a run in seconds and its checksum; None where the program lacks the workload."""
+    words = [program, workload, str(size), SEED, str(reps)]
+    process = subprocess.Popen(words, stdout=subprocess.PIPE, stderr=subprocess.DEVNULL)
+    said = process.stdout.read().decode().strip()
+    _, status, usage = os.wait4(process.pid, 0)
+    process.returncode = status = os.waitstatus_to_exitcode(status)
+    if status == 3:
+        return None
+    if status:
+        sys.exit(f"speed.py: {program} {workload} {size} {SEED} {reps} ended with status {status}")
+    return usage.ru_utime, said
+
+
+def rivals(program, peers, workload, size, reps):
+    """What runs beside a workload: names with a program and its workload each. All write the same checksum."""
+    wanted = run(program, workload, size, reps)[1]
+    found = {}
+    for name, path in peers.items():
+        said = run(path, ALIASES.get(workload, workload), size, reps)
+        if said and said[1] != wanted:
+            sys.exit(f"speed.py: at {workload} {size} {path} writes the checksum {said[1]}, and {program} {wanted}")
+        if said:
+            found[name] = (path, ALIASES.get(workload, workload))
+    found |= {twin: (program, twin) for twin in TWINS.get(workload, ())}
+    return found
+
+
+def least_ratio(ours, theirs):
+    return min(ours) / max(min(theirs), 1e-6)
+
+
+def distance(one, other):
+    """By how much the greater of two numbers is above the other."""
+    return max(one, other) / min(one, other) - 1
+
+
+def measured(program, others, workload, size, reps, turns):
+    """For each other, the ratio of the least times and the noise."""
+    first, second, times = [], [], {name: [] for name in others}
+    for _ in range(turns):
+        first.append(run(program, workload, size, reps)[0])
+        for name, (path, twin) in others.items():
+            times[name].append(run(path, twin, size, reps)[0])
+        second.append(run(program, workload, size, reps)[0])
+    found = {}
+    for name, theirs in times.items():
+        halves = [least_ratio(first[k::2] + second[k::2], theirs[k::2]) for k in (0, 1)]
+        noise = max(distance(min(first), min(second)), distance(*halves))
+        found[name] = (least_ratio(first + second, theirs), noise)
+    return found
+
+
+def load():
+    rows = {}
+    for line in STORED.read_text().splitlines() if STORED.is_file() else []:
+        workload, size, reps, other, ratio, noise = line.split()
+        rows[workload, int(size), other] = (int(reps), float(ratio), float(noise))
+    return rows
+
+
+def best(rows, workload, size):
+    """The fastest of the peers besides the Rust crate: against it this program's ratio is greatest."""
+    no_peers = (CRATE, *TWINS.get(workload, ()))
+    names = [other for w, s, other in rows if (w, s) == (workload, size) and other not in no_peers]
+    return max(names, key=lambda name: rows[workload, size, name][1], default=None)
+
+
+def write(rows):
+    order = workloads()
+    keys = sorted(rows, key=lambda key: (order.index(key[0]), key[1], key[2]))
+    lines = [f"{w} {s} {rows[w, s, o][0]} {o} {rows[w, s, o][1]:.2f} {rows[w, s, o][2]:.2f}" for w, s, o in keys]
+    STORED.write_text("".join(f"{line}\n" for line in lines))
+    table = "| Workload | Other | 1000 | 1000000 |\n|---|---|---|---|\n"
+    for workload in order:
+        others = {other for w, _, other in keys if w == workload}
+        others = sorted(others, key=lambda other: (other != CRATE, other in order, other))
+        for other in others:
+            cells = [rows.get((workload, size, other)) for size in SIZES]
+            shown = " | ".join(f"{cell[1]:.2f} ± {cell[2]:.2f}" if cell else "" for cell in cells)
+            name = "the Rust crate" if other == CRATE else f"`{other}`" if other in order else other
+            table += f"| `{workload}` | {name} | {shown} |\n"
+    page = PAGE.read_text()
+    before, rest = page.split(BEGIN)
+    PAGE.write_text(before + BEGIN + table + END + rest.split(END, 1)[1])
+
+
+def main():
+    parser = argparse.ArgumentParser(usage=__doc__)
+    parser.add_argument("--program", default=str(TOP / "crates/giputils_bench/out/giputils_bench"))
+    parser.add_argument("--peers", default=os.environ.get("GIPUTILS_PEERS"))
+    parser.add_argument("--turns", type=int, default=7, help="at least 2")
+    parser.add_argument("--processor", type=int)
+    parser.add_argument("--write", action="store_true")
+    parser.add_argument("workloads", nargs="*")
+    said = parser.parse_args()
+    if said.turns < 2:
+        sys.exit("speed.py: --turns is at least 2, since the noise is measured between turns")
+    known = workloads()
+    unknown = [it for it in said.workloads if it not in known]
+    if unknown:
+        sys.exit(f"speed.py: no workload has the name {unknown[0]}; there are {' '.join(known)}")
+    if not os.access(said.program, os.X_OK):
+        sys.exit(f"speed.py: there is no program {said.program}: make it by `rt run` in crates/giputils_bench")
+    folder = sorted(pathlib.Path(said.peers).glob("bench-*")) if said.peers else []
+    if said.peers and not folder:
+        sys.exit(f"speed.py: no program in {said.peers} has a name bench-*")
+    peers = {path.name.removeprefix("bench-"): str(path) for path in folder if os.access(path, os.X_OK)}
+    os.sched_setaffinity(0, {max(os.sched_getaffinity(0)) if said.processor is None else said.processor})
+    rows, worse = load(), 0
+    for workload in said.workloads or known:
+        for size in SIZES:
+            reps = REPS.get(workload, 1) * max(SIZES) // size
+            others = rivals(said.program, peers, workload, size, reps)
+            fastest = best(rows, workload, size)
+            if not said.write and fastest:
+                others = {name: it for name, it in others.items() if name in (CRATE, fastest, *TWINS.get(workload, ()))}
+            if not others:
+                continue
+            found = measured(said.program, others, workload, size, reps, said.turns)
+            new = {(workload, size, name): (reps, *it) for name, it in found.items()}
+            if said.write:
+                kept = {CRATE, best(new, workload, size), *TWINS.get(workload, ())}
+                rows = {key: it for key, it in rows.items() if key[:2] != (workload, size) or not peers}
+                rows |= {key: it for key, it in new.items() if key[2] in kept}
+            for (_, _, name), (_, ratio, noise) in new.items():
+                _, old, old_noise = rows.get((workload, size, name), (reps, None, 0))
+                word = ""
+                if old and not said.write:
+                    margin = 1 + noise + old_noise
+                    word = "WORSE" if ratio > old * margin else "better" if ratio * margin < old else "as stored"
+                worse += word == "WORSE"
+                stored = f", stored {old:.2f} ± {old_noise:.2f}: {word}" if word else ""
+                print(f"{workload} {size} to {name}: {ratio:.2f} ± {noise:.2f}{stored}", flush=True)
+    if said.write:
+        write(rows)
+    if worse:
+        sys.exit(f"speed.py: ratios that are worse than the stored ones: {worse}")
+
+
+if __name__ == "__main__":
+    main()
