@@ -17,6 +17,7 @@ between a line `<!-- quote ... -->` and the next line `<!-- end -->`; all else i
     <!-- quote contracts: push HeapStep::new Gvec::Index<u32> -->
                                                     those of these functions, traits, and impls of traits alone
     <!-- quote lemmas Ranks: name name -->           statements of public lemmas of the crate, from proofs/Ranks.antt
+    <!-- quote records Calls: Name Name -->          records of the crate with their fields, from specs/Calls.antt
 
 In a contract `S` is what `self` points to at the call, and `S'` at the return. An item is public if it is `pub` in a
 public module, or if a public module names it by `pub use`. A public function that is not quoted on a page for callers
@@ -57,6 +58,7 @@ PARTS = {
     "gipsat_dimacs": (EXAMPLE, PEER + "CaDiCaL", PROVED, TESTED, CHOICES, COST),
     "gipsat_answers": (EXAMPLE, PROVED, TESTED, CHOICES, COST),
     "gipsat_drat": (EXAMPLE, PEER + "drat-trim", PROVED, TESTED, CHOICES, COST),
+    "gipmc_circuits": (EXAMPLE, PEER + "AIGER", PROVED, TESTED, CHOICES, COST),
     "gip_lines": (PROVED, TESTED, CHOICES, COST),
     "gip": (EXAMPLE,),
     "giputils_uses": (PROVED, TESTED, CHOICES),
@@ -78,6 +80,7 @@ PREFACE = """# Definitions
 What the words of public contracts mean, crate by crate. `tests/pages.py --write` makes this page from the comments in
 `specs/`, where the definitions stand. Parameters that a whole module has, as the numbers of keys, are left out. A
 relation `R s o` on keys says that s is at least o."""
+RECORD = re.compile(r"^( *)pub record ([^\s:(){}]+)([^\n]*?) : Type 0 where\n((?:\1 +[^\n]*\n)+)", re.MULTILINE)
 LEMMA = re.compile(r"^( *)(pub )?(?:unfoldable )?([^\s:(){}]+) :(?= |$)(.*(?:\n(?:\1 +.*)?)*)", re.MULTILINE)
 
 
@@ -225,6 +228,15 @@ def lemmas(path, chosen):
     return sum((found[name] for name in chosen if name in found), []), lost
 
 
+def records(path, chosen):
+    """The records of a file of definitions, with their fields."""
+    found = {}
+    for _, name, arguments, fields in RECORD.findall(path.read_text(encoding="utf-8")):
+        found[name] = [f"record {name}{arguments}", *(f"    {each.strip()}" for each in fields.rstrip().split("\n"))]
+    lines = sum((found[name] for name in chosen if name in found), [])
+    return [line.replace("    pub ", "    ") for line in lines], [name for name in chosen if name not in found]
+
+
 def marker(line):
     """The lines of a marker."""
     words = " ".join(line.split())
@@ -250,6 +262,11 @@ def quote(page, what, complaints):
         file = page.parent / "proofs" / f"{kind.removeprefix('lemmas ')}.antt"
         lines, lost = lemmas(file, chosen) if file.is_file() else ([], chosen)
         complaints += [f"{file.stem} has no lemma {name}" for name in lost]
+        return ["```text", *lines, "```"]
+    if kind.startswith("records "):
+        file = page.parent / "specs" / f"{kind.removeprefix('records ')}.antt"
+        lines, lost = records(file, chosen) if file.is_file() else ([], chosen)
+        complaints += [f"{file.stem} has no record {name}" for name in lost]
         return ["```text", *lines, "```"]
     crate, named, met = Crate(page.parent), set(), set()
     lines = ["```text"]
