@@ -1,8 +1,9 @@
 //! Binary proofs, which forms are told from which, and those that are not read.
 
 use gipsat_drat::{DratError, Flaw, OtherForm, Outcome, Place, Refusal, check_text};
+use giputils_refusing::devices::Source;
 use std::alloc::Global;
-use std::io::{self, Read};
+use std::io::Read;
 
 // All clauses over three variables.
 const EIGHT: &[u8] =
@@ -19,23 +20,6 @@ fn outcome<P: Read>(alloc: Global, formula: &[u8], proof: &mut P) -> Result<Outc
     let mut formula = formula;
     let mut writer = Vec::new(alloc);
     check_text(alloc, &mut formula, proof, &mut writer)
-}
-
-// A reader that gives one byte at a time.
-#[derive(Drop)]
-struct Slow<'a> {
-    bytes: &'a [u8],
-}
-
-impl<'a> Read for Slow<'a> {
-    fn read(&mut self, buf: &mut [u8]) -> io::Result<usize> {
-        let (Some(byte), Some(place)) = (self.bytes.first(), buf.first_mut()) else {
-            return Ok(0);
-        };
-        *place = *byte;
-        self.bytes = &self.bytes[1..];
-        Ok(1)
-    }
 }
 
 const VERIFIED: [(&[u8], &[u8]); 6] = [
@@ -69,7 +53,7 @@ fn verifies_proofs_of_both_forms(rt: HostRuntime) {
 #[test]
 fn verifies_proofs_that_come_byte_by_byte(rt: HostRuntime) {
     for (formula, proof) in VERIFIED {
-        let mut slow = Slow { bytes: proof };
+        let mut slow = Source::new(proof, 1, 0);
         let found = outcome(rt.alloc(), formula, &mut slow);
         assert_eq!(rt; found, Ok(Outcome::Verified), "{proof:?}");
     }

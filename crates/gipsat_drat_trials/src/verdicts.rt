@@ -2,8 +2,9 @@
 
 use gipsat_dimacs::{DimacsError, Reason};
 use gipsat_drat::{DratError, Flaw, Outcome, Place, Refusal, check_text};
+use giputils_refusing::devices::{Failure, Sink, Source};
 use std::alloc::Global;
-use std::io::{self, Error, ErrorKind, Read, Write};
+use std::io::ErrorKind;
 use std::test::Fail;
 
 // All clauses over three variables.
@@ -133,35 +134,18 @@ fn refuses_a_broken_formula(rt: HostRuntime) {
     assert_eq!(rt; error, Some(DratError::Formula(broken)));
 }
 
-// A device that fails.
-#[derive(Drop)]
-struct Broken;
-
-impl Read for Broken {
-    fn read(&mut self, _buf: &mut [u8]) -> io::Result<usize> {
-        Err(Error::from(ErrorKind::Interrupted))
-    }
-}
-
-impl Write for Broken {
-    fn write(&mut self, _buf: &[u8]) -> io::Result<usize> {
-        Err(Error::from(ErrorKind::StorageFull))
-    }
-
-    fn flush(&mut self) -> io::Result<()> {
-        Ok(())
-    }
-}
-
 #[test]
 fn tells_a_failed_device(rt: HostRuntime) {
     let mut formula = EIGHT;
+    let mut proof = Source::new(b"0\n", 1, 1);
     let mut writer = Vec::new(rt.alloc());
-    let outcome = check_text(rt.alloc(), &mut formula, &mut Broken, &mut writer);
+    let outcome = check_text(rt.alloc(), &mut formula, &mut proof, &mut writer);
     assert_eq!(rt; outcome, Err(DratError::Proof));
     assert!(rt; writer.is_empty());
     let mut formula = EIGHT;
     let mut proof = b"".as_slice();
-    let outcome = check_text(rt.alloc(), &mut formula, &mut proof, &mut Broken);
+    let refuses = Failure::Refuses(ErrorKind::StorageFull);
+    let mut writer = Sink::new(rt.alloc(), 1, 1, refuses);
+    let outcome = check_text(rt.alloc(), &mut formula, &mut proof, &mut writer);
     assert_eq!(rt; outcome, Err(DratError::Output));
 }

@@ -1,4 +1,5 @@
 mod Cardinalities
+mod Counting
 mod Examples
 mod FirstQuestion
 mod Followed

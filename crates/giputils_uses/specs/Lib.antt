@@ -3,6 +3,7 @@ pub mod Activity
 pub mod Bounded
 pub mod Clock
 pub mod Compaction
+pub mod Counts
 pub mod Drained
 pub mod Incremental
 pub mod Learned

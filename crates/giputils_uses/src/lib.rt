@@ -6,6 +6,7 @@ pub mod activity;
 pub mod bounded;
 pub mod cardinality;
 pub mod compaction;
+pub mod counts;
 pub mod drain;
 pub mod first_question;
 pub mod incremental;

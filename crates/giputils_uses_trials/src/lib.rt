@@ -13,6 +13,8 @@ mod cardinality;
 #[cfg(test)]
 mod compaction;
 #[cfg(test)]
+mod counts;
+#[cfg(test)]
 mod drain;
 #[cfg(test)]
 mod first_question;
