@@ -47,7 +47,7 @@ REPS = {
     "bits_append": 50,
     "bits_ones": 10,
     "bits_few": 10,
-    "bits_subset": 100,
+    "bits_subset": 10,
     "bits_get": 5,
 }
 # The other workload that does the same in another way.
