@@ -17,8 +17,8 @@ giputils_bench runs twice. The noise is how far the least of its first runs is f
 ratio of every other turn from that of the rest, whichever is more. A ratio is worse than the stored one if it is above
 it by more than both noises together; then the status is 1. It is better likewise.
 
-With --write, the ratios that were measured replace the stored ones, and the table of crates/giputils_bench/README.md
-is made of all that are stored.
+With --write, the ratios of a workload replace the stored ones as soon as they are measured, and the table of
+crates/giputils_bench/README.md is made of all that are stored.
 """
 import argparse
 import os
@@ -34,6 +34,8 @@ BEGIN, END = "<!-- speed -->\n", "<!-- end -->\n"
 CRATE = "giputils"
 SEED = "7"
 SIZES = (1000, 1000000)
+# The system counts no shorter user time well, and sometimes tells 0.
+SHORTEST = 0.001
 # How often a workload runs at 1000000; at a lesser size as much oftener.
 REPS = {
     "bits_hex": 100,
@@ -42,7 +44,7 @@ REPS = {
     "bits_count": 50,
     "bits_push": 20,
     "bits_bin": 20,
-    "bits_append": 10,
+    "bits_append": 50,
     "bits_ones": 10,
     "bits_few": 10,
     "bits_subset": 10,
@@ -75,7 +77,7 @@ def run(program, workload, size, reps):
         return None
     if status:
         sys.exit(f"speed.py: {program} {workload} {size} {SEED} {reps} ended with status {status}")
-    return usage.ru_utime, said
+    return max(usage.ru_utime, SHORTEST), said
 
 
 def rivals(program, peers, workload, size, reps):
@@ -93,7 +95,7 @@ def rivals(program, peers, workload, size, reps):
 
 
 def least_ratio(ours, theirs):
-    return min(ours) / max(min(theirs), 1e-6)
+    return min(ours) / min(theirs)
 
 
 def distance(one, other):
@@ -189,6 +191,7 @@ def main():
                 kept = {CRATE, best(new, workload, size), *TWINS.get(workload, ())}
                 rows = {key: it for key, it in rows.items() if key[:2] != (workload, size) or not peers}
                 rows |= {key: it for key, it in new.items() if key[2] in kept}
+                write(rows)
             for (_, _, name), (_, ratio, noise) in new.items():
                 _, old, old_noise = rows.get((workload, size, name), (reps, None, 0))
                 word = ""
@@ -198,8 +201,6 @@ def main():
                 worse += word == "WORSE"
                 stored = f", stored {old:.2f} ± {old_noise:.2f}: {word}" if word else ""
                 print(f"{workload} {size} to {name}: {ratio:.2f} ± {noise:.2f}{stored}", flush=True)
-    if said.write:
-        write(rows)
     if worse:
         sys.exit(f"speed.py: ratios that are worse than the stored ones: {worse}")
 
