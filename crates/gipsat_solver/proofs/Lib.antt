@@ -16,6 +16,8 @@ pub mod LiteralLemmas
 mod SeenLemmas
 pub mod Places
 mod ReadyLemmas
+pub mod Simplifying
+mod SimplifyingLemmas
 mod TrailSteps
 mod DatabaseLemmas
 mod TrailLemmas

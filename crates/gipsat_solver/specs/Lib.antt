@@ -13,3 +13,4 @@ pub mod Trail
 pub mod Assumptions
 pub mod Backjump
 pub mod Obstacles
+pub mod Simplifying

@@ -96,6 +96,11 @@ fn staying<A: Allocator + Copy>(
     Ok(stays)
 }
 
+// Whether a root literal satisfies a clause.
+pub(crate) fn is_satisfied<A: Allocator + Copy>(trail: &Trail<A>, clause: &[Literal]) -> bool {
+    clause.iter().any(|l| is_fixed(trail, *l))
+}
+
 // Whether a clause is learned, and deleted or satisfied by a root literal. A unit clause never is.
 pub(crate) fn is_deleted<A: Allocator + Copy>(
     database: &Database<A>,
@@ -109,7 +114,7 @@ pub(crate) fn is_deleted<A: Allocator + Copy>(
     if database.is_original(place) || clause.len() == 1 {
         return false;
     }
-    watches.is_deleted(place) || clause.iter().any(|l| is_fixed(trail, *l))
+    watches.is_deleted(place) || is_satisfied(trail, clause)
 }
 
 // Whether a literal is true at the root.

@@ -3,7 +3,8 @@ ghost use Rattle.std.specs.Prelude.{◌≡◌, ◌++◌, ◌∷◌, ◌+◌, ◌
 ghost use Rattle.std.specs.Bool.{OnFalse, OnTrue};
 ghost use Rattle.gipsat_solver.specs.Formulas.{AreBelow, Implies};
 ghost use Rattle.gipsat_solver.specs.Database.{AllFollow, AreAmong, IsCopied};
-ghost use Rattle.gipsat_solver.specs.Trail.{IsConflictOf};
+ghost use Rattle.gipsat_solver.specs.Simplifying.{AreUnits, HasOneOf, IsCopiedOrGone, MayGo, Simplifies};
+ghost use Rattle.gipsat_solver.specs.Trail.{IsConflictOf, IsTrailFor};
 ghost use Rattle.gipsat_solver.specs.Values.{HasNoTrue, IsModelOf, IsUnsatisfiedAt, IsSatisfiedBy};
 
 use crate::clauses::Clauses;
@@ -152,6 +153,41 @@ impl<A: Allocator + Copy> Database<A> {
         })
     }
 
+    // A database that says the same: each literal of a trail without decisions is a clause of its formula, and then come
+    // the clauses that stay. One that does not stay and has no such literal is kept all the same, if it is original.
+    pub(crate) fn simplified(
+        &self,
+        alloc: A,
+        trail: &Trail<A>,
+        stays: &[bool],
+    ) -> Result<Self, AllocError>
+        requires trail { IsTrailFor self.now trail.now }
+        requires root { trail.now.level_starts.items ≡ [] }
+        ensures { IfOk result (Simplifies self.now) }
+    {
+        let mut clauses = Clauses::new(alloc);
+        let mut original = Vec::new(alloc);
+        push_units(&mut clauses, &mut original, trail)?;
+        for place in 0..self.clauses.len() {
+            let clause = self.clauses.clause(place);
+            let stays = is_set(stays, place);
+            copy_or_leave(
+                &mut clauses,
+                &mut original,
+                trail,
+                clause,
+                self.original[place],
+                stays,
+            )?;
+        }
+        Ok(Database {
+            clauses,
+            original,
+            variables: self.variables,
+            learned: self.learned,
+        })
+    }
+
     // How many clauses were learned from conflicts.
     pub(crate) fn learned(&self) -> usize
         ensures { result ≡ self.now.learned }
@@ -252,6 +288,67 @@ fn copy<A: Allocator + Copy>(
     clauses.push(clause)?;
     original.push(is_original)?;
     Ok(())
+}
+
+// Adds each literal of a trail as an original clause, where there is no clause yet.
+fn push_units<A: Allocator + Copy>(
+    clauses: &mut Clauses<A>,
+    original: &mut Vec<bool, A>,
+    trail: &Trail<A>,
+) -> Result<(), AllocError>
+    requires clauses { clauses.old ≡ [] }
+    requires flags { original.old.items ≡ [] }
+    ensures { OnOk result
+        (AreUnits trail.now.steps.items (length trail.now.steps.items) original.new.items clauses.new) }
+{
+    for place in 0..trail.steps.len() {
+        clauses.push(&[trail.steps[place].literal])?;
+        original.push(true)?;
+    }
+    Ok(())
+}
+
+// Copies a clause with its flag, unless it is not to stay and may go.
+fn copy_or_leave<A: Allocator + Copy>(
+    clauses: &mut Clauses<A>,
+    original: &mut Vec<bool, A>,
+    trail: &Trail<A>,
+    clause: &[Literal],
+    is_original: bool,
+    stays: bool,
+) -> Result<(), AllocError>
+    ensures { OnOk result
+        (IsCopiedOrGone trail.now.steps.items is_original clause.now original.old.items clauses.old
+        original.new.items clauses.new) }
+{
+    if !stays && may_go(trail, clause, is_original) {
+        return Ok(());
+    }
+    clauses.push(clause)?;
+    original.push(is_original)?;
+    Ok(())
+}
+
+// Whether a clause is not original, or has a literal of the trail.
+fn may_go<A: Allocator + Copy>(trail: &Trail<A>, clause: &[Literal], is_original: bool) -> bool
+    ensures { OnTrue result (MayGo trail.now.steps.items is_original clause.now) }
+{
+    if !is_original {
+        return true;
+    }
+    has_one_of(trail, clause)
+}
+
+// Whether a clause has a literal of the trail.
+fn has_one_of<A: Allocator + Copy>(trail: &Trail<A>, clause: &[Literal]) -> bool
+    ensures { OnTrue result (HasOneOf trail.now.steps.items clause.now) }
+{
+    for l in clause {
+        if trail.is_true_before(*l, trail.steps.len()) {
+            return true;
+        }
+    }
+    false
 }
 
 // Whether a clause is original and has no true literal.

@@ -1,5 +1,4 @@
 //! A domain: the variables that a search may decide, where not all may.
-ghost use Rattle.std.specs.Prelude.{◌^◌, ◌<◌};
 
 use giputils_heap::{BoundedHeap, ByRank};
 use std::alloc::{AllocError, Allocator, Global};

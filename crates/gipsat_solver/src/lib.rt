@@ -18,6 +18,7 @@ mod reduce;
 mod restart_policy;
 mod search;
 mod seen;
+mod simplify;
 pub mod solver;
 mod trail;
 mod trail_calls;

@@ -5,6 +5,7 @@ ghost use Rattle.gipsat_solver.specs.Encodings.{Adds};
 ghost use Rattle.gipsat_solver.specs.Formulas.{AreBelow, Implies, IsSatisfiable, satisfies_clause};
 ghost use Rattle.gipsat_solver.specs.Seen.{NoneSeen};
 ghost use Rattle.gipsat_solver.specs.Database.{AddsUnits, AreAmong, KeepsClauses, Learns};
+ghost use Rattle.gipsat_solver.specs.Simplifying.{SaysSame};
 ghost use Rattle.gipsat_solver.specs.Trail.{GoesOnUnlessAnswered, IsReady, OneLessOr, KeepsTrail, progress};
 ghost use Rattle.gipsat_solver.specs.Assumptions.{IsRightGuess, IsRightLimited, IsRightSoFar, IsRightUnder, IsRightWithin};
 ghost use Rattle.gipsat_solver.specs.Values.{model_in};
@@ -18,6 +19,7 @@ use crate::literal::Literal;
 use crate::reduce::reduce;
 use crate::search::{SearchEnd, search};
 use crate::seen::Seen;
+use crate::simplify::simplify;
 use crate::trail::Trail;
 use std::alloc::{AllocError, Allocator, Global};
 use std::marker::Model;
@@ -56,7 +58,7 @@ pub enum Guess<A: Allocator = Global> {
     /// Some of the assumptions: no assignment satisfies the formula and makes all of them true. Where it is empty, none
     /// satisfies the formula.
     Unsat(Vec<Literal, A>),
-    /// It has learned as many clauses as the limit allows.
+    /// It has given up, after it learned at most as many clauses as the limit allows.
     Unknown,
 }
 
@@ -407,6 +409,40 @@ impl<A: Allocator + Copy> Solver<A> {
         if let Some(heuristics) = &mut self.heuristics {
             compact(self.alloc, &mut self.database, &mut self.trail, heuristics)?;
         }
+        self.database.all_original();
+        Ok(())
+    }
+
+    /// Drops the clauses of the formula that a literal satisfies which has to be true, as far as that is found without a
+    /// decision, and frees their memory. Each such literal becomes a clause of the formula, so that the same assignments
+    /// satisfy it as before. The deleted clauses go too, as they do at [`Solver::compact`].
+    ///
+    /// So a clause that was added with the negation of a variable is gone for good once the negation was added alone, and
+    /// this was called; a clause of one literal, and the tables of the variable stay. It takes time and memory as the
+    /// first call of [`Solver::solve`] does, and the next call sets up all watches. Where propagation alone meets a
+    /// contradiction, it drops nothing.
+    ///
+    /// # Errors
+    /// `AllocError` where memory is refused. No clause is dropped then, and none is added.
+    pub fn simplify(&mut self) -> Result<(), AllocError>
+        ensures same { OnOk result (SaysSame self.old.formula self.new.formula) }
+        ensures learned { self.new.learned ≡ self.old.learned }
+        ensures units { OnOk result (AddsUnits self.old self.new) }
+        ensures original { OnOk result (AreAmong self.new.clauses self.new.formula) }
+        ensures refused { OnErr result (self.new ≡ self.old) }
+    {
+        let alloc = self.alloc;
+        let variables = self.database.variables();
+        // Where memory is refused, the next call begins with new heuristics.
+        let trail = mem::replace(&mut self.trail, Trail::new(alloc));
+        let heuristics = Heuristics::kept_or_new(self.heuristics.take(), alloc, self.stats)?;
+        let mut trail = trail.grown(variables)?;
+        let mut heuristics = heuristics.begun(alloc, variables, false, None)?;
+        trail.backtrack(0, &mut heuristics.activity);
+        simplify(alloc, &mut self.database, &mut trail, &mut heuristics)?;
+        self.trail = trail;
+        self.stats = heuristics.stats;
+        self.heuristics = Some(heuristics);
         self.database.all_original();
         Ok(())
     }

@@ -274,4 +274,29 @@ impl<A: Allocator + Copy> Watches<A> {
         }
         self.statuses.truncate(next);
     }
+
+    // Puts so many original clauses before all others, and drops those that don't stay. None is watched then, and the
+    // others keep their statuses, where they have one. The memory of all watches is freed.
+    pub(crate) fn simplify(
+        &mut self,
+        alloc: A,
+        units: usize,
+        stays: &[bool],
+    ) -> Result<(), AllocError> {
+        let mut statuses = Vec::new(alloc);
+        for _ in 0..units {
+            statuses.push(ClauseStatus::Original)?;
+        }
+        for (place, stays) in stays.iter().take(self.statuses.len()).enumerate() {
+            if *stays {
+                statuses.push(self.status(place))?;
+            }
+        }
+        for list in self.lists.iter_mut() {
+            *list = Vec::new(alloc);
+        }
+        self.pairs = Vec::new(alloc);
+        self.statuses = statuses;
+        Ok(())
+    }
 }

@@ -3,7 +3,8 @@
 use crate::formulas::{Said, add_all, literal, say};
 use gipsat_solver::{AnswerUnder, Literal, Solver};
 use giputils_refusing::Refusing;
-use std::alloc::{AllocError, Allocator};
+use linked_list_allocator::LocalHeap;
+use std::alloc::{AllocError, Allocator, Global};
 
 // Variables up to this one: the first has to be true, and each next one where the one before it is.
 fn add_chain<A: Allocator + Copy>(solver: &mut Solver<A>, last: u16) -> Result<(), AllocError> {
@@ -167,4 +168,60 @@ fn a_conflict_at_the_root_is_met_again(rt: HostRuntime) {
         said_twice(rt.alloc(), &formula),
         Ok((Said::Unsat, Said::Unsat))
     );
+}
+
+// Adds clauses that hold while a variable is true, takes them back, and simplifies: how many clauses are known then.
+fn known_after_taking_back<A: Allocator + Copy>(
+    solver: &mut Solver<A>,
+    variable: u32,
+) -> Result<usize, AllocError> {
+    let holds = Literal::new(variable, true);
+    for other in 0..50 {
+        let (a, b) = (
+            Literal::new(other, true),
+            Literal::new(other + 1, other % 2 == 0),
+        );
+        solver.add_clause(&[holds.negated(), a, b])?;
+    }
+    let _ = solver.solve_under(&[holds], 10)?;
+    solver.add_clause(&[holds.negated()])?;
+    solver.simplify()?;
+    Ok(solver.len())
+}
+
+// How many clauses are known after each of three such rounds.
+fn known_after_rounds<A: Allocator + Copy>(alloc: A) -> Result<[usize; 3], AllocError> {
+    let mut solver = Solver::new(alloc);
+    Ok([
+        known_after_taking_back(&mut solver, 60)?,
+        known_after_taking_back(&mut solver, 61)?,
+        known_after_taking_back(&mut solver, 62)?,
+    ])
+}
+
+#[test]
+fn clauses_that_are_taken_back_are_dropped(rt: HostRuntime) {
+    assert_eq!(rt; known_after_rounds(rt.alloc()), Ok([1, 2, 3]));
+}
+
+// Rounds of such clauses, each with a variable of its own.
+fn take_back_in_rounds<A: Allocator + Copy>(alloc: A, rounds: u32) -> Result<usize, AllocError> {
+    let mut solver = Solver::new(alloc);
+    let mut known = 0;
+    for round in 0..rounds {
+        known = known_after_taking_back(&mut solver, round.saturating_add(60))?;
+    }
+    Ok(known)
+}
+
+// The same where all memory is so many bytes.
+fn take_back_within(alloc: Global, bytes: usize, rounds: u32) -> Result<usize, AllocError> {
+    let memory = LocalHeap::new(alloc, bytes)?;
+    take_back_in_rounds(&memory, rounds)
+}
+
+// 100 rounds add 5000 clauses, which take 60000 bytes for their literals alone.
+#[test]
+fn the_memory_of_dropped_clauses_is_freed(rt: HostRuntime) {
+    assert_eq!(rt; take_back_within(rt.alloc(), 100_000, 100), Ok(100));
 }

@@ -71,6 +71,22 @@ fn is_answered_when_compacted(memory: &Refusing) -> bool {
     said_when_compacted(memory) == Ok(Said::Unsat)
 }
 
+// What is said of no model where the formula is simplified after the first conflict. The variable 4 has to be true.
+fn said_when_simplified(memory: &Refusing) -> Result<Said, AllocError> {
+    let formula = [
+        1, 2, 3, 0, 1, 2, -3, 0, -1, 2, 0, 1, -2, 0, -1, -2, 0, 4, 0, 4, 1, 0,
+    ];
+    let mut solver = Solver::new(memory);
+    add_all(memory, &mut solver, &formula)?;
+    say(&mut solver, &formula, 1)?;
+    solver.simplify()?;
+    say(&mut solver, &formula, 100)
+}
+
+fn is_answered_when_simplified(memory: &Refusing) -> bool {
+    said_when_simplified(memory) == Ok(Said::Unsat)
+}
+
 // Whether it is answered under assumptions; a wrong answer is no refusal.
 fn is_answered_under(memory: &Refusing) -> bool {
     said_under(
@@ -100,6 +116,10 @@ fn each_request_of_a_solver_is_refused_in_turn(rt: HostRuntime) {
         (
             "compacted",
             refuse_from_each(alloc, is_answered_when_compacted),
+        ),
+        (
+            "simplified",
+            refuse_from_each(alloc, is_answered_when_simplified),
         ),
     ];
     for (call, outcome) in outcomes {

@@ -226,7 +226,7 @@ fn is_right(
     variables: u32,
 ) -> bool {
     let limit = random.below(6) as usize;
-    match random.below(11) {
+    match random.below(13) {
         0..=1 => is_solved(solver, clauses, limit),
         2..=4 => is_solved_under_some(solver, clauses, random, variables, limit),
         5 => {
@@ -239,6 +239,10 @@ fn is_right(
         6 => is_found(solver, clauses),
         7 => {
             let _ = solver.learn_units();
+            true
+        }
+        8..=9 => {
+            let _ = solver.simplify();
             true
         }
         _ => {
