@@ -1,5 +1,7 @@
 pub mod Agreeing
 pub mod Certified
+mod Defined
+mod Examples
 pub mod Encoded
 pub mod Traces
 pub mod Unrolled

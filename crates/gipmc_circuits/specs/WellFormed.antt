@@ -42,10 +42,14 @@ is_source c = with_variables (latch_variables c) (with_variables c.inputs.items 
 abbrev pub is_variable : {A : Type 0} → Circuit A → ℕ → Bool
 is_variable c = with_variables (map (λ g. g.output) c.gates.items) (is_source c)
 
+-- each literal of the latches, the bad literals and the constraints is of a variable that is defined
+abbrev pub uses_defined : {A : Type 0} → (ℕ → Bool) → Circuit A → Bool
+uses_defined defined c =
+    list_all (λ l. defined l.next.variable) c.latches.items
+    && (list_all (λ l. defined l.variable) c.bads.items && list_all (λ l. defined l.variable) c.constraints.items)
+
 -- each variable is defined once, the gates in order, and each literal's variable is defined
 abbrev pub is_well_formed : {A : Type 0} → Circuit A → Bool
 is_well_formed c =
     (are_new c.inputs.items is_constant && are_new (latch_variables c) (with_variables c.inputs.items is_constant))
-    && (are_in_order c.gates.items (is_source c)
-    && (list_all (λ l. is_variable c l.next.variable) c.latches.items
-    && (list_all (λ l. is_variable c l.variable) c.bads.items && list_all (λ l. is_variable c l.variable) c.constraints.items)))
+    && (are_in_order c.gates.items (is_source c) && uses_defined (is_variable c) c)

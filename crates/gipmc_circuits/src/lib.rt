@@ -5,7 +5,9 @@ pub mod certificate;
 pub mod circuit;
 pub mod encoding;
 pub mod trace;
+pub mod well_formed;
 
 pub use certificate::{Verdict, certify};
 pub use circuit::{And, Circuit, Latch};
 pub use trace::{Trace, replay};
+pub use well_formed::is_well_formed;

@@ -6,3 +6,5 @@ mod certificates;
 pub mod latched;
 #[cfg(test)]
 mod traces;
+#[cfg(test)]
+mod well_formed;
