@@ -34,9 +34,11 @@ BEGIN, END = "<!-- speed -->\n", "<!-- end -->\n"
 CRATE = "giputils"
 SEED = "7"
 SIZES = (1000, 1000000)
+# How many questions the workloads of the solver ask.
+CALLS = (1000, 100000)
 # The system counts no shorter user time well, and sometimes tells 0.
 SHORTEST = 0.001
-# How often a workload runs at 1000000; at a lesser size as much oftener.
+# How often a workload runs at the greater of its sizes; at the lesser one as much oftener.
 REPS = {
     "bits_hex": 100,
     "bits_logic": 50,
@@ -56,9 +58,14 @@ TWINS = {
     "bits_append": ("bits_append_by_push",),
     "vsids_up": ("vsids",),
     "galloc_table": ("galloc",),
+    "calls_within": ("calls",),
 }
 # A peer that lacks a workload may have the same under another name.
-ALIASES = {"galloc_table": "galloc"}
+ALIASES = {"galloc_table": "galloc", "calls_within": "calls"}
+
+
+def sizes(workload):
+    return CALLS if workload.startswith("calls") else SIZES
 
 
 def workloads():
@@ -139,12 +146,12 @@ def write(rows):
     keys = sorted(rows, key=lambda key: (order.index(key[0]), key[1], key[2]))
     lines = [f"{w} {s} {rows[w, s, o][0]} {o} {rows[w, s, o][1]:.2f} {rows[w, s, o][2]:.2f}" for w, s, o in keys]
     STORED.write_text("".join(f"{line}\n" for line in lines))
-    table = "| Workload | Other | 1000 | 1000000 |\n|---|---|---|---|\n"
+    table = f"| Workload | Other | 1000 | {max(SIZES)} (`calls`: {max(CALLS)}) |\n|---|---|---|---|\n"
     for workload in order:
         others = {other for w, _, other in keys if w == workload}
         others = sorted(others, key=lambda other: (other != CRATE, other in order, other))
         for other in others:
-            cells = [rows.get((workload, size, other)) for size in SIZES]
+            cells = [rows.get((workload, size, other)) for size in sizes(workload)]
             shown = " | ".join(f"{cell[1]:.2f} ± {cell[2]:.2f}" if cell else "" for cell in cells)
             name = "the Rust crate" if other == CRATE else f"`{other}`" if other in order else other
             table += f"| `{workload}` | {name} | {shown} |\n"
@@ -177,8 +184,8 @@ def main():
     os.sched_setaffinity(0, {max(os.sched_getaffinity(0)) if said.processor is None else said.processor})
     rows, worse = load(), 0
     for workload in said.workloads or known:
-        for size in SIZES:
-            reps = REPS.get(workload, 1) * max(SIZES) // size
+        for size in sizes(workload):
+            reps = REPS.get(workload, 1) * max(sizes(workload)) // size
             others = rivals(said.program, peers, workload, size, reps)
             fastest = best(rows, workload, size)
             if not said.write and fastest:

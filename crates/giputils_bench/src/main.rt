@@ -1,4 +1,4 @@
-//! Workloads of the containers, to be timed: `giputils_bench WORKLOAD SIZE SEED [REPS]`.
+//! Workloads of the containers and of the solver, to be timed: `giputils_bench WORKLOAD SIZE SEED [REPS]`.
 //!
 //! A run makes the workload REPS times (once where it isn't given), each with a generator of its own, and
 //! writes a checksum of all that was answered, in 16 hexadecimal digits. By it the runs of several programs
@@ -7,6 +7,7 @@
 #![tactic(auto)]
 
 mod bits;
+mod calls;
 mod common;
 mod galloc;
 mod heap;
@@ -19,7 +20,7 @@ use std::alloc::Global;
 use std::env;
 use std::process::ExitCode;
 
-const WORKLOADS: [&str; 22] = [
+const WORKLOADS: [&str; 24] = [
     "heapsort",
     "vsids",
     "vsids_up",
@@ -42,6 +43,8 @@ const WORKLOADS: [&str; 22] = [
     "bits_aig",
     "bits_append",
     "bits_append_by_push",
+    "calls",
+    "calls_within",
 ];
 
 fn main(rt: HostRuntime) -> anyhow::Result<ExitCode> {
@@ -101,6 +104,7 @@ fn run(
         heap::run(alloc, workload, size, rng, checksum)?
             || galloc::run(alloc, workload, size, rng, checksum)?
             || bits::run(alloc, workload, size, rng, checksum)?
-            || sets::run(alloc, workload, size, rng, checksum)?,
+            || sets::run(alloc, workload, size, rng, checksum)?
+            || calls::run(alloc, workload, size, rng, checksum)?,
     )
 }
