@@ -1,9 +1,10 @@
 -- The texts of a circuit in both forms.
-use Rattle.std.specs.Prelude.{ℕ, zero, suc, ◌+◌, ◌-◌, ◌*◌, ◌/◌, ◌%◌, min, max, nat_lt, Bool, List, [], ◌∷◌, ◌++◌, length, codes, decimal, Option, Some, None, if◌then◌else◌}
+use Rattle.std.specs.Prelude.{ℕ, zero, suc, ◌+◌, ◌-◌, ◌*◌, ◌/◌, ◌%◌, min, max, nat_lt, Bool, List, [], ◌∷◌, ◌++◌, length, codes, decimal, Option, Some, None, is_some, map, ◌==◌, if◌then◌else◌}
 use Rattle.gipsat_solver.specs.Literals.{Lit}
 use Rattle.gipmc_circuits.specs.declared.circuit.And.{And}
 use Rattle.gipmc_circuits.specs.declared.circuit.Latch.{Latch}
 use Rattle.gipmc_circuits.specs.declared.circuit.Circuit.{Circuit}
+use Rattle.gipmc_aiger.specs.Reading.{◌>>=◌}
 
 -- the number of a literal: twice its variable, and 1 more for the negation
 abbrev pub literal_number : Lit → ℕ
@@ -114,6 +115,18 @@ packed_and g =
 abbrev pub packed_ands : List And → List ℕ
 packed_ands [] = []
 packed_ands (g ∷ gates) = packed_and g ++ packed_ands gates
+
+-- the last of some variables, if they are the numbers that follow n
+abbrev pub numbered_behind : ℕ → List ℕ → Option ℕ
+numbered_behind n [] = Some n
+numbered_behind n (v ∷ vs) = if v == n + 1 then numbered_behind v vs else None
+
+-- the inputs, the latches and the outputs of the gates are numbered from 1 on, in this order
+abbrev pub is_numbered : {A : Type 0} → Circuit A → Bool
+is_numbered c =
+    is_some (numbered_behind 0 c.inputs.items >>= λ input.
+    numbered_behind input (map (λ l. l.variable) c.latches.items) >>= λ latch.
+    numbered_behind latch (map (λ g. g.output) c.gates.items))
 
 -- the text of a circuit in the binary form
 abbrev pub aig_text : {A : Type 0} → Circuit A → List ℕ

@@ -1,5 +1,6 @@
 //! A reader of circuits.
-ghost use Rattle.std.specs.Prelude.{◌≡◌, ℕ, None, IfOk, IsErrOf};
+ghost use Rattle.std.specs.Prelude.{◌≡◌, ℕ, None, IfOk, IsErrOf, IsTrue};
+ghost use Rattle.gipmc_circuits.specs.WellFormed.{is_well_formed};
 ghost use Rattle.gipmc_aiger.specs.Reading.{Gives};
 ghost use Rattle.gipmc_aiger.specs.Circuits.{body_at, circuit_of, netlist_of, IsReordering, Writes};
 
@@ -10,12 +11,13 @@ use crate::order::order;
 use crate::place::error_at;
 use crate::rows::rows;
 use crate::tails::tail;
-use gipmc_circuits::Circuit;
+use gipmc_circuits::{Circuit, is_well_formed};
 use std::alloc::Allocator;
 
 /// Reads a circuit in either form of AIGER 1.9. Where the text has no bad literals, its outputs are taken for them.
 ///
-/// Gates of an `aag` text may stand in any order; the circuit has each behind those that it depends on.
+/// Gates of an `aag` text may stand in any order; the circuit has each behind those that it depends on. What is read is
+/// well-formed.
 ///
 /// # Errors
 /// - [`AigerError::Refused`] with the place and the reason where the text has another form.
@@ -24,6 +26,7 @@ use std::alloc::Allocator;
 /// - [`AigerError::Memory`] where memory is refused.
 pub fn read_circuit<A: Allocator + Copy>(alloc: A, text: &[u8]) -> Result<Circuit<A>, AigerError>
     ensures ok { IfOk result (Writes text.now) }
+    ensures formed { IfOk result (λ c. IsTrue (is_well_formed c)) }
     ensures refused { (place : Place) (reason : Reason) → IsErrOf result (AigerError.Refused place reason) →
         circuit_of text.now ≡ None }
 {
@@ -74,15 +77,18 @@ fn ordered<A: Allocator + Copy>(
     mut circuit: Circuit<A>,
 ) -> Result<Circuit<A>, AigerError>
     ensures ok { IfOk result (λ c. IsReordering (netlist_of circuit) (netlist_of c)) }
+    ensures formed { IfOk result (λ c. IsTrue (is_well_formed c)) }
     ensures defect { (place : Place) (reason : Reason) → ¬ (IsErrOf result (AigerError.Refused place reason)) }
 {
-    match form {
-        Form::Binary => Ok(circuit),
-        Form::Ascii => {
-            if let Err(defect) = order(alloc, maximum, &mut circuit) {
-                return Err(defect.error());
-            }
-            Ok(circuit)
+    if let Form::Ascii = form {
+        if let Err(defect) = order(alloc, maximum, &mut circuit) {
+            return Err(defect.error());
         }
+    }
+    match is_well_formed(alloc, &circuit) {
+        Ok(true) => Ok(circuit),
+        // Not reached: what the ascii form leaves open was tested, and the binary form leaves nothing open.
+        Ok(false) => Err(AigerError::Cycle(0)),
+        Err(_) => Err(AigerError::Memory),
     }
 }

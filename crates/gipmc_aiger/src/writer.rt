@@ -1,6 +1,6 @@
 //! A writer of circuits in both forms.
-ghost use Rattle.std.specs.Prelude.{◌≡◌, ◌<◌, ◌+◌, ◌^◌, ◌++◌, ◌∷◌, [], decimal, min, IfOk, OnOk};
-ghost use Rattle.gipmc_aiger.specs.CircuitTexts.{aag_text, aig_text, and_line, and_lines, greatest_input, greatest_latch, greatest_output, greatest_variable, groups, header_line, input_lines, latch_line, latch_lines, literal_lines, literal_number, packed_and, packed_ands, packed_header_line, packed_latch_line, packed_latch_lines, reset_number};
+ghost use Rattle.std.specs.Prelude.{◌≡◌, ◌==◌, ◌<◌, ◌+◌, ◌^◌, ◌++◌, ◌∷◌, [], decimal, map, min, Some, IfOk, IsTrue, OnOk};
+ghost use Rattle.gipmc_aiger.specs.CircuitTexts.{aag_text, aig_text, and_line, and_lines, greatest_input, greatest_latch, greatest_output, greatest_variable, groups, header_line, input_lines, is_numbered, latch_line, latch_lines, literal_lines, literal_number, numbered_behind, packed_and, packed_ands, packed_header_line, packed_latch_line, packed_latch_lines, reset_number};
 
 use gipmc_circuits::{And, Circuit, Latch};
 use gipsat_solver::Literal;
@@ -65,7 +65,8 @@ pub fn write_aig<A: Allocator + Copy>(
     alloc: A,
     circuit: &Circuit<A>,
 ) -> Result<Vec<u8, A>, WriteError>
-    ensures { IfOk result (λ text. text.items ≡ aig_text circuit.now) }
+    ensures text { IfOk result (λ text. text.items ≡ aig_text circuit.now) }
+    ensures numbered { IfOk result (λ text. IsTrue (is_numbered circuit.now)) }
 {
     are_numbered(circuit)?;
     let mut text = packed_header_line(alloc, circuit)?;
@@ -77,27 +78,62 @@ pub fn write_aig<A: Allocator + Copy>(
 }
 
 // Tests the numbers of the variables.
-fn are_numbered<A: Allocator>(circuit: &Circuit<A>) -> Result<(), WriteError> {
-    let mut number: u64 = 0;
-    for input in &circuit.inputs {
-        number = number.saturating_add(1);
-        if u64::from(*input) != number {
+fn are_numbered<A: Allocator>(circuit: &Circuit<A>) -> Result<(), WriteError>
+    ensures { IfOk result (λ done. IsTrue (is_numbered circuit.now)) }
+{
+    let input = last_input(&circuit.inputs)?;
+    let latch = last_latch(input, &circuit.latches)?;
+    last_output(latch, &circuit.gates)?;
+    Ok(())
+}
+
+// Whether a number is one more than another.
+fn follows(next: u32, last: u32) -> bool
+    ensures { result ≡ (next == last + 1) }
+{
+    u64::from(next) == u64::from(last) + 1
+}
+
+// The last of the inputs, which are to be the numbers from 1 on.
+fn last_input(inputs: &[u32]) -> Result<u32, WriteError>
+    ensures { IfOk result (λ last. numbered_behind 0 inputs.now ≡ Some last) }
+{
+    let mut last = 0;
+    for input in inputs {
+        if !follows(*input, last) {
             return Err(WriteError::Numbering(*input));
         }
+        last = *input;
     }
-    for latch in &circuit.latches {
-        number = number.saturating_add(1);
-        if u64::from(latch.variable) != number {
+    Ok(last)
+}
+
+// The last of the latches, which are to be the numbers that follow one.
+fn last_latch(first: u32, latches: &[Latch]) -> Result<u32, WriteError>
+    ensures { IfOk result (λ last. numbered_behind first (map (λ l. l.variable) latches.now) ≡ Some last) }
+{
+    let mut last = first;
+    for latch in latches {
+        if !follows(latch.variable, last) {
             return Err(WriteError::Numbering(latch.variable));
         }
+        last = latch.variable;
     }
-    for gate in &circuit.gates {
-        number = number.saturating_add(1);
-        if u64::from(gate.output) != number {
+    Ok(last)
+}
+
+// The last output of the gates, which are to be the numbers that follow one.
+fn last_output(first: u32, gates: &[And]) -> Result<u32, WriteError>
+    ensures { IfOk result (λ last. numbered_behind first (map (λ g. g.output) gates.now) ≡ Some last) }
+{
+    let mut last = first;
+    for gate in gates {
+        if !follows(gate.output, last) {
             return Err(WriteError::Numbering(gate.output));
         }
+        last = gate.output;
     }
-    Ok(())
+    Ok(last)
 }
 
 // The header of the binary form.

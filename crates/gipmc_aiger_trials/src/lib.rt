@@ -9,4 +9,6 @@ mod again;
 #[cfg(test)]
 mod converted;
 #[cfg(test)]
+mod numbered;
+#[cfg(test)]
 mod refused;

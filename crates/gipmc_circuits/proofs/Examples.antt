@@ -1,16 +1,16 @@
 -- Worked examples of traces, of circuits that are safe, and of circuits that are well-formed and not.
-use Rattle.std.proofs.Common.{◌≡◌, ℕ, zero, suc, Bool, true, false, not, Option, Some, None, List, [], ◌∷◌, IsTrue, eqb, refl}
+use Rattle.std.proofs.Common.{◌≡◌, ℕ, Bool, true, false, not, Some, None, [], ◌∷◌, eqb, refl}
 use Rattle.std.specs.Prelude.{◌&&◌}
 use Rattle.std.proofs.Math.Nat.{le_refl}
 use Rattle.std.specs.Bool.{beq}
 use Rattle.std.specs.List.{list_all}
 use Rattle.std.proofs.lemmas.Bool.{and_parts, false≢true}
-use Rattle.gipsat_solver.specs.Formulas.{Assignment, is_true}
+use Rattle.gipsat_solver.specs.Formulas.{Assignment}
 use Rattle.gipsat_solver.specs.Assumptions.{makes_true}
 use Rattle.gipsat_solver.specs.Literals.{Lit}
 use Rattle.gipmc_circuits.specs.declared.circuit.And.{And}
 use Rattle.gipmc_circuits.specs.declared.circuit.Circuit.{Circuit}
-use Rattle.gipmc_circuits.specs.Circuit.{FailsAfter, IsSafe, has_value, is_moment, is_reset, is_valuation}
+use Rattle.gipmc_circuits.specs.Circuit.{FailsAfter, IsSafe, has_value, is_reset, is_valuation}
 use Rattle.gipmc_circuits.specs.WellFormed.{are_in_order, are_new, is_constant, with_variables}
 
 abbrev yes_of : ℕ → Lit
