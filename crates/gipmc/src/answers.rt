@@ -41,7 +41,7 @@ impl Outcome {
 
 /// What is said, and what it says.
 #[derive(Drop)]
-pub struct Answer<A: Allocator> {
+pub struct Said<A: Allocator> {
     /// The text.
     pub text: Vec<u8, A>,
     /// What it says of all the bad literals that are asked about.
@@ -60,7 +60,7 @@ pub fn answer<A: Allocator + Copy, W: Watch>(
     asked: Option<usize>,
     plan: &Plan,
     watch: &mut W,
-) -> Result<Answer<A>, TaskError>
+) -> Result<Said<A>, TaskError>
     ensures { IfOk result (λ said. Answers A bytes.now asked said.outcome said.text.items) }
 {
     let circuit = circuit_in(alloc, bytes)?;
@@ -84,7 +84,7 @@ fn answer_asked<A: Allocator + Copy, W: Watch>(
     asked: Option<usize>,
     plan: &Plan,
     watch: &mut W,
-) -> Result<Answer<A>, TaskError>
+) -> Result<Said<A>, TaskError>
     ensures { IfOk result (λ said. TellsAsked circuit.now asked said.outcome said.text.items) }
 {
     match asked {
@@ -102,7 +102,7 @@ fn answer_all<A: Allocator + Copy, W: Watch>(
     circuit: &Circuit<A>,
     plan: &Plan,
     watch: &mut W,
-) -> Result<Answer<A>, AllocError>
+) -> Result<Said<A>, AllocError>
     ensures { IfOk result (λ said.
         TellsFirst circuit.now (length circuit.now.bads.items) said.outcome said.text.items) }
 {
@@ -113,7 +113,7 @@ fn answer_all<A: Allocator + Copy, W: Watch>(
         text.extend_from_slice(&said.text)?;
         outcome = outcome.and(said.outcome);
     }
-    Ok(Answer { text, outcome })
+    Ok(Said { text, outcome })
 }
 
 // Answers about the bad literal at a place.
@@ -123,14 +123,14 @@ fn answer_at<A: Allocator + Copy, W: Watch>(
     place: usize,
     plan: &Plan,
     watch: &mut W,
-) -> Result<Answer<A>, AllocError>
+) -> Result<Said<A>, AllocError>
     requires { place < length circuit.now.bads.items }
     ensures { IfOk result (λ said. Tells circuit.now place said.outcome said.text.items) }
 {
     let bad = circuit.bads[place];
     let verdict = check(alloc, circuit, bad, plan, watch)?;
     let text = verdict_text(alloc, place, &verdict)?;
-    Ok(Answer {
+    Ok(Said {
         text,
         outcome: outcome_of(&verdict),
     })

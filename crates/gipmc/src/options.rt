@@ -85,14 +85,7 @@ impl<'a> Task<'a> {
     /// # Errors
     /// That of the first word that has no meaning where it stands, or that a word is missing.
     pub fn parse(words: &'a [String]) -> Result<Self, UsageError<'a>> {
-        let mut parser = Parser::new();
-        for word in words {
-            parser = parser.word(word.as_str())?;
-            if parser.info.is_some() {
-                break;
-            }
-        }
-        parser.end()
+        Parser::new().words(words)?.end()
     }
 }
 
@@ -118,8 +111,20 @@ impl<'a> Parser<'a> {
         }
     }
 
-    // After one more word.
+    // After some more words.
+    fn words(mut self, mut words: &'a [String]) -> Result<Self, UsageError<'a>> {
+        while let [word, rest @ ..] = words {
+            self = self.word(word.as_str())?;
+            words = rest;
+        }
+        Ok(self)
+    }
+
+    // After one more word. Behind one that asks for help, none is read.
     fn word(self, word: &'a str) -> Result<Self, UsageError<'a>> {
+        if self.info.is_some() {
+            return Ok(self);
+        }
         match self.awaits {
             Awaits::Value(setting) => Parser {
                 awaits: Awaits::Any,
