@@ -50,8 +50,8 @@ Tells {A} c place outcome text =
 abbrev pub TellsFirst : {A : Type 0} → Circuit A → ℕ → Outcome → List ℕ → Type 0
 TellsFirst c zero outcome text = (outcome ≡ Safe) × (text ≡ [])
 TellsFirst c (suc n) outcome text =
-    (one other : Outcome) (before last : List ℕ) × TellsFirst c n one before × Tells c n other last
-    × (outcome ≡ both one other) × (text ≡ before ++ last)
+    (one : Outcome) × (other : Outcome) × (before : List ℕ) × (last : List ℕ) × TellsFirst c n one before
+    × Tells c n other last × (outcome ≡ both one other) × (text ≡ before ++ last)
 
 -- the text tells of the bad literal that is asked for, or of all
 abbrev pub TellsAsked : {A : Type 0} → Circuit A → Option ℕ → Outcome → List ℕ → Type 0

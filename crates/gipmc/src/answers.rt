@@ -25,7 +25,7 @@ pub enum Outcome {
 impl Outcome {
     // What is known of these and of the other one.
     fn and(self, other: Outcome) -> Outcome
-        ensures { result ≡ both self.entry other }
+        ensures { result ≡ both self other }
     {
         match self {
             Outcome::Fails => Outcome::Fails,
@@ -172,11 +172,7 @@ fn verdict_text<A: Allocator + Copy>(
 const GREATEST: usize = 2_147_483_647;
 
 // A status, and the lines that name the literal.
-fn named<A: Allocator + Copy>(
-    alloc: A,
-    status: &[u8],
-    place: u32,
-) -> Result<Vec<u8, A>, AllocError>
+fn named<A: Allocator + Copy>(alloc: A, status: &[u8], place: u32) -> Result<Vec<u8, A>, AllocError>
     ensures { IfOk result (λ text. text.items ≡ status.now ++ named place) }
 {
     let mut text = Vec::new(alloc);
@@ -228,12 +224,7 @@ pub fn replays<A: Allocator + Copy>(
     ensures { IfOk result (λ fails. IsTrue fails → Replays A bytes.now witness.now) }
 {
     let circuit = circuit_in(alloc, bytes)?;
-    let witness = match read_witness(
-        alloc,
-        circuit.latches.len(),
-        circuit.inputs.len(),
-        witness,
-    ) {
+    let witness = match read_witness(alloc, circuit.latches.len(), circuit.inputs.len(), witness) {
         Ok(witness) => witness,
         Err(error) => return Err(TaskError::Witness(error)),
     };

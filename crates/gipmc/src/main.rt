@@ -36,6 +36,7 @@ const USAGE: u8 = 2;
 
 // How often simulation begins anew, and how many moments it has then.
 const ROUNDS: usize = 16;
+
 const MOMENTS: usize = 256;
 
 fn main(rt: HostRuntime) -> ExitCode {
