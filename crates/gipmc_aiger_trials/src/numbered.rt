@@ -8,36 +8,36 @@ use std::alloc::{AllocError, Global};
 // So many inputs from 1 on, a latch, and a gate of variable 1, true or not, whose output this is.
 fn circuit(
     alloc: Global,
-    inputs: u32,
-    latch: u32,
-    output: u32,
-    operand: u32,
+    inputs: u16,
+    latch: u16,
+    output: u16,
+    operand: u16,
 ) -> Result<Circuit, AllocError> {
     let mut circuit = Circuit::new(alloc);
     for input in 1..=inputs {
-        circuit.inputs.push(input)?;
+        circuit.inputs.push(u32::from(input))?;
     }
     circuit.latches.push(Latch {
-        variable: latch,
+        variable: u32::from(latch),
         next: Literal::new(0, true),
         reset: None,
     })?;
     circuit.gates.push(And {
-        output,
-        left: Literal::new(operand, true),
-        right: Literal::new(operand, false),
+        output: u32::from(output),
+        left: Literal::new(u32::from(operand), true),
+        right: Literal::new(u32::from(operand), false),
     })?;
-    circuit.bads.push(Literal::new(output, true))?;
+    circuit.bads.push(Literal::new(u32::from(output), true))?;
     Ok(circuit)
 }
 
 // How it is refused; None where it is written.
 fn refusal(
     alloc: Global,
-    inputs: u32,
-    latch: u32,
-    output: u32,
-    operand: u32,
+    inputs: u16,
+    latch: u16,
+    output: u16,
+    operand: u16,
 ) -> Result<Option<WriteError>, AllocError> {
     let circuit = circuit(alloc, inputs, latch, output, operand)?;
     Ok(write_aig(alloc, &circuit).err())
@@ -66,7 +66,7 @@ fn numbers_are_tested(rt: HostRuntime) -> Result<(), AllocError> {
 }
 
 // Whether a circuit of so many inputs, with this latch and this output, is written and read again with its gate.
-fn is_read_again(alloc: Global, inputs: u32, latch: u32, output: u32) -> Result<bool, AllocError> {
+fn is_read_again(alloc: Global, inputs: u16, latch: u16, output: u16) -> Result<bool, AllocError> {
     let circuit = circuit(alloc, inputs, latch, output, 1)?;
     let Ok(text) = write_aig(alloc, &circuit) else {
         return Ok(false);
@@ -78,7 +78,7 @@ fn is_read_again(alloc: Global, inputs: u32, latch: u32, output: u32) -> Result<
         return Ok(false);
     };
     Ok(
-        gate.output == output
+        gate.output == u32::from(output)
             && gate.left.variable() == 1
             && !gate.left.is_positive()
             && gate.right == Literal::new(1, true),

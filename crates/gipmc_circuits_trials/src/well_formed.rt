@@ -10,15 +10,15 @@ fn with_gate<A: Allocator + Copy>(
     alloc: A,
     input: u32,
     output: u32,
-    left: u32,
-    right: u32,
+    left: u8,
+    right: u8,
 ) -> Result<bool, AllocError> {
     let mut circuit = latched(alloc)?;
     circuit.inputs.push(input)?;
     circuit.gates.push(And {
         output,
-        left: Literal::new(left, true),
-        right: Literal::new(right, false),
+        left: Literal::new(u32::from(left), true),
+        right: Literal::new(u32::from(right), false),
     })?;
     is_well_formed(alloc, &circuit)
 }
