@@ -173,9 +173,9 @@ fn a_conflict_at_the_root_is_met_again(rt: HostRuntime) {
 // Adds clauses that hold while a variable is true, takes them back, and simplifies: how many clauses are known then.
 fn known_after_taking_back<A: Allocator + Copy>(
     solver: &mut Solver<A>,
-    variable: u32,
+    variable: u16,
 ) -> Result<usize, AllocError> {
-    let holds = Literal::new(variable, true);
+    let holds = Literal::new(u32::from(variable), true);
     for other in 0..50 {
         let (a, b) = (
             Literal::new(other, true),
@@ -205,7 +205,7 @@ fn clauses_that_are_taken_back_are_dropped(rt: HostRuntime) {
 }
 
 // Rounds of such clauses, each with a variable of its own.
-fn take_back_in_rounds<A: Allocator + Copy>(alloc: A, rounds: u32) -> Result<usize, AllocError> {
+fn take_back_in_rounds<A: Allocator + Copy>(alloc: A, rounds: u16) -> Result<usize, AllocError> {
     let mut solver = Solver::new(alloc);
     let mut known = 0;
     for round in 0..rounds {
@@ -215,7 +215,7 @@ fn take_back_in_rounds<A: Allocator + Copy>(alloc: A, rounds: u32) -> Result<usi
 }
 
 // The same where all memory is so many bytes.
-fn take_back_within(alloc: Global, bytes: usize, rounds: u32) -> Result<usize, AllocError> {
+fn take_back_within(alloc: Global, bytes: usize, rounds: u16) -> Result<usize, AllocError> {
     let memory = LocalHeap::new(alloc, bytes)?;
     take_back_in_rounds(&memory, rounds)
 }
