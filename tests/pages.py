@@ -63,6 +63,7 @@ PARTS = {
     "gipmc_circuits": (EXAMPLE, PEER + "AIGER", PROVED, TESTED, CHOICES, COST),
     "gipmc_aiger": (EXAMPLE, PEER + "AIGER 1.9", PROVED, TESTED, CHOICES, COST),
     "gipmc_engines": (EXAMPLE, PROVED, TESTED, CHOICES, COST),
+    "gipmc": (PROVED, TESTED),
     "gip_lines": (PROVED, TESTED, CHOICES, COST),
     "gip": (EXAMPLE,),
     "giputils_uses": (PROVED, TESTED, CHOICES),
