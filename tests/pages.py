@@ -53,6 +53,7 @@ PARTS = {
     "giputils_bits": ALL,
     "giputils_heap": ALL,
     "giputils_stat": ALL,
+    "giputils_text": (PROVED, TESTED, CHOICES),
     "giputils_refusing": (EXAMPLE, PROVED, TESTED, CHOICES),
     "gipsat_solver": (EXAMPLE, PEER + "MiniSat", PROVED, TESTED, CHOICES, COST),
     "gipsat_dimacs": (EXAMPLE, PEER + "CaDiCaL", PROVED, TESTED, CHOICES, COST),

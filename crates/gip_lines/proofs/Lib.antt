@@ -4,7 +4,6 @@ mod Greatest
 mod MatchingReplies
 mod Numbers
 mod Pairs
-mod Pieces
 mod Readings
 mod Records
 mod SmallKeys

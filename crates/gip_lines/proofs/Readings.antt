@@ -3,7 +3,8 @@ use Rattle.std.proofs.Common.{◌≡◌, ℕ, ◌+◌, List, [], ◌∷◌, ◌+
 use Rattle.std.proofs.lemmas.List.{length-map}
 use Rattle.std.specs.Option.{option_map}
 use Rattle.std.specs.List.{position, prefix_len, filter_map, list_all}
-use Rattle.gip_lines.specs.Texts.{readings, text_lines, first_other, said_in, HasForm}
+use Rattle.gip_lines.specs.Texts.{readings, first_other, said_in, HasForm}
+use Rattle.giputils_text.specs.Lines.{text_lines}
 
 module _ {L : Type 0} where
   -- the line after some lines of the form has another one

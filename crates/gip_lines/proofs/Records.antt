@@ -6,7 +6,6 @@ use Rattle.std.specs.List.{flat_map, list_all}
 use Rattle.gip_lines.specs.Scripts.Lines.{has_small_key}
 use Rattle.gip_lines.specs.Scripts.Steps.{Table, call_of, steps_from, reply_text, reply_line, is_line_reply}
 use Rattle.gip_lines.specs.Scripts.Replies.{ranks_after, held_after, reply_to, text_from}
-use Rattle.gip_lines.specs.Texts.{line_feed}
 use Rattle.gip_lines.specs.declared.scripts.lines.Line.{Line}
 use Rattle.gip_lines.specs.declared.scripts.lines.Line.TheVariants as line
 use Rattle.gip_lines.proofs.MatchingReplies.{number, matches}
@@ -21,6 +20,7 @@ use Rattle.giputils_heap.specs.declared.run.HeapStep.{HeapStep}
 use Rattle.giputils_heap.proofs.Preorders.{IsLawful-everywhere}
 use Rattle.giputils_heap.proofs.ComparerOrders.{IsTotalPreorder-by_rank, AgreesExcept-by_rank}
 use Rattle.giputils_heap.proofs.Steady.{agrees_with_last-same}
+use Rattle.giputils_text.specs.Lines.{line_feed}
 
 -- the replies are the script's for some refusals, and each is one that a line can have
 abbrev pub Match : List ℕ → List ℕ → List Line → List (HeapReply ℕ) → Type 0

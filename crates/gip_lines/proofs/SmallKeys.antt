@@ -4,9 +4,9 @@ use Rattle.std.specs.List.{list_all}
 use Rattle.std.specs.Option.{option_map}
 use Rattle.std.specs.Prelude.{nat_le}
 use Rattle.gip_lines.specs.Scripts.Lines.{number_up_to, greatest_key, greatest_rank, without_words, only_key, with_pair, pairs_of, rank_line, none_given, given_with, ranks_line, line_of_words, line_of, has_small_key}
-use Rattle.gip_lines.specs.Texts.{space, pieces}
 use Rattle.gip_lines.specs.declared.scripts.lines.Line.{Line}
 use Rattle.gip_lines.specs.declared.scripts.lines.Line.TheVariants.{Push, Pop, Len, Clear, Rank, Ranks, Up, Down}
+use Rattle.giputils_text.specs.Lines.{space, pieces}
 
 -- the number of a word is no greater than it may be
 number_up_to-small : (greatest : ℕ) (word : List ℕ) (n : ℕ) → number_up_to greatest word ≡ Some n → n ≤ greatest

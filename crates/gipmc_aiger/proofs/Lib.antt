@@ -1,6 +1,4 @@
 mod Examples
 mod FrameLoops
-mod GroupLemmas
-mod Pieces
 mod Refusals
 mod RowLoops

@@ -5,6 +5,7 @@ use Rattle.gipmc_circuits.specs.declared.circuit.And.{And}
 use Rattle.gipmc_circuits.specs.declared.circuit.Latch.{Latch}
 use Rattle.gipmc_circuits.specs.declared.circuit.Circuit.{Circuit}
 use Rattle.gipmc_aiger.specs.Reading.{◌>>=◌}
+use Rattle.giputils_text.specs.Groups.{groups}
 
 -- the number of a literal: twice its variable, and 1 more for the negation
 abbrev pub literal_number : Lit → ℕ
@@ -98,11 +99,6 @@ packed_latch_line l = number_text (literal_number l.next) 32 ++ number_text (res
 abbrev pub packed_latch_lines : List Latch → List ℕ
 packed_latch_lines [] = []
 packed_latch_lines (l ∷ latches) = packed_latch_line l ++ packed_latch_lines latches
-
--- a number in groups of 7 bits, the lowest first; each but the last has 128 added, and so many follow at most
-abbrev pub groups : ℕ → ℕ → List ℕ
-groups zero n = n ∷ []
-groups (suc more) n = if nat_lt n 128 then n ∷ [] else (128 + n % 128) ∷ groups more (n / 128)
 
 -- the bytes of a gate: how far its greater operand is below the output, and the other one below that
 abbrev pub packed_and : And → List ℕ

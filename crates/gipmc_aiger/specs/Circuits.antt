@@ -11,16 +11,9 @@ use Rattle.gipmc_aiger.specs.declared.header.Form.TheVariants.{Ascii, Binary}
 use Rattle.gipmc_aiger.specs.declared.header.Sizes.{Sizes}
 use Rattle.gipmc_aiger.specs.declared.header.Properties.{Properties}
 use Rattle.gipmc_aiger.specs.declared.header.Header.{Header}
+use Rattle.giputils_text.specs.Lines.{line_feed, space}
 use Rattle.gipmc_aiger.specs.Reading.{◌>>=◌, expected_at, number_at, optional_at, delta_at}
 use Rattle.gipmc_aiger.specs.Tails.{is_tail}
-
--- the byte between the words of a line
-abbrev pub space : ℕ
-space = 32
-
--- the byte between lines
-abbrev pub newline : ℕ
-newline = 10
 
 -- the greatest number of a header
 abbrev pub greatest_count : ℕ
@@ -76,7 +69,7 @@ header_at bytes = do
   form ← form_at bytes
   sizes ← sizes_at form.1
   properties ← properties_at sizes.1
-  rest ← expected_at newline properties.1
+  rest ← expected_at line_feed properties.1
   if nat_lt 0 properties.0.justice then None else if nat_lt 0 properties.0.fairness then None else if has_counts form.0 sizes.0 then Some (record { form = form.0; sizes = sizes.0; bads = properties.0.bads; constraints = properties.0.constraints }, rest) else None
 
 -- so many rows, by what the row at each place says
@@ -124,12 +117,12 @@ separated_at Binary byte bytes = Some bytes
 abbrev pub input_at : Header → ℕ → List ℕ → Option (ℕ × List ℕ)
 input_at h place bytes =
     defined_at h (place + 1) bytes >>= λ variable.
-    separated_at h.form newline variable.1 >>= λ rest. Some (variable.0, rest)
+    separated_at h.form line_feed variable.1 >>= λ rest. Some (variable.0, rest)
 
 -- a line with a literal
 abbrev pub literal_at : Header → ℕ → List ℕ → Option (Lit × List ℕ)
 literal_at h place bytes =
-    number_at (greatest_literal h) bytes >>= λ n. expected_at newline n.1 >>= λ rest. Some (literal_of n.0, rest)
+    number_at (greatest_literal h) bytes >>= λ n. expected_at line_feed n.1 >>= λ rest. Some (literal_of n.0, rest)
 
 -- the reset of a latch by its number: 0, or 1, or the latch itself; 0 where there is none
 abbrev pub reset_of : ℕ → Option ℕ → Option (Option Bool)
@@ -146,7 +139,7 @@ latch_at h place bytes = do
   next ← number_at (greatest_literal h) rest
   code ← optional_at (greatest_literal h) next.1
   reset ← reset_of variable.0 code.0
-  rest ← expected_at newline code.1
+  rest ← expected_at line_feed code.1
   Some (record { variable = variable.0; next = literal_of next.0; reset = reset }, rest)
 
 -- the numbers of the operands of a gate in the rest of a line
@@ -156,7 +149,7 @@ written_operands_at h bytes = do
   left ← number_at (greatest_literal h) rest
   rest ← expected_at space left.1
   right ← number_at (greatest_literal h) rest
-  rest ← expected_at newline right.1
+  rest ← expected_at line_feed right.1
   Some (left.0, right.0, rest)
 
 -- the numbers of the operands by how far the first is below the output, and the second below the first

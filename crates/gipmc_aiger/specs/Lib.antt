@@ -1,6 +1,5 @@
 -- Circuits, their witnesses and their invariants as texts.
 pub mod Reading
-pub mod Lines
 pub mod Tails
 pub mod Circuits
 pub mod CircuitTexts

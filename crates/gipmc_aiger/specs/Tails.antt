@@ -6,7 +6,7 @@ use Rattle.gipmc_aiger.specs.declared.header.Header.{Header}
 use Rattle.gipmc_aiger.specs.declared.error.Stop.{Stop}
 use Rattle.gipmc_aiger.specs.declared.error.Stop.TheVariants as stop
 use Rattle.gipmc_aiger.specs.Reading.{◌>>=◌, expected_at, number_at}
-use Rattle.gipmc_aiger.specs.Lines.{text_lines}
+use Rattle.giputils_text.specs.Lines.{text_lines}
 
 -- a digit stands at the front
 abbrev pub begins_number : List ℕ → Bool

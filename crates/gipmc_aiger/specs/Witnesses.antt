@@ -4,7 +4,7 @@ use Rattle.std.specs.declared.vec.Vec.{Vec}
 use Rattle.std.specs.List.{list_all}
 use Rattle.std.specs.Str.{byte}
 use Rattle.gipmc_aiger.specs.Reading.{◌>>=◌, expected_at, number_at}
-use Rattle.gipmc_aiger.specs.Lines.{text_lines}
+use Rattle.giputils_text.specs.Lines.{text_lines}
 
 -- a line of which the witness says nothing: it begins with a `c` or a `u`
 abbrev pub is_remark : List ℕ → Bool

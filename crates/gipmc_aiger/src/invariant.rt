@@ -1,13 +1,14 @@
 //! Invariants as clauses in the DIMACS form: `p cnf LATCHES CLAUSES`, and a line for each clause, with a 0 at its end.
 //! Number n is the latch at place n - 1 of the circuit.
 ghost use Rattle.std.specs.Prelude.{◌≡◌, ◌++◌, ◌∷◌, [], decimal, IfOk, OnOk};
-ghost use Rattle.gipmc_aiger.specs.Invariants.{clause_line, clause_lines, invariant_text, literal_text};
+ghost use Rattle.gipmc_aiger.specs.Invariants.{clause_lines, invariant_text};
 
 use crate::error::{AigerError, Reason, Stop};
-use crate::lines::split_line;
 use crate::numbers::{SPACE, expected, number};
 use crate::place::error_at;
+use gipsat_dimacs::write_clause;
 use gipsat_solver::Literal;
+use giputils_text::split_line;
 use std::alloc::{AllocError, Allocator};
 use std::io::Write;
 
@@ -156,26 +157,4 @@ fn write_clauses<A: Allocator + Copy>(
         write_clause(text, clause)?;
     }
     Ok(())
-}
-
-// Writes the line of a clause.
-fn write_clause<A: Allocator>(text: &mut Vec<u8, A>, clause: &[Literal]) -> Result<(), AllocError>
-    ensures { OnOk result (text.new.items ≡ text.old.items ++ clause_line clause.now) }
-{
-    for l in clause {
-        write_literal(text, *l)?;
-    }
-    text.extend_from_slice(b"0\n")?;
-    Ok(())
-}
-
-// Writes a literal.
-fn write_literal<A: Allocator>(text: &mut Vec<u8, A>, l: Literal) -> Result<(), AllocError>
-    ensures { OnOk result (text.new.items ≡ text.old.items ++ literal_text l) }
-{
-    if !l.is_positive() {
-        text.push(b'-')?;
-    }
-    let number = l.variable() + 1;
-    write!(text, "{number} ").map_err(|_| AllocError)
 }

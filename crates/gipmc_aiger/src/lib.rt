@@ -7,7 +7,6 @@ pub mod error;
 pub mod header;
 mod headers;
 pub mod invariant;
-mod lines;
 mod numbers;
 mod order;
 mod place;

@@ -5,8 +5,8 @@ ghost use Rattle.gipmc_aiger.specs.Tails.{Tells, begins_comment, begins_number, 
 
 use crate::error::{Reason, Stop};
 use crate::header::Header;
-use crate::lines::split_line;
 use crate::numbers::{SPACE, expected, number};
+use giputils_text::split_line;
 
 // Reads over symbols and a comment.
 pub(crate) fn tail(header: &Header, bytes: &[u8]) -> Result<(), Stop>

@@ -6,10 +6,10 @@ ghost use Rattle.gipmc_aiger.specs.Witnesses.{said_lines, bit_text, bits_at, bit
 ghost use Rattle.gipmc_aiger.specs.Traces.{witness_text, witness_view};
 
 use crate::error::{AigerError, Place, Reason, Stop};
-use crate::lines::split_line;
 use crate::numbers::{expected, number};
 use crate::place::error_at;
 use gipmc_circuits::Trace;
+use giputils_text::split_line;
 use std::alloc::{AllocError, Allocator, Global};
 use std::io::Write;
 

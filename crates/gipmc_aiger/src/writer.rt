@@ -1,9 +1,11 @@
 //! A writer of circuits in both forms.
 ghost use Rattle.std.specs.Prelude.{◌≡◌, ◌==◌, ◌<◌, ◌+◌, ◌^◌, ◌++◌, ◌∷◌, [], decimal, map, min, Some, IfOk, IsTrue, OnOk};
-ghost use Rattle.gipmc_aiger.specs.CircuitTexts.{aag_text, aig_text, and_line, and_lines, greatest_input, greatest_latch, greatest_output, greatest_variable, groups, header_line, input_lines, is_numbered, latch_line, latch_lines, literal_lines, literal_number, numbered_behind, packed_and, packed_ands, packed_header_line, packed_latch_line, packed_latch_lines, reset_number};
+ghost use Rattle.gipmc_aiger.specs.CircuitTexts.{aag_text, aig_text, and_line, and_lines, greatest_input, greatest_latch, greatest_output, greatest_variable, header_line, input_lines, is_numbered, latch_line, latch_lines, literal_lines, literal_number, numbered_behind, packed_and, packed_ands, packed_header_line, packed_latch_line, packed_latch_lines, reset_number};
+ghost use Rattle.giputils_text.specs.Groups.{groups};
 
 use gipmc_circuits::{And, Circuit, Latch};
 use gipsat_solver::Literal;
+use giputils_text::write_groups;
 use std::alloc::{AllocError, AllocFailed, Allocator};
 use std::io::Write;
 use thiserror::Error;
@@ -229,19 +231,6 @@ fn write_deltas<A: Allocator>(
 {
     write_groups(text, first)?;
     write_groups(text, second)?;
-    Ok(())
-}
-
-// Writes a number in groups of 7 bits, the lowest first.
-fn write_groups<A: Allocator>(bytes: &mut Vec<u8, A>, mut number: u64) -> Result<(), AllocError>
-    requires small { number < 2 ^ 34 }
-    ensures { OnOk result (bytes.new.items ≡ bytes.old.items ++ groups 4 number) }
-{
-    while number >= 128 {
-        bytes.push(128 + (number % 128) as u8)?;
-        number /= 128;
-    }
-    bytes.push(number as u8)?;
     Ok(())
 }
 

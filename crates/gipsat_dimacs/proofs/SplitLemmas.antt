@@ -1,10 +1,10 @@
 -- The words and lines of a text from its front.
-use Rattle.std.proofs.Common.{◌≡◌, ◌∷◌, [], ◌++◌, ℕ, Bool, true, false, cond, List, map, refl, ap, ◌∙◌, arith, append-nil, get_or, not}
+use Rattle.std.proofs.Common.{◌≡◌, ◌∷◌, [], ◌++◌, ℕ, Bool, true, false, cond, List, map, refl, ap, ◌∙◌, arith, append-nil, get_or, length, nat_lt}
 use Rattle.std.proofs.lemmas.List.Splits.{slice_split-cons_no, slice_split_none, slice_split_at}
 use Rattle.std.proofs.lemmas.List.Elements.{All-head, All-tail}
 use Rattle.std.specs.List.{All, AllPass, slice_split, onto_first}
 use Rattle.std.specs.Prelude.{filter}
-use Rattle.gipsat_dimacs.specs.Texts.{Word, is_nil, ends_line, is_blank, words, word_lines, with_word}
+use Rattle.gipsat_dimacs.specs.Texts.{Word, ends_line, is_blank, words, word_lines, with_word}
 use Rattle.gipsat_dimacs.specs.Parsers.{is_word_byte}
 
 -- there is a first part
@@ -41,11 +41,11 @@ blank_in_line byte e = grind arith
 
 -- the parts that are words
 abbrev kept : List Word → List Word
-kept parts = filter (λ word. not (is_nil word)) parts
+kept parts = filter (λ word. nat_lt 0 (length word)) parts
 
 kept-word : (word : Word) (parts : List Word) → kept (word ∷ parts) ≡ with_word word (kept parts)
 kept-word [] parts = refl
-kept-word (byte ∷ word) parts = refl
+kept-word (byte ∷ word) parts = grind arith
 
 with_word-cons : (word : Word) (byte : ℕ) (rest : Word) (words : List Word)
     → with_word (word ++ byte ∷ rest) words ≡ (word ++ byte ∷ rest) ∷ words

@@ -4,3 +4,4 @@ pub mod Inputs
 pub mod Parsers
 pub mod Instances
 pub mod Errors
+pub mod Writer

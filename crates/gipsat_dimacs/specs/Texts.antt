@@ -4,6 +4,7 @@ use Rattle.std.specs.List.{list_any, slice_split}
 use Rattle.std.specs.Option.{option_map, option_and_then}
 use Rattle.std.specs.Str.{all_ascii_digits, byte, bytes_eq}
 use Rattle.std.specs.Str.Parse.{digits_value}
+use Rattle.giputils_text.specs.Lines.{line_feed}
 use Rattle.gipsat_solver.specs.Formulas.{Clause, Formula}
 use Rattle.gipsat_dimacs.specs.declared.rule.HeaderRule.{HeaderRule}
 use Rattle.gipsat_dimacs.specs.declared.rule.HeaderRule.TheVariants.{Strict, Relaxed}
@@ -19,26 +20,17 @@ pub record Problem : Type 0 where
   pub variables : ℕ
   pub clauses : Formula
 
--- the byte between two lines
-abbrev pub newline : ℕ
-newline = 10
-
 -- the byte ends a line
 abbrev pub ends_line : ℕ → Bool
-ends_line byte = byte == newline
+ends_line byte = byte == line_feed
 
 -- the byte stands between words: a space, a tab, a vertical tab, a form feed or a carriage return
 abbrev pub is_blank : ℕ → Bool
 is_blank byte = (byte == 32) || (byte == 9) || (byte == 11) || (byte == 12) || (byte == 13)
 
--- whether a list has nothing in it
-abbrev pub is_nil : {X : Type 0} → List X → Bool
-is_nil [] = true
-is_nil (x ∷ xs) = false
-
 -- the words of a line: what stands between its blanks
 abbrev pub words : List ℕ → List Word
-words line = filter (λ word. not (is_nil word)) (slice_split is_blank line)
+words line = filter (λ word. nat_lt 0 (length word)) (slice_split is_blank line)
 
 -- the word begins with this byte
 abbrev pub begins : ℕ → Word → Bool

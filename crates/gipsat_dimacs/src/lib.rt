@@ -9,8 +9,10 @@ pub mod reader;
 pub mod rule;
 mod stage;
 mod words;
+pub mod writer;
 
 pub use error::{Compression, DimacsError, Reason};
 pub use instance::Instance;
 pub use reader::{read_instance, read_instance_by};
 pub use rule::HeaderRule;
+pub use writer::write_clause;

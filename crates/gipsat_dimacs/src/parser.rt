@@ -1,9 +1,10 @@
 //! A parser that is given a text in parts.
 ghost use Rattle.std.specs.Prelude.{◌≡◌, ◌<◌, ◌++◌, ◌∷◌, [], ℕ, Bool, true, false, List, length, Some, None, IfOk, IfErr, OnOk, OnErr};
 ghost use Rattle.gipsat_dimacs.specs.Instances.{HasLearnedNone};
-ghost use Rattle.gipsat_dimacs.specs.Texts.{problem_by, begins, has_comment, comment_byte, end_byte, newline};
+ghost use Rattle.gipsat_dimacs.specs.Texts.{problem_by, begins, has_comment, comment_byte, end_byte};
 ghost use Rattle.gipsat_dimacs.specs.Parsers.{IsReading, OnRefusal, SaysOn, SaysNothing, begins_comment, begins_end, begins_line, takes_comment, problem_from, problem_left, problem_next, EndsWord, EndsNoWord, TakesWord, TakesNoWord};
 ghost use Rattle.gipsat_dimacs.specs.declared.stage.Stage.TheVariants.{Start, Words};
+ghost use Rattle.giputils_text.specs.Lines.{line_feed};
 
 use crate::error::{Reason, Stop};
 use crate::instance::Instance;
@@ -96,8 +97,8 @@ impl<A: Allocator + Copy> Parser<A> {
         requires fresh { HasLearnedNone self.old.solver }
         ensures reading { OnOk result (IsReading self.new) }
         ensures fresh { OnOk result (HasLearnedNone self.new.solver) }
-        ensures ok { OnOk result (SaysOn self.old (newline ∷ []) self.new) }
-        ensures err { IfErr result (OnRefusal (SaysNothing self.old (newline ∷ []))) }
+        ensures ok { OnOk result (SaysOn self.old (line_feed ∷ []) self.new) }
+        ensures err { IfErr result (OnRefusal (SaysNothing self.old (line_feed ∷ []))) }
     {
         if self.stage.is_ended() {
             return Ok(());

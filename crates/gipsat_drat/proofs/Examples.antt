@@ -6,7 +6,7 @@ use Rattle.std.proofs.lemmas.Bool.{false≢true}
 use Rattle.gipsat_solver.specs.Literals.{Lit}
 use Rattle.gipsat_solver.specs.Formulas.{Clause, Formula, Has, is_true, satisfies}
 use Rattle.gipsat_drat.specs.Propagation.{Forces}
-use Rattle.gipsat_drat.specs.Steps.{clause_line, end_bytes, groups, step_bytes}
+use Rattle.gipsat_drat.specs.Steps.{end_bytes, step_bytes}
 use Rattle.gipsat_drat.specs.declared.writer.Format.TheVariants.{Text, Binary}
 use Rattle.gipsat_drat.specs.Held.{Deletes, Follow, Held, HoldsAlso, HoldsNone, IsShownEmpty}
 use Rattle.gipsat_drat.specs.Clauses.{HaveSameLiterals, held_among}
@@ -17,6 +17,8 @@ use Rattle.gipsat_drat.specs.declared.error.Flaw.TheVariants.{Missing, NotShown}
 use Rattle.gipsat_drat.specs.declared.error.OtherForm.TheVariants.{Gzip}
 use Rattle.gipsat_drat.specs.declared.error.Place.TheVariants.{Byte, Line}
 use Rattle.gipsat_drat.specs.declared.error.Outcome.TheVariants.{Verified, Refused}
+use Rattle.gipsat_dimacs.specs.Writer.{clause_line}
+use Rattle.giputils_text.specs.Groups.{groups}
 
 abbrev yes : ℕ → Lit
 yes v = record { variable = v; positive = true }

@@ -1,6 +1,5 @@
 mod ClauseLemmas
 mod Examples
-mod GroupLemmas
 mod HeldLemmas
 mod ModelLemmas
 mod OutcomeLemmas

@@ -1,24 +1,11 @@
 -- The steps of a proof in the DRAT form, as text and as bytes.
-use Rattle.std.specs.Prelude.{ℕ, zero, suc, ◌+◌, ◌*◌, ◌/◌, ◌%◌, Bool, false, List, [], ◌∷◌, ◌++◌, nat_lt, if◌then◌else◌, codes, decimal}
-use Rattle.std.specs.Str.{byte}
+use Rattle.std.specs.Prelude.{ℕ, ◌+◌, ◌*◌, Bool, false, List, [], ◌∷◌, ◌++◌, if◌then◌else◌, codes}
 use Rattle.gipsat_solver.specs.Formulas.{Clause}
 use Rattle.gipsat_solver.specs.Literals.{Lit}
+use Rattle.giputils_text.specs.Groups.{groups}
+use Rattle.gipsat_dimacs.specs.Writer.{clause_line}
 use Rattle.gipsat_drat.specs.declared.writer.Format.{Format}
 use Rattle.gipsat_drat.specs.declared.writer.Format.TheVariants.{Text, Binary}
-
--- a literal in a text, and a space behind it: variable k of a formula is k + 1 in a text
-abbrev pub literal_text : Lit → List ℕ
-literal_text l = (if l.positive then decimal (l.variable + 1) else byte "-" ∷ decimal (l.variable + 1)) ++ codes " "
-
--- a clause in a text, with a 0 behind its literals
-abbrev pub clause_line : Clause → List ℕ
-clause_line [] = codes "0\n"
-clause_line (l ∷ clause) = literal_text l ++ clause_line clause
-
--- a number in groups of 7 bits, the lowest first; each but the last has 128 added, and so many follow at most
-abbrev pub groups : ℕ → ℕ → List ℕ
-groups zero n = n ∷ []
-groups (suc more) n = if nat_lt n 128 then n ∷ [] else (128 + n % 128) ∷ groups more (n / 128)
 
 -- the number of a literal in bytes: twice that in a text, and 1 more where it is negative
 abbrev pub literal_number : Lit → ℕ

@@ -4,10 +4,12 @@ ghost use Rattle.std.specs.Prelude.{◌≡◌, ◌++◌, ◌<◌, ◌+◌, ◌*�
 ghost use Rattle.std.specs.Prelude.{IfNone, IfSome, IsErrOf, IsOk, IsTrue, OnOk};
 ghost use Rattle.std.specs.ControlFlow.{break_value};
 ghost use Rattle.std.specs.Io.KnownBytes.{Appends, append_known};
-ghost use Rattle.gipsat_drat.specs.Steps.{clause_bytes, clause_line, end_bytes, groups, literal_number, literal_text};
+ghost use Rattle.gipsat_drat.specs.Steps.{clause_bytes, end_bytes, literal_number};
 ghost use Rattle.gipsat_drat.specs.Steps.{step_bytes, steps_bytes};
 ghost use Rattle.gipsat_drat.specs.declared.writer.Fault.TheVariants as fault;
 
+use giputils_text::write_groups;
+use gipsat_dimacs::write_clause;
 use gipsat_solver::progress::Progress;
 use gipsat_solver::{Literal, Solver};
 use std::alloc::{AllocError, Allocator, Global};
@@ -218,35 +220,13 @@ fn write_step<A: Allocator>(
     match format {
         Format::Text => {
             bytes.extend_from_slice(if deleted { b"d " } else { b"" })?;
-            write_line(bytes, clause)
+            write_clause(bytes, clause)
         }
         Format::Binary => {
             bytes.push(if deleted { b'd' } else { b'a' })?;
             write_bytes(bytes, clause)
         }
     }
-}
-
-// Writes the line of a clause.
-fn write_line<A: Allocator>(text: &mut Vec<u8, A>, clause: &[Literal]) -> Result<(), AllocError>
-    ensures { OnOk result (text.new.items ≡ text.old.items ++ clause_line clause.now) }
-{
-    for l in clause {
-        write_literal(text, *l)?;
-    }
-    text.extend_from_slice(b"0\n")?;
-    Ok(())
-}
-
-// Writes a literal: variable k of a formula is k + 1 in a text.
-fn write_literal<A: Allocator>(text: &mut Vec<u8, A>, l: Literal) -> Result<(), AllocError>
-    ensures { OnOk result (text.new.items ≡ text.old.items ++ literal_text l) }
-{
-    if !l.is_positive() {
-        text.push(b'-')?;
-    }
-    let number = l.variable() + 1;
-    write!(text, "{number} ").map_err(|_| AllocError)
 }
 
 // Writes the bytes of a clause.
@@ -266,17 +246,4 @@ fn number_of(l: Literal) -> u64
     ensures small { result < 2 ^ 34 }
 {
     2 * (u64::from(l.variable()) + 1) + u64::from(!l.is_positive())
-}
-
-// Writes a number in groups of 7 bits, the lowest first.
-fn write_groups<A: Allocator>(bytes: &mut Vec<u8, A>, mut number: u64) -> Result<(), AllocError>
-    requires small { number < 2 ^ 34 }
-    ensures { OnOk result (bytes.new.items ≡ bytes.old.items ++ groups 4 number) }
-{
-    while number >= 128 {
-        bytes.push(128 + (number % 128) as u8)?;
-        number /= 128;
-    }
-    bytes.push(number as u8)?;
-    Ok(())
 }

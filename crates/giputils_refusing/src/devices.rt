@@ -8,7 +8,7 @@ use std::io::{self, Error, ErrorKind, Read, Write};
 /// A reader of bytes in memory. It answers one call with `ErrorKind::Interrupted`, which a caller that tries again
 /// would not notice, and gives the bytes of that call to the next one.
 ///
-/// The trials of `gip_lines` and of `gipsat_dimacs` run on it.
+/// The trials of `gip_lines`, `gipsat_dimacs` and `gipsat_drat` run on it.
 #[derive(Drop)]
 pub struct Source<'a> {
     rest: &'a [u8],

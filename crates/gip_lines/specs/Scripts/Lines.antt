@@ -3,9 +3,10 @@ use Rattle.std.specs.Prelude.{ℕ, ◌&&◌, Bool, true, List, [], ◌∷◌, le
 use Rattle.std.specs.Option.{option_map}
 use Rattle.std.specs.Str.{all_ascii_digits, bytes_eq}
 use Rattle.std.specs.Str.Parse.{digits_value}
-use Rattle.gip_lines.specs.Texts.{space, pieces, HasForm, said_in, first_other}
+use Rattle.gip_lines.specs.Texts.{HasForm, said_in, first_other}
 use Rattle.gip_lines.specs.declared.scripts.lines.Line.{Line}
 use Rattle.gip_lines.specs.declared.scripts.lines.Line.TheVariants.{Push, Pop, Len, Clear, Rank, Ranks, Up, Down}
+use Rattle.giputils_text.specs.Lines.{space, pieces}
 
 -- the greatest key that a line can name
 abbrev pub greatest_key : ℕ

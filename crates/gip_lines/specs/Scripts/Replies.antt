@@ -2,9 +2,9 @@
 use Rattle.std.specs.Prelude.{ℕ, ◌==◌, nat_lt, nat_le, ◌&&◌, ◌||◌, Bool, false, not, List, [], ◌∷◌, ◌++◌, length, filter, slice_index, slice_set, codes, decimal, if◌then◌else◌, Option, Some, None}
 use Rattle.std.specs.List.{list_any}
 use Rattle.std.specs.Option.{option_map_or}
-use Rattle.gip_lines.specs.Texts.{line_feed}
 use Rattle.gip_lines.specs.declared.scripts.lines.Line.{Line}
 use Rattle.gip_lines.specs.declared.scripts.lines.Line.TheVariants.{Push, Pop, Len, Clear, Rank, Ranks}
+use Rattle.giputils_text.specs.Lines.{line_feed}
 
 -- the key is held
 abbrev pub is_held : ℕ → List ℕ → Bool

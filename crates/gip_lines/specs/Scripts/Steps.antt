@@ -1,6 +1,5 @@
 -- How a script is run on a heap: a call for each line, and a line of text for each reply.
 use Rattle.std.specs.Prelude.{ℕ, ◌+◌, Bool, true, false, List, [], ◌∷◌, ◌++◌, codes, decimal, if◌then◌else◌, Some, None}
-use Rattle.gip_lines.specs.Texts.{line_feed}
 use Rattle.gip_lines.specs.Scripts.Lines.{greatest_key}
 use Rattle.gip_lines.specs.Scripts.Replies.{ranks_after}
 use Rattle.giputils_heap.specs.declared.comparers.RankTable.{RankTable}
@@ -11,6 +10,7 @@ use Rattle.giputils_heap.specs.declared.run.HeapCall.TheVariants as call
 use Rattle.giputils_heap.specs.declared.run.HeapReply.{HeapReply}
 use Rattle.giputils_heap.specs.declared.run.HeapStep.{HeapStep}
 use Rattle.giputils_heap.specs.declared.run.HeapReply.TheVariants.{Done, Refused, Skipped, Popped, Length, Empty}
+use Rattle.giputils_text.specs.Lines.{line_feed}
 
 -- the call that a line makes
 abbrev pub call_of : Line → HeapCall ℕ

@@ -3,7 +3,7 @@ use Rattle.std.specs.Prelude.{◌≡◌, ◌↔◌, ℕ, Bool, false, List, [], 
 use Rattle.std.specs.List.{flat_map}
 use Rattle.giputils_bits.specs.Text.{binary_text, hex_text}
 use Rattle.gip_lines.specs.Vectors.Lines.{bits_of_line}
-use Rattle.gip_lines.specs.Texts.{line_feed, space}
+use Rattle.giputils_text.specs.Lines.{line_feed, space}
 
 -- the reply to a line that writes these bits: their binary text, their hexadecimal text and their number
 abbrev pub bits_reply : List Bool → List ℕ

@@ -2,9 +2,10 @@
 ghost use Rattle.std.specs.Prelude.{◌≡◌, ◌<◌, ◌≤◌, ◌∷◌, [], List, ℕ, length, IfSome, MatchOption};
 ghost use Rattle.std.specs.Option.{option_map_or};
 ghost use Rattle.gip_lines.specs.Scripts.Lines.{greatest_key, number_up_to, without_words, only_key, with_pair, pairs_of, rank_line, ranks_line, line_of};
-ghost use Rattle.gip_lines.specs.Texts.{space, pieces};
+ghost use Rattle.giputils_text.specs.Lines.{space, pieces};
 
-use crate::texts::{Said, split_once};
+use crate::texts::Said;
+use giputils_text::split_once;
 use std::alloc::{AllocError, Allocator};
 
 /// How many keys a line can name.

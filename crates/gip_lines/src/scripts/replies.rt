@@ -4,7 +4,7 @@ ghost use Rattle.std.specs.List.{list_all, flat_map};
 ghost use Rattle.gip_lines.specs.Scripts.Lines.{has_small_key};
 ghost use Rattle.gip_lines.specs.Scripts.Steps.{call_of, gives_ranks, steps_from, tables_from, is_line_reply, reply_line};
 ghost use Rattle.gip_lines.specs.Scripts.Replies.{start_ranks, ranks_after, ranks_with, script_text};
-ghost use Rattle.gip_lines.specs.Texts.{line_feed};
+ghost use Rattle.giputils_text.specs.Lines.{line_feed};
 
 use crate::fault::GipFault;
 use crate::scripts::lines::{KEYS, Line};

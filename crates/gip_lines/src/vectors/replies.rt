@@ -1,7 +1,7 @@
 //! The vectors of bits that lines write, as text.
 ghost use Rattle.std.specs.Prelude.{◌≡◌, ◌++◌, ◌∷◌, [], length, IfOk, IfErr, OnOk};
 ghost use Rattle.gip_lines.specs.Vectors.Replies.{bits_reply, bits_text};
-ghost use Rattle.gip_lines.specs.Texts.{line_feed};
+ghost use Rattle.giputils_text.specs.Lines.{line_feed};
 
 use crate::fault::GipFault;
 use giputils_bits::bitvec::BitVec;

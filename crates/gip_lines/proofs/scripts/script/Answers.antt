@@ -3,12 +3,12 @@ use Rattle.std.proofs.Common.{◌≡◌, ℕ, Bool, List, sym, ap, ◌∙◌, su
 use Rattle.std.proofs.lemmas.Result.{on_ok_weaker}
 use Rattle.std.specs.Io.KnownBytes.{Appends}
 use Rattle.gip_lines.specs.Scripts.Lines.{line_of, IsScript, lines_of}
-use Rattle.gip_lines.specs.Texts.{text_lines}
 use Rattle.gip_lines.specs.Scripts.Replies.{script_text}
 use Rattle.gip_lines.proofs.Readings.{HasForm-read, said_in-read}
 use Rattle.gip_lines.proofs.SmallKeys.{small_keys}
 use Rattle.gip_lines.proofs.WholeInput.{whole_input}
 use Rattle.gip_lines.proofs.scripts.script.Goals as goal
+use Rattle.giputils_text.specs.Lines.{text_lines}
 
 pub replies_to-requires : goal.replies_to-requires
 replies_to-requires g c =

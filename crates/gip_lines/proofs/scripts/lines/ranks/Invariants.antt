@@ -2,9 +2,9 @@
 use Rattle.std.proofs.Common.{◌≡◌, ◌+◌, ◌<◌, ◌≤◌, [], length, IfNone}
 use Rattle.std.specs.Option.{option_map_or}
 use Rattle.gip_lines.specs.Scripts.Lines.{most_pairs, pairs_of, ranks_line}
-use Rattle.gip_lines.specs.Texts.{space, pieces}
 use Rattle.gip_lines.proofs.Pairs.{line_after}
 use Rattle.gip_lines.proofs.scripts.lines.ranks.Given as goal
+use Rattle.giputils_text.specs.Lines.{space, pieces}
 
 abbrev pub invariant-loop-rest : goal.invariant-loop-rest
 invariant-loop-rest l = record {

@@ -1,8 +1,8 @@
 -- A group more.
 use Rattle.std.proofs.Common.{arith, refl}
 use Rattle.std.proofs.lemmas.Grind.{common_steps}
-use Rattle.gipmc_aiger.proofs.GroupLemmas.{groups_pushed}
-use Rattle.gipmc_aiger.proofs.writer.write_groups.Goals as goal
+use Rattle.giputils_text.proofs.GroupLemmas.{groups_pushed}
+use Rattle.giputils_text.proofs.groups.write_groups.Goals as goal
 
 pub loop-number-init : goal.loop-number-init
 loop-number-init g c = let small = c.requires.small in (4, omega arith, refl)

@@ -1,8 +1,8 @@
 -- What was written, and the groups of what is left, are those of the number; enough groups may follow for it.
 use Rattle.std.proofs.Common.{◌≡◌, ◌<◌, ℕ, ◌++◌}
-use Rattle.gipmc_aiger.specs.CircuitTexts.{groups}
-use Rattle.gipmc_aiger.proofs.GroupLemmas.{limit}
-use Rattle.gipmc_aiger.proofs.writer.write_groups.Given as goal
+use Rattle.giputils_text.specs.Groups.{groups}
+use Rattle.giputils_text.proofs.GroupLemmas.{limit}
+use Rattle.giputils_text.proofs.groups.write_groups.Given as goal
 
 abbrev pub invariant-loop-number : goal.invariant-loop-number
 invariant-loop-number g l =

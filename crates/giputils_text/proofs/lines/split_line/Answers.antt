@@ -1,6 +1,6 @@
 -- The line ends at the first line feed, or where the text does.
-use Rattle.gip_lines.proofs.Pieces.{text_lines-at}
-use Rattle.gip_lines.proofs.texts.split_line.Goals as goal
+use Rattle.giputils_text.proofs.Pieces.{text_lines-at}
+use Rattle.giputils_text.proofs.lines.split_line.Goals as goal
 
 pub returns-in-Some-clause-lines : goal.returns-in-Some-clause-lines
 returns-in-Some-clause-lines c =

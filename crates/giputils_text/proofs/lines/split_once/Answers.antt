@@ -4,8 +4,8 @@ use Rattle.std.proofs.lemmas.Iterator.{YieldsList-from_slice}
 use Rattle.std.proofs.lemmas.Iterator.Search.{position_from_yields_List}
 use Rattle.std.specs.List.{position}
 use borrow.Author.Tests.{tests}
-use Rattle.gipmc_aiger.proofs.Pieces.{pieces-at, pieces-none}
-use Rattle.gipmc_aiger.proofs.lines.split_once.Goals as goal
+use Rattle.giputils_text.proofs.Pieces.{pieces-at, pieces-none}
+use Rattle.giputils_text.proofs.lines.split_once.Goals as goal
 
 pub returns-in-Some-clause-parts : goal.returns-in-Some-clause-parts
 returns-in-Some-clause-parts c =

@@ -5,7 +5,7 @@ use Rattle.std.proofs.lemmas.List.Splits.{slice_split_first, slice_split_none}
 use Rattle.std.proofs.lemmas.List.Sums.{fails_before_first, position_or_len_is}
 use Rattle.std.proofs.lemmas.List.Quantifiers.{position-Some}
 use Rattle.std.specs.List.{onto_first, position, position_or_len}
-use Rattle.gipmc_aiger.specs.Lines.{line_feed, pieces, text_lines}
+use Rattle.giputils_text.specs.Lines.{line_feed, pieces, text_lines}
 
 -- a text has a first piece
 pub pieces-cons : (byte : ℕ) (text : List ℕ) → (first : List ℕ) × (more : List (List ℕ)) × (pieces byte text ≡ first ∷ more)

@@ -2,7 +2,7 @@
 use Rattle.std.proofs.Common.{◌≡◌, ◌<◌, ◌≤◌, ℕ, zero, suc, ◌+◌, ◌*◌, ◌/◌, ◌%◌, List, [], ◌∷◌, ◌++◌, sym, append_assoc, arith}
 use Rattle.std.proofs.Math.Nat.{div-lt_iff_lt-mul}
 use Rattle.std.proofs.lemmas.Bool.Decides.{nat_tests}
-use Rattle.gipmc_aiger.specs.CircuitTexts.{groups}
+use Rattle.giputils_text.specs.Groups.{groups}
 
 -- a group, and so many more, hold the numbers below this one
 abbrev pub limit : ℕ → ℕ

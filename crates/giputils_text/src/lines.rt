@@ -1,10 +1,10 @@
-//! A text as lines.
-ghost use Rattle.std.specs.Prelude.{◌≡◌, ◌<◌, ◌∷◌, [], ℕ, length, IfSome, IfNone, MatchOption};
+//! A text as lines, and a line as pieces.
+ghost use Rattle.std.specs.Prelude.{◌≡◌, ◌<◌, ◌∷◌, [], length, IfSome, IfNone, MatchOption};
 ghost use Rattle.std.specs.Option.{option_map_or};
-ghost use Rattle.gipmc_aiger.specs.Lines.{pieces, text_lines};
+ghost use Rattle.giputils_text.specs.Lines.{pieces, text_lines};
 
-// The first line of a text and what comes after it. An empty text has none.
-pub(crate) fn split_line(text: &[u8]) -> Option<(&[u8], &[u8])>
+/// The first line of a text, and what comes after it. An empty text has none.
+pub fn split_line(text: &[u8]) -> Option<(&[u8], &[u8])>
     ensures lines { MatchOption result (text_lines text.now ≡ [])
         (λ split. text_lines text.now ≡ split.0.now ∷ text_lines split.1.now) }
     ensures shorter { IfSome result (λ split. length split.1.now < length text.now) }
@@ -19,8 +19,8 @@ pub(crate) fn split_line(text: &[u8]) -> Option<(&[u8], &[u8])>
     }
 }
 
-// What stands before the first `byte` of a text, and what comes after it where there is one.
-fn split_once(text: &[u8], byte: u8) -> (&[u8], Option<&[u8]>)
+/// What stands before the first `byte` of a text, and what comes after it where there is one.
+pub fn split_once(text: &[u8], byte: u8) -> (&[u8], Option<&[u8]>)
     ensures parts { pieces byte text.now ≡ result.0.now ∷ option_map_or (λ rest. pieces byte rest.now) result.1 [] }
     ensures shorter { IfSome result.1 (λ rest. length rest.now < length text.now) }
     ensures whole { IfNone result.1 (result.0.now ≡ text.now) }

@@ -1,0 +1,33 @@
+//! A writer of clauses in the DIMACS form.
+ghost use Rattle.std.specs.Prelude.{◌≡◌, ◌++◌, OnOk};
+ghost use Rattle.gipsat_dimacs.specs.Writer.{clause_line, literal_text};
+
+use gipsat_solver::Literal;
+use std::alloc::{AllocError, Allocator};
+use std::io::Write;
+
+/// Writes a clause behind a text, as a line with a 0 behind its literals. Variable k of a formula is k + 1 in the text.
+///
+/// # Errors
+///
+/// Where no memory is left. Then a part of the line may stand behind the text.
+pub fn write_clause<A: Allocator>(text: &mut Vec<u8, A>, clause: &[Literal]) -> Result<(), AllocError>
+    ensures written { OnOk result (text.new.items ≡ text.old.items ++ clause_line clause.now) }
+{
+    for l in clause {
+        write_literal(text, *l)?;
+    }
+    text.extend_from_slice(b"0\n")?;
+    Ok(())
+}
+
+// Writes a literal, and a space behind it.
+fn write_literal<A: Allocator>(text: &mut Vec<u8, A>, l: Literal) -> Result<(), AllocError>
+    ensures { OnOk result (text.new.items ≡ text.old.items ++ literal_text l) }
+{
+    if !l.is_positive() {
+        text.push(b'-')?;
+    }
+    let number = l.variable() + 1;
+    write!(text, "{number} ").map_err(|_| AllocError)
+}

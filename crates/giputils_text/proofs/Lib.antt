@@ -1,0 +1,2 @@
+mod GroupLemmas
+pub mod Pieces

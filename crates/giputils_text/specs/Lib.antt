@@ -1,0 +1,3 @@
+-- Parts that readers and writers of texts share.
+pub mod Lines
+pub mod Groups
