@@ -12,7 +12,7 @@ use crate::occurrences::Occurrences;
 use crate::resolve::{Resolution, add_resolvents};
 use crate::search::propagate;
 use crate::seen::Seen;
-use crate::subsume::{Marks, subsumption};
+use crate::subsume::{Marks, subsumed_by};
 use crate::trail::Trail;
 use crate::watches::{ClauseStatus, Watches, short};
 use std::alloc::{AllocError, Allocator, Global};
@@ -197,7 +197,7 @@ struct Replacement<A: Allocator = Global> {
 }
 
 // What to put in the place of the clauses of a variable. None where it would be too much.
-fn replacement<A: Allocator + Copy>(
+fn find_replacement<A: Allocator + Copy>(
     alloc: A,
     database: &Database<A>,
     trail: &Trail<A>,
@@ -282,7 +282,7 @@ fn subsume_by<A: Allocator + Copy>(
     ensures ready { OnOk result (IsReady database.new trail.now seen.new) }
     ensures derives { Derives database.old database.new }
 {
-    let found = subsumption(
+    let found = subsumed_by(
         alloc,
         database,
         trail,
@@ -327,7 +327,7 @@ fn eliminate_variable<A: Allocator + Copy>(
     ensures ready { OnOk result (IsReady database.new trail.now seen.new) }
     ensures derives { Derives database.old database.new }
 {
-    let Some(found) = replacement(alloc, database, trail, elimination, l)? else {
+    let Some(found) = find_replacement(alloc, database, trail, elimination, l)? else {
         return Ok(());
     };
     add_kept(

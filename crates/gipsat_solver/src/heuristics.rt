@@ -136,6 +136,7 @@ impl<A: Allocator + Copy> Heuristics<A> {
     fn begin(&mut self, is_guess: bool, domain: Option<&[u32]>) -> Result<(), AllocError> {
         self.is_guess = is_guess;
         self.has_guessed = false;
+        self.eliminated.rewind();
         self.activity.limit_to(domain)
     }
 

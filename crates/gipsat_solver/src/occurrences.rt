@@ -1,4 +1,5 @@
 //! Occurrences: for each literal the clauses that have it.
+ghost use Rattle.std.specs.Prelude.{◌^◌, ◌<◌};
 
 use crate::literal::Literal;
 use crate::trail::Trail;

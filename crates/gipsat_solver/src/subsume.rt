@@ -1,4 +1,5 @@
 //! Subsumption: clauses that follow from another one, alone or but for one literal.
+ghost use Rattle.std.specs.Prelude.{◌^◌, ◌<◌};
 
 use crate::database::Database;
 use crate::literal::Literal;
@@ -48,7 +49,7 @@ enum Relation {
 }
 
 // What the marked literals, which are so many, say of a clause.
-fn relation<A: Allocator + Copy>(marks: &Marks<A>, size: usize, clause: &[Literal]) -> Relation {
+fn relation_to<A: Allocator + Copy>(marks: &Marks<A>, size: usize, clause: &[Literal]) -> Relation {
     let mut same = 0usize;
     let mut flips = 0usize;
     let mut flipped = None;
@@ -95,7 +96,7 @@ pub(crate) struct Subsumption<A: Allocator = Global> {
 }
 
 // What the clause at a place says of the others, within so many steps.
-pub(crate) fn subsumption<A: Allocator + Copy>(
+pub(crate) fn subsumed_by<A: Allocator + Copy>(
     alloc: A,
     database: &Database<A>,
     trail: &Trail<A>,
@@ -153,7 +154,7 @@ fn look_through<A: Allocator + Copy>(
         }
         let clause = database.clause(*other as usize);
         *steps = steps.saturating_sub(clause.len() as u64);
-        match relation(marks, outline.size, clause) {
+        match relation_to(marks, outline.size, clause) {
             Relation::None => {}
             Relation::Subsumes => found.subsumed.push(*other)?,
             Relation::Strengthens(without) => found.strengthened.push(Resolution {
