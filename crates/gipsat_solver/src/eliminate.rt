@@ -61,7 +61,7 @@ impl<A: Allocator + Copy> Elimination<A> {
         Ok(elimination)
     }
 
-    // Lets the clauses take part that have come to the database.
+    // Lets the clauses take part that have come to the database, but for those that have a literal twice.
     fn connect_new(
         &mut self,
         database: &Database<A>,
@@ -70,22 +70,26 @@ impl<A: Allocator + Copy> Elimination<A> {
     ) -> Result<(), AllocError> {
         for place in self.known..database.len() {
             let clause = database.clause(place);
-            if watches.is_kept(place) && !is_satisfied(trail, clause) {
+            if !watches.is_kept(place) || is_satisfied(trail, clause) {
+                continue;
+            }
+            let has_twice = self.marks.has_twice(clause);
+            if has_twice || clause.len() == 1 {
+                self.freeze(clause);
+            }
+            if !has_twice {
                 self.occurrences.connect(trail, clause, place)?;
                 self.waiting.push(short(place))?;
-                self.freeze_unit(clause);
             }
         }
         self.known = database.len();
         Ok(())
     }
 
-    // The variable of a unit stays.
-    fn freeze_unit(&mut self, clause: &[Literal]) {
-        if clause.len() == 1 {
-            for l in clause {
-                self.occurrences.freeze(l.variable());
-            }
+    // The variables of a clause stay.
+    fn freeze(&mut self, clause: &[Literal]) {
+        for l in clause {
+            self.occurrences.freeze(l.variable());
         }
     }
 

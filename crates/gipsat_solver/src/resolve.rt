@@ -56,12 +56,10 @@ fn resolvent<A: Allocator + Copy>(
     ensures below { IfOk result (λ c. AreBelow database.now.variables c.items) }
 {
     let l = resolution.literal;
-    mark_but(seen, database.clause(resolution.first as usize), l)?;
-    mark_but(
-        seen,
-        database.clause(resolution.second as usize),
-        l.negated(),
-    )?;
+    let first = database.clause(resolution.first as usize);
+    let second = database.clause(resolution.second as usize);
+    mark_but(seen, first, l)?;
+    mark_but(seen, second, l.negated())?;
     drop_root(database, trail, seen);
     seen.take(alloc)
 }

@@ -35,6 +35,23 @@ impl<A: Allocator + Copy> Marks<A> {
         }
     }
 
+    // Whether a clause has a literal twice. Nothing may be marked.
+    pub(crate) fn has_twice(&mut self, clause: &[Literal]) -> bool {
+        let mut has_twice = false;
+        for l in clause {
+            if let Some(flag) = self.flags.get_mut(l.code()) {
+                has_twice |= *flag;
+                *flag = true;
+            }
+        }
+        for l in clause {
+            if let Some(flag) = self.flags.get_mut(l.code()) {
+                *flag = false;
+            }
+        }
+        has_twice
+    }
+
     // Whether a literal is marked.
     pub(crate) fn has(&self, l: Literal) -> bool {
         matches!(self.flags.get(l.code()), Some(true))
