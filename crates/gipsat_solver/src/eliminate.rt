@@ -227,6 +227,7 @@ fn find_replacement<A: Allocator + Copy>(
 }
 
 // Adds resolvents, which take part from now on.
+#[tactic(auto, using(crate::proofs::DerivesLemmas::Derives_same, crate::proofs::DerivesLemmas::Derives_then))]
 fn add_kept<A: Allocator + Copy>(
     alloc: A,
     database: &mut Database<A>,
@@ -248,6 +249,7 @@ fn add_kept<A: Allocator + Copy>(
 }
 
 // Drops the clauses that follow from one that waits, and strengthens others by it, until none waits.
+#[tactic(auto, using(crate::proofs::DerivesLemmas::Derives_same, crate::proofs::DerivesLemmas::Derives_then))]
 fn subsume_all<A: Allocator + Copy>(
     alloc: A,
     database: &mut Database<A>,
@@ -273,6 +275,7 @@ fn subsume_all<A: Allocator + Copy>(
 }
 
 // Drops the clauses that follow from the one at a place, and strengthens others by it.
+#[tactic(auto, using(crate::proofs::DerivesLemmas::Derives_same, crate::proofs::DerivesLemmas::Derives_then))]
 fn subsume_by<A: Allocator + Copy>(
     alloc: A,
     database: &mut Database<A>,
@@ -295,17 +298,15 @@ fn subsume_by<A: Allocator + Copy>(
         &mut elimination.steps,
         place,
     )?;
-    if !found.strengthened.is_empty() {
-        add_kept(
-            alloc,
-            database,
-            trail,
-            heuristics,
-            seen,
-            elimination,
-            &found.strengthened,
-        )?;
-    }
+    add_kept(
+        alloc,
+        database,
+        trail,
+        heuristics,
+        seen,
+        elimination,
+        &found.strengthened,
+    )?;
     let watches = &mut heuristics.watches;
     for other in &found.subsumed {
         elimination.take_out(database, trail, watches, *other, ClauseStatus::Deleted);
@@ -318,6 +319,7 @@ fn subsume_by<A: Allocator + Copy>(
 }
 
 // Eliminates a variable, unless its resolvents are too many or too long.
+#[tactic(auto, using(crate::proofs::DerivesLemmas::Derives_same, crate::proofs::DerivesLemmas::Derives_then))]
 fn eliminate_variable<A: Allocator + Copy>(
     alloc: A,
     database: &mut Database<A>,
@@ -354,6 +356,7 @@ fn eliminate_variable<A: Allocator + Copy>(
 }
 
 // Eliminates variables one after another, those of the fewest clauses first, until none is left or the steps are spent.
+#[tactic(auto, using(crate::proofs::DerivesLemmas::Derives_same, crate::proofs::DerivesLemmas::Derives_then))]
 fn eliminate_each<A: Allocator + Copy>(
     alloc: A,
     database: &mut Database<A>,
@@ -402,6 +405,7 @@ fn has_eliminated<A: Allocator + Copy>(heuristics: &Heuristics<A>, clause: &[Lit
 }
 
 // Propagates what has to be true, eliminates variables but for the frozen ones, and lets all clauses be watched anew.
+#[tactic(auto, using(crate::proofs::DerivesLemmas::Derives_same, crate::proofs::DerivesLemmas::Derives_then))]
 pub(crate) fn eliminate<A: Allocator + Copy>(
     alloc: A,
     database: &mut Database<A>,

@@ -65,6 +65,7 @@ fn resolvent<A: Allocator + Copy>(
 }
 
 // Adds the resolvents of these pairs of clauses.
+#[tactic(auto, using(crate::proofs::DerivesLemmas::Derives_same, crate::proofs::DerivesLemmas::Derives_then))]
 pub(crate) fn add_resolvents<A: Allocator + Copy>(
     alloc: A,
     database: &mut Database<A>,
