@@ -87,16 +87,20 @@ impl<A: Allocator + Copy> Heuristics<A> {
     }
 
     // The same with room for so many variables, for a search that guesses or not, among all variables or in a domain.
+    // Eliminated variables that are assumed, in the domain or in a new clause are restored.
     pub(crate) fn begun(
         self,
         alloc: A,
+        database: &Database<A>,
         variables: usize,
         is_guess: bool,
+        assumptions: &[Literal],
         domain: Option<&[u32]>,
     ) -> Result<Self, AllocError>
         requires { variables < 2 ^ 40 }
     {
         let mut heuristics = self.grown(alloc, variables)?;
+        heuristics.restore(database, assumptions, domain.unwrap_or(&[]))?;
         heuristics.begin(is_guess, domain)?;
         Ok(heuristics)
     }
@@ -141,7 +145,7 @@ impl<A: Allocator + Copy> Heuristics<A> {
     }
 
     // Restores the eliminated ones among the variables of these literals, of a domain, and of the new clauses.
-    pub(crate) fn restore(
+    fn restore(
         &mut self,
         database: &Database<A>,
         literals: &[Literal],

@@ -346,9 +346,15 @@ impl<A: Allocator + Copy> Solver<A> {
         let heuristics = Heuristics::kept_or_new(self.heuristics.take(), alloc, self.stats)?;
         let mut trail = trail.grown(variables)?;
         let mut seen = seen.grown(variables)?;
-        let mut heuristics = heuristics.begun(alloc, variables, is_guess, domain)?;
+        let mut heuristics = heuristics.begun(
+            alloc,
+            &self.database,
+            variables,
+            is_guess,
+            assumptions,
+            domain,
+        )?;
         trail.backtrack(0, &mut heuristics.activity);
-        heuristics.restore(&self.database, assumptions, domain.unwrap_or(&[]))?;
         let until = budget_from(heuristics.stats.propagations, budget);
         let answer = run(
             alloc,
@@ -453,9 +459,8 @@ impl<A: Allocator + Copy> Solver<A> {
         let heuristics = Heuristics::kept_or_new(self.heuristics.take(), alloc, self.stats)?;
         let mut trail = trail.grown(variables)?;
         let mut seen = seen.grown(variables)?;
-        let mut heuristics = heuristics.begun(alloc, variables, false, None)?;
+        let mut heuristics = heuristics.begun(alloc, &self.database, variables, false, &[], None)?;
         trail.backtrack(0, &mut heuristics.activity);
-        heuristics.restore(&self.database, &[], &[])?;
         eliminate(
             alloc,
             &mut self.database,
@@ -496,9 +501,8 @@ impl<A: Allocator + Copy> Solver<A> {
         let trail = mem::replace(&mut self.trail, Trail::new(alloc));
         let heuristics = Heuristics::kept_or_new(self.heuristics.take(), alloc, self.stats)?;
         let mut trail = trail.grown(variables)?;
-        let mut heuristics = heuristics.begun(alloc, variables, false, None)?;
+        let mut heuristics = heuristics.begun(alloc, &self.database, variables, false, &[], None)?;
         trail.backtrack(0, &mut heuristics.activity);
-        heuristics.restore(&self.database, &[], &[])?;
         simplify(alloc, &mut self.database, &mut trail, &mut heuristics)?;
         self.trail = trail;
         self.stats = heuristics.stats;
