@@ -436,13 +436,17 @@ fn attach_waiting<A: Allocator + Copy>(
             continue;
         }
         let clause = database.clause(place);
-        let Some(first) = non_false_place(trail, clause, clause.len(), 0) else {
+        let Some(free) = non_false_place(trail, clause, clause.len(), 0) else {
             return Ok(Some(place));
         };
-        let second = second_place(trail, clause, first);
-        watches.set_pair(place, WatchedPair { first, second });
+        let other = second_place(trail, clause, free);
+        let pair = WatchedPair {
+            first: free,
+            second: other,
+        };
+        watches.set_pair(place, pair);
         watches.watch(clause, place)?;
-        assign_unit(database, trail, place, first)?;
+        assign_unit(database, trail, place, free)?;
     }
     watches.end_waiting();
     Ok(None)
