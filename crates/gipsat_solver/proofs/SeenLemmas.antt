@@ -163,7 +163,7 @@ Implies-taken state before now items (Err e) is taken = tt
 
 pub AreBelow-taken : {V E : Type 0} (state : SolverState) (before now : List Bool) (items : V → Clause) (r : Result V E)
     → IsResolvent state before → IfOk r (λ v. IsTaken before now (items v)) → IfOk r (λ v. AreBelow state.variables (items v))
-AreBelow-taken state before now items (Ok v) is taken k l at =
+AreBelow-taken state before now items (Ok v) is taken = λ k l at.
     let within = marked_within before l (taken.only l (k, at)) in
     variable-below state.variables l (omega (arith, within, is.room))
 AreBelow-taken state before now items (Err e) is taken = tt

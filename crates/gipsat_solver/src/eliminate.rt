@@ -345,7 +345,7 @@ fn eliminate_variable<A: Allocator + Copy>(
         elimination,
         &found.resolutions,
     )?;
-    heuristics.eliminated.push(l.variable(), &found.clauses)?;
+    heuristics.eliminated.push(l, &found.clauses)?;
     heuristics.activity.take_out(l.variable());
     elimination.occurrences.freeze(l.variable());
     let watches = &mut heuristics.watches;

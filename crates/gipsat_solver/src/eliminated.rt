@@ -12,7 +12,8 @@ use std::alloc::{AllocError, Allocator, Global};
 // An eliminated variable, and where the clauses that were taken out with it are listed.
 #[derive(Clone, Copy)]
 struct Record {
-    variable: u32,
+    // The variable itself.
+    literal: Literal,
     start: usize,
     end: usize,
     // Whether it is not eliminated any more, or is to be restored.
@@ -63,18 +64,18 @@ impl<A: Allocator + Copy> Eliminated<A> {
     }
 
     // A variable is eliminated, and these clauses with it.
-    pub(crate) fn push(&mut self, variable: u32, clauses: &[u32]) -> Result<(), AllocError> {
+    pub(crate) fn push(&mut self, literal: Literal, clauses: &[u32]) -> Result<(), AllocError> {
         let start = self.places.len();
         self.places.extend_from_slice(clauses)?;
         self.records.push(Record {
-            variable,
+            literal,
             start,
             end: self.places.len(),
             is_over: false,
             is_wanted: false,
         })?;
         let len = self.records.len();
-        if let Some(home) = self.homes.get_mut(variable as usize) {
+        if let Some(home) = self.homes.get_mut(literal.variable() as usize) {
             *home = len;
         }
         Ok(())
@@ -146,15 +147,15 @@ impl<A: Allocator + Copy> Eliminated<A> {
             }
             record.is_over = true;
             let Record {
-                variable,
+                literal,
                 start,
                 end,
                 ..
             } = *record;
-            if let Some(home) = self.homes.get_mut(variable as usize) {
+            if let Some(home) = self.homes.get_mut(literal.variable() as usize) {
                 *home = 0;
             }
-            activity.bring_back(variable);
+            activity.bring_back(literal.variable());
             self.restore_clauses(database, watches, start, end)?;
         }
         Ok(())
@@ -223,14 +224,26 @@ impl<A: Allocator + Copy> Eliminated<A> {
         ensures within { IfSome result (λ l. l.variable < length trail.now.values.items) }
         ensures unset { IfSome result (λ l. value_of trail.now.values.items l ≡ None) }
     {
-        for _ in 0..self.left {
-            self.left = self.left.saturating_sub(1);
-            let record = *self.records.get(self.left)?;
-            if !record.is_over && (record.variable as usize) < trail.values.len() {
-                let positive = self.needs_true(database, trail, record);
-                let l = Literal::new(record.variable, positive);
+        let Some((index, l)) = self.last_left(database, trail) else {
+            self.left = 0;
+            return None;
+        };
+        self.left = index;
+        Some(l)
+    }
+
+    // The last one without a value of those that are left, with its place and the sign that its clauses ask for.
+    fn last_left(&self, database: &Database<A>, trail: &Trail<A>) -> Option<(usize, Literal)>
+        ensures within { IfSome result (λ found. found.1.variable < length trail.now.values.items) }
+        ensures unset { IfSome result (λ found. value_of trail.now.values.items found.1 ≡ None) }
+    {
+        for index in (0..self.left).rev() {
+            let record = *self.records.get(index)?;
+            let variable = record.literal.variable();
+            if !record.is_over && (variable as usize) < trail.values.len() {
+                let l = Literal::new(variable, self.needs_true(database, trail, record));
                 if let None = trail.value(l) {
-                    return Some(l);
+                    return Some((index, l));
                 }
             }
         }
@@ -243,7 +256,7 @@ impl<A: Allocator + Copy> Eliminated<A> {
             if let Some(place) = self.places.get(index) {
                 let place = *place as usize;
                 if place < database.len()
-                    && asks_for(trail, database.clause(place), record.variable)
+                    && asks_for(trail, database.clause(place), record.literal)
                 {
                     return true;
                 }
@@ -253,14 +266,14 @@ impl<A: Allocator + Copy> Eliminated<A> {
     }
 }
 
-// Whether a clause has a variable itself, and no true literal.
-fn asks_for<A: Allocator + Copy>(trail: &Trail<A>, clause: &[Literal], variable: u32) -> bool {
+// Whether a clause has a literal, and no true one.
+fn asks_for<A: Allocator + Copy>(trail: &Trail<A>, clause: &[Literal], literal: Literal) -> bool {
     let mut has = false;
     for l in clause {
         if let Some(true) = trail.value(*l) {
             return false;
         }
-        has |= l.is_positive() && l.variable() == variable;
+        has |= l.code() == literal.code();
     }
     has
 }
