@@ -238,10 +238,19 @@ impl<A: Allocator + Copy> Eliminated<A> {
         ensures unset { IfSome result (λ found. value_of trail.now.values.items found.1 ≡ None) }
     {
         for index in (0..self.left).rev() {
-            let record = *self.records.get(index)?;
-            let variable = record.literal.variable();
-            if !record.is_over && (variable as usize) < trail.values.len() {
-                let l = Literal::new(variable, self.needs_true(database, trail, record));
+            let Record {
+                literal,
+                start,
+                end,
+                is_over,
+                ..
+            } = *self.records.get(index)?;
+            let variable = literal.variable();
+            if !is_over && (variable as usize) < trail.values.len() {
+                let l = Literal::new(
+                    variable,
+                    self.needs_true(database, trail, literal, start, end),
+                );
                 if let None = trail.value(l) {
                     return Some((index, l));
                 }
@@ -250,14 +259,19 @@ impl<A: Allocator + Copy> Eliminated<A> {
         None
     }
 
-    // Whether a clause that was taken out has the variable itself, and no true literal.
-    fn needs_true(&self, database: &Database<A>, trail: &Trail<A>, record: Record) -> bool {
-        for index in record.start..record.end {
+    // Whether one of the listed clauses has a literal, and no true one.
+    fn needs_true(
+        &self,
+        database: &Database<A>,
+        trail: &Trail<A>,
+        literal: Literal,
+        start: usize,
+        end: usize,
+    ) -> bool {
+        for index in start..end {
             if let Some(place) = self.places.get(index) {
                 let place = *place as usize;
-                if place < database.len()
-                    && asks_for(trail, database.clause(place), record.literal)
-                {
+                if place < database.len() && asks_for(trail, database.clause(place), literal) {
                     return true;
                 }
             }
