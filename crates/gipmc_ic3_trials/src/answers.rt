@@ -6,38 +6,38 @@ use gipmc_ic3::{Verdict, decide};
 use gipsat_solver::Literal;
 use std::alloc::{AllocError, Allocator};
 
-// What the engine said.
+// What the engine answers.
 #[derive(Clone, Copy, PartialEq, Eq, Debug)]
-enum Said {
+enum Answer {
     // The circuit fails by a trace of so many moments.
     Fails(usize),
     Safe,
     Unknown,
 }
 
-// What is said of a circuit, by at most so many calls.
-fn said<A: Allocator + Copy>(
+// The answer about a circuit, by at most so many calls.
+fn answer_of<A: Allocator + Copy>(
     alloc: A,
     circuit: &Circuit<A>,
     bad: Literal,
     calls: u64,
-) -> Result<Said, AllocError> {
+) -> Result<Answer, AllocError> {
     Ok(match decide(alloc, circuit, bad, calls)? {
-        Verdict::Fails(trace) => Said::Fails(trace.inputs.len()),
-        Verdict::Safe(_) => Said::Safe,
-        Verdict::Unknown => Said::Unknown,
+        Verdict::Fails(trace) => Answer::Fails(trace.inputs.len()),
+        Verdict::Safe(_) => Answer::Safe,
+        Verdict::Unknown => Answer::Unknown,
     })
 }
 
-// What is said of the shift register with a reset and a constraint.
-fn said_of_register<A: Allocator + Copy>(
+// The answer about the shift register with a reset and a constraint.
+fn answer_of_register<A: Allocator + Copy>(
     alloc: A,
     reset: Option<bool>,
     constraint: Literal,
-) -> Result<Said, AllocError> {
+) -> Result<Answer, AllocError> {
     let mut circuit = shift_register(alloc, reset)?;
     circuit.constraints.push(constraint)?;
-    said(alloc, &circuit, Literal::new(6, true), 1000)
+    answer_of(alloc, &circuit, Literal::new(6, true), 1000)
 }
 
 #[test]
@@ -45,15 +45,18 @@ fn finds_shortest_traces(rt: HostRuntime) -> Result<(), AllocError> {
     // No constraint.
     let none = Literal::new(0, false);
     assert_eq!(rt;
-        said_of_register(rt.alloc(), Some(false), none)?,
-        Said::Fails(4)
+        answer_of_register(rt.alloc(), Some(false), none)?,
+        Answer::Fails(4)
     );
     // A free latch may begin at 1.
-    assert_eq!(rt; said_of_register(rt.alloc(), None, none)?, Said::Fails(1));
+    assert_eq!(rt;
+        answer_of_register(rt.alloc(), None, none)?,
+        Answer::Fails(1)
+    );
     let circuit = counter(rt.alloc())?;
     assert_eq!(rt;
-        said(rt.alloc(), &circuit, Literal::new(6, true), 1000)?,
-        Said::Fails(4)
+        answer_of(rt.alloc(), &circuit, Literal::new(6, true), 1000)?,
+        Answer::Fails(4)
     );
     Ok(())
 }
@@ -62,23 +65,23 @@ fn finds_shortest_traces(rt: HostRuntime) -> Result<(), AllocError> {
 fn constraints_hold_at_each_moment(rt: HostRuntime) -> Result<(), AllocError> {
     // The input is always 0.
     assert_eq!(rt;
-        said_of_register(rt.alloc(), Some(false), Literal::new(1, false))?,
-        Said::Safe
+        answer_of_register(rt.alloc(), Some(false), Literal::new(1, false))?,
+        Answer::Safe
     );
     // Only the last moment would break this.
     assert_eq!(rt;
-        said_of_register(rt.alloc(), Some(false), Literal::new(4, false))?,
-        Said::Safe
+        answer_of_register(rt.alloc(), Some(false), Literal::new(4, false))?,
+        Answer::Safe
     );
-    // No initial moment breaks this, so free latches begin at 0.
+    // It excludes the bad literal at each moment.
     assert_eq!(rt;
-        said_of_register(rt.alloc(), None, Literal::new(5, false))?,
-        Said::Safe
+        answer_of_register(rt.alloc(), None, Literal::new(5, false))?,
+        Answer::Safe
     );
     // No moment meets this.
     assert_eq!(rt;
-        said_of_register(rt.alloc(), None, Literal::new(0, true))?,
-        Said::Safe
+        answer_of_register(rt.alloc(), None, Literal::new(0, true))?,
+        Answer::Safe
     );
     Ok(())
 }
@@ -87,22 +90,22 @@ fn constraints_hold_at_each_moment(rt: HostRuntime) -> Result<(), AllocError> {
 fn finds_invariants(rt: HostRuntime) -> Result<(), AllocError> {
     let circuit = ring(rt.alloc())?;
     assert_eq!(rt;
-        said(rt.alloc(), &circuit, Literal::new(6, true), 1000)?,
-        Said::Safe
+        answer_of(rt.alloc(), &circuit, Literal::new(6, true), 1000)?,
+        Answer::Safe
     );
     // A constant.
     assert_eq!(rt;
-        said(rt.alloc(), &circuit, Literal::new(0, true), 1000)?,
-        Said::Safe
+        answer_of(rt.alloc(), &circuit, Literal::new(0, true), 1000)?,
+        Answer::Safe
     );
     assert_eq!(rt;
-        said(rt.alloc(), &circuit, Literal::new(0, false), 1000)?,
-        Said::Fails(1)
+        answer_of(rt.alloc(), &circuit, Literal::new(0, false), 1000)?,
+        Answer::Fails(1)
     );
     // An input.
     assert_eq!(rt;
-        said(rt.alloc(), &circuit, Literal::new(1, true), 1000)?,
-        Said::Fails(1)
+        answer_of(rt.alloc(), &circuit, Literal::new(1, true), 1000)?,
+        Answer::Fails(1)
     );
     Ok(())
 }
@@ -111,12 +114,12 @@ fn finds_invariants(rt: HostRuntime) -> Result<(), AllocError> {
 fn gives_up_after_some_calls(rt: HostRuntime) -> Result<(), AllocError> {
     let circuit = ring(rt.alloc())?;
     assert_eq!(rt;
-        said(rt.alloc(), &circuit, Literal::new(6, true), 0)?,
-        Said::Unknown
+        answer_of(rt.alloc(), &circuit, Literal::new(6, true), 0)?,
+        Answer::Unknown
     );
     assert_eq!(rt;
-        said(rt.alloc(), &circuit, Literal::new(6, true), 3)?,
-        Said::Unknown
+        answer_of(rt.alloc(), &circuit, Literal::new(6, true), 3)?,
+        Answer::Unknown
     );
     Ok(())
 }
