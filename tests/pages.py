@@ -61,6 +61,7 @@ PARTS = {
     "gipsat_drat": (EXAMPLE, PEER + "drat-trim", PROVED, TESTED, CHOICES, COST),
     "gipmc_circuits": (EXAMPLE, PEER + "AIGER", PROVED, TESTED, CHOICES, COST),
     "gipmc_aiger": (EXAMPLE, PEER + "AIGER 1.9", PROVED, TESTED, CHOICES, COST),
+    "gipmc_ic3": (EXAMPLE, PROVED, TESTED, CHOICES, COST),
     "gip_lines": (PROVED, TESTED, CHOICES, COST),
     "gip": (EXAMPLE,),
     "giputils_uses": (PROVED, TESTED, CHOICES),
