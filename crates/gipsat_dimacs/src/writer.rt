@@ -11,7 +11,10 @@ use std::io::Write;
 /// # Errors
 ///
 /// Where no memory is left. Then a part of the line may stand behind the text.
-pub fn write_clause<A: Allocator>(text: &mut Vec<u8, A>, clause: &[Literal]) -> Result<(), AllocError>
+pub fn write_clause<A: Allocator>(
+    text: &mut Vec<u8, A>,
+    clause: &[Literal],
+) -> Result<(), AllocError>
     ensures written { OnOk result (text.new.items ≡ text.old.items ++ clause_line clause.now) }
 {
     for l in clause {

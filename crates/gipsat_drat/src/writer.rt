@@ -8,10 +8,10 @@ ghost use Rattle.gipsat_drat.specs.Steps.{clause_bytes, end_bytes, literal_numbe
 ghost use Rattle.gipsat_drat.specs.Steps.{step_bytes, steps_bytes};
 ghost use Rattle.gipsat_drat.specs.declared.writer.Fault.TheVariants as fault;
 
-use giputils_text::write_groups;
 use gipsat_dimacs::write_clause;
 use gipsat_solver::progress::Progress;
 use gipsat_solver::{Literal, Solver};
+use giputils_text::write_groups;
 use std::alloc::{AllocError, Allocator, Global};
 use std::io::{self, Write};
 use std::ops::ControlFlow;
