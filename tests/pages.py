@@ -25,7 +25,8 @@ stands there, or in the README beside it, by name.
 
 Each line of an example in Rust on a README that is not quoted stands in giputils_trials/src/examples.rt, its imports
 under the names that `giputils` gives them. The page of `gip` has the script that `gip` is run on, with its replies. The
-README of the root links to that of each crate. The lines that docs/ELSEWHERE.md names are as crates.txt has them.
+README of the root links to that of each crate. The folders that docs/ELSEWHERE.md names for a part are, with those of the rows that it names, all that crates.txt asks
+for.
 docs/DEFINITIONS.md is written by `--write` alone: each word of specs/ that a public contract uses, with its arguments
 and the comment above its definition; and the crate `giputils` hands out the files that have these words, and all public
 lemmas. On the map, docs/DESIGN.md, the entry of each crate names all its modules, and no module that is not there. Each
@@ -395,11 +396,22 @@ def readme_of_crate(page):
 
 
 def elsewhere(page):
-    """What is wrong with the page on other repositories: lines that crates.txt does not have."""
+    """What is wrong with the page on other repositories: folders of a part that are not its last one and all below it."""
     text = page.read_text(encoding="utf-8")
-    lines = (ROOT / "crates.txt").read_text(encoding="utf-8").splitlines()
-    named = re.findall(r"`(\w+: [^`]*)`", text)
-    return sound(page, text) + [f"crates.txt has no line {line}" for line in named if line not in lines]
+    lines = re.findall(r"^(\w+):(.*)$", (ROOT / "crates.txt").read_text(encoding="utf-8"), re.MULTILINE)
+    below = {crate: [other for other in others.split() if (CRATES / other).is_dir()] for crate, others in lines}
+
+    def needed(crate):
+        return {crate}.union(*(needed(other) for other in below.get(crate, [])))
+
+    complaints, rows = sound(page, text), {}
+    for part, folders in re.findall(r"^\| ([^|]+) \| ([^|]*`\w+`) \|$", text, re.MULTILINE):
+        named = re.findall(r"`(\w+)`", folders)
+        others = re.match(r"those of (?:the )?([^,]+),", folders)
+        rows[part] = set(named) | (rows.get(others[1], set()) if others else set())
+        if rows[part] != needed(named[-1]):
+            complaints.append(f"the folders of {part} are not {', '.join(sorted(needed(named[-1])))}")
+    return complaints if rows else [*complaints, "it has no table of parts"]
 
 
 def handed_on():
@@ -412,7 +424,8 @@ def words_of_contracts():
     """The words of specs/ that public contracts use, each with the file of specs/ that it comes from."""
     imports = re.compile(r"ghost use Rattle\.(\w+\.specs\.(?!contracts|declared)[\w.]+)\.\{([^}]*)\}")
     found = {}
-    for folder in sorted(path.parent for path in CRATES.glob("*/CALLING.md")):
+    pages = (path for path in CRATES.glob("*/*.md") if "<!-- quote contracts" in path.read_text(encoding="utf-8"))
+    for folder in sorted({path.parent for path in pages}):
         crate = Crate(folder)
         for text in crate.texts.values():
             lines = "\n".join(contracts(crate, text, set(), set(), set()))

@@ -5,11 +5,12 @@ use Rattle.gip_lines.specs.Fault.{fault_text, fault_status}
 use Rattle.std.specs.Str.{bytes_eq}
 use Rattle.gip_lines.specs.Vectors.Replies.{bits_reply, bits_text}
 use Rattle.gip_lines.specs.Vectors.Lines.{bits_of_line, bits_of_lines, first_line_without_bits}
-use Rattle.gip_lines.specs.Scripts.Lines.{number_up_to, pairs_of, line_of, lines_of, first_other_line}
+use Rattle.gip_lines.specs.Scripts.Lines.{pairs_of, line_of, lines_of, first_other_line}
 use Rattle.gip_lines.specs.Scripts.Replies.{start_ranks, ranks_with, greatest, without, script_text}
 use Rattle.gip_lines.specs.declared.fault.GipFault.TheVariants as fault
 use Rattle.gip_lines.specs.declared.scripts.lines.Line.TheVariants.{Push, Pop, Len, Clear, Rank, Ranks, Up, Down}
 use Rattle.giputils_text.specs.Lines.{line_feed, space, pieces, text_lines}
+use Rattle.giputils_text.specs.Numbers.{number_up_to}
 
 -- a text of some lines, each with a line feed
 abbrev text_of : List (List ℕ) → List ℕ

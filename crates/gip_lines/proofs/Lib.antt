@@ -2,7 +2,6 @@ mod BinaryTexts
 mod Examples
 mod Greatest
 mod MatchingReplies
-mod Numbers
 mod Pairs
 mod Readings
 mod Records

@@ -2,12 +2,13 @@
 use Rattle.std.proofs.Common.{◌≡◌, ℕ, zero, suc, ◌+◌, ◌<◌, List, [], ◌∷◌, length, take, get_or, refl, ap, arith, Option, Some, None, add-one}
 use Rattle.std.specs.Prelude.{◌&&◌, nat_lt, nat_le, if◌then◌else◌, slice_set}
 use Rattle.std.specs.Option.{option_map_or}
-use Rattle.gip_lines.specs.Scripts.Lines.{greatest_key, greatest_rank, most_pairs, number_up_to, without_words, only_key, with_pair, pairs_of, rank_line, given_with}
+use Rattle.gip_lines.specs.Scripts.Lines.{greatest_key, greatest_rank, most_pairs, without_words, only_key, with_pair, pairs_of, rank_line, given_with}
 use Rattle.gip_lines.specs.Scripts.Replies.{ranks_with}
 use Rattle.gip_lines.specs.declared.scripts.lines.Line.{Line}
 use Rattle.gip_lines.specs.declared.scripts.lines.Line.TheVariants.{Ranks}
 use Rattle.giputils_text.proofs.Pieces.{pieces-cons}
 use Rattle.giputils_text.specs.Lines.{space, pieces}
+use Rattle.giputils_text.specs.Numbers.{number_up_to}
 
 -- one pair and more words are no line of one rank
 rank_line-with_two : (pair : ℕ × ℕ) (key rank : Option ℕ) (pairs : Option (List (ℕ × ℕ)))

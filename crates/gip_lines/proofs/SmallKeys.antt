@@ -3,17 +3,15 @@ use Rattle.std.proofs.Common.{◌≡◌, ℕ, ◌≤◌, Bool, true, false, cond
 use Rattle.std.specs.List.{list_all}
 use Rattle.std.specs.Option.{option_map}
 use Rattle.std.specs.Prelude.{nat_le}
-use Rattle.gip_lines.specs.Scripts.Lines.{number_up_to, greatest_key, greatest_rank, without_words, only_key, with_pair, pairs_of, rank_line, none_given, given_with, ranks_line, line_of_words, line_of, has_small_key}
+use Rattle.gip_lines.specs.Scripts.Lines.{greatest_key, greatest_rank, without_words, only_key, with_pair, pairs_of, rank_line, none_given, given_with, ranks_line, line_of_words, line_of, has_small_key}
 use Rattle.gip_lines.specs.declared.scripts.lines.Line.{Line}
 use Rattle.gip_lines.specs.declared.scripts.lines.Line.TheVariants.{Push, Pop, Len, Clear, Rank, Ranks, Up, Down}
 use Rattle.giputils_text.specs.Lines.{space, pieces}
-
--- the number of a word is no greater than it may be
-number_up_to-small : (greatest : ℕ) (word : List ℕ) (n : ℕ) → number_up_to greatest word ≡ Some n → n ≤ greatest
-number_up_to-small greatest word n e = grind arith
+use Rattle.giputils_text.specs.Numbers.{number_up_to}
+use Rattle.giputils_text.proofs.NumberLemmas.{number_up_to-at_most}
 
 small_key : (word : List ℕ) (k : ℕ) → number_up_to greatest_key word ≡ Some k → nat_le k greatest_key ≡ true
-small_key word k e = le-leb k greatest_key (number_up_to-small greatest_key word k e)
+small_key word k e = le-leb k greatest_key (number_up_to-at_most greatest_key word k e)
 
 -- what a line says has a small key, if it has one
 abbrev IsSmall : Option Line → Type 0

@@ -1,4 +1,4 @@
-//! A text as lines, and what they say.
+//! What the lines of a text say.
 ghost use Rattle.std.specs.Prelude.{◌≡◌, ℕ, List, Option, map, IfOk, IfErr};
 ghost use Rattle.gip_lines.specs.Fault.{StopsParsing};
 ghost use Rattle.gip_lines.specs.Texts.{readings};

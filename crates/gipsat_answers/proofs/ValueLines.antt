@@ -2,7 +2,8 @@
 use Rattle.std.proofs.Common.{◌≡◌, ◌<◌, ◌≤◌, ℕ, suc, ◌+◌, ◌-◌, List, [], ◌∷◌, ◌++◌, refl, sym, ap, ◌∙◌, arith, codes}
 use Rattle.gipsat_solver.specs.Formulas.{Assignment}
 use Rattle.gipsat_dimacs.specs.Texts.{Word}
-use Rattle.gipsat_answers.specs.Answers.{laid_out, literal_word, value_words}
+use Rattle.gipsat_answers.specs.Answers.{laid_out, value_words}
+use Rattle.gipsat_dimacs.specs.Writer.{literal_word}
 
 value_words-cons : (a : Assignment) (k n : ℕ) → k < n
     → value_words a k (n - k) ≡ literal_word (a k) k ∷ value_words a (k + 1) (n - (k + 1))

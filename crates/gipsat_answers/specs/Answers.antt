@@ -1,13 +1,13 @@
 -- The texts of answers.
-use Rattle.std.specs.Prelude.{◌≡◌, ℕ, zero, suc, ◌+◌, Bool, true, List, [], ◌∷◌, ◌++◌, length, nat_le, if◌then◌else◌, codes, decimal, IsTrue, Option}
+use Rattle.std.specs.Prelude.{◌≡◌, ℕ, zero, suc, ◌+◌, Bool, true, List, [], ◌∷◌, ◌++◌, length, nat_le, if◌then◌else◌, codes, IsTrue, Option}
 use Rattle.std.specs.Io.KnownBytes.{Appends}
 use Rattle.gipsat_solver.specs.Formulas.{Assignment, satisfies, IsSatisfiable}
-use Rattle.std.specs.Str.{byte}
 use Rattle.gipsat_solver.specs.Database.{SolverState}
 use Rattle.gipsat_solver.specs.Answers.{IsRight}
 use Rattle.gipsat_solver.specs.declared.solver.Answer.{Answer}
 use Rattle.gipsat_dimacs.specs.Instances.{HasLearnedNone}
 use Rattle.gipsat_dimacs.specs.Texts.{Problem, Word}
+use Rattle.gipsat_dimacs.specs.Writer.{literal_word}
 use Rattle.gipsat_dimacs.specs.declared.instance.Instance.{Instance}
 use Rattle.gipsat_answers.specs.declared.answers.Solved.{Solved}
 use Rattle.gipsat_answers.specs.declared.answers.Verdict.{Verdict}
@@ -16,10 +16,6 @@ use Rattle.gipsat_answers.specs.declared.answers.Verdict.TheVariants.{Satisfiabl
 -- the most bytes of a line
 abbrev pub width : ℕ
 width = 78
-
--- the literal of a variable that has this value: variable k of a formula is k + 1 in a text
-abbrev pub literal_word : Bool → ℕ → Word
-literal_word value k = if value then decimal (k + 1) else byte "-" ∷ decimal (k + 1)
 
 -- the true literals of n variables from number k on, and a 0
 abbrev pub value_words : Assignment → ℕ → ℕ → List Word

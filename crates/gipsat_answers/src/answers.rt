@@ -2,7 +2,8 @@
 ghost use Rattle.std.specs.Prelude.{◌≡◌, ◌≢◌, ◌++◌, ◌<◌, ◌-◌, ◌^◌, ◌∷◌, [], List, codes, decimal, IfOk, OnOk};
 ghost use Rattle.gipsat_solver.specs.Values.{assignment_in};
 ghost use Rattle.gipsat_dimacs.specs.Texts.{Word};
-ghost use Rattle.gipsat_answers.specs.Answers.{laid_out, literal_word, values_text, verdict_status, witness_text, TellsRight};
+ghost use Rattle.gipsat_dimacs.specs.Writer.{literal_word};
+ghost use Rattle.gipsat_answers.specs.Answers.{laid_out, values_text, verdict_status, witness_text, TellsRight};
 
 use gipsat_solver::{Answer, Solver};
 use std::alloc::{AllocError, Allocator, Global};

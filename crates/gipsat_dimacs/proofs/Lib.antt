@@ -1,7 +1,6 @@
 mod ErrorLemmas
 mod Examples
 mod LineLemmas
-mod NumberLemmas
 mod ParserLemmas
 mod ReaderLemmas
 mod SplitLemmas

@@ -2,9 +2,9 @@
 use Rattle.std.specs.Prelude.{◌≡◌, ℕ, ◌+◌, ◌-◌, ◌^◌, min, max, ◌==◌, ◌&&◌, ◌||◌, Bool, true, false, not, List, [], ◌∷◌, ◌++◌, length, drop, filter, map, nat_lt, nat_le, slice_index, if◌then◌else◌, codes, Option, Some, None}
 use Rattle.std.specs.List.{list_any, slice_split}
 use Rattle.std.specs.Option.{option_map, option_and_then}
-use Rattle.std.specs.Str.{all_ascii_digits, byte, bytes_eq}
-use Rattle.std.specs.Str.Parse.{digits_value}
-use Rattle.giputils_text.specs.Lines.{line_feed}
+use Rattle.std.specs.Str.{byte, bytes_eq}
+use Rattle.giputils_text.specs.Lines.{line_feed, pieces}
+use Rattle.giputils_text.specs.Numbers.{number_up_to}
 use Rattle.gipsat_solver.specs.Formulas.{Clause, Formula}
 use Rattle.gipsat_dimacs.specs.declared.rule.HeaderRule.{HeaderRule}
 use Rattle.gipsat_dimacs.specs.declared.rule.HeaderRule.TheVariants.{Strict, Relaxed}
@@ -80,7 +80,7 @@ clause_words (line ∷ lines) = if ends_text line then [] else uncommented line 
 
 -- the words of each line of a text
 abbrev pub word_lines : List ℕ → List (List Word)
-word_lines text = map words (slice_split ends_line text)
+word_lines text = map words (pieces line_feed text)
 
 -- the greatest number that a text may name
 abbrev pub greatest_number : ℕ
@@ -88,9 +88,7 @@ greatest_number = 2147483647
 
 -- the number that a word of decimal digits writes, up to the greatest
 abbrev pub number_of : Word → Option ℕ
-number_of word =
-    if nat_lt 0 (length word) && all_ascii_digits word && nat_le (digits_value 10 word) greatest_number
-    then Some (digits_value 10 word) else None
+number_of word = number_up_to greatest_number word
 
 -- variable n of a text that has so many, or its negation; the formula counts its variables from 0
 abbrev pub literal_of : ℕ → Bool → ℕ → Option Item

@@ -1,4 +1,4 @@
-//! A reader of formulas as texts in the DIMACS form.
+//! Formulas as texts in the DIMACS form: a reader of formulas, and a writer of clauses.
 #![tactic(auto)]
 
 pub mod error;

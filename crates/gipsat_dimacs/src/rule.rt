@@ -2,8 +2,7 @@
 ghost use Rattle.std.specs.Prelude.{◌≡◌};
 ghost use Rattle.gipsat_dimacs.specs.Texts.{variable_limit};
 
-// The greatest variable that a text may name.
-const GREATEST_VARIABLE: u32 = 2_147_483_647;
+use crate::words::GREATEST_NUMBER;
 
 /// What the counts of variables and clauses in a header mean to a reader.
 #[derive(Clone, Copy, Debug, PartialEq, Eq, Hash)]
@@ -21,7 +20,7 @@ impl HeaderRule {
     {
         match self {
             HeaderRule::Strict => variables,
-            HeaderRule::Relaxed => GREATEST_VARIABLE,
+            HeaderRule::Relaxed => GREATEST_NUMBER,
         }
     }
 }

@@ -15,7 +15,7 @@ pub enum Item {
 }
 
 // The greatest number that a text may name.
-const GREATEST_NUMBER: u64 = 2_147_483_647;
+pub const GREATEST_NUMBER: u32 = 2_147_483_647;
 
 // Whether a byte stands between words.
 pub fn is_blank(byte: u8) -> bool
@@ -34,12 +34,15 @@ pub fn compression_of(word: &[u8]) -> Option<Compression> {
     }
 }
 
-// Why a word is no number.
+// Why a word writes no number that a text may name.
 fn not_a_number(word: &[u8]) -> Reason {
-    match compression_of(word) {
-        Some(compression) => Reason::Compressed(compression),
-        None => Reason::Word,
+    if let Some(compression) = compression_of(word) {
+        return Reason::Compressed(compression);
     }
+    if word.is_empty() || word.iter().any(|byte| !byte.is_ascii_digit()) {
+        return Reason::Word;
+    }
+    Reason::Number
 }
 
 // The number that a word writes.
@@ -48,20 +51,10 @@ pub fn number(word: &[u8]) -> Result<u32, Reason>
     ensures small { IfOk result (λ n. n < 2 ^ 31) }
     ensures err { OnErr result (number_of word.now ≡ None) }
 {
-    if word.is_empty() {
-        return Err(Reason::Word);
+    match giputils_text::number(word, GREATEST_NUMBER) {
+        Some(n) => Ok(n),
+        None => Err(not_a_number(word)),
     }
-    let mut value: u64 = 0;
-    for digit in word {
-        if !digit.is_ascii_digit() {
-            return Err(not_a_number(word));
-        }
-        value = value * 10 + u64::from(*digit - b'0');
-        if value > GREATEST_NUMBER {
-            return Err(Reason::Number);
-        }
-    }
-    Ok(value as u32)
 }
 
 // What a word of a clause says, where there are so many variables.

@@ -26,7 +26,7 @@ pub fn write_clause<A: Allocator>(
 
 // Writes a literal, and a space behind it.
 fn write_literal<A: Allocator>(text: &mut Vec<u8, A>, l: Literal) -> Result<(), AllocError>
-    ensures { OnOk result (text.new.items ≡ text.old.items ++ literal_text l) }
+    ensures written { OnOk result (text.new.items ≡ text.old.items ++ literal_text l) }
 {
     if !l.is_positive() {
         text.push(b'-')?;

@@ -1,2 +1,3 @@
 mod GroupLemmas
+pub mod NumberLemmas
 pub mod Pieces

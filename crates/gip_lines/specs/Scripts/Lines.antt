@@ -1,12 +1,12 @@
 -- The lines of a script and the form of each.
 use Rattle.std.specs.Prelude.{ℕ, ◌&&◌, Bool, true, List, [], ◌∷◌, length, nat_lt, nat_le, slice_set, if◌then◌else◌, codes, Option, Some, None}
 use Rattle.std.specs.Option.{option_map}
-use Rattle.std.specs.Str.{all_ascii_digits, bytes_eq}
-use Rattle.std.specs.Str.Parse.{digits_value}
+use Rattle.std.specs.Str.{bytes_eq}
 use Rattle.gip_lines.specs.Texts.{HasForm, said_in, first_other}
 use Rattle.gip_lines.specs.declared.scripts.lines.Line.{Line}
 use Rattle.gip_lines.specs.declared.scripts.lines.Line.TheVariants.{Push, Pop, Len, Clear, Rank, Ranks, Up, Down}
 use Rattle.giputils_text.specs.Lines.{space, pieces}
+use Rattle.giputils_text.specs.Numbers.{number_up_to}
 
 -- the greatest key that a line can name
 abbrev pub greatest_key : ℕ
@@ -19,12 +19,6 @@ greatest_rank = 4294967295
 -- the most pairs of a key and its rank that a line can name
 abbrev pub most_pairs : ℕ
 most_pairs = 16
-
--- the number that a word of decimal digits alone writes, up to a greatest one
-abbrev pub number_up_to : ℕ → List ℕ → Option ℕ
-number_up_to greatest word =
-    if nat_lt 0 (length word) && all_ascii_digits word && nat_le (digits_value 10 word) greatest
-    then Some (digits_value 10 word) else None
 
 -- the line, where no word follows its name
 abbrev pub without_words : Line → List (List ℕ) → Option Line

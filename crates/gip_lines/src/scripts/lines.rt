@@ -1,11 +1,12 @@
 //! The lines of a script, and what each says.
 ghost use Rattle.std.specs.Prelude.{◌≡◌, ◌<◌, ◌≤◌, ◌∷◌, [], List, ℕ, length, IfSome, MatchOption};
 ghost use Rattle.std.specs.Option.{option_map_or};
-ghost use Rattle.gip_lines.specs.Scripts.Lines.{greatest_key, number_up_to, without_words, only_key, with_pair, pairs_of, rank_line, ranks_line, line_of};
+ghost use Rattle.gip_lines.specs.Scripts.Lines.{greatest_key, without_words, only_key, with_pair, pairs_of, rank_line, ranks_line, line_of};
 ghost use Rattle.giputils_text.specs.Lines.{space, pieces};
+ghost use Rattle.giputils_text.specs.Numbers.{number_up_to};
 
 use crate::texts::Said;
-use giputils_text::split_once;
+use giputils_text::{number, split_once};
 use std::alloc::{AllocError, Allocator};
 
 /// How many keys a line can name.
@@ -138,26 +139,6 @@ fn split_pair(words: &[u8]) -> Option<((u8, u32), Option<&[u8]>)>
     let (key, more) = split_once(words, b' ');
     let (rank, more) = split_once(more?, b' ');
     Some(((key_number(key)?, number(rank, u32::MAX)?), more))
-}
-
-// The number that a word of decimal digits alone writes, where it is no greater than `greatest`.
-fn number(word: &[u8], greatest: u32) -> Option<u32>
-    ensures { result ≡ number_up_to greatest word.now }
-{
-    if word.is_empty() {
-        return None;
-    }
-    let mut value: u64 = 0;
-    for digit in word {
-        if !digit.is_ascii_digit() {
-            return None;
-        }
-        value = value * 10 + u64::from(*digit - b'0');
-        if value > u64::from(greatest) {
-            return None;
-        }
-    }
-    Some(value as u32)
 }
 
 // The key that a word writes, where a line can name it.

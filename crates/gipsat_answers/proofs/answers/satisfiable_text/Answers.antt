@@ -1,7 +1,8 @@
 -- A variable more, and the end.
 use Rattle.std.proofs.Common.{◌≡◌, ◌++◌, ◌∙◌, ap, refl, codes}
 use Rattle.gipsat_solver.specs.Values.{assignment_in}
-use Rattle.gipsat_answers.specs.Answers.{literal_word, values_text}
+use Rattle.gipsat_answers.specs.Answers.{values_text}
+use Rattle.gipsat_dimacs.specs.Writer.{literal_word}
 use Rattle.gipsat_answers.proofs.ValueLines.{value_more, value_last}
 use Rattle.gipsat_answers.proofs.answers.satisfiable_text.Goals as goal
 

@@ -2,12 +2,11 @@
 use Rattle.std.proofs.Common.{◌≡◌, ◌≤◌, true, take}
 use Rattle.std.specs.Str.{all_ascii_digits}
 use Rattle.std.specs.Str.Parse.{digits_value}
-use Rattle.gipsat_dimacs.specs.Texts.{greatest_number}
-use Rattle.gipsat_dimacs.proofs.words.number.Given as goal
+use Rattle.giputils_text.proofs.numbers.number.Given as goal
 
 abbrev pub invariant-loop-digit : goal.invariant-loop-digit
 invariant-loop-digit l = record {
   digits : all_ascii_digits (take l.digit-index l.word) ≡ true;
   value : l.value ≡ digits_value 10 (take l.digit-index l.word);
-  small : l.value ≤ greatest_number;
+  small : l.value ≤ l.greatest;
 }

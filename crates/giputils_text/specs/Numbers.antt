@@ -1,0 +1,10 @@
+-- A number in decimal digits.
+use Rattle.std.specs.Prelude.{ℕ, ◌&&◌, List, length, nat_lt, nat_le, if◌then◌else◌, Option, Some, None}
+use Rattle.std.specs.Str.{all_ascii_digits}
+use Rattle.std.specs.Str.Parse.{digits_value}
+
+-- the number that a word of decimal digits alone writes, up to a greatest one
+abbrev pub number_up_to : ℕ → List ℕ → Option ℕ
+number_up_to greatest word =
+    if nat_lt 0 (length word) && all_ascii_digits word && nat_le (digits_value 10 word) greatest
+    then Some (digits_value 10 word) else None
