@@ -43,7 +43,7 @@ ROOT = pathlib.Path(__file__).resolve().parent.parent
 CRATES = ROOT / "crates"
 GATHERED = ("giputils_base", "giputils_bits", "giputils_heap", "giputils_stat")
 WIDTH = 120
-LENGTHS = {"README.md": 80, "crates/README.md": 120, "crates/CALLING.md": 150}
+LENGTHS = {"README.md": 90, "crates/README.md": 120, "crates/CALLING.md": 150}
 PEER, PROVED, TESTED = "## What differs from ", "## What is proved", "## What is only tested"
 EXAMPLE, DIFFERS, CHOICES, COST = "## Example", PEER + "the Rust crate", "## Choices", "## Cost"
 ALL = (EXAMPLE, DIFFERS, PROVED, TESTED, CHOICES, COST)
@@ -62,6 +62,8 @@ PARTS = {
     "gipsat_drat": (EXAMPLE, PEER + "drat-trim", PROVED, TESTED, CHOICES, COST),
     "gipmc_circuits": (EXAMPLE, PEER + "AIGER", PROVED, TESTED, CHOICES, COST),
     "gipmc_aiger": (EXAMPLE, PEER + "AIGER 1.9", PROVED, TESTED, CHOICES, COST),
+    "gipmc_engines": (EXAMPLE, PROVED, TESTED, CHOICES, COST),
+    "gipmc": (PROVED, TESTED),
     "gip_lines": (PROVED, TESTED, CHOICES, COST),
     "gip": (EXAMPLE,),
     "giputils_uses": (PROVED, TESTED, CHOICES),

@@ -1,0 +1,13 @@
+-- One more place is told of.
+use Rattle.std.proofs.Common.{◌≡◌, length, arith, refl}
+use Rattle.std.proofs.lemmas.Grind.{common_steps}
+use Rattle.gipmc.proofs.Told.{TellsFirst-more}
+use Rattle.gipmc.proofs.answers.answer_all.Goals as goal
+
+pub loop-place-preserved : goal.loop-place-preserved
+loop-place-preserved g c = ?
+
+pub returns : goal.returns
+returns g c =
+    let all : c.loop-place.place ≡ length c.args.circuit.now.bads.items = grind (arith, common_steps) in
+    rw all at c.loop-place.invariant

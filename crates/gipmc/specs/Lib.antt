@@ -1,0 +1,3 @@
+-- What is answered about a circuit.
+pub mod Answers
+pub mod Statuses

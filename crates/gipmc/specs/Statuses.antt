@@ -1,0 +1,33 @@
+-- The status that a run ends with.
+use Rattle.std.specs.Prelude.{ℕ, Bool, Result, Ok, Err, if◌then◌else◌}
+use Rattle.gipmc.specs.declared.answers.Outcome.{Outcome}
+use Rattle.gipmc.specs.declared.answers.Outcome.TheVariants.{Fails, Safe, Open}
+
+-- where nothing is answered, or an answer is not verified
+abbrev pub refused_status : ℕ
+refused_status = 1
+
+-- where the arguments have no meaning
+abbrev pub usage_status : ℕ
+usage_status = 2
+
+-- of a text that is told
+abbrev pub telling_status : {E : Type 0} → Result Unit E → ℕ
+telling_status (Ok done) = 0
+telling_status (Err error) = refused_status
+
+-- of an outcome
+abbrev pub outcome_status : Outcome → ℕ
+outcome_status Fails = 10
+outcome_status Safe = 20
+outcome_status Open = 0
+
+-- of a search: that of its outcome
+abbrev pub search_status : {E : Type 0} → Result Outcome E → ℕ
+search_status (Ok outcome) = outcome_status outcome
+search_status (Err error) = refused_status
+
+-- of a check of an answer: 0 for a verified one alone
+abbrev pub verified_status : {E : Type 0} → Result Bool E → ℕ
+verified_status (Ok verified) = if verified then 0 else refused_status
+verified_status (Err error) = refused_status

@@ -1,0 +1,348 @@
+//! The tasks, from the bytes of texts to the bytes of an answer.
+ghost use Rattle.std.specs.Prelude.{◌≡◌, ℕ, ◌<◌, ◌++◌, codes, length, decimal, IfOk, IfSome, IsTrue, OnOk};
+ghost use Rattle.gipmc.specs.Answers.{Answers, Certifies, IsSafeAsked, IsSafeAt, Replays, Tells, TellsAsked, TellsFirst, both, named, outcome_of, verdict_text};
+ghost use Rattle.gipmc_aiger.specs.Circuits.{Writes};
+
+use crate::errors::TaskError;
+use gipmc_aiger::{read_circuit, read_invariant, read_witness, write_witness};
+use gipmc_circuits::{Circuit, certificate, certify, replay};
+use gipmc_engines::{Plan, Verdict, Watch, check};
+use gipsat_solver::Literal;
+use std::alloc::{AllocError, Allocator};
+use std::io::Write;
+
+/// What is known of some bad literals together.
+#[derive(Clone, Copy, PartialEq, Eq)]
+pub enum Outcome {
+    /// The circuit fails by one of them.
+    Fails,
+    /// It is safe as to each of them.
+    Safe,
+    /// Neither is known.
+    Open,
+}
+
+impl Outcome {
+    // What is known of these and of the other one.
+    fn and(self, other: Outcome) -> Outcome
+        ensures { result ≡ both self other }
+    {
+        match self {
+            Outcome::Fails => Outcome::Fails,
+            Outcome::Safe => other,
+            Outcome::Open => match other {
+                Outcome::Fails => Outcome::Fails,
+                Outcome::Safe => Outcome::Open,
+                Outcome::Open => Outcome::Open,
+            },
+        }
+    }
+}
+
+/// What is said, and what it says.
+#[derive(Drop)]
+pub struct Said<A: Allocator> {
+    /// The text.
+    pub text: Vec<u8, A>,
+    /// What it says of all the bad literals that are asked about.
+    pub outcome: Outcome,
+}
+
+/// Answers about the circuit that a text writes: about the bad literal at the place that is asked for, or about all.
+///
+/// # Errors
+/// - [`TaskError::Circuit`] where the text writes no circuit.
+/// - [`TaskError::NoBad`] where there is no bad literal at the place.
+/// - [`TaskError::Memory`] where memory is refused.
+pub fn answer<A: Allocator + Copy, W: Watch>(
+    alloc: A,
+    bytes: &[u8],
+    asked: Option<usize>,
+    plan: &Plan,
+    watch: &mut W,
+) -> Result<Said<A>, TaskError>
+    ensures { IfOk result (λ said. Answers A bytes.now asked said.outcome said.text.items) }
+{
+    let circuit = circuit_in(alloc, bytes)?;
+    answer_asked(alloc, &circuit, asked, plan, watch)
+}
+
+// The circuit that a text writes.
+fn circuit_in<A: Allocator + Copy>(alloc: A, bytes: &[u8]) -> Result<Circuit<A>, TaskError>
+    ensures { IfOk result (Writes bytes.now) }
+{
+    match read_circuit(alloc, bytes) {
+        Ok(circuit) => Ok(circuit),
+        Err(error) => Err(TaskError::Circuit(error)),
+    }
+}
+
+// Answers about a circuit.
+fn answer_asked<A: Allocator + Copy, W: Watch>(
+    alloc: A,
+    circuit: &Circuit<A>,
+    asked: Option<usize>,
+    plan: &Plan,
+    watch: &mut W,
+) -> Result<Said<A>, TaskError>
+    ensures { IfOk result (λ said. TellsAsked circuit.now asked said.outcome said.text.items) }
+{
+    match asked {
+        None => Ok(answer_all(alloc, circuit, plan, watch)?),
+        Some(place) if place < circuit.bads.len() => {
+            Ok(answer_at(alloc, circuit, place, plan, watch)?)
+        }
+        Some(place) => Err(TaskError::NoBad(place, circuit.bads.len())),
+    }
+}
+
+// Answers about all bad literals of a circuit.
+fn answer_all<A: Allocator + Copy, W: Watch>(
+    alloc: A,
+    circuit: &Circuit<A>,
+    plan: &Plan,
+    watch: &mut W,
+) -> Result<Said<A>, AllocError>
+    ensures { IfOk result (λ said.
+        TellsFirst circuit.now (length circuit.now.bads.items) said.outcome said.text.items) }
+{
+    let mut text = Vec::new(alloc);
+    let mut outcome = Outcome::Safe;
+    for place in 0..circuit.bads.len() {
+        let said = answer_at(alloc, circuit, place, plan, watch)?;
+        text.extend_from_slice(&said.text)?;
+        outcome = outcome.and(said.outcome);
+    }
+    Ok(Said { text, outcome })
+}
+
+// Answers about the bad literal at a place.
+fn answer_at<A: Allocator + Copy, W: Watch>(
+    alloc: A,
+    circuit: &Circuit<A>,
+    place: usize,
+    plan: &Plan,
+    watch: &mut W,
+) -> Result<Said<A>, AllocError>
+    requires { place < length circuit.now.bads.items }
+    ensures { IfOk result (λ said. Tells circuit.now place said.outcome said.text.items) }
+{
+    let bad = circuit.bads[place];
+    let verdict = check(alloc, circuit, bad, plan, watch)?;
+    let text = verdict_text(alloc, place, &verdict)?;
+    Ok(Said {
+        text,
+        outcome: outcome_of(&verdict),
+    })
+}
+
+// What a verdict says of its literal.
+fn outcome_of<A: Allocator>(verdict: &Verdict<A>) -> Outcome
+    ensures { result ≡ outcome_of verdict.now }
+{
+    match verdict {
+        Verdict::Fails(_) => Outcome::Fails,
+        Verdict::Safe(_) => Outcome::Safe,
+        Verdict::NoFailureWithin(_) => Outcome::Open,
+        Verdict::Unknown => Outcome::Open,
+    }
+}
+
+// The text of a verdict on the bad literal at a place.
+fn verdict_text<A: Allocator + Copy>(
+    alloc: A,
+    place: usize,
+    verdict: &Verdict<A>,
+) -> Result<Vec<u8, A>, AllocError>
+    ensures { IfOk result (λ text. text.items ≡ verdict_text place verdict.now) }
+{
+    if place > GREATEST {
+        return Err(AllocError);
+    }
+    let place = place as u32;
+    match verdict {
+        Verdict::Fails(trace) => write_witness(alloc, place, trace),
+        Verdict::Safe(_) => named(alloc, b"0", place),
+        Verdict::NoFailureWithin(depth) => within(alloc, *depth, place),
+        Verdict::Unknown => named(alloc, b"2", place),
+    }
+}
+
+// The greatest place of a bad literal that a text may have.
+const GREATEST: usize = 2_147_483_647;
+
+// A status, and the lines that name the literal.
+fn named<A: Allocator + Copy>(alloc: A, status: &[u8], place: u32) -> Result<Vec<u8, A>, AllocError>
+    ensures { IfOk result (λ text. text.items ≡ status.now ++ named place) }
+{
+    let mut text = Vec::new(alloc);
+    text.extend_from_slice(status)?;
+    write_named(&mut text, place)?;
+    Ok(text)
+}
+
+// The text where nothing fails up to a depth.
+fn within<A: Allocator + Copy>(alloc: A, depth: usize, place: u32) -> Result<Vec<u8, A>, AllocError>
+    ensures { IfOk result (λ text. text.items ≡ codes "u" ++ decimal depth ++ codes "\n2" ++ named place) }
+{
+    let mut text = Vec::new(alloc);
+    text.extend_from_slice(b"u")?;
+    write_number(&mut text, depth as u64)?;
+    text.extend_from_slice(b"\n2")?;
+    write_named(&mut text, place)?;
+    Ok(text)
+}
+
+// Writes the lines that name a bad literal.
+fn write_named<A: Allocator>(text: &mut Vec<u8, A>, place: u32) -> Result<(), AllocError>
+    ensures { OnOk result (text.new.items ≡ text.old.items ++ named place) }
+{
+    text.extend_from_slice(b"\nb")?;
+    write_number(text, u64::from(place))?;
+    text.extend_from_slice(b"\n.\n")?;
+    Ok(())
+}
+
+// Writes a number.
+fn write_number<A: Allocator>(text: &mut Vec<u8, A>, number: u64) -> Result<(), AllocError>
+    ensures { OnOk result (text.new.items ≡ text.old.items ++ decimal number) }
+{
+    write!(text, "{number}").map_err(|_| AllocError)
+}
+
+/// Whether the circuit that a text writes fails by the trace that a witness writes.
+///
+/// # Errors
+/// - [`TaskError::Circuit`] and [`TaskError::Witness`] where a text has another form.
+/// - [`TaskError::NoBad`] where the circuit has no such bad literal.
+/// - [`TaskError::Memory`] where memory is refused.
+pub fn replays<A: Allocator + Copy>(
+    alloc: A,
+    bytes: &[u8],
+    witness: &[u8],
+) -> Result<bool, TaskError>
+    ensures { IfOk result (λ fails. IsTrue fails → Replays A bytes.now witness.now) }
+{
+    let circuit = circuit_in(alloc, bytes)?;
+    let witness = match read_witness(alloc, circuit.latches.len(), circuit.inputs.len(), witness) {
+        Ok(witness) => witness,
+        Err(error) => return Err(TaskError::Witness(error)),
+    };
+    let place = witness.property as usize;
+    if place >= circuit.bads.len() {
+        return Err(TaskError::NoBad(place, circuit.bads.len()));
+    }
+    Ok(replay(alloc, &circuit, circuit.bads[place], &witness.trace)?)
+}
+
+/// Whether an invariant, clauses over the latches, shows that the circuit which a text writes is safe: as to the bad
+/// literal at the place that is asked for, or as to all. Each question to the solver may learn `limit` clauses.
+///
+/// # Errors
+/// - [`TaskError::Circuit`] and [`TaskError::Invariant`] where a text has another form.
+/// - [`TaskError::NoBad`] where there is no bad literal at the place.
+/// - [`TaskError::Memory`] where memory is refused.
+pub fn certifies<A: Allocator + Copy>(
+    alloc: A,
+    bytes: &[u8],
+    invariant: &[u8],
+    asked: Option<usize>,
+    limit: usize,
+) -> Result<bool, TaskError>
+    ensures { IfOk result (λ safe. IsTrue safe → Certifies A bytes.now asked) }
+{
+    let circuit = circuit_in(alloc, bytes)?;
+    let invariant = invariant_in(alloc, &circuit, invariant)?;
+    certifies_asked(alloc, &circuit, &invariant, asked, limit)
+}
+
+// Whether the circuit is safe by an invariant.
+fn certifies_asked<A: Allocator + Copy>(
+    alloc: A,
+    circuit: &Circuit<A>,
+    invariant: &[Vec<Literal, A>],
+    asked: Option<usize>,
+    limit: usize,
+) -> Result<bool, TaskError>
+    ensures { IfOk result (λ safe. IsTrue safe → IsSafeAsked circuit.now asked) }
+{
+    match asked {
+        None => Ok(certifies_all(alloc, circuit, invariant, limit)?),
+        Some(place) if place < circuit.bads.len() => {
+            Ok(certifies_at(alloc, circuit, invariant, place, limit)?)
+        }
+        Some(place) => Err(TaskError::NoBad(place, circuit.bads.len())),
+    }
+}
+
+// Whether the circuit is safe as to all its bad literals.
+fn certifies_all<A: Allocator + Copy>(
+    alloc: A,
+    circuit: &Circuit<A>,
+    invariant: &[Vec<Literal, A>],
+    limit: usize,
+) -> Result<bool, AllocError>
+    ensures { IfOk result (λ safe. IsTrue safe → (place : ℕ) → IsSafeAt circuit.now place) }
+{
+    for place in 0..circuit.bads.len() {
+        if !certifies_at(alloc, circuit, invariant, place, limit)? {
+            return Ok(false);
+        }
+    }
+    Ok(true)
+}
+
+// Whether the circuit is safe as to the bad literal at a place.
+fn certifies_at<A: Allocator + Copy>(
+    alloc: A,
+    circuit: &Circuit<A>,
+    invariant: &[Vec<Literal, A>],
+    place: usize,
+    limit: usize,
+) -> Result<bool, AllocError>
+    requires { place < length circuit.now.bads.items }
+    ensures { IfOk result (λ safe. IsTrue safe → IsSafeAt circuit.now place) }
+{
+    match certify(alloc, circuit, circuit.bads[place], invariant, limit)? {
+        certificate::Verdict::Certified => Ok(true),
+        _ => Ok(false),
+    }
+}
+
+// The invariant that a text writes, over the variables of a circuit.
+fn invariant_in<A: Allocator + Copy>(
+    alloc: A,
+    circuit: &Circuit<A>,
+    text: &[u8],
+) -> Result<Vec<Vec<Literal, A>, A>, TaskError> {
+    let latches = u32::try_from(circuit.latches.len()).unwrap_or(u32::MAX);
+    let clauses = match read_invariant(alloc, latches, text) {
+        Ok(clauses) => clauses,
+        Err(error) => return Err(TaskError::Invariant(error)),
+    };
+    let mut invariant = Vec::new(alloc);
+    for clause in clauses.iter() {
+        let clause = over_variables(alloc, circuit, clause)?;
+        invariant.reserve(1)?;
+        invariant.push_reserved(clause);
+    }
+    Ok(invariant)
+}
+
+// A clause over places of latches, over their variables.
+fn over_variables<A: Allocator + Copy>(
+    alloc: A,
+    circuit: &Circuit<A>,
+    clause: &[Literal],
+) -> Result<Vec<Literal, A>, AllocError> {
+    let mut moved = Vec::new(alloc);
+    for l in clause {
+        if let Some(latch) = circuit.latches.get(l.variable() as usize) {
+            if latch.variable >= 2_147_483_648 {
+                return Err(AllocError);
+            }
+            moved.push(Literal::new(latch.variable, l.is_positive()))?;
+        }
+    }
+    Ok(moved)
+}

@@ -1,0 +1,143 @@
+//! Why nothing is answered, as it is told.
+use crate::options::Setting;
+use gipmc_aiger::AigerError;
+use std::alloc::AllocError;
+use std::fmt::{self, Display};
+use std::io::{self, ErrorKind};
+
+/// Why the arguments have no meaning.
+#[derive(Clone, Copy)]
+pub enum UsageError<'a> {
+    /// No option has this name.
+    UnknownOption(&'a str),
+    /// No word stands behind this option.
+    NoValue(Setting),
+    /// This word behind the option is no number, or one of 2^64 or more.
+    NoNumber(Setting, &'a str),
+    /// This word names no engine.
+    NoEngine(&'a str),
+    /// More files are named than are read.
+    ExtraFile(&'a str),
+    /// A witness and an invariant are given.
+    TwoTasks,
+    /// Standard input is named twice.
+    InputTwice,
+}
+
+impl Display for UsageError<'_> {
+    fn fmt<W: fmt::Write>(&self, f: &mut fmt::Formatter<W>) -> fmt::Result {
+        match *self {
+            UsageError::UnknownOption(word) => write!(f, "unknown option '{word}'"),
+            UsageError::NoValue(setting) => write!(f, "'{setting}' needs {}", setting.wanted()),
+            UsageError::NoNumber(setting, word) => {
+                write!(f, "'{setting}' takes a number below 2^64, not '{word}'")
+            }
+            UsageError::NoEngine(word) => write!(f, "'--engine' takes sim or bmc, not '{word}'"),
+            UsageError::ExtraFile(name) => write!(f, "one file too many, '{name}'"),
+            UsageError::TwoTasks => f.write_str("'--replay' and '--certify' exclude each other"),
+            UsageError::InputTwice => f.write_str("one file at most is read from standard input"),
+        }
+    }
+}
+
+impl Setting {
+    // What stands behind the option.
+    fn wanted(self) -> &'static str {
+        match self {
+            Setting::Replay | Setting::Certify => "a file behind it",
+            Setting::Engine => "sim or bmc behind it",
+            _ => "a number behind it",
+        }
+    }
+}
+
+// The option, as it is written.
+impl Display for Setting {
+    fn fmt<W: fmt::Write>(&self, f: &mut fmt::Formatter<W>) -> fmt::Result {
+        f.write_str(match *self {
+            Setting::Bad => "--bad",
+            Setting::Certify => "--certify",
+            Setting::Depth => "--depth",
+            Setting::Engine => "--engine",
+            Setting::Limit => "--limit",
+            Setting::Replay => "--replay",
+            Setting::Seed => "--seed",
+        })
+    }
+}
+
+/// Why a task was not done.
+#[derive(Clone, Copy)]
+pub enum TaskError {
+    /// The circuit's text has another form.
+    Circuit(AigerError),
+    /// The witness' text has another form.
+    Witness(AigerError),
+    /// The invariant's text has another form.
+    Invariant(AigerError),
+    /// There is no bad literal at this place; there are so many.
+    NoBad(usize, usize),
+    /// Memory was refused.
+    Memory,
+}
+
+impl From<AllocError> for TaskError {
+    fn from(_refused: AllocError) -> TaskError {
+        TaskError::Memory
+    }
+}
+
+/// Why there is no answer. A name is that of a file; that of standard input or output is `None`.
+#[derive(Clone, Copy)]
+pub enum Failure<'a> {
+    /// The file of this name could not be opened.
+    Open(&'a str, io::Error),
+    /// A read of this input failed.
+    Read(Option<&'a str>, io::Error),
+    /// A write to standard output failed.
+    Write(io::Error),
+    /// The text in this input has another form.
+    Form(Option<&'a str>, AigerError),
+    /// The circuit in this input has no bad literal at this place; it has so many.
+    NoBad(Option<&'a str>, usize, usize),
+    /// Memory was refused.
+    Memory,
+}
+
+impl Display for Failure<'_> {
+    fn fmt<W: fmt::Write>(&self, f: &mut fmt::Formatter<W>) -> fmt::Result {
+        match *self {
+            Failure::Open(name, error) => write!(f, "{name}: {}", Cause(error)),
+            Failure::Read(name, error) => write!(
+                f,
+                "{}: cannot be read: {}",
+                name.unwrap_or("<stdin>"),
+                Cause(error)
+            ),
+            Failure::Write(error) => write!(f, "<stdout>: cannot be written: {}", Cause(error)),
+            Failure::Form(_, AigerError::Memory) => f.write_str("memory: refused"),
+            Failure::Form(name, error) => write!(f, "{}: {error}", name.unwrap_or("<stdin>")),
+            Failure::NoBad(name, place, count) => write!(
+                f,
+                "{}: no bad literal {place}, of {count}",
+                name.unwrap_or("<stdin>")
+            ),
+            Failure::Memory => f.write_str("memory: refused"),
+        }
+    }
+}
+
+/// Why the system refused a call.
+#[derive(Clone, Copy)]
+pub struct Cause(pub io::Error);
+
+impl Display for Cause {
+    fn fmt<W: fmt::Write>(&self, f: &mut fmt::Formatter<W>) -> fmt::Result {
+        match self.0.kind() {
+            ErrorKind::NotFound => f.write_str("no such file"),
+            ErrorKind::StorageFull => f.write_str("no space left"),
+            ErrorKind::Uncategorized => Display::fmt(&self.0, f),
+            kind => Display::fmt(&kind, f),
+        }
+    }
+}

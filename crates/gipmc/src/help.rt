@@ -1,0 +1,42 @@
+//! What the program tells of itself.
+
+/// Its name and version.
+pub const VERSION: &str = "gipmc 0.1.0\n";
+
+/// What it does, and what each option does.
+pub const HELP: &str = "usage: gipmc [OPTION]... [FILE]
+
+Reads a circuit in the ascii or the binary form of AIGER 1.9 from FILE, or from standard input where none is named or
+its name is -, and writes for each bad literal in turn what it found: the lines `1`, `b` with the literal's place (from
+0 on), a witness and `.`; or `0` in place of `1` where the circuit is safe, and `2` where that is open. A line `u` with
+a number before a `2` says that no trace of at most so many transitions fails. Where the circuit has no bad literals,
+its outputs are taken for them.
+
+Input:
+      --bad I           only the bad literal at place I
+
+Search:
+      --engine ENGINE   only this one: sim (random simulation) or bmc (bounded model checking)
+      --depth N         bounded model checking up to N transitions (100)
+      --limit N         leave a question open after N learned clauses
+      --seed N          the seed of random simulation (0)
+
+Answers of other programs:
+      --replay WITNESS  write `s VERIFIED` if the circuit fails by the trace in the file WITNESS, or `s NOT VERIFIED`
+      --certify CLAUSES write `s VERIFIED` if the clauses over latches in the file CLAUSES, in the DIMACS form, show that
+                        the circuit is safe, or `s NOT VERIFIED`
+
+Output:
+  -q, --quiet           write no progress; without this it is written where standard error is a terminal
+      --stats           write a summary on standard error (lines that begin with c)
+
+Other:
+  -h, --help            write this, and do nothing else
+      --version         write the name and the version, and do nothing else
+      --                take all words behind this one as files, whatever they begin with
+
+The value of an option may also stand behind `=`: --depth=20.
+
+Exit status: 10 the circuit fails by a bad literal, 20 it is safe as to all that are asked about, 0 open, verified, or
+help; 1 an error, or not verified; 2 arguments that have no meaning.
+";

@@ -1,0 +1,209 @@
+//! `gipmc [OPTION]... [FILE]` reads a circuit in a form of AIGER, and writes whether it fails by its bad literals.
+//! `gipmc --help` tells what each option does.
+//!
+//! Answers go to standard output; errors, and lines that begin with `c` and tell how far the search is, to standard
+//! error.
+#![tactic(auto)]
+
+ghost use Rattle.std.specs.Prelude.{◌≡◌};
+ghost use Rattle.std.specs.Process.{exit_status};
+ghost use Rattle.gipmc.specs.Statuses.{outcome_status, refused_status, search_status, telling_status, usage_status, verified_status};
+
+mod answers;
+mod errors;
+mod files;
+mod help;
+mod options;
+mod progress;
+
+use answers::{Outcome, answer, certifies, replays};
+use errors::{Cause, Failure, TaskError, UsageError};
+use files::{bytes_of, input};
+use gipmc_engines::{Bounds, Plan, Tries};
+use help::{HELP, VERSION};
+use options::{Options, Task};
+use progress::Teller;
+use std::env;
+use std::fmt::Display;
+use std::io::{self, Write};
+use std::process::ExitCode;
+
+// The exit status where nothing is answered, or an answer is not verified.
+const REFUSED: u8 = 1;
+
+// The exit status where the arguments have no meaning.
+const USAGE: u8 = 2;
+
+// How often simulation begins anew, and how many moments it has then.
+const ROUNDS: usize = 16;
+
+const MOMENTS: usize = 256;
+
+fn main(rt: HostRuntime) -> ExitCode {
+    let words = match words_of(&rt) {
+        Ok(words) => words,
+        Err(error) => return refuse(&rt, &format_args!("arguments: {}", Cause(error))),
+    };
+    match Task::parse(&words) {
+        Ok(Task::Help) => tell(&rt, HELP),
+        Ok(Task::Version) => tell(&rt, VERSION),
+        Ok(Task::Search(options)) => end_search(&rt, search_file(&rt, &options)),
+        Ok(Task::Replay(options, name)) => end_check(&rt, replay_file(&rt, &options, name)),
+        Ok(Task::Certify(options, name)) => end_check(&rt, certify_file(&rt, &options, name)),
+        Err(error) => explain(&rt, &error),
+    }
+}
+
+// The arguments behind the program's name.
+fn words_of(rt: &HostRuntime) -> io::Result<Vec<String>> {
+    Ok(env::args(rt)?.skip(1).collect(rt.alloc())?)
+}
+
+// The status after a text that is told. Writes why it could not be.
+fn tell(rt: &HostRuntime, text: &str) -> ExitCode {
+    end_telling(rt, rt.stdout().write_all(text.as_bytes()))
+}
+
+fn end_telling(rt: &HostRuntime, ended: io::Result<()>) -> ExitCode
+    ensures { exit_status result ≡ telling_status ended }
+{
+    match ended {
+        Ok(()) => ExitCode::SUCCESS,
+        Err(error) => refuse(rt, &Failure::Write(error)),
+    }
+}
+
+// The status of an outcome.
+fn status_of(outcome: Outcome) -> u8
+    ensures { result ≡ outcome_status outcome }
+{
+    match outcome {
+        Outcome::Fails => 10,
+        Outcome::Safe => 20,
+        Outcome::Open => 0,
+    }
+}
+
+// The status after a search. Writes why nothing is answered.
+fn end_search(rt: &HostRuntime, ended: Result<Outcome, Failure>) -> ExitCode
+    ensures { exit_status result ≡ search_status ended.entry }
+{
+    match ended {
+        Ok(outcome) => ExitCode::from(status_of(outcome)),
+        Err(error) => refuse(rt, &error),
+    }
+}
+
+// The status after a check of an answer. Writes why it was not checked.
+fn end_check(rt: &HostRuntime, ended: Result<bool, Failure>) -> ExitCode
+    ensures { exit_status result ≡ verified_status ended.entry }
+{
+    match ended {
+        Ok(true) => ExitCode::SUCCESS,
+        Ok(false) => ExitCode::from(REFUSED),
+        Err(error) => refuse(rt, &error),
+    }
+}
+
+// Writes why nothing is answered.
+fn refuse<E: Display>(rt: &HostRuntime, error: &E) -> ExitCode
+    ensures { exit_status result ≡ refused_status }
+{
+    let _ = eprintln!(rt; "{error}");
+    ExitCode::from(REFUSED)
+}
+
+// Writes why the arguments have no meaning.
+fn explain(rt: &HostRuntime, error: &UsageError) -> ExitCode
+    ensures { exit_status result ≡ usage_status }
+{
+    let _ = eprintln!(rt; "gipmc: {error} (try --help)");
+    ExitCode::from(USAGE)
+}
+
+// The failure of a task on the circuit in one input and an answer in another.
+fn failure<'a>(circuit: Option<&'a str>, beside: Option<&'a str>, error: TaskError) -> Failure<'a> {
+    match error {
+        TaskError::Circuit(error) => Failure::Form(circuit, error),
+        TaskError::Witness(error) => Failure::Form(beside, error),
+        TaskError::Invariant(error) => Failure::Form(beside, error),
+        TaskError::NoBad(place, count) => Failure::NoBad(circuit, place, count),
+        TaskError::Memory => Failure::Memory,
+    }
+}
+
+// Writes a text to standard output.
+fn write_out<'a>(rt: &HostRuntime, text: &[u8]) -> Result<(), Failure<'a>> {
+    match rt.stdout().write_all(text) {
+        Ok(()) => Ok(()),
+        Err(error) => Err(Failure::Write(error)),
+    }
+}
+
+// What the options say of a search.
+fn plan_of(options: &Options) -> Plan {
+    Plan {
+        engine: options.engine,
+        tries: Tries {
+            seed: options.seed,
+            rounds: ROUNDS,
+            moments: MOMENTS,
+        },
+        bounds: Bounds {
+            depth: options.depth,
+            limit: options.limit,
+        },
+    }
+}
+
+// Answers about the circuit of the file that the options name, or of standard input.
+fn search_file<'a>(rt: &HostRuntime, options: &Options<'a>) -> Result<Outcome, Failure<'a>> {
+    let bytes = bytes_of(rt, options.file)?;
+    let mut teller = Teller::new(rt, options);
+    let plan = plan_of(options);
+    let said = match answer(rt.alloc(), &bytes, options.bad, &plan, &mut teller) {
+        Ok(said) => said,
+        Err(error) => return Err(failure(options.file, None, error)),
+    };
+    teller.end();
+    write_out(rt, &said.text)?;
+    Ok(said.outcome)
+}
+
+// Replays the witness in a file.
+fn replay_file<'a>(
+    rt: &HostRuntime,
+    options: &Options<'a>,
+    name: &'a str,
+) -> Result<bool, Failure<'a>> {
+    let bytes = bytes_of(rt, options.file)?;
+    let witness = bytes_of(rt, input(name))?;
+    match replays(rt.alloc(), &bytes, &witness) {
+        Ok(verified) => verified_text(rt, verified),
+        Err(error) => Err(failure(options.file, input(name), error)),
+    }
+}
+
+// Certifies the invariant in a file.
+fn certify_file<'a>(
+    rt: &HostRuntime,
+    options: &Options<'a>,
+    name: &'a str,
+) -> Result<bool, Failure<'a>> {
+    let bytes = bytes_of(rt, options.file)?;
+    let invariant = bytes_of(rt, input(name))?;
+    match certifies(rt.alloc(), &bytes, &invariant, options.bad, options.limit) {
+        Ok(verified) => verified_text(rt, verified),
+        Err(error) => Err(failure(options.file, input(name), error)),
+    }
+}
+
+// Writes whether an answer is verified.
+fn verified_text<'a>(rt: &HostRuntime, verified: bool) -> Result<bool, Failure<'a>> {
+    if verified {
+        write_out(rt, b"s VERIFIED\n")?;
+    } else {
+        write_out(rt, b"s NOT VERIFIED\n")?;
+    }
+    Ok(verified)
+}

@@ -1,0 +1,2 @@
+-- What engines find out about a circuit.
+pub mod Verdicts

@@ -1,0 +1,17 @@
+//! A listener to a search.
+
+use std::ops::ControlFlow;
+
+/// A listener: it is told how far a search is, and may stop it.
+pub trait Watch {
+    /// No trace of fewer than `depth` transitions fails, and those of so many come next. Their formula has so many
+    /// clauses, and so many were learned. `Break` stops the search.
+    fn note(&mut self, depth: usize, clauses: usize, learned: usize) -> ControlFlow<()>;
+}
+
+/// The listener that ignores all it is told, and stops no search.
+impl Watch for () {
+    fn note(&mut self, _depth: usize, _clauses: usize, _learned: usize) -> ControlFlow<()> {
+        ControlFlow::Continue(())
+    }
+}

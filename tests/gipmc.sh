@@ -1,0 +1,175 @@
+#!/usr/bin/env bash
+# Runs the model checker's program over circuits and into its faults: tests/gipmc.sh GIPMC
+# GIPMC is the built program: crates/gipmc/out/gipmc, which both `rt ci` and `rt run` leave. It prints a line for each
+# case. The last line is 'N passed, M failed', and the status is 1 where a case failed.
+set -u
+gipmc=${1:?usage: tests/gipmc.sh GIPMC}
+if [ ! -x "$gipmc" ]; then
+    echo "no program $gipmc"
+    echo "0 passed, 1 failed"
+    exit 1
+fi
+rows=$(cd "$(dirname "$0")" && pwd)/circuits.txt || exit 2
+gipmc=$(realpath "$gipmc") || exit 2
+work=$(mktemp -d) || exit 2
+trap 'rm -rf "$work"' EXIT
+cd "$work" || exit 2
+passed=0
+failed=0
+
+# NAME RESULT: counts a case.
+told() {
+    if [ "$2" = 0 ]; then
+        echo "ok: $1"
+        passed=$((passed + 1))
+    else
+        echo "FAILED: $1 (status $status, $(head -c 200 "$work/err"), $(head -c 200 "$work/out"))"
+        failed=$((failed + 1))
+    fi
+}
+
+# NAME STATUS ERROR OUTPUT INPUT [ARGUMENT..]: runs the program on this text, and expects this of it.
+try() {
+    local name=$1 wanted=$2 error=$3 output=$4 input=$5
+    shift 5
+    printf '%b' "$input" | "$gipmc" "$@" > "$work/out" 2> "$work/err"
+    status=$?
+    [ "$status" = "$wanted" ] && [ "$(cat "$work/err")" = "$error" ] && [ "$(cat "$work/out")" = "$output" ]
+    told "$name" $?
+}
+
+# A latch that holds next what the input was, and is bad; one that keeps 0; both.
+held='aag 2 1 1 0 0 1\n2\n4 2\n4\n'
+kept='aag 1 0 1 0 0 1\n2 2\n2\n'
+two='aag 3 1 2 0 0 2\n2\n4 4\n6 2\n4\n6\n'
+fails=$(printf '1\nb0\n0\n1\n0\n.')
+open() { printf 'u%s\n2\nb0\n.' "$1"; }
+
+try "a latch that may rise" 10 "" "$fails" "$held" --engine bmc
+try "a latch that may rise, in the binary form" 10 "" "$fails" 'aig 2 1 1 0 0 1\n2\n4\n' --engine bmc
+try "a latch that stays, within 100" 0 "" "$(open 100)" "$kept"
+try "a latch that stays, within 7" 0 "" "$(open 7)" "$kept" --depth 7
+try "a latch that stays, within 0" 0 "" "$(open 0)" "$kept" --depth=0
+try "a latch that may rise, within 0" 0 "" "$(open 0)" "$held" --engine bmc --depth 0
+try "no learned clause is allowed" 10 "" "$fails" "$held" --engine bmc --limit 0
+try "simulation finds nothing" 0 "" "$(printf '2\nb0\n.')" "$kept" --engine sim
+try "two bad literals" 10 "" "$(printf 'u3\n2\nb0\n.\n1\nb1\n00\n1\n0\n.')" "$two" --engine bmc --depth 3
+try "the first bad literal" 0 "" "$(open 3)" "$two" --bad 0 --depth 3
+try "the second bad literal" 10 "" "$(printf '1\nb1\n00\n1\n0\n.')" "$two" --bad=1 --engine bmc
+try "a bad literal that is not there" 1 "<stdin>: no bad literal 2, of 2" "" "$two" --bad 2
+try "no bad literal at all" 20 "" "" 'aag 1 1 0 0 0\n2\n'
+try "an output in place of a bad literal" 10 "" "$fails" 'aag 2 1 1 1 0\n2\n4 2\n4\n' --engine bmc
+try "a bad literal that is true" 10 "" "$(printf '1\nb0\n\n\n.')" 'aag 0 0 0 0 0 1\n1\n' --engine bmc
+try "a latch that begins at 1" 10 "" "$(printf '1\nb0\n1\n\n.')" 'aag 1 0 1 0 0 1\n2 2 1\n2\n' --engine bmc
+try "a latch that begins at either value" 10 "" "$(printf '1\nb0\n1\n\n.')" 'aag 1 0 1 0 0 1\n2 2 2\n2\n' --engine bmc
+try "a constraint that the last moment breaks" 0 "" "$(open 9)" 'aag 2 1 1 0 0 1 1\n2\n4 2\n4\n5\n' --depth 9
+try "a constraint that the first moment breaks" 0 "" "$(open 9)" 'aag 1 0 1 0 0 1 1\n2 2\n2\n2\n' --depth 9
+try "a constraint that the inputs meet" 10 "" "$fails" 'aag 3 1 1 0 1 1 1\n2\n4 2\n4\n7\n6 4 2\n' --engine bmc
+
+# Simulation: what it finds is a trace.
+printf '%b' "$held" > held.aag
+"$gipmc" --engine sim --seed 3 held.aag > sim.wit 2> err
+status=$?
+[ "$status" = 10 ] && [ "$("$gipmc" --replay sim.wit held.aag)" = "s VERIFIED" ]
+told "a trace by simulation" $?
+"$gipmc" held.aag > both.wit 2> err
+status=$?
+[ "$status" = 10 ] && [ "$("$gipmc" --replay both.wit held.aag)" = "s VERIFIED" ]
+told "a trace by both engines" $?
+
+# Witnesses of other programs.
+witness() { printf '%b' "$1" > wit; }
+witness '1\nb0\n0\n1\n0\n.\n'
+try "a witness" 0 "" "s VERIFIED" "$held" --replay wit
+try "a witness, and the circuit's file named" 0 "" "s VERIFIED" "" --replay=wit held.aag
+try "a witness from standard input" 0 "" "s VERIFIED" '1\nb0\n0\n1\n0\n.\n' --replay - held.aag
+witness '1\nb0\n0\n1\n.\n'
+try "a witness that ends too early" 1 "" "s NOT VERIFIED" "$held" --replay wit
+witness '1\nb0\n1\n0\n.\n'
+try "a witness that begins elsewhere" 1 "" "s NOT VERIFIED" "$held" --replay wit
+witness '1\nb3\n0\n1\n0\n.\n'
+try "a witness of another literal" 1 "<stdin>: no bad literal 3, of 1" "" "$held" --replay wit
+witness '2\nb0\n.\n'
+# shellcheck disable=SC2016
+try "no witness" 1 'wit: line 1: no line `1`, with which a witness begins' "" "$held" --replay wit
+witness '1\nb0\n00\n1\n.\n'
+try "a witness with a value too many" 1 "wit: line 3: more or fewer values than the circuit has latches or inputs" "" "$held" --replay wit
+
+# Invariants of other programs.
+invariant() { printf '%b' "$1" > inv; }
+invariant 'p cnf 1 1\n-1 0\n'
+try "an invariant" 0 "" "s VERIFIED" "$kept" --certify inv
+try "an invariant that does not stay" 1 "" "s NOT VERIFIED" "$held" --certify inv
+invariant 'p cnf 2 1\n-1 0\n'
+try "an invariant of one bad literal, asked about it" 0 "" "s VERIFIED" "$two" --certify inv --bad 0
+try "an invariant of one bad literal, asked about both" 1 "" "s NOT VERIFIED" "$two" --certify inv
+try "an invariant, and a literal that is not there" 1 "<stdin>: no bad literal 9, of 2" "" "$two" --certify inv --bad 9
+invariant 'p cnf 9 1\n-1 0\n'
+# shellcheck disable=SC2016
+try "an invariant of another circuit" 1 'inv: line 1: no header `p cnf LATCHES CLAUSES` that says what follows' "" "$kept" --certify inv
+
+# Texts that are refused.
+# shellcheck disable=SC2016
+try "an empty input" 1 '<stdin>: line 1: no header `aag` or `aig`' "" ""
+try "a justice property" 1 "<stdin>: line 1: justice and fairness properties are not supported" "" 'aag 0 0 0 0 0 0 0 1\n'
+try "a latch that is not there" 1 "<stdin>: line 2: not a number" "" 'aag 1 0 1 0 0\n'
+try "a literal that is too great" 1 "<stdin>: line 3: a number that is too great" "" 'aag 1 0 1 0 0 1\n2 2\n4\n'
+try "a variable that is not defined" 1 "<stdin>: variable 1 is not defined" "" 'aag 1 0 0 0 0 1\n2\n'
+try "a variable that is defined twice" 1 "<stdin>: variable 1 is defined twice" "" 'aag 2 1 1 0 0 1\n2\n2 2\n2\n'
+try "a gate that depends on itself" 1 "<stdin>: the gate of variable 1 depends on itself" "" 'aag 1 0 0 0 1 1\n2\n2 2 2\n'
+
+# Files that are not there.
+try "no such file" 1 "none.aag: no such file" "" "" none.aag
+try "no such witness" 1 "none.wit: no such file" "" "$held" --replay none.wit
+mkdir folder
+try "a directory" 1 "folder: is a directory" "" "" folder
+if [ -e /dev/full ]; then
+    printf '%b' "$kept" | "$gipmc" > /dev/full 2> err
+    status=$?
+    [ "$status" = 1 ] && [ "$(cat err)" = "<stdout>: cannot be written: no space left" ]
+    told "an output that is full" $?
+fi
+
+# Arguments.
+try "an option that there is not" 2 "gipmc: unknown option '--deep' (try --help)" "" "" --deep
+try "a value for an option that there is not" 2 "gipmc: unknown option '--deep=3' (try --help)" "" "" --deep=3
+try "no depth" 2 "gipmc: '--depth' needs a number behind it (try --help)" "" "" --depth
+try "no witness behind the option" 2 "gipmc: '--replay' needs a file behind it (try --help)" "" "" --replay
+try "no engine" 2 "gipmc: '--engine' needs sim or bmc behind it (try --help)" "" "" --engine
+try "another engine" 2 "gipmc: '--engine' takes sim or bmc, not 'ic4' (try --help)" "" "" --engine ic4
+try "a depth that is no number" 2 "gipmc: '--depth' takes a number below 2^64, not 'x' (try --help)" "" "" --depth x
+try "two files" 2 "gipmc: one file too many, 'b' (try --help)" "" "" a b
+try "a witness and an invariant" 2 "gipmc: '--replay' and '--certify' exclude each other (try --help)" "" "" --replay a --certify b
+try "standard input twice" 2 "gipmc: one file at most is read from standard input (try --help)" "" "" --replay -
+try "the version" 0 "" "gipmc 0.1.0" "" --version
+cp held.aag ./-held.aag
+try "a file whose name begins with a minus" 10 "" "$fails" "" --engine bmc -- -held.aag
+try "a minus for standard input" 10 "" "$fails" "$held" --engine bmc -
+"$gipmc" --help > out 2> err
+status=$?
+[ "$status" = 0 ] && grep -q "^usage: gipmc" out && [ ! -s err ]
+told "help" $?
+printf '%b' "$kept" | "$gipmc" --stats --depth 5 > out 2> err
+status=$?
+[ "$status" = 0 ] && grep -q "^c depth 5, [0-9]* clauses, [0-9]* learned, [0-9.]* s$" err
+told "a summary" $?
+printf '%b' "$kept" | "$gipmc" --quiet > out 2> err
+status=$?
+[ "$status" = 0 ] && [ ! -s err ]
+told "no word on standard error" $?
+
+# Small circuits whose reachable states were enumerated. The trace is a shortest one, and a check of it agrees.
+while read -r name said depth text; do
+    printf '%s' "$text" | tr ';' '\n' > row.aag
+    "$gipmc" --engine bmc --depth 64 row.aag > out 2> err
+    status=$?
+    if [ "$said" = safe ]; then
+        [ "$status" = 0 ] && [ "$(cat out)" = "$(open 64)" ]
+    else
+        [ "$status" = 10 ] && [ "$(wc -l < out)" = $((depth + 5)) ] && [ "$("$gipmc" --replay out row.aag)" = "s VERIFIED" ]
+    fi
+    told "$name $said $depth" $?
+done < "$rows"
+
+echo "$passed passed, $failed failed"
+[ "$failed" = 0 ]
