@@ -1,13 +1,14 @@
 -- Texts of answers, and when they are right.
-use Rattle.std.specs.Prelude.{◌≡◌, ℕ, zero, suc, ◌-◌, List, [], ◌++◌, length, slice_get, codes, decimal, Option, Some, None}
+use Rattle.std.specs.Prelude.{◌≡◌, ℕ, zero, suc, List, [], ◌++◌, length, slice_get, codes, decimal, Option, Some, None}
 use Rattle.gipsat_solver.specs.Literals.{Lit}
 use Rattle.gipmc_aiger.specs.Circuits.{Writes}
 use Rattle.gipmc_aiger.specs.Traces.{witness_text, witness_view}
 use Rattle.gipmc_aiger.specs.Witnesses.{witness_of}
 use Rattle.gipmc_aiger.specs.declared.witness.Witness.{Witness}
-use Rattle.gipmc_circuits.specs.Circuit.{FailsAfter, IsSafe}
+use Rattle.gipmc_circuits.specs.Circuit.{IsSafe}
 use Rattle.gipmc_circuits.specs.declared.circuit.Circuit.{Circuit}
-use Rattle.gipmc_engines.specs.Verdicts.{IsRightVerdict}
+use Rattle.gipmc_circuits.specs.declared.trace.Trace.{Trace}
+use Rattle.gipmc_engines.specs.Verdicts.{FailsAsLong, IsRightVerdict}
 use Rattle.gipmc_engines.specs.declared.verdict.Verdict.{Verdict}
 use Rattle.gipmc_engines.specs.declared.verdict.Verdict.TheVariants as verdict
 use Rattle.gipmc.specs.declared.answers.Outcome.{Outcome}
@@ -62,13 +63,18 @@ TellsAsked c (Some place) outcome text = Tells c place outcome text
 abbrev pub Answers : (A : Type 0) → List ℕ → Option ℕ → Outcome → List ℕ → Type 0
 Answers A bytes asked outcome text = (c : Circuit A) × Writes bytes c × TellsAsked c asked outcome text
 
+-- the text writes the witness for the circuit
+abbrev pub IsWitnessIn : {A B : Type 0} → Circuit A → List ℕ → Witness B → Type 0
+IsWitnessIn c text w = witness_of (length c.latches.items) (length c.inputs.items) text ≡ Some (witness_view w)
+
+-- the circuit fails at the bad literal at a place, after as many transitions as the trace has
+abbrev pub FailsAt : {A B : Type 0} → Circuit A → ℕ → Trace B → Type 0
+FailsAt c place trace = (bad : Lit) × (slice_get c.bads.items place ≡ Some bad) × FailsAsLong c bad trace
+
 -- the bytes write a circuit, and a witness for it of a trace as long as one by which it fails
 abbrev pub Replays : (A : Type 0) → List ℕ → List ℕ → Type 0
 Replays A bytes witness =
-    (c : Circuit A) × Writes bytes c × (w : Witness A)
-    × (witness_of (length c.latches.items) (length c.inputs.items) witness ≡ Some (witness_view w))
-    × (bad : Lit) × (slice_get c.bads.items w.property ≡ Some bad)
-    × FailsAfter c bad (length w.trace.inputs.items - 1)
+    (c : Circuit A) × Writes bytes c × (w : Witness A) × IsWitnessIn c witness w × FailsAt c w.property w.trace
 
 -- the circuit is safe as to the bad literal at a place, if there is one
 abbrev pub IsSafeAt : {A : Type 0} → Circuit A → ℕ → Type 0

@@ -1,11 +1,11 @@
 //! The tasks, from the bytes of texts to the bytes of an answer.
 ghost use Rattle.std.specs.Prelude.{◌≡◌, ℕ, ◌<◌, ◌++◌, codes, length, decimal, IfOk, IfSome, IsTrue, OnOk};
-ghost use Rattle.gipmc.specs.Answers.{Answers, Certifies, IsSafeAsked, IsSafeAt, Replays, Tells, TellsAsked, TellsFirst, both, named, outcome_of, verdict_text};
+ghost use Rattle.gipmc.specs.Answers.{Answers, Certifies, FailsAt, IsSafeAsked, IsSafeAt, IsWitnessIn, Replays, Tells, TellsAsked, TellsFirst, both, named, outcome_of, verdict_text};
 ghost use Rattle.gipmc_aiger.specs.Circuits.{Writes};
 
 use crate::errors::TaskError;
-use gipmc_aiger::{read_circuit, read_invariant, read_witness, write_witness};
-use gipmc_circuits::{Circuit, certificate, certify, replay};
+use gipmc_aiger::{Witness, read_circuit, read_invariant, read_witness, write_witness};
+use gipmc_circuits::{Circuit, Trace, certificate, certify, replay};
 use gipmc_engines::{Plan, Verdict, Watch, check};
 use gipsat_solver::Literal;
 use std::alloc::{AllocError, Allocator};
@@ -224,15 +224,50 @@ pub fn replays<A: Allocator + Copy>(
     ensures { IfOk result (λ fails. IsTrue fails → Replays A bytes.now witness.now) }
 {
     let circuit = circuit_in(alloc, bytes)?;
-    let witness = match read_witness(alloc, circuit.latches.len(), circuit.inputs.len(), witness) {
-        Ok(witness) => witness,
-        Err(error) => return Err(TaskError::Witness(error)),
-    };
+    let witness = witness_in(alloc, &circuit, witness)?;
+    fails_by(alloc, &circuit, &witness)
+}
+
+// The witness that a text writes for a circuit.
+fn witness_in<A: Allocator + Copy>(
+    alloc: A,
+    circuit: &Circuit<A>,
+    text: &[u8],
+) -> Result<Witness<A>, TaskError>
+    ensures { IfOk result (IsWitnessIn circuit.now text.now) }
+{
+    match read_witness(alloc, circuit.latches.len(), circuit.inputs.len(), text) {
+        Ok(witness) => Ok(witness),
+        Err(error) => Err(TaskError::Witness(error)),
+    }
+}
+
+// Whether the circuit fails by the trace of a witness, at the bad literal that the witness names.
+fn fails_by<A: Allocator + Copy>(
+    alloc: A,
+    circuit: &Circuit<A>,
+    witness: &Witness<A>,
+) -> Result<bool, TaskError>
+    ensures { IfOk result (λ fails. IsTrue fails → FailsAt circuit.now witness.now.property witness.now.trace) }
+{
     let place = witness.property as usize;
     if place >= circuit.bads.len() {
         return Err(TaskError::NoBad(place, circuit.bads.len()));
     }
-    Ok(replay(alloc, &circuit, circuit.bads[place], &witness.trace)?)
+    Ok(fails_at(alloc, circuit, place, &witness.trace)?)
+}
+
+// Whether the circuit fails by a trace, at the bad literal at a place.
+fn fails_at<A: Allocator + Copy>(
+    alloc: A,
+    circuit: &Circuit<A>,
+    place: usize,
+    trace: &Trace<A>,
+) -> Result<bool, AllocError>
+    requires { place < length circuit.now.bads.items }
+    ensures { IfOk result (λ fails. IsTrue fails → FailsAt circuit.now place trace.now) }
+{
+    replay(alloc, circuit, circuit.bads[place], trace)
 }
 
 /// Whether an invariant, clauses over the latches, shows that the circuit which a text writes is safe: as to the bad

@@ -79,6 +79,10 @@ impl<'a> Teller<'a> {
 }
 
 impl Watch for Teller<'_> {
+    fn note_round(&mut self, _rounds: usize) -> ControlFlow<()> {
+        ControlFlow::Continue(())
+    }
+
     fn note(&mut self, depth: usize, clauses: usize, learned: usize) -> ControlFlow<()> {
         self.depth = depth;
         self.clauses = clauses;

@@ -1,0 +1,38 @@
+//! A register of two latches.
+
+use gipmc_circuits::{And, Circuit, Latch};
+use gipsat_solver::Literal;
+use std::alloc::{AllocError, Allocator};
+
+/// The literal that is true where both latches are.
+pub fn full() -> Literal {
+    Literal::new(4, true)
+}
+
+/// Latch 2 is one after a moment at which input 1 was, and latch 3 once latch 2 was one at the moment before. Both
+/// begin at 0. Gate 4 is true where both latches are: after two transitions at the earliest.
+///
+/// # Errors
+/// `AllocError` where memory is refused.
+pub fn shifter<A: Allocator + Copy>(alloc: A) -> Result<Circuit<A>, AllocError> {
+    let (first, second) = (Literal::new(2, true), Literal::new(3, true));
+    let mut circuit = Circuit::new(alloc);
+    circuit.inputs.push(1)?;
+    circuit.latches.push(begins_low(2, Literal::new(1, true)))?;
+    circuit.latches.push(begins_low(3, first))?;
+    circuit.gates.push(And {
+        output: 4,
+        left: first,
+        right: second,
+    })?;
+    Ok(circuit)
+}
+
+// The latch that begins at 0.
+fn begins_low(variable: u32, next: Literal) -> Latch {
+    Latch {
+        variable,
+        next,
+        reset: Some(false),
+    }
+}
