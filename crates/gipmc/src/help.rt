@@ -23,8 +23,8 @@ Search:
 
 Answers of other programs:
       --replay WITNESS  write `s VERIFIED` if the circuit fails by the trace in the file WITNESS, or `s NOT VERIFIED`
-      --certify CLAUSES write `s VERIFIED` if the clauses over latches in the file CLAUSES, in the DIMACS form, show that
-                        the circuit is safe, or `s NOT VERIFIED`
+      --certify CLAUSES write `s VERIFIED` if the clauses over latches in the file CLAUSES, in the DIMACS form, show
+                        that the circuit is safe, or `s NOT VERIFIED`
 
 Output:
   -q, --quiet           write no progress; without this it is written where standard error is a terminal

@@ -5,8 +5,8 @@ use crate::stopper::Stopper;
 use gipmc_engines::{Tries, simulate};
 use std::alloc::{AllocError, Allocator};
 
-// How many moments the trace has that simulation finds for the register, and of how many rounds a listener was told that
-// stops it after some.
+// How many moments the trace has that simulation finds for the register, and of how many rounds a listener was told
+// that stops it after some.
 fn found<A: Allocator + Copy>(
     alloc: A,
     moments: u8,
