@@ -93,7 +93,8 @@ witness '2\nb0\n.\n'
 # shellcheck disable=SC2016
 try "no witness" 1 'wit: line 1: no line `1`, with which a witness begins' "" "$held" --replay wit
 witness '1\nb0\n00\n1\n.\n'
-try "a witness with a value too many" 1 "wit: line 3: more or fewer values than the circuit has latches or inputs" "" "$held" --replay wit
+try "a witness with a value too many" 1 \
+    "wit: line 3: more or fewer values than the circuit has latches or inputs" "" "$held" --replay wit
 
 # Invariants of other programs.
 invariant() { printf '%b' "$1" > inv; }
@@ -106,17 +107,20 @@ try "an invariant of one bad literal, asked about both" 1 "" "s NOT VERIFIED" "$
 try "an invariant, and a literal that is not there" 1 "<stdin>: no bad literal 9, of 2" "" "$two" --certify inv --bad 9
 invariant 'p cnf 9 1\n-1 0\n'
 # shellcheck disable=SC2016
-try "an invariant of another circuit" 1 'inv: line 1: no header `p cnf LATCHES CLAUSES` that says what follows' "" "$kept" --certify inv
+try "an invariant of another circuit" 1 \
+    'inv: line 1: no header `p cnf LATCHES CLAUSES` that says what follows' "" "$kept" --certify inv
 
 # Texts that are refused.
 # shellcheck disable=SC2016
 try "an empty input" 1 '<stdin>: line 1: no header `aag` or `aig`' "" ""
-try "a justice property" 1 "<stdin>: line 1: justice and fairness properties are not supported" "" 'aag 0 0 0 0 0 0 0 1\n'
+try "a justice property" 1 \
+    "<stdin>: line 1: justice and fairness properties are not supported" "" 'aag 0 0 0 0 0 0 0 1\n'
 try "a latch that is not there" 1 "<stdin>: line 2: not a number" "" 'aag 1 0 1 0 0\n'
 try "a literal that is too great" 1 "<stdin>: line 3: a number that is too great" "" 'aag 1 0 1 0 0 1\n2 2\n4\n'
 try "a variable that is not defined" 1 "<stdin>: variable 1 is not defined" "" 'aag 1 0 0 0 0 1\n2\n'
 try "a variable that is defined twice" 1 "<stdin>: variable 1 is defined twice" "" 'aag 2 1 1 0 0 1\n2\n2 2\n2\n'
-try "a gate that depends on itself" 1 "<stdin>: the gate of variable 1 depends on itself" "" 'aag 1 0 0 0 1 1\n2\n2 2 2\n'
+try "a gate that depends on itself" 1 \
+    "<stdin>: the gate of variable 1 depends on itself" "" 'aag 1 0 0 0 1 1\n2\n2 2 2\n'
 
 # Files that are not there.
 try "no such file" 1 "none.aag: no such file" "" "" none.aag
@@ -139,7 +143,8 @@ try "no engine" 2 "gipmc: '--engine' needs sim or bmc behind it (try --help)" ""
 try "another engine" 2 "gipmc: '--engine' takes sim or bmc, not 'ic4' (try --help)" "" "" --engine ic4
 try "a depth that is no number" 2 "gipmc: '--depth' takes a number below 2^64, not 'x' (try --help)" "" "" --depth x
 try "two files" 2 "gipmc: one file too many, 'b' (try --help)" "" "" a b
-try "a witness and an invariant" 2 "gipmc: '--replay' and '--certify' exclude each other (try --help)" "" "" --replay a --certify b
+try "a witness and an invariant" 2 \
+    "gipmc: '--replay' and '--certify' exclude each other (try --help)" "" "" --replay a --certify b
 try "standard input twice" 2 "gipmc: one file at most is read from standard input (try --help)" "" "" --replay -
 try "the version" 0 "" "gipmc 0.1.0" "" --version
 cp held.aag ./-held.aag
@@ -166,7 +171,8 @@ while read -r name said depth text; do
     if [ "$said" = safe ]; then
         [ "$status" = 0 ] && [ "$(cat out)" = "$(open 64)" ]
     else
-        [ "$status" = 10 ] && [ "$(wc -l < out)" = $((depth + 5)) ] && [ "$("$gipmc" --replay out row.aag)" = "s VERIFIED" ]
+        [ "$status" = 10 ] && [ "$(wc -l < out)" = $((depth + 5)) ] &&
+            [ "$("$gipmc" --replay out row.aag)" = "s VERIFIED" ]
     fi
     told "$name $said $depth" $?
 done < "$rows"
