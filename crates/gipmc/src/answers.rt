@@ -320,7 +320,8 @@ fn certifies_all<A: Allocator + Copy>(
     ensures { IfOk result (λ safe. IsTrue safe → (place : ℕ) → IsSafeAt circuit.now place) }
 {
     for place in 0..circuit.bads.len() {
-        if !certifies_at(alloc, circuit, invariant, place, limit)? {
+        let is_safe = certifies_at(alloc, circuit, invariant, place, limit)?;
+        if !is_safe {
             return Ok(false);
         }
     }

@@ -1,11 +1,13 @@
 -- One more place is told of.
-use Rattle.std.proofs.Common.{◌≡◌, length, arith, refl}
+use Rattle.std.proofs.Common.{◌≡◌, length, arith}
 use Rattle.std.proofs.lemmas.Grind.{common_steps}
 use Rattle.gipmc.proofs.Told.{TellsFirst-more}
 use Rattle.gipmc.proofs.answers.answer_all.Goals as goal
 
 pub loop-place-preserved : goal.loop-place-preserved
-loop-place-preserved g c = ?
+loop-place-preserved g c =
+    rw (c.in_ok-extend_from_slice.ensures.items, c.deref.ensures.value, c.and.ensures)
+    (TellsFirst-more c.args.circuit.now c.loop-place.place _ _ _ _ c.loop-place.invariant c.in_ok-said.ensures)
 
 pub returns : goal.returns
 returns g c =
