@@ -1,6 +1,7 @@
 pub mod Agreeing
 pub mod Certified
 mod Defined
+mod Ends
 mod Examples
 pub mod Encoded
 pub mod Traces
