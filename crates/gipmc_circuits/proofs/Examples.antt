@@ -1,6 +1,6 @@
 -- Worked examples of traces, of circuits that are safe, and of circuits that are well-formed and not.
 use Rattle.std.proofs.Common.{◌≡◌, ℕ, Bool, true, false, not, Some, None, [], ◌∷◌, eqb, refl}
-use Rattle.std.specs.Prelude.{◌&&◌}
+use Rattle.std.specs.Prelude.{◌&&◌, slice_get}
 use Rattle.std.proofs.Math.Nat.{le_refl}
 use Rattle.std.specs.Bool.{beq}
 use Rattle.std.specs.List.{list_all}
@@ -8,6 +8,7 @@ use Rattle.std.proofs.lemmas.Bool.{and_parts, false≢true}
 use Rattle.gipsat_solver.specs.Formulas.{Assignment}
 use Rattle.gipsat_solver.specs.Assumptions.{makes_true}
 use Rattle.gipsat_solver.specs.Literals.{Lit}
+use Rattle.gipsat_solver.proofs.Places.{none_some}
 use Rattle.gipmc_circuits.specs.declared.circuit.And.{And}
 use Rattle.gipmc_circuits.specs.declared.circuit.Circuit.{Circuit}
 use Rattle.gipmc_circuits.specs.Circuit.{FailsAfter, IsSafe, has_value, is_reset, is_valuation}
@@ -64,6 +65,11 @@ nothing_bad c n (t, is, bad) =
     let valuation = (and_parts (is_valuation c (t n)) (makes_true (t n) c.constraints.items) moment).0 in
     let zero_false = (and_parts (not (t n 0)) (list_all (has_value (t n)) c.gates.items) valuation).0 in
     not_both (t n 0) bad (beq_false (t n 0) zero_false)
+
+-- where there is no bad literal, each of them is safe
+no_bad_literal : {A : Type 0} (c : Circuit A) → c.bads.items ≡ []
+    → (place : ℕ) (bad : Lit) → slice_get c.bads.items place ≡ Some bad → IsSafe c bad
+no_bad_literal c none place bad at = none_some bad (rw none at at)
 
 -- a constraint is broken where its literal is false
 broken_constraint : makes_true first (yes_of 1 ∷ yes_of 2 ∷ []) ≡ false

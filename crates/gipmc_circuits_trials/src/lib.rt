@@ -5,6 +5,8 @@
 mod certificates;
 pub mod latched;
 #[cfg(test)]
+mod moments;
+#[cfg(test)]
 mod traces;
 #[cfg(test)]
 mod well_formed;

@@ -1,0 +1,32 @@
+//! The distance of two moments, and literals that are moved by it.
+
+use crate::latched::latched;
+use gipmc_circuits::encoding::{is_below, shifted, variables};
+use gipsat_solver::Literal;
+use std::alloc::AllocError;
+
+#[test]
+fn variables_are_below_their_number(rt: HostRuntime) -> Result<(), AllocError> {
+    let circuit = latched(rt.alloc())?;
+    let stride = variables(&circuit);
+    assert_eq!(rt; stride, 5);
+    assert!(rt; is_below(stride, &circuit));
+    assert!(rt; !is_below(4, &circuit));
+    Ok(())
+}
+
+// The variable of literal 3 behind an offset; None where that is refused.
+fn moved(offset: usize) -> Option<u32> {
+    shifted(Literal::new(3, false), offset)
+        .ok()
+        .map(|l| l.variable())
+}
+
+#[test]
+fn literals_are_moved_up_to_a_bound(rt: HostRuntime) {
+    assert_eq!(rt; moved(0), Some(3));
+    assert_eq!(rt; moved(5), Some(8));
+    assert_eq!(rt; moved(2_147_483_644), Some(2_147_483_647));
+    assert_eq!(rt; moved(2_147_483_645), None);
+    assert_eq!(rt; moved(usize::MAX), None);
+}
