@@ -1,4 +1,5 @@
 mod Examples
 mod FrameLoops
 mod Refusals
+pub mod Rereads
 mod RowLoops

@@ -1,5 +1,6 @@
 -- The texts of a circuit in both forms.
-use Rattle.std.specs.Prelude.{ℕ, zero, suc, ◌+◌, ◌-◌, ◌*◌, ◌/◌, ◌%◌, min, max, nat_lt, Bool, List, [], ◌∷◌, ◌++◌, length, codes, decimal, Option, Some, None, is_some, map, ◌==◌, if◌then◌else◌}
+use Rattle.std.specs.Prelude.{ℕ, zero, suc, ◌+◌, ◌-◌, ◌*◌, ◌/◌, ◌%◌, min, max, nat_lt, Bool, List, [], ◌∷◌, ◌++◌}
+use Rattle.std.specs.Prelude.{length, codes, decimal, Option, Some, None, is_some, map, ◌==◌, if◌then◌else◌}
 use Rattle.std.specs.List.{list_all}
 use Rattle.gipsat_solver.specs.Literals.{Lit}
 use Rattle.gipmc_circuits.specs.declared.circuit.And.{And}
@@ -129,7 +130,7 @@ is_numbered c =
 abbrev pub is_above : And → Bool
 is_above g = nat_lt (max (literal_number g.left) (literal_number g.right)) (2 * g.output)
 
--- so is each gate's
+-- each gate's output is above both operands
 abbrev pub are_above : List And → Bool
 are_above gates = list_all is_above gates
 

@@ -1,5 +1,6 @@
 -- Numbers and separators at the front of bytes.
-use Rattle.std.specs.Prelude.{◌≡◌, ℕ, zero, suc, ◌+◌, ◌-◌, ◌*◌, ◌^◌, List, [], ◌∷◌, Option, Some, None, Result, Ok, Err, nat_lt, nat_le, ◌==◌, if◌then◌else◌}
+use Rattle.std.specs.Prelude.{◌≡◌, ℕ, zero, suc, ◌+◌, ◌-◌, ◌*◌, ◌^◌, List, [], ◌∷◌, Option, Some, None, Result, Ok}
+use Rattle.std.specs.Prelude.{Err, nat_lt, nat_le, ◌==◌, if◌then◌else◌}
 use Rattle.std.specs.Char.{is_ascii_digit}
 use Rattle.gipmc_aiger.specs.declared.error.Stop.{Stop}
 use Rattle.gipmc_aiger.specs.declared.error.Stop.TheVariants as stop
@@ -30,7 +31,8 @@ abbrev pub expected_at : ℕ → List ℕ → Option (List ℕ)
 expected_at byte [] = None
 expected_at byte (first ∷ rest) = if first == byte then Some rest else None
 
--- the number that the digits at the front write behind those of n, if it is at most the limit, and the bytes behind them
+-- the number that the digits at the front write behind those of n, if it is at most the limit, and the bytes behind
+-- them
 abbrev pub digits_at : ℕ → ℕ → List ℕ → Option (ℕ × List ℕ)
 digits_at limit n [] = Some (n, [])
 digits_at limit n (digit ∷ rest) =

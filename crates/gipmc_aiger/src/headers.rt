@@ -1,7 +1,8 @@
 //! A reader of headers.
 ghost use Rattle.std.specs.Prelude.{◌≡◌, ◌<◌, ◌^◌, IfOk};
 ghost use Rattle.gipmc_aiger.specs.Reading.{Gives};
-ghost use Rattle.gipmc_aiger.specs.Circuits.{form_at, letter_at, count_at, optional_count_at, sizes_at, properties_at, header_at, has_counts};
+ghost use Rattle.gipmc_aiger.specs.Circuits.{form_at, letter_at, count_at, optional_count_at, sizes_at, properties_at};
+ghost use Rattle.gipmc_aiger.specs.Circuits.{header_at, has_counts};
 
 use crate::error::{Reason, Stop};
 use crate::header::{Form, Header, Properties, Sizes};

