@@ -1,0 +1,2 @@
+cd /work/scratch_s
+for f in pipeline-2-4-4-0.1 pebbling-8-8.1 sliding-26-2 simon-8-16-40.1 sha-20-32-16.1 pipeline-4-3-4-0.1 popcount-18.1 miter-30-180.1 arbiter-30-0 fifo-4-4-12.1 divider-9-0.1 multipliers-6-0 queens-9-0 sliding-21-1 product-7-0 counters-500-0 gray-36-0; do for p in nat/gip nat2/gip; do echo "$f $p $( (ulimit -t 30; time $p <f/$f.cnf >/dev/null) 2>&1 | egrep "^c|user" | tr '\n' ' ' | cut -c1-130)"; done; done
