@@ -37,13 +37,14 @@ has_value-alike n a b g agree within =
     ∙ ap (beq (b g.output)) (both_alike (is_true a g.left) (is_true b g.left) (is_true a g.right) (is_true b g.right) (is_true-alike n a b g.left agree left) (is_true-alike n a b g.right agree right))
 
 -- what `is_below` says of each part
-record Below {A : Type 0} (n : ℕ) (c : Circuit A) : Type 0 where
-  some : 0 < n
-  latches : IsTrue (list_all (latch_below n) c.latches.items)
-  gates : IsTrue (list_all (gate_below n) c.gates.items)
-  constraints : IsTrue (list_all (literal_below n) c.constraints.items)
+pub record Below {A : Type 0} (n : ℕ) (c : Circuit A) : Type 0 where
+  pub some : 0 < n
+  pub inputs : IsTrue (list_all (λ v. ltb v n) c.inputs.items)
+  pub latches : IsTrue (list_all (latch_below n) c.latches.items)
+  pub gates : IsTrue (list_all (gate_below n) c.gates.items)
+  pub constraints : IsTrue (list_all (literal_below n) c.constraints.items)
 
-below-parts : {A : Type 0} (n : ℕ) (c : Circuit A) → IsTrue (is_below n c) → Below n c
+pub below-parts : {A : Type 0} (n : ℕ) (c : Circuit A) → IsTrue (is_below n c) → Below n c
 below-parts n c within =
     let inputs = list_all (λ v. ltb v n) c.inputs.items in
     let latches = list_all (latch_below n) c.latches.items in
@@ -55,7 +56,7 @@ below-parts n c within =
     let (l, d) = and_parts latches (gates && (bads && constraints)) b in
     let (g, e) = and_parts gates (bads && constraints) d in
     let (h, m) = and_parts bads constraints e in
-    record { some = ltb-true 0 n some; latches = l; gates = g; constraints = m }
+    record { some = ltb-true 0 n some; inputs = i; latches = l; gates = g; constraints = m }
 
 pub is_moment-alike : {A : Type 0} (n : ℕ) (c : Circuit A) (a b : Assignment) → IsTrue (is_below n c) → AgreeBelow n a b
     → is_moment c a ≡ is_moment c b

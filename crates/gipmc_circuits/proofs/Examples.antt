@@ -1,5 +1,5 @@
--- Worked examples of traces, of circuits that are safe, and of circuits that are well-formed and not.
-use Rattle.std.proofs.Common.{◌≡◌, ℕ, Bool, true, false, not, Some, None, [], ◌∷◌, eqb, refl}
+-- Worked examples of traces, of circuits that are safe, of certificates, and of circuits that are well-formed and not.
+use Rattle.std.proofs.Common.{◌≡◌, ℕ, ◌+◌, ◌++◌, zero, suc, Bool, true, false, not, List, [], ◌∷◌, Vec, Some, None, eqb, length, map, arith, refl, sym, subst, IsTrue}
 use Rattle.std.specs.Prelude.{◌&&◌, slice_get}
 use Rattle.std.proofs.Math.Nat.{le_refl}
 use Rattle.std.specs.Bool.{beq}
@@ -7,11 +7,15 @@ use Rattle.std.specs.List.{list_all}
 use Rattle.std.proofs.lemmas.Bool.{and_parts, false≢true}
 use Rattle.gipsat_solver.specs.Formulas.{Assignment}
 use Rattle.gipsat_solver.specs.Assumptions.{makes_true}
-use Rattle.gipsat_solver.specs.Literals.{Lit}
-use Rattle.gipsat_solver.proofs.Places.{none_some}
+use Rattle.gipsat_solver.specs.Literals.{Lit, negated}
+use Rattle.gipsat_solver.proofs.Places.{none_some, same_some}
 use Rattle.gipmc_circuits.specs.declared.circuit.And.{And}
 use Rattle.gipmc_circuits.specs.declared.circuit.Circuit.{Circuit}
-use Rattle.gipmc_circuits.specs.Circuit.{FailsAfter, IsSafe, has_value, is_reset, is_valuation}
+use Rattle.gipsat_solver.specs.Values.{assignment_in}
+use Rattle.gipmc_circuits.specs.declared.trace.Trace.{Trace}
+use Rattle.gipmc_circuits.specs.Circuit.{FailsAfter, IsSafe, IsTrace, has_value, is_reset, is_valuation}
+use Rattle.gipmc_circuits.specs.Extension.{Accepts, SharesState, are_stacked}
+use Rattle.gipmc_circuits.specs.Traces.{FailsBy, HoldsRow, HoldsRows}
 use Rattle.gipmc_circuits.specs.WellFormed.{are_in_order, are_new, is_constant, with_variables}
 
 abbrev yes_of : ℕ → Lit
@@ -42,6 +46,53 @@ bad_at_the_start : {A : Type 0} (c : Circuit A) → c.latches.items ≡ [] → c
     → FailsAfter c (yes_of 1) 0
 bad_at_the_start c latches gates constraints =
     ((λ i. first), record { initial = rw latches refl; moments = λ i within. rw (gates, constraints) refl; transitions = λ i less. rw latches refl }, refl)
+
+-- a trace of one row, by which an input is bad
+holds_one : {B : Type 0} (row : Vec Bool B) → row.items ≡ true ∷ [] → HoldsRows (λ i. first) (1 ∷ []) (row ∷ [])
+holds_one row is zero r at zero v at_input =
+    subst (λ w. first w ≡ assignment_in r.items 0) (same_some 1 v at_input)
+    (subst (λ q. true ≡ assignment_in q.items 0) (same_some row r at) (rw is refl))
+holds_one row is zero r at (suc k) v at_input = none_some v at_input
+holds_one row is (suc i) r at k v at_input = none_some r at
+
+stays_first : {A : Type 0} (c : Circuit A) → c.latches.items ≡ [] → c.gates.items ≡ [] → c.constraints.items ≡ []
+    → IsTrace c 0 (λ i. first)
+stays_first c latches gates constraints =
+    record { initial = rw latches refl; moments = λ i within. rw (gates, constraints) refl; transitions = λ i less. rw latches refl }
+
+no_latches : (row : List Bool) → HoldsRow first [] row
+no_latches row k v at = none_some v at
+
+input_is_true : {A B : Type 0} (c : Circuit A) (trace : Trace B) (row : Vec Bool B) → c.inputs.items ≡ 1 ∷ []
+    → c.latches.items ≡ [] → c.gates.items ≡ [] → c.constraints.items ≡ [] → trace.inputs.items ≡ row ∷ []
+    → row.items ≡ true ∷ [] → FailsBy c (yes_of 1) trace
+input_is_true c trace row inputs latches gates constraints rows is =
+    let at_latches = subst (λ ls. HoldsRow first (map (λ l. l.variable) ls) trace.latches.items) (sym latches) (no_latches trace.latches.items) in
+    let at_inputs = subst (λ vs. HoldsRows (λ i. first) vs (row ∷ [])) (sym inputs) (holds_one row is) in (
+      0,
+      (λ i. first),
+      subst (λ xs. length xs ≡ 0 + 1) (sym rows) refl,
+      stays_first c latches gates constraints,
+      (at_latches, subst (HoldsRows (λ i. first) c.inputs.items) (sym rows) at_inputs),
+      refl,
+    )
+
+-- a value that is missing is false
+input_is_missing : {A B : Type 0} (c : Circuit A) (trace : Trace B) (row : Vec Bool B) → c.inputs.items ≡ 1 ∷ []
+    → trace.inputs.items ≡ row ∷ [] → row.items ≡ [] → ¬ (FailsBy c (yes_of 1) trace)
+input_is_missing c trace row inputs rows none (n, t, count, is_trace, (latches, follows), bad) =
+    let one : 1 ≡ n + 1 = subst (λ xs. length xs ≡ n + 1) rows count in
+    let start : n ≡ 0 = omega (arith, one) in
+    let at_row = subst (λ xs. HoldsRows t c.inputs.items xs) rows follows 0 row refl in
+    let input : t 0 1 ≡ assignment_in row.items 0 = subst (λ vs. HoldsRow (t 0) vs row.items) inputs at_row 0 1 refl in
+    let value : t n 1 ≡ false = subst (λ i. t i 1 ≡ false) (sym start) (subst (λ vs. t 0 1 ≡ assignment_in vs 0) none input) in
+    false≢true (subst (λ value_. beq value_ true ≡ true) value bad)
+
+-- without a row there is no moment, and nothing fails
+no_row : {A B : Type 0} (c : Circuit A) (bad : Lit) (trace : Trace B) → trace.inputs.items ≡ [] → ¬ (FailsBy c bad trace)
+no_row c bad trace none (n, t, count, is_trace, follows, fails) =
+    let moments : 0 ≡ n + 1 = subst (λ xs. length xs ≡ n + 1) none count in
+    absurd (omega (arith, moments))
 
 beq_false : (value : Bool) → not value ≡ true → (beq value false && true) ≡ true
 beq_false true is = is
@@ -103,3 +154,28 @@ twice_not_new = refl
 
 constant_not_new : are_new (0 ∷ []) is_constant ≡ false
 constant_not_new = refl
+
+-- gates that are stacked: the outputs are numbered from one on, each behind its operands
+never_stacked : are_stacked (never ∷ []) 2 ≡ true
+never_stacked = refl
+
+never_not_stacked : are_stacked (never ∷ []) 3 ≡ false
+never_not_stacked = refl
+
+cycle_not_stacked : are_stacked (cycle ∷ []) 2 ≡ false
+cycle_not_stacked = refl
+
+-- a certificate that claims nothing accepts every moment
+no_claims : {A B : Type 0} (c : Circuit A) (w : Circuit B) (a : Assignment) → w.bads.items ≡ [] → w.constraints.items ≡ [] → Accepts c w a
+no_claims c w a bads constraints b is shares =
+    subst (λ ls. IsTrue (makes_true b (map negated w.bads.items ++ ls))) (sym constraints)
+    (subst (λ ls. IsTrue (makes_true b (map negated ls ++ []))) (sym bads) refl)
+
+-- where it claims that the constant is true, it accepts none that has a valuation with the same inputs and latches
+claims_too_much : {A B : Type 0} (c : Circuit A) (w : Circuit B) (a b : Assignment) → w.bads.items ≡ [] → w.constraints.items ≡ yes_of 0 ∷ []
+    → IsTrue (is_valuation w b) → SharesState c w a b → ¬ (Accepts c w a)
+claims_too_much c w a b bads constraints is shares accepts =
+    let claimed = subst (λ ls. IsTrue (makes_true b (map negated w.bads.items ++ ls))) constraints (accepts b is shares) in
+    let constant : IsTrue (makes_true b (yes_of 0 ∷ [])) = subst (λ ls. IsTrue (makes_true b (map negated ls ++ yes_of 0 ∷ []))) bads claimed in
+    let zero_false = (and_parts (not (b 0)) (list_all (has_value b) w.gates.items) is).0 in
+    not_both (b 0) (and_parts (beq (b 0) true) true constant).0 (beq_false (b 0) zero_false)

@@ -4,6 +4,8 @@ mod Defined
 mod Ends
 mod Examples
 pub mod Encoded
+pub mod Extensions
+mod Rows
 pub mod Traces
 pub mod Unrolled
 pub mod Valuations

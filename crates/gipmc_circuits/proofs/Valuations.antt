@@ -7,7 +7,7 @@ use Rattle.gipsat_solver.specs.Formulas.{Assignment, is_true}
 use Rattle.gipmc_circuits.specs.declared.circuit.And.{And}
 use Rattle.gipmc_circuits.specs.declared.circuit.Circuit.{Circuit}
 use Rattle.gipmc_circuits.specs.Circuit.{has_value, is_valuation}
-use Rattle.gipmc_circuits.specs.WellFormed.{are_in_order, are_new, is_constant, is_source, is_variable, is_well_formed, latch_variables, with_variable, with_variables}
+use Rattle.gipmc_circuits.specs.WellFormed.{are_in_order, are_new, is_constant, is_source, is_variable, is_well_formed, latch_variables, uses_defined, with_variable, with_variables}
 use Rattle.gipmc_circuits.proofs.Agreeing.{both_alike}
 
 same_of_beq : (x y : Bool) → beq x y ≡ true → x ≡ y
@@ -23,7 +23,7 @@ beq_of_same true false e = absurd (false≢true (sym e))
 beq_of_same false true e = absurd (false≢true e)
 
 -- the values are the same at each of these variables
-abbrev AgreeAt : (ℕ → Bool) → Assignment → Assignment → Type 0
+abbrev pub AgreeAt : (ℕ → Bool) → Assignment → Assignment → Type 0
 AgreeAt defined a b = (v : ℕ) → IsTrue (defined v) → a v ≡ b v
 
 operands_alike : (g : And) (defined : ℕ → Bool) (a b : Assignment) → IsTrue (defined g.left.variable && defined g.right.variable)
@@ -62,7 +62,7 @@ same_from (g ∷ gates) defined a b order in_a in_b agree =
     (λ v is. ⊎_elim (λ same. let here : v ≡ g.output = eqb-true v g.output same in subst (λ w. a w ≡ b w) (sym here) output) (λ old. agree v old) (or_cases (eqb v g.output) (defined v) is))
 
 -- gates in order have values, whatever they start from
-values_from : (gates : List And) (defined : ℕ → Bool) (a : Assignment) → IsTrue (are_in_order gates defined)
+pub values_from : (gates : List And) (defined : ℕ → Bool) (a : Assignment) → IsTrue (are_in_order gates defined)
     → (b : Assignment) × AgreeAt defined b a × IsTrue (list_all (has_value b) gates)
 values_from [] defined a order = (a, (λ v is. refl), refl)
 values_from (g ∷ gates) defined a order =
@@ -93,6 +93,13 @@ order-part c is =
     in
     let (new, others) = and_parts news (are_in_order c.gates.items (is_source c) && literals) is in
     (and_parts (are_in_order c.gates.items (is_source c)) literals others).0
+
+pub uses-part : {A : Type 0} (c : Circuit A) → IsTrue (is_well_formed c) → IsTrue (uses_defined (is_variable c) c)
+uses-part c is =
+    let news = are_new c.inputs.items is_constant && are_new (latch_variables c) (with_variables c.inputs.items is_constant) in
+    let ordered = are_in_order c.gates.items (is_source c) in
+    let (new, others) = and_parts news (ordered && uses_defined (is_variable c) c) is in
+    (and_parts ordered (uses_defined (is_variable c) c) others).1
 
 keeps_defined : (vs : List ℕ) (defined : ℕ → Bool) (v : ℕ) → IsTrue (defined v) → IsTrue (with_variables vs defined v)
 keeps_defined [] defined v is = is

@@ -1,4 +1,6 @@
 pub mod Circuit
 pub mod Encoding
 pub mod Certificate
+pub mod Extension
+pub mod Traces
 pub mod WellFormed

@@ -1,0 +1,11 @@
+-- The clauses so far say that the literals so far are true.
+use Rattle.std.proofs.Common.{◌≡◌, take}
+use Rattle.gipsat_solver.specs.Assumptions.{makes_true}
+use Rattle.gipsat_solver.specs.Formulas.{Assignment}
+use Rattle.gipmc_circuits.specs.Certificate.{holds}
+use Rattle.gipmc_circuits.specs.Extension.{name_in}
+use Rattle.gipmc_circuits.proofs.extension.units.Given as goal
+
+abbrev pub invariant-loop-place : goal.invariant-loop-place
+invariant-loop-place g l =
+    (a : Assignment) → holds l.rows.items a ≡ makes_true (λ v. a (name_in l.names v)) (take l.place l.literals)

@@ -1,0 +1,7 @@
+use Rattle.gipsat_solver.specs.Encodings.{AllBelow}
+use Rattle.gipsat_solver.specs.Values.{assignment_in}
+use Rattle.gipmc_circuits.proofs.Rows.{HoldsAt}
+use Rattle.gipmc_circuits.proofs.trace.holds_row.Given as goal
+
+abbrev pub invariant-loop-place : goal.invariant-loop-place
+invariant-loop-place l = AllBelow l.place (HoldsAt (assignment_in l.values) l.variables l.row)
