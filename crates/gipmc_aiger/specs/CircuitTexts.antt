@@ -1,5 +1,6 @@
 -- The texts of a circuit in both forms.
 use Rattle.std.specs.Prelude.{ℕ, zero, suc, ◌+◌, ◌-◌, ◌*◌, ◌/◌, ◌%◌, min, max, nat_lt, Bool, List, [], ◌∷◌, ◌++◌, length, codes, decimal, Option, Some, None, is_some, map, ◌==◌, if◌then◌else◌}
+use Rattle.std.specs.List.{list_all}
 use Rattle.gipsat_solver.specs.Literals.{Lit}
 use Rattle.gipmc_circuits.specs.declared.circuit.And.{And}
 use Rattle.gipmc_circuits.specs.declared.circuit.Latch.{Latch}
@@ -123,6 +124,14 @@ is_numbered c =
     is_some (numbered_behind 0 c.inputs.items >>= λ input.
     numbered_behind input (map (λ l. l.variable) c.latches.items) >>= λ latch.
     numbered_behind latch (map (λ g. g.output) c.gates.items))
+
+-- the gate's output is above both operands
+abbrev pub is_above : And → Bool
+is_above g = nat_lt (max (literal_number g.left) (literal_number g.right)) (2 * g.output)
+
+-- each gate's output is above both operands
+abbrev pub are_above : List And → Bool
+are_above gates = list_all is_above gates
 
 -- the text of a circuit in the binary form
 abbrev pub aig_text : {A : Type 0} → Circuit A → List ℕ

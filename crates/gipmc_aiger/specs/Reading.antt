@@ -3,6 +3,8 @@ use Rattle.std.specs.Prelude.{◌≡◌, ℕ, zero, suc, ◌+◌, ◌-◌, ◌*�
 use Rattle.std.specs.Char.{is_ascii_digit}
 use Rattle.gipmc_aiger.specs.declared.error.Stop.{Stop}
 use Rattle.gipmc_aiger.specs.declared.error.Stop.TheVariants as stop
+use Rattle.gipmc_aiger.specs.declared.error.AigerError.{AigerError}
+use Rattle.gipmc_aiger.specs.declared.error.AigerError.TheVariants as error
 
 infixl 10 ◌>>=◌
 -- what is read behind what was read
@@ -19,6 +21,12 @@ Fails (stop.Refused reason left) read = read ≡ None
 abbrev pub IsRefusal : Stop → Type 0
 IsRefusal stop.Memory = ⊥
 IsRefusal (stop.Refused reason left) = Unit {0}
+
+-- an error of memory, or of a text that has not the form
+abbrev pub IsReadError : AigerError → Type 0
+IsReadError error.Memory = Unit {0}
+IsReadError (error.Refused place reason) = Unit {0}
+IsReadError _ = ⊥
 
 -- what a function answers is what is read, unless memory is refused
 abbrev pub Gives : {X Y : Type 0} → (X → Y) → Result X Stop → Option Y → Type 0

@@ -1,7 +1,8 @@
 //! A reader of circuits.
-ghost use Rattle.std.specs.Prelude.{◌≡◌, ℕ, None, IfOk, IsErrOf, IsTrue};
+ghost use Rattle.std.specs.Prelude.{◌≡◌, ℕ, ◌<◌, None, IfErr, IfOk, IsErrOf, IsTrue};
 ghost use Rattle.gipmc_circuits.specs.WellFormed.{is_well_formed};
 ghost use Rattle.gipmc_aiger.specs.Reading.{Gives};
+ghost use Rattle.gipmc_aiger.specs.Defects.{IsCyclic, IsErrorOf, WritesRows, is_twice, is_undefined};
 ghost use Rattle.gipmc_aiger.specs.Circuits.{body_at, circuit_of, netlist_of, IsReordering, Writes};
 
 use crate::error::{AigerError, Place, Reason, Stop};
@@ -29,12 +30,18 @@ pub fn read_circuit<A: Allocator + Copy>(alloc: A, text: &[u8]) -> Result<Circui
     ensures formed { IfOk result (λ c. IsTrue (is_well_formed c)) }
     ensures refused { (place : Place) (reason : Reason) → IsErrOf result (AigerError.Refused place reason) →
         circuit_of text.now ≡ None }
+    ensures twice { (v : ℕ) → IsErrOf result (AigerError.Twice v) →
+        WritesRows text.now (λ n. IsTrue (is_twice n v)) }
+    ensures undefined { (v : ℕ) → IsErrOf result (AigerError.Undefined v) →
+        WritesRows text.now (λ n. IsTrue (is_undefined n v)) }
+    ensures cycle { (v : ℕ) → 0 < v → IsErrOf result (AigerError.Cycle v) →
+        WritesRows text.now (λ n. IsCyclic n v) }
 {
     let (header, circuit) = match whole(alloc, text) {
         Ok(read) => read,
         Err(stop) => return Err(error_at(text, stop)),
     };
-    ordered(alloc, header.form, header.sizes.maximum, circuit)
+    ordered(alloc, header.form, circuit)
 }
 
 // The header and the rows.
@@ -73,15 +80,14 @@ fn body<A: Allocator + Copy>(alloc: A, header: &Header, bytes: &[u8]) -> Result<
 fn ordered<A: Allocator + Copy>(
     alloc: A,
     form: Form,
-    maximum: u32,
     mut circuit: Circuit<A>,
 ) -> Result<Circuit<A>, AigerError>
     ensures ok { IfOk result (λ c. IsReordering (netlist_of circuit) (netlist_of c)) }
     ensures formed { IfOk result (λ c. IsTrue (is_well_formed c)) }
-    ensures defect { (place : Place) (reason : Reason) → ¬ (IsErrOf result (AigerError.Refused place reason)) }
+    ensures defect { IfErr result (IsErrorOf (netlist_of circuit)) }
 {
     if let Form::Ascii = form {
-        if let Err(defect) = order(alloc, maximum, &mut circuit) {
+        if let Err(defect) = order(alloc, &mut circuit) {
             return Err(defect.error());
         }
     }

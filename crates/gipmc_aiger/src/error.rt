@@ -1,6 +1,9 @@
 //! Why a text is refused.
 ghost use Rattle.std.specs.Prelude.{◌≡◌};
+ghost use Rattle.gipmc_aiger.specs.Circuits.{Netlist};
+ghost use Rattle.gipmc_aiger.specs.Defects.{IsDefectOf, IsErrorOf};
 ghost use Rattle.gipmc_aiger.specs.declared.error.Stop.TheVariants.{Memory};
+ghost use Rattle.gipmc_aiger.specs.declared.error.Defect.TheVariants as defect;
 
 use std::alloc::{AllocError, AllocFailed};
 use thiserror::Error;
@@ -127,7 +130,7 @@ pub(crate) enum Defect {
 impl Defect {
     // The error of it.
     pub(crate) fn error(self) -> AigerError
-        ensures { (place : Place) (reason : Reason) → ¬ (result ≡ AigerError.Refused place reason) }
+        ensures { (n : Netlist) → IsDefectOf n self → IsErrorOf n result }
     {
         match self {
             Defect::Memory => AigerError::Memory,
@@ -139,12 +142,16 @@ impl Defect {
 }
 
 impl From<AllocError> for Defect {
+    ghost from_gives = { λ _ made. made ≡ defect.Memory };
+
     fn from(_refused: AllocError) -> Defect {
         Defect::Memory
     }
 }
 
 impl<T: Drop> From<AllocFailed<T>> for Defect {
+    ghost from_gives = { λ _ made. made ≡ defect.Memory };
+
     fn from(_refused: AllocFailed<T>) -> Defect {
         Defect::Memory
     }

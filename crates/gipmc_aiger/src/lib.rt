@@ -17,6 +17,6 @@ pub mod writer;
 
 pub use circuits::read_circuit;
 pub use error::{AigerError, Place, Reason};
-pub use invariant::{read_invariant, write_invariant};
+pub use invariant::{read_invariant, read_invariant_for, write_invariant};
 pub use witness::{Witness, read_witness, write_witness};
 pub use writer::{WriteError, write_aag, write_aig};

@@ -1,17 +1,19 @@
 //! The gates of a circuit in an order in which each stands behind those that it depends on.
-ghost use Rattle.std.specs.Prelude.{OnOk};
+ghost use Rattle.std.specs.Prelude.{◌≡◌, ◌<◌, ◌≤◌, ◌++◌, ◌∷◌, [], length, map, set, slice_get, slice_index_or, None, IfErr, IfOk, IfSome, OnOk};
+ghost use Rattle.gipmc_circuits.specs.WellFormed.{is_constant, with_variable, with_variables};
 ghost use Rattle.gipmc_aiger.specs.Circuits.{IsReordering, netlist_of};
+ghost use Rattle.gipmc_aiger.specs.Defects.{AddsGateOf, HasOutput, IsCycleIn, IsDefectOf, IsStack, IsTwiceIn};
+ghost use Rattle.gipmc_aiger.specs.Defects.{IsUndefinedIn, MeetsOpen, defined_in, defined_variables, defines};
+ghost use Rattle.gipmc_aiger.specs.Defects.{operands, used_literals, visit_at};
 
 use crate::error::Defect;
-use gipmc_circuits::{And, Circuit};
+use gipmc_circuits::{And, Circuit, Latch};
 use gipsat_solver::Literal;
 use std::alloc::{AllocError, Allocator};
 
 // What defines a variable.
 #[derive(Clone, Copy)]
-enum Definition {
-    // Nothing.
-    None,
+pub(crate) enum Definition {
     // It is false, or an input, or a latch.
     Source,
     // The gate at this place.
@@ -20,7 +22,7 @@ enum Definition {
 
 // How far a gate has been visited.
 #[derive(Clone, Copy)]
-enum Visit {
+pub(crate) enum Visit {
     // Not yet.
     New,
     // What it depends on is being visited.
@@ -30,14 +32,11 @@ enum Visit {
 }
 
 // Puts the gates of a circuit in order.
-pub(crate) fn order<A: Allocator + Copy>(
-    alloc: A,
-    maximum: u32,
-    circuit: &mut Circuit<A>,
-) -> Result<(), Defect>
+pub(crate) fn order<A: Allocator + Copy>(alloc: A, circuit: &mut Circuit<A>) -> Result<(), Defect>
     ensures ok { OnOk result (IsReordering (netlist_of circuit.old) (netlist_of circuit.new)) }
+    ensures defect { IfErr result (IsDefectOf (netlist_of circuit.old)) }
 {
-    let definitions = definitions(alloc, maximum, circuit)?;
+    let definitions = definitions(alloc, circuit)?;
     are_defined(&definitions, circuit)?;
     let visits = visits(alloc, &definitions, &circuit.gates)?;
     circuit
@@ -47,9 +46,9 @@ pub(crate) fn order<A: Allocator + Copy>(
 }
 
 // The place of a variable's gate in the order.
-fn place_of(definitions: &[Definition], visits: &[Visit], variable: u32) -> usize {
+fn place_of(definitions: &[Option<Definition>], visits: &[Visit], variable: u32) -> usize {
     match definition_of(definitions, variable) {
-        Definition::Gate(place) => match visits.get(place) {
+        Some(Definition::Gate(place)) => match visits.get(place) {
             Some(Visit::Done(order)) => *order,
             _ => 0,
         },
@@ -57,155 +56,319 @@ fn place_of(definitions: &[Definition], visits: &[Visit], variable: u32) -> usiz
     }
 }
 
-// What defines a variable.
-fn definition_of(definitions: &[Definition], variable: u32) -> Definition {
+// What defines a variable, if anything does.
+fn definition_of(definitions: &[Option<Definition>], variable: u32) -> Option<Definition>
+    ensures { result ≡ slice_index_or definitions.now variable None }
+{
     match definitions.get(variable as usize) {
         Some(definition) => *definition,
-        None => Definition::None,
+        None => None,
     }
 }
 
 // What defines each variable.
 fn definitions<A: Allocator + Copy>(
     alloc: A,
-    maximum: u32,
     circuit: &Circuit<A>,
-) -> Result<Vec<Definition, A>, Defect> {
-    let mut definitions = vec![in alloc; Definition::None; maximum as usize + 1]?;
-    define(&mut definitions, 0, Definition::Source)?;
-    for input in &circuit.inputs {
-        define(&mut definitions, *input, Definition::Source)?;
-    }
-    for latch in &circuit.latches {
-        define(&mut definitions, latch.variable, Definition::Source)?;
-    }
-    for (place, gate) in circuit.gates.iter().enumerate() {
-        define(&mut definitions, gate.output, Definition::Gate(place))?;
-    }
+) -> Result<Vec<Option<Definition>, A>, Defect>
+    ensures ok { IfOk result (λ definitions. defined_in definitions.items ≡ defines (netlist_of circuit.now)) }
+    ensures defect { IfErr result (IsTwiceIn (defined_variables (netlist_of circuit.now)) is_constant) }
+{
+    let mut definitions = Vec::new(alloc);
+    definitions.push(Some(Definition::Source))?;
+    define_inputs(&mut definitions, &circuit.inputs)?;
+    define_latches(&mut definitions, &circuit.latches)?;
+    define_gates(&mut definitions, &circuit.gates)?;
     Ok(definitions)
 }
 
-// Notes what defines a variable, which nothing else may define.
-fn define(definitions: &mut [Definition], variable: u32, by: Definition) -> Result<(), Defect> {
-    match definitions.get_mut(variable as usize) {
-        Some(definition) => {
-            if !matches!(*definition, Definition::None) {
-                return Err(Defect::Twice(variable));
-            }
-            *definition = by;
-            Ok(())
-        }
-        None => Err(Defect::Undefined(variable)),
+// Notes that inputs define their variables, which nothing else may define.
+fn define_inputs<A: Allocator>(
+    definitions: &mut Vec<Option<Definition>, A>,
+    inputs: &[u32],
+) -> Result<(), Defect>
+    ensures ok { OnOk result
+        (defined_in definitions.new.items ≡ with_variables inputs.now (defined_in definitions.old.items)) }
+    ensures defect { IfErr result (IsTwiceIn inputs.now (defined_in definitions.old.items)) }
+{
+    for input in inputs {
+        define(definitions, *input, Definition::Source)?;
     }
+    Ok(())
+}
+
+// Notes that latches define their variables, which nothing else may define.
+fn define_latches<A: Allocator>(
+    definitions: &mut Vec<Option<Definition>, A>,
+    latches: &[Latch],
+) -> Result<(), Defect>
+    ensures ok { OnOk result (defined_in definitions.new.items
+        ≡ with_variables (map (λ l. l.variable) latches.now) (defined_in definitions.old.items)) }
+    ensures defect { IfErr result
+        (IsTwiceIn (map (λ l. l.variable) latches.now) (defined_in definitions.old.items)) }
+{
+    for latch in latches {
+        define(definitions, latch.variable, Definition::Source)?;
+    }
+    Ok(())
+}
+
+// Notes that gates define their outputs, which nothing else may define.
+fn define_gates<A: Allocator>(
+    definitions: &mut Vec<Option<Definition>, A>,
+    gates: &[And],
+) -> Result<(), Defect>
+    ensures ok { OnOk result (defined_in definitions.new.items
+        ≡ with_variables (map (λ g. g.output) gates.now) (defined_in definitions.old.items)) }
+    ensures defect { IfErr result
+        (IsTwiceIn (map (λ g. g.output) gates.now) (defined_in definitions.old.items)) }
+{
+    for place in 0..gates.len() {
+        define(definitions, gates[place].output, Definition::Gate(place))?;
+    }
+    Ok(())
+}
+
+// Notes what defines a variable, which nothing else may define.
+fn define<A: Allocator>(
+    definitions: &mut Vec<Option<Definition>, A>,
+    variable: u32,
+    by: Definition,
+) -> Result<(), Defect>
+    ensures ok { OnOk result
+        (defined_in definitions.new.items ≡ with_variable variable (defined_in definitions.old.items)) }
+    ensures defect { IfErr result (IsTwiceIn (variable ∷ []) (defined_in definitions.old.items)) }
+{
+    grow(definitions, variable as usize + 1)?;
+    if definitions[variable as usize].is_some() {
+        return Err(Defect::Twice(variable));
+    }
+    definitions[variable as usize] = Some(by);
+    Ok(())
+}
+
+// Lets the table have at least so many places. Nothing more is defined then.
+fn grow<A: Allocator>(
+    definitions: &mut Vec<Option<Definition>, A>,
+    len: usize,
+) -> Result<(), AllocError>
+    ensures same { OnOk result (defined_in definitions.new.items ≡ defined_in definitions.old.items) }
+    ensures long { OnOk result (len ≤ length definitions.new.items) }
+{
+    while definitions.len() < len {
+        definitions.push(None)?;
+    }
+    Ok(())
 }
 
 // Tests that each variable that is used is defined.
 fn are_defined<A: Allocator>(
-    definitions: &[Definition],
+    definitions: &[Option<Definition>],
     circuit: &Circuit<A>,
-) -> Result<(), Defect> {
-    for latch in &circuit.latches {
+) -> Result<(), Defect>
+    ensures { IfErr result (IsUndefinedIn (used_literals (netlist_of circuit.now)) (defined_in definitions.now)) }
+{
+    are_next_defined(definitions, &circuit.latches)?;
+    are_operands_defined(definitions, &circuit.gates)?;
+    are_literals_defined(definitions, &circuit.bads)?;
+    are_literals_defined(definitions, &circuit.constraints)?;
+    Ok(())
+}
+
+// Tests that the variables of the next literals are defined.
+fn are_next_defined(definitions: &[Option<Definition>], latches: &[Latch]) -> Result<(), Defect>
+    ensures { IfErr result (IsUndefinedIn (map (λ l. l.next) latches.now) (defined_in definitions.now)) }
+{
+    for latch in latches {
         is_defined(definitions, latch.next)?;
     }
-    for gate in &circuit.gates {
+    Ok(())
+}
+
+// Tests that the variables of the operands are defined.
+fn are_operands_defined(definitions: &[Option<Definition>], gates: &[And]) -> Result<(), Defect>
+    ensures { IfErr result (IsUndefinedIn (operands gates.now) (defined_in definitions.now)) }
+{
+    for gate in gates {
         is_defined(definitions, gate.left)?;
         is_defined(definitions, gate.right)?;
     }
-    for bad in &circuit.bads {
-        is_defined(definitions, *bad)?;
-    }
-    for constraint in &circuit.constraints {
-        is_defined(definitions, *constraint)?;
+    Ok(())
+}
+
+// Tests that the variables of literals are defined.
+fn are_literals_defined(
+    definitions: &[Option<Definition>],
+    literals: &[Literal],
+) -> Result<(), Defect>
+    ensures { IfErr result (IsUndefinedIn literals.now (defined_in definitions.now)) }
+{
+    for l in literals {
+        is_defined(definitions, *l)?;
     }
     Ok(())
 }
 
 // Tests that the variable of a literal is defined.
-fn is_defined(definitions: &[Definition], l: Literal) -> Result<(), Defect> {
+fn is_defined(definitions: &[Option<Definition>], l: Literal) -> Result<(), Defect>
+    ensures { IfErr result (IsUndefinedIn (l ∷ []) (defined_in definitions.now)) }
+{
     match definition_of(definitions, l.variable()) {
-        Definition::None => Err(Defect::Undefined(l.variable())),
-        _ => Ok(()),
+        Some(_) => Ok(()),
+        None => Err(Defect::Undefined(l.variable())),
     }
 }
 
 // The place of each gate in an order, by a search in depth.
 fn visits<A: Allocator + Copy>(
     alloc: A,
-    definitions: &[Definition],
+    definitions: &[Option<Definition>],
     gates: &[And],
-) -> Result<Vec<Visit, A>, Defect> {
+) -> Result<Vec<Visit, A>, Defect>
+    ensures { IfErr result (IsCycleIn gates.now) }
+{
     let mut visits = vec![in alloc; Visit::New; gates.len()]?;
     let mut waiting = Vec::new(alloc);
     let mut done: usize = 0;
     for root in 0..gates.len() {
         waiting.push(root)?;
-        for _ in 0..u64::MAX {
-            let Some(place) = waiting.last().copied() else {
-                break;
-            };
-            let opened = open(definitions, gates, &mut visits, place, &mut waiting)?;
-            if !opened {
-                let _ = waiting.pop();
-                done = close(&mut visits, place, done);
-            }
-        }
+        done = visit_all(definitions, gates, &mut visits, &mut waiting, done)?;
     }
     Ok(visits)
 }
 
-// Notes the place of a gate in the order, if it has none. How many gates have one then.
-fn close(visits: &mut [Visit], place: usize, done: usize) -> usize {
-    match visits.get_mut(place) {
-        Some(visit) => {
-            if matches!(*visit, Visit::Done(_)) {
-                return done;
-            }
-            *visit = Visit::Done(done);
-            done.saturating_add(1)
+// Visits what waits, and what that depends on. Nothing waits then. How many gates have a place in the order.
+fn visit_all<A: Allocator>(
+    definitions: &[Option<Definition>],
+    gates: &[And],
+    visits: &mut [Visit],
+    waiting: &mut Vec<usize, A>,
+    done: usize,
+) -> Result<usize, Defect>
+    requires { IsStack gates.now visits.old waiting.old.items }
+    ensures none { OnOk result (waiting.new.items ≡ []) }
+    ensures stack { OnOk result (IsStack gates.now visits.new []) }
+    ensures defect { IfErr result (IsCycleIn gates.now) }
+{
+    let mut done = done;
+    for _ in 0..u64::MAX {
+        let Some(place) = waiting.pop() else {
+            return Ok(done);
+        };
+        done = step(definitions, gates, visits, waiting, place, done)?;
+    }
+    // Not reached: each gate is opened once, and so a gate waits no more often than operands name it.
+    Err(Defect::Memory)
+}
+
+// Opens the gate that has waited last, or closes it. How many gates have a place in the order then.
+fn step<A: Allocator>(
+    definitions: &[Option<Definition>],
+    gates: &[And],
+    visits: &mut [Visit],
+    waiting: &mut Vec<usize, A>,
+    place: usize,
+    done: usize,
+) -> Result<usize, Defect>
+    requires { IsStack gates.now visits.old (waiting.old.items ++ place ∷ []) }
+    ensures ok { OnOk result (IsStack gates.now visits.new waiting.new.items) }
+    ensures defect { IfErr result (IsCycleIn gates.now) }
+{
+    match visit_at(visits, place) {
+        Visit::New => {
+            open(definitions, gates, visits, waiting, place)?;
+            Ok(done)
         }
-        None => done,
+        Visit::Open => {
+            note(visits, place, Visit::Done(done));
+            Ok(done.saturating_add(1))
+        }
+        Visit::Done(_) => Ok(done),
     }
 }
 
-// Whether a gate was new: what it depends on then waits before it.
-fn open<A: Allocator + Copy>(
-    definitions: &[Definition],
+// How far a gate has been visited. Past the last one nothing is to be done.
+fn visit_at(visits: &[Visit], place: usize) -> Visit
+    ensures { result ≡ visit_at visits.now place }
+{
+    match visits.get(place) {
+        Some(visit) => *visit,
+        None => Visit::Done(0),
+    }
+}
+
+// Notes how far a gate has been visited.
+fn note(visits: &mut [Visit], place: usize, visit: Visit)
+    ensures { visits.new ≡ set visits.old place visit }
+{
+    if place < visits.len() {
+        visits[place] = visit;
+    }
+}
+
+// Opens a gate. What it depends on then waits behind it, as far as it is new.
+fn open<A: Allocator>(
+    definitions: &[Option<Definition>],
     gates: &[And],
     visits: &mut [Visit],
-    place: usize,
     waiting: &mut Vec<usize, A>,
-) -> Result<bool, Defect> {
-    let Some(visit) = visits.get_mut(place) else {
-        return Ok(false);
+    place: usize,
+) -> Result<(), Defect>
+    requires { IsStack gates.now visits.old (waiting.old.items ++ place ∷ []) }
+    ensures ok { OnOk result (IsStack gates.now visits.new waiting.new.items) }
+    ensures defect { IfErr result (IsCycleIn gates.now) }
+{
+    note(visits, place, Visit::Open);
+    waiting.push(place)?;
+    let Some(gate) = gate_at(gates, place) else {
+        return Ok(());
     };
-    if !matches!(*visit, Visit::New) {
-        return Ok(false);
-    }
-    *visit = Visit::Open;
-    let Some(gate) = gates.get(place) else {
-        return Ok(false);
-    };
-    wait(definitions, visits, gate.left, waiting)?;
-    wait(definitions, visits, gate.right, waiting)?;
-    Ok(true)
+    wait(definitions, gates, visits, gate.left, waiting)?;
+    wait(definitions, gates, visits, gate.right, waiting)?;
+    Ok(())
+}
+
+// The gate at a place.
+fn gate_at(gates: &[And], place: usize) -> Option<And>
+    ensures { result ≡ slice_get gates.now place }
+{
+    gates.get(place).copied()
 }
 
 // Lets the gate of a literal wait, if there is one that is new.
-fn wait<A: Allocator + Copy>(
-    definitions: &[Definition],
+fn wait<A: Allocator>(
+    definitions: &[Option<Definition>],
+    gates: &[And],
     visits: &[Visit],
     l: Literal,
     waiting: &mut Vec<usize, A>,
-) -> Result<(), Defect> {
-    let Definition::Gate(place) = definition_of(definitions, l.variable()) else {
+) -> Result<(), Defect>
+    ensures ok { OnOk result (AddsGateOf gates.now l.variable waiting.old.items waiting.new.items) }
+    ensures defect { IfErr result (MeetsOpen gates.now visits.now l.variable) }
+{
+    let Some(place) = gate_of(definitions, gates, l.variable()) else {
         return Ok(());
     };
-    match visits.get(place) {
-        Some(Visit::New) => {
+    match visit_at(visits, place) {
+        Visit::New => {
             waiting.push(place)?;
             Ok(())
         }
-        Some(Visit::Open) => Err(Defect::Cycle(l.variable())),
-        _ => Ok(()),
+        Visit::Open => Err(Defect::Cycle(l.variable())),
+        Visit::Done(_) => Ok(()),
     }
+}
+
+// The place of the gate that defines a variable, if there is one.
+fn gate_of(definitions: &[Option<Definition>], gates: &[And], variable: u32) -> Option<usize>
+    ensures { IfSome result (λ place. HasOutput gates.now place variable) }
+{
+    let Some(Definition::Gate(place)) = definition_of(definitions, variable) else {
+        return None;
+    };
+    let gate = gate_at(gates, place)?;
+    if gate.output != variable {
+        return None;
+    }
+    Some(place)
 }

@@ -1,12 +1,13 @@
 //! Where a text is refused.
 ghost use Rattle.std.specs.Prelude.{◌≡◌};
-ghost use Rattle.gipmc_aiger.specs.Reading.{IsRefusal};
+ghost use Rattle.gipmc_aiger.specs.Reading.{IsReadError, IsRefusal};
 
 use crate::error::{AigerError, Place, Reason, Stop};
 
 // The error of what stops the reader of a text.
 pub(crate) fn error_at(text: &[u8], stop: Stop) -> AigerError
-    ensures { (place : Place) (reason : Reason) → result ≡ AigerError.Refused place reason → IsRefusal stop }
+    ensures refusal { (place : Place) (reason : Reason) → result ≡ AigerError.Refused place reason → IsRefusal stop }
+    ensures error { IsReadError result }
 {
     match stop {
         Stop::Memory => AigerError::Memory,

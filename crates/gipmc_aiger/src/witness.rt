@@ -1,7 +1,7 @@
 //! Witnesses in HWMCC's form: `1`, `b` and the property, the latches at first, the inputs at each moment, and `.`.
-ghost use Rattle.std.specs.Prelude.{◌≡◌, ◌<◌, ◌==◌, ◌∷◌, ◌++◌, [], None, Some, decimal, length, map, IfOk, IfSome, OnOk, MatchOption, IsErrOf};
+ghost use Rattle.std.specs.Prelude.{◌≡◌, ◌<◌, ◌==◌, ◌∷◌, ◌++◌, [], None, Some, decimal, length, map, IfErr, IfOk, IfSome, OnOk, MatchOption, IsErrOf};
 ghost use Rattle.std.specs.List.{list_all};
-ghost use Rattle.gipmc_aiger.specs.Reading.{Gives};
+ghost use Rattle.gipmc_aiger.specs.Reading.{Gives, IsReadError};
 ghost use Rattle.gipmc_aiger.specs.Witnesses.{said_lines, bit_text, bits_at, bits_line, bits_of, frames_lines, frames_of, frames_view, is_bit, is_end, is_remark, is_status, property_at, property_of, status_at, stimulus_of, witness_of};
 ghost use Rattle.gipmc_aiger.specs.Traces.{witness_text, witness_view};
 
@@ -37,6 +37,7 @@ pub fn read_witness<A: Allocator + Copy>(
     ensures ok { IfOk result (λ w. witness_of latches inputs text.now ≡ Some (witness_view w)) }
     ensures refused { (place : Place) (reason : Reason) → IsErrOf result (AigerError.Refused place reason) →
         witness_of latches inputs text.now ≡ None }
+    ensures errors { IfErr result IsReadError }
 {
     match stimulus(alloc, latches, inputs, text) {
         Ok(witness) => Ok(witness),

@@ -1,6 +1,12 @@
 //! A writer of circuits in both forms.
-ghost use Rattle.std.specs.Prelude.{◌≡◌, ◌==◌, ◌<◌, ◌+◌, ◌^◌, ◌++◌, ◌∷◌, [], decimal, map, min, Some, IfOk, IsTrue, OnOk};
-ghost use Rattle.gipmc_aiger.specs.CircuitTexts.{aag_text, aig_text, and_line, and_lines, greatest_input, greatest_latch, greatest_output, greatest_variable, header_line, input_lines, is_numbered, latch_line, latch_lines, literal_lines, literal_number, numbered_behind, packed_and, packed_ands, packed_header_line, packed_latch_line, packed_latch_lines, reset_number};
+ghost use Rattle.std.specs.Prelude.{◌≡◌, ◌==◌, ◌<◌, ◌+◌, ◌^◌, ◌++◌, ◌∷◌, [], ℕ, decimal, false, map, min};
+ghost use Rattle.std.specs.Prelude.{IfOk, IsErrOf, IsTrue, None, OnErr, OnOk, Some};
+ghost use Rattle.gipmc_aiger.specs.CircuitTexts.{aag_text, aig_text, and_line, and_lines, are_above, header_line};
+ghost use Rattle.gipmc_aiger.specs.CircuitTexts.{greatest_input, greatest_latch, greatest_output, greatest_variable};
+ghost use Rattle.gipmc_aiger.specs.CircuitTexts.{input_lines, is_above, is_numbered, latch_line, latch_lines};
+ghost use Rattle.gipmc_aiger.specs.CircuitTexts.{literal_lines, literal_number, numbered_behind, reset_number};
+ghost use Rattle.gipmc_aiger.specs.CircuitTexts.{packed_and, packed_ands, packed_header_line, packed_latch_line};
+ghost use Rattle.gipmc_aiger.specs.CircuitTexts.{packed_latch_lines};
 ghost use Rattle.giputils_text.specs.Groups.{groups};
 
 use gipmc_circuits::{And, Circuit, Latch};
@@ -69,8 +75,28 @@ pub fn write_aig<A: Allocator + Copy>(
 ) -> Result<Vec<u8, A>, WriteError>
     ensures text { IfOk result (λ text. text.items ≡ aig_text circuit.now) }
     ensures numbered { IfOk result (λ text. IsTrue (is_numbered circuit.now)) }
+    ensures ordered { IfOk result (λ text. IsTrue (are_above circuit.now.gates.items)) }
+    ensures refused_number { (variable : ℕ) → IsErrOf result (WriteError.Numbering variable) →
+        is_numbered circuit.now ≡ false }
+    ensures refused_order { (variable : ℕ) → IsErrOf result (WriteError.Order variable) →
+        are_above circuit.now.gates.items ≡ false }
 {
-    are_numbered(circuit)?;
+    if let Err(variable) = are_numbered(circuit) {
+        return Err(WriteError::Numbering(variable));
+    }
+    if let Err(output) = are_above(&circuit.gates) {
+        return Err(WriteError::Order(output));
+    }
+    match packed(alloc, circuit) {
+        Ok(text) => Ok(text),
+        Err(_) => Err(WriteError::Memory),
+    }
+}
+
+// The text of a circuit in the binary form.
+fn packed<A: Allocator + Copy>(alloc: A, circuit: &Circuit<A>) -> Result<Vec<u8, A>, AllocError>
+    ensures { IfOk result (λ text. text.items ≡ aig_text circuit.now) }
+{
     let mut text = packed_header_line(alloc, circuit)?;
     write_packed_latches(&mut text, &circuit.latches)?;
     write_literals(&mut text, &circuit.bads)?;
@@ -79,9 +105,10 @@ pub fn write_aig<A: Allocator + Copy>(
     Ok(text)
 }
 
-// Tests the numbers of the variables.
-fn are_numbered<A: Allocator>(circuit: &Circuit<A>) -> Result<(), WriteError>
-    ensures { IfOk result (λ done. IsTrue (is_numbered circuit.now)) }
+// Tests the numbers of the variables. The first that has another number than it should, if there is one.
+fn are_numbered<A: Allocator>(circuit: &Circuit<A>) -> Result<(), u32>
+    ensures ok { OnOk result (IsTrue (is_numbered circuit.now)) }
+    ensures refused { OnErr result (is_numbered circuit.now ≡ false) }
 {
     let input = last_input(&circuit.inputs)?;
     let latch = last_latch(input, &circuit.latches)?;
@@ -97,13 +124,14 @@ fn follows(next: u32, last: u32) -> bool
 }
 
 // The last of the inputs, which are to be the numbers from 1 on.
-fn last_input(inputs: &[u32]) -> Result<u32, WriteError>
-    ensures { IfOk result (λ last. numbered_behind 0 inputs.now ≡ Some last) }
+fn last_input(inputs: &[u32]) -> Result<u32, u32>
+    ensures ok { IfOk result (λ last. numbered_behind 0 inputs.now ≡ Some last) }
+    ensures refused { OnErr result (numbered_behind 0 inputs.now ≡ None) }
 {
     let mut last = 0;
     for input in inputs {
         if !follows(*input, last) {
-            return Err(WriteError::Numbering(*input));
+            return Err(*input);
         }
         last = *input;
     }
@@ -111,13 +139,14 @@ fn last_input(inputs: &[u32]) -> Result<u32, WriteError>
 }
 
 // The last of the latches, which are to be the numbers that follow one.
-fn last_latch(first: u32, latches: &[Latch]) -> Result<u32, WriteError>
-    ensures { IfOk result (λ last. numbered_behind first (map (λ l. l.variable) latches.now) ≡ Some last) }
+fn last_latch(first: u32, latches: &[Latch]) -> Result<u32, u32>
+    ensures ok { IfOk result (λ last. numbered_behind first (map (λ l. l.variable) latches.now) ≡ Some last) }
+    ensures refused { OnErr result (numbered_behind first (map (λ l. l.variable) latches.now) ≡ None) }
 {
     let mut last = first;
     for latch in latches {
         if !follows(latch.variable, last) {
-            return Err(WriteError::Numbering(latch.variable));
+            return Err(latch.variable);
         }
         last = latch.variable;
     }
@@ -125,13 +154,14 @@ fn last_latch(first: u32, latches: &[Latch]) -> Result<u32, WriteError>
 }
 
 // The last output of the gates, which are to be the numbers that follow one.
-fn last_output(first: u32, gates: &[And]) -> Result<u32, WriteError>
-    ensures { IfOk result (λ last. numbered_behind first (map (λ g. g.output) gates.now) ≡ Some last) }
+fn last_output(first: u32, gates: &[And]) -> Result<u32, u32>
+    ensures ok { IfOk result (λ last. numbered_behind first (map (λ g. g.output) gates.now) ≡ Some last) }
+    ensures refused { OnErr result (numbered_behind first (map (λ g. g.output) gates.now) ≡ None) }
 {
     let mut last = first;
     for gate in gates {
         if !follows(gate.output, last) {
-            return Err(WriteError::Numbering(gate.output));
+            return Err(gate.output);
         }
         last = gate.output;
     }
@@ -191,7 +221,7 @@ fn write_packed_latch<A: Allocator>(text: &mut Vec<u8, A>, latch: Latch) -> Resu
 }
 
 // Writes the bytes of each gate.
-fn write_packed_ands<A: Allocator>(text: &mut Vec<u8, A>, gates: &[And]) -> Result<(), WriteError>
+fn write_packed_ands<A: Allocator>(text: &mut Vec<u8, A>, gates: &[And]) -> Result<(), AllocError>
     ensures { OnOk result (text.new.items ≡ text.old.items ++ packed_ands gates.now) }
 {
     for gate in gates {
@@ -200,21 +230,37 @@ fn write_packed_ands<A: Allocator>(text: &mut Vec<u8, A>, gates: &[And]) -> Resu
     Ok(())
 }
 
-// Writes the bytes of a gate.
-fn write_packed_and<A: Allocator>(text: &mut Vec<u8, A>, gate: And) -> Result<(), WriteError>
+// Writes the bytes of a gate, whose output is to be above its operands.
+fn write_packed_and<A: Allocator>(text: &mut Vec<u8, A>, gate: And) -> Result<(), AllocError>
     ensures { OnOk result (text.new.items ≡ text.old.items ++ packed_and gate) }
 {
     let left = literal_number(gate.left);
     let right = literal_number(gate.right);
     let output = 2 * u64::from(gate.output);
-    if left.max(right) >= output {
-        return Err(WriteError::Order(gate.output));
-    }
     write_deltas(
         text,
-        output - left.max(right),
+        output.saturating_sub(left.max(right)),
         left.max(right) - left.min(right),
-    )?;
+    )
+}
+
+// Whether the gate's output is above its operands.
+fn is_above(gate: And) -> bool
+    ensures { result ≡ is_above gate }
+{
+    literal_number(gate.left).max(literal_number(gate.right)) < 2 * u64::from(gate.output)
+}
+
+// Tests that each gate's output is above its operands. The first output that is not, if there is one.
+fn are_above(gates: &[And]) -> Result<(), u32>
+    ensures ok { OnOk result (IsTrue (are_above gates.now)) }
+    ensures refused { OnErr result (are_above gates.now ≡ false) }
+{
+    for gate in gates {
+        if !is_above(*gate) {
+            return Err(gate.output);
+        }
+    }
     Ok(())
 }
 

@@ -2,7 +2,8 @@
 
 use crate::converted::as_ascii;
 use gipmc_aiger::{
-    Witness, read_circuit, read_invariant, read_witness, write_aig, write_invariant, write_witness,
+    Witness, read_circuit, read_invariant, read_invariant_for, read_witness, write_aig,
+    write_invariant, write_witness,
 };
 use std::alloc::Global;
 
@@ -27,6 +28,13 @@ fn witness(alloc: Global, text: &[u8]) -> Option<Vec<u8>> {
 fn invariant(alloc: Global, text: &[u8]) -> Option<Vec<u8>> {
     let clauses = read_invariant(alloc, 2, text).ok()?;
     write_invariant(alloc, 2, &clauses).ok()
+}
+
+// The text of the invariant that a text writes for a circuit, over its variables.
+fn invariant_for(alloc: Global, circuit: &[u8], text: &[u8]) -> Option<Vec<u8>> {
+    let circuit = read_circuit(alloc, circuit).ok()?;
+    let clauses = read_invariant_for(alloc, &circuit, text).ok()?;
+    write_invariant(alloc, 4, &clauses).ok()
 }
 
 // Whether this was written.
@@ -87,4 +95,12 @@ fn witnesses_are_read_again(rt: HostRuntime) {
 fn invariants_are_read_again(rt: HostRuntime) {
     let text = b"c two clauses\np cnf 2 2\n1 -2 0\n0";
     assert!(rt; is_text(invariant(rt.alloc(), text), b"p cnf 2 2\n1 -2 0\n0\n"));
+}
+
+// The first latch has variable 3, and the second one variable 2. Variable n is written as n + 1.
+#[test]
+fn invariants_are_over_variables(rt: HostRuntime) {
+    let circuit = b"aag 3 1 2 0 0 1\n2\n6 2\n4 4\n6\n";
+    let written = invariant_for(rt.alloc(), circuit, b"p cnf 2 2\n1 -2 0\n2 0\n");
+    assert!(rt; is_text(written, b"p cnf 4 2\n4 -3 0\n3 0\n"));
 }

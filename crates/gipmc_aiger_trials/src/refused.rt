@@ -177,7 +177,7 @@ const WITNESSES: [(&[u8], AigerError); 10] = [
     ),
 ];
 
-const INVARIANTS: [(&[u8], AigerError); 8] = [
+const INVARIANTS: [(&[u8], AigerError); 15] = [
     (b"", AigerError::Refused(Place::Line(1), Reason::Clauses)),
     (
         b"1 0\n",
@@ -206,6 +206,34 @@ const INVARIANTS: [(&[u8], AigerError); 8] = [
     (
         b"p cnf 2 1\n1 0 2\n",
         AigerError::Refused(Place::Line(2), Reason::Separator),
+    ),
+    (
+        b"c\np cnf 2 x\n",
+        AigerError::Refused(Place::Line(2), Reason::Clauses),
+    ),
+    (
+        b"p cnf 2 0 0\n",
+        AigerError::Refused(Place::Line(1), Reason::Clauses),
+    ),
+    (
+        b"p cnf 2 1\n1 0\n2 0\n",
+        AigerError::Refused(Place::Line(4), Reason::Clauses),
+    ),
+    (
+        b"p cnf 2 1\nc\n1  0\n",
+        AigerError::Refused(Place::Line(3), Reason::Number),
+    ),
+    (
+        b"p cnf 2 1\n- 0\n",
+        AigerError::Refused(Place::Line(2), Reason::Number),
+    ),
+    (
+        b"p cnf 2 1\n-3 0\n",
+        AigerError::Refused(Place::Line(2), Reason::Great),
+    ),
+    (
+        b"p cnf 2 1\n1 2147483648 0\n",
+        AigerError::Refused(Place::Line(2), Reason::Great),
     ),
 ];
 

@@ -8,4 +8,4 @@ pub returns-in-Err-clause-refused : goal.returns-in-Err-clause-refused
 returns-in-Err-clause-refused g c =
     λ place reason is.
     let same : c.error_at.result ≡ Refused place reason = let e = is in cc in
-    refused_none c.in-Err.stop _ (c.error_at.ensures place reason same) c.in-Err.ensures
+    refused_none c.in-Err.stop _ (c.error_at.ensures.refusal place reason same) c.in-Err.ensures
