@@ -1,0 +1,27 @@
+//! A caller that searches in slices.
+
+use gipmc_circuits::Circuit;
+use gipmc_ic3::{Found, Search};
+use gipsat_solver::Literal;
+use std::alloc::{AllocError, Allocator};
+
+/// What a search finds in at most so many slices, each of so many calls.
+///
+/// # Errors
+/// `AllocError` where memory is refused.
+pub fn found_in_slices<A: Allocator + Copy>(
+    alloc: A,
+    circuit: &Circuit<A>,
+    bad: Literal,
+    slices: u32,
+    calls: u64,
+) -> Result<Found<A>, AllocError> {
+    let mut search = Search::new(alloc, circuit, bad)?;
+    for _ in 0..slices {
+        match search.run(calls)? {
+            Found::Open => {}
+            found => return Ok(found),
+        }
+    }
+    Ok(Found::Open)
+}

@@ -1,0 +1,11 @@
+//! Tests of the search by IC3: what it finds on small circuits, each replayed or certified.
+#![tactic(auto)]
+
+#[cfg(test)]
+mod answers;
+pub mod caller;
+pub mod circuits;
+#[cfg(test)]
+mod memory;
+#[cfg(test)]
+mod slices;
