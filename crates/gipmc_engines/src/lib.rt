@@ -1,14 +1,16 @@
-//! Engines that search for the traces by which a circuit fails: random simulation, and bounded model checking.
+//! Engines that decide whether a circuit fails: random simulation, bounded model checking, and IC3.
 #![tactic(auto)]
 
 pub mod bounded;
 pub mod engines;
 pub mod simulation;
+pub mod turns;
 pub mod verdict;
 pub mod watch;
 
 pub use bounded::{Bounds, search};
 pub use engines::{Engine, Plan, check};
 pub use simulation::{Tries, simulate};
-pub use verdict::Verdict;
+pub use turns::{decide, decide_by_turns};
+pub use verdict::{Verdict, fails_by, safe_by};
 pub use watch::Watch;

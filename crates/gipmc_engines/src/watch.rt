@@ -1,5 +1,6 @@
 //! A listener to a search.
 
+use gipmc_ic3::Statistics;
 use std::ops::ControlFlow;
 
 /// A listener: it is told how far a search is, and may stop it.
@@ -10,6 +11,9 @@ pub trait Watch {
     /// No trace of fewer than `depth` transitions fails, and those of so many come next. Their formula has so many
     /// clauses, and so many were learned. `Break` stops the search.
     fn note(&mut self, depth: usize, clauses: usize, learned: usize) -> ControlFlow<()>;
+
+    /// A slice of IC3 found nothing. It came to this frame, and so much was done up to now. `Break` stops the search.
+    fn note_slice(&mut self, frame: usize, statistics: &Statistics) -> ControlFlow<()>;
 }
 
 /// The listener that ignores all it is told, and stops no search.
@@ -19,6 +23,10 @@ impl Watch for () {
     }
 
     fn note(&mut self, _depth: usize, _clauses: usize, _learned: usize) -> ControlFlow<()> {
+        ControlFlow::Continue(())
+    }
+
+    fn note_slice(&mut self, _frame: usize, _statistics: &Statistics) -> ControlFlow<()> {
         ControlFlow::Continue(())
     }
 }

@@ -1,4 +1,4 @@
-//! Tests of the engines: what simulation finds, how far the bounded search goes, and listeners that stop both.
+//! Tests of the engines: what simulation and IC3 find, how far the bounded search goes, and listeners that stop them.
 #![tactic(auto)]
 
 #[cfg(test)]
@@ -7,3 +7,5 @@ pub mod shifter;
 #[cfg(test)]
 mod simulation;
 pub mod stopper;
+#[cfg(test)]
+mod turns;

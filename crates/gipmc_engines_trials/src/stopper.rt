@@ -1,6 +1,7 @@
 //! A listener that stops each engine.
 
 use gipmc_engines::Watch;
+use gipmc_ic3::Statistics;
 use std::ops::ControlFlow;
 
 /// Stops simulation after so many rounds, and bounded model checking before so many transitions.
@@ -33,6 +34,10 @@ impl Watch for Stopper {
 
     fn note(&mut self, depth: usize, _clauses: usize, _learned: usize) -> ControlFlow<()> {
         stop_if(depth >= self.depth)
+    }
+
+    fn note_slice(&mut self, _frame: usize, _statistics: &Statistics) -> ControlFlow<()> {
+        stop_if(self.depth == 0)
     }
 }
 
