@@ -43,18 +43,24 @@ held='aag 2 1 1 0 0 1\n2\n4 2\n4\n'
 kept='aag 1 0 1 0 0 1\n2 2\n2\n'
 two='aag 3 1 2 0 0 2\n2\n4 4\n6 2\n4\n6\n'
 fails=$(printf '1\nb0\n0\n1\n0\n.')
+safe=$(printf '0\nb0\n.')
 open() { printf 'u%s\n2\nb0\n.' "$1"; }
 
 try "a latch that may rise" 10 "" "$fails" "$held" --engine bmc
 try "a latch that may rise, in the binary form" 10 "" "$fails" 'aig 2 1 1 0 0 1\n2\n4\n' --engine bmc
-try "a latch that stays, within 100" 0 "" "$(open 100)" "$kept"
-try "a latch that stays, within 7" 0 "" "$(open 7)" "$kept" --depth 7
-try "a latch that stays, within 0" 0 "" "$(open 0)" "$kept" --depth=0
+try "a latch that stays, within 100" 0 "" "$(open 100)" "$kept" --engine bmc
+try "a latch that stays, within 7" 0 "" "$(open 7)" "$kept" --engine bmc --depth 7
+try "a latch that stays, within 0" 0 "" "$(open 0)" "$kept" --engine bmc --depth=0
+try "a latch that stays" 20 "" "$safe" "$kept"
+try "a latch that stays, by IC3" 20 "" "$safe" "$kept" --engine ic3
+try "a latch that may rise, by IC3" 10 "" "$fails" "$held" --engine ic3
+try "no call is allowed" 0 "" "$(printf '2\nb0\n.')" "$kept" --engine ic3 --limit 0
 try "a latch that may rise, within 0" 0 "" "$(open 0)" "$held" --engine bmc --depth 0
 try "no learned clause is allowed" 0 "" "$(printf '2\nb0\n.')" "$held" --engine bmc --limit 0
 try "simulation finds nothing" 0 "" "$(printf '2\nb0\n.')" "$kept" --engine sim
 try "two bad literals" 10 "" "$(printf 'u3\n2\nb0\n.\n1\nb1\n00\n1\n0\n.')" "$two" --engine bmc --depth 3
-try "the first bad literal" 0 "" "$(open 3)" "$two" --bad 0 --depth 3
+try "the first bad literal" 0 "" "$(open 3)" "$two" --bad 0 --engine bmc --depth 3
+try "the first bad literal, by all engines" 20 "" "$safe" "$two" --bad 0
 try "the second bad literal" 10 "" "$(printf '1\nb1\n00\n1\n0\n.')" "$two" --bad=1 --engine bmc
 try "a bad literal that is not there" 1 "<stdin>: no bad literal 2, of 2" "" "$two" --bad 2
 try "no bad literal at all" 20 "" "" 'aag 1 1 0 0 0\n2\n'
@@ -62,8 +68,9 @@ try "an output in place of a bad literal" 10 "" "$fails" 'aag 2 1 1 1 0\n2\n4 2\
 try "a bad literal that is true" 10 "" "$(printf '1\nb0\n\n\n.')" 'aag 0 0 0 0 0 1\n1\n' --engine bmc
 try "a latch that begins at 1" 10 "" "$(printf '1\nb0\n1\n\n.')" 'aag 1 0 1 0 0 1\n2 2 1\n2\n' --engine bmc
 try "a latch that begins at either value" 10 "" "$(printf '1\nb0\n1\n\n.')" 'aag 1 0 1 0 0 1\n2 2 2\n2\n' --engine bmc
-try "a constraint that the last moment breaks" 0 "" "$(open 9)" 'aag 2 1 1 0 0 1 1\n2\n4 2\n4\n5\n' --depth 9
-try "a constraint that the first moment breaks" 0 "" "$(open 9)" 'aag 1 0 1 0 0 1 1\n2 2\n2\n2\n' --depth 9
+try "a constraint that the last moment breaks" 0 "" "$(open 9)" \
+    'aag 2 1 1 0 0 1 1\n2\n4 2\n4\n5\n' --engine bmc --depth 9
+try "a constraint that the first moment breaks" 0 "" "$(open 9)" 'aag 1 0 1 0 0 1 1\n2 2\n2\n2\n' --engine bmc --depth 9
 try "a constraint that the inputs meet" 10 "" "$fails" 'aag 3 1 1 0 1 1 1\n2\n4 2\n4\n7\n6 4 2\n' --engine bmc
 
 # Simulation: what it finds is a trace.
@@ -75,7 +82,7 @@ told "a trace by simulation" $?
 "$gipmc" held.aag > both.wit 2> err
 status=$?
 [ "$status" = 10 ] && [ "$("$gipmc" --replay both.wit held.aag)" = "s VERIFIED" ]
-told "a trace by both engines" $?
+told "a trace by all engines" $?
 
 # Witnesses of other programs.
 witness() { printf '%b' "$1" > wit; }
@@ -110,6 +117,41 @@ invariant 'p cnf 9 1\n-1 0\n'
 try "an invariant of another circuit" 1 \
     'inv: line 1: no header `p cnf LATCHES CLAUSES` that says what follows' "" "$kept" --certify inv
 
+# Certificates that are circuits: with the same latches, whose bad literal is false where the invariant holds.
+printf '%b' 'aag 1 0 1 0 0 1\n2 2\n2\n' > cert.aag
+try "a circuit that certifies" 0 "" "s VERIFIED" "$kept" --certify cert.aag
+printf '%b' 'aag 1 0 1 1 0\n2 2\n2\n' > cert.aag
+try "a circuit that certifies, by its output" 0 "" "s VERIFIED" "$kept" --certify cert.aag
+printf '%b' 'aag 1 0 1 0 0 1\n2 2\n3\n' > cert.aag
+try "a circuit that excludes all initial states" 1 "" "s NOT VERIFIED" "$kept" --certify cert.aag
+printf '%b' 'aag 1 0 1 0 0 1\n2 2\n0\n' > cert.aag
+try "a circuit that excludes nothing" 1 "" "s NOT VERIFIED" "$kept" --certify cert.aag
+printf '%b' 'aag 2 0 2 0 0 1\n2 2\n4 4\n2\n' > cert.aag
+try "a circuit of more latches" 1 \
+    "cert.aag: not as many inputs and latches as the circuit has" "" "$kept" --certify cert.aag
+printf '%b' 'aag 1 0 1 0 0 1\n2 2\n' > cert.aag
+try "a circuit that ends too early" 1 "cert.aag: line 3: not a number" "" "$kept" --certify cert.aag
+
+# Invariants that are written, and checked again.
+printf '%b' "$two" > two.aag
+rm -f cert
+"$gipmc" --bad 0 --certificate cert two.aag > out 2> err
+status=$?
+[ "$status" = 20 ] && [ "$("$gipmc" --certify cert --bad 0 two.aag)" = "s VERIFIED" ]
+told "an invariant that is written" $?
+cp cert kept
+try "an invariant, and a file that is there" 1 \
+    "cert: cannot be made: entity already exists" "" "" --bad 0 --certificate cert two.aag
+cmp -s cert kept
+told "a file that is there is left" $?
+try "an invariant in no folder" 1 \
+    "none/cert: cannot be made: no such file" "" "" --bad 0 --certificate none/cert two.aag
+rm cert
+"$gipmc" --certificate cert two.aag > out 2> err
+status=$?
+[ "$status" = 10 ] && [ ! -e cert ]
+told "no invariant of a circuit that fails" $?
+
 # Texts that are refused.
 # shellcheck disable=SC2016
 try "an empty input" 1 '<stdin>: line 1: no header `aag` or `aig`' "" ""
@@ -139,12 +181,14 @@ try "an option that there is not" 2 "gipmc: unknown option '--deep' (try --help)
 try "a value for an option that there is not" 2 "gipmc: unknown option '--deep=3' (try --help)" "" "" --deep=3
 try "no depth" 2 "gipmc: '--depth' needs a number behind it (try --help)" "" "" --depth
 try "no witness behind the option" 2 "gipmc: '--replay' needs a file behind it (try --help)" "" "" --replay
-try "no engine" 2 "gipmc: '--engine' needs sim or bmc behind it (try --help)" "" "" --engine
-try "another engine" 2 "gipmc: '--engine' takes sim or bmc, not 'ic4' (try --help)" "" "" --engine ic4
+try "no engine" 2 "gipmc: '--engine' needs sim, bmc or ic3 behind it (try --help)" "" "" --engine
+try "another engine" 2 "gipmc: '--engine' takes sim, bmc or ic3, not 'ic4' (try --help)" "" "" --engine ic4
 try "a depth that is no number" 2 "gipmc: '--depth' takes a number below 2^64, not 'x' (try --help)" "" "" --depth x
 try "two files" 2 "gipmc: one file too many, 'b' (try --help)" "" "" a b
 try "a witness and an invariant" 2 \
     "gipmc: '--replay' and '--certify' exclude each other (try --help)" "" "" --replay a --certify b
+try "a witness, and a file for an invariant" 2 \
+    "gipmc: '--certificate' goes with neither '--replay' nor '--certify' (try --help)" "" "" --replay a --certificate b
 try "standard input twice" 2 "gipmc: one file at most is read from standard input (try --help)" "" "" --replay -
 try "the version" 0 "" "gipmc 0.1.0" "" --version
 cp held.aag ./-held.aag
@@ -154,16 +198,23 @@ try "a minus for standard input" 10 "" "$fails" "$held" --engine bmc -
 status=$?
 [ "$status" = 0 ] && grep -q "^usage: gipmc" out && [ ! -s err ]
 told "help" $?
-printf '%b' "$kept" | "$gipmc" --stats --depth 5 > out 2> err
+printf '%b' "$kept" | "$gipmc" --stats --engine bmc --depth 5 > out 2> err
 status=$?
 [ "$status" = 0 ] && grep -q "^c depth 5, [0-9]* clauses, [0-9]* learned, [0-9.]* s$" err
 told "a summary" $?
+"${rows%/*}/pdr.py" --family queue_length 4 > queue.aag
+"$gipmc" --stats --engine ic3 queue.aag > out 2> err
+status=$?
+told='; frame [0-9]*, [0-9]* calls, [0-9]* obligations, .* literals in each of [0-9]* lemmas, [0-9.]* s$'
+[ "$status" = 20 ] && grep -q "$told" err
+told "a summary of IC3" $?
 printf '%b' "$kept" | "$gipmc" --quiet > out 2> err
 status=$?
-[ "$status" = 0 ] && [ ! -s err ]
+[ "$status" = 20 ] && [ ! -s err ]
 told "no word on standard error" $?
 
-# Small circuits whose reachable states were enumerated. The trace is a shortest one, and a check of it agrees.
+# Small circuits whose reachable states were enumerated. A trace of bounded model checking is a shortest one. A check of
+# each trace and of each invariant agrees.
 while read -r name said depth text; do
     printf '%s' "$text" | tr ';' '\n' > row.aag
     "$gipmc" --engine bmc --depth 64 row.aag > out 2> err
@@ -175,6 +226,16 @@ while read -r name said depth text; do
             [ "$("$gipmc" --replay out row.aag)" = "s VERIFIED" ]
     fi
     told "$name $said $depth" $?
+    rm -f cert
+    "$gipmc" --certificate cert row.aag > out 2> err
+    status=$?
+    if [ "$said" = safe ]; then
+        [ "$status" = 20 ] && [ "$(cat out)" = "$safe" ] &&
+            [ "$("$gipmc" --certify cert row.aag)" = "s VERIFIED" ]
+    else
+        [ "$status" = 10 ] && [ "$("$gipmc" --replay out row.aag)" = "s VERIFIED" ]
+    fi
+    told "$name $said $depth, by all engines" $?
 done < "$rows"
 
 echo "$passed passed, $failed failed"

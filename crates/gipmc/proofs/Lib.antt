@@ -1,1 +1,4 @@
+mod Examples
+mod Numbers
+mod Shown
 mod Told

@@ -5,10 +5,10 @@ use Rattle.gipmc_aiger.specs.Circuits.{Writes}
 use Rattle.gipmc_aiger.specs.Traces.{witness_text, witness_view}
 use Rattle.gipmc_aiger.specs.Witnesses.{witness_of}
 use Rattle.gipmc_aiger.specs.declared.witness.Witness.{Witness}
-use Rattle.gipmc_circuits.specs.Circuit.{IsSafe}
 use Rattle.gipmc_circuits.specs.declared.circuit.Circuit.{Circuit}
 use Rattle.gipmc_circuits.specs.declared.trace.Trace.{Trace}
-use Rattle.gipmc_engines.specs.Verdicts.{FailsAsLong, IsRightVerdict}
+use Rattle.gipmc_circuits.specs.Traces.{FailsBy}
+use Rattle.gipmc_engines.specs.Verdicts.{IsRightVerdict}
 use Rattle.gipmc_engines.specs.declared.verdict.Verdict.{Verdict}
 use Rattle.gipmc_engines.specs.declared.verdict.Verdict.TheVariants as verdict
 use Rattle.gipmc.specs.declared.answers.Outcome.{Outcome}
@@ -67,24 +67,11 @@ Answers A bytes asked outcome text = (c : Circuit A) × Writes bytes c × TellsA
 abbrev pub IsWitnessIn : {A B : Type 0} → Circuit A → List ℕ → Witness B → Type 0
 IsWitnessIn c text w = witness_of (length c.latches.items) (length c.inputs.items) text ≡ Some (witness_view w)
 
--- the circuit fails at the bad literal at a place, after as many transitions as the trace has
+-- the circuit fails by the trace, at the bad literal at a place
 abbrev pub FailsAt : {A B : Type 0} → Circuit A → ℕ → Trace B → Type 0
-FailsAt c place trace = (bad : Lit) × (slice_get c.bads.items place ≡ Some bad) × FailsAsLong c bad trace
+FailsAt c place trace = (bad : Lit) × (slice_get c.bads.items place ≡ Some bad) × FailsBy c bad trace
 
--- the bytes write a circuit, and a witness for it of a trace as long as one by which it fails
+-- the bytes write a circuit, and a witness for it of a trace by which it fails
 abbrev pub Replays : (A : Type 0) → List ℕ → List ℕ → Type 0
 Replays A bytes witness =
     (c : Circuit A) × Writes bytes c × (w : Witness A) × IsWitnessIn c witness w × FailsAt c w.property w.trace
-
--- the circuit is safe as to the bad literal at a place, if there is one
-abbrev pub IsSafeAt : {A : Type 0} → Circuit A → ℕ → Type 0
-IsSafeAt c place = (bad : Lit) → slice_get c.bads.items place ≡ Some bad → IsSafe c bad
-
--- the circuit is safe as to the bad literal that is asked for, or as to all
-abbrev pub IsSafeAsked : {A : Type 0} → Circuit A → Option ℕ → Type 0
-IsSafeAsked c None = (place : ℕ) → IsSafeAt c place
-IsSafeAsked c (Some place) = IsSafeAt c place
-
--- the bytes write a circuit that is safe so
-abbrev pub Certifies : (A : Type 0) → List ℕ → Option ℕ → Type 0
-Certifies A bytes asked = (c : Circuit A) × Writes bytes c × IsSafeAsked c asked

@@ -1,3 +1,7 @@
 -- What is answered about a circuit.
 pub mod Answers
+pub mod Certificates
+pub mod Misuses
+pub mod Options
 pub mod Statuses
+pub mod Words

@@ -1,11 +1,12 @@
 //! The tasks, from the bytes of texts to the bytes of an answer.
 ghost use Rattle.std.specs.Prelude.{◌≡◌, ℕ, ◌<◌, ◌++◌, codes, length, decimal, IfOk, IfSome, IsTrue, OnOk};
-ghost use Rattle.gipmc.specs.Answers.{Answers, Certifies, FailsAt, IsSafeAsked, IsSafeAt, IsWitnessIn, Replays, Tells, TellsAsked, TellsFirst, both, named, outcome_of, verdict_text};
+ghost use Rattle.gipmc.specs.Answers.{Answers, FailsAt, IsWitnessIn, Replays, Tells, TellsAsked, TellsFirst, both, named, outcome_of, verdict_text};
 ghost use Rattle.gipmc_aiger.specs.Circuits.{Writes};
 
 use crate::errors::TaskError;
-use gipmc_aiger::{Witness, read_circuit, read_invariant, read_witness, write_witness};
-use gipmc_circuits::{Circuit, Trace, certificate, certify, replay};
+use gipmc_aiger::{Witness, read_circuit, read_witness, write_invariant, write_witness};
+use gipmc_circuits::encoding::variables;
+use gipmc_circuits::{Circuit, Trace, replay};
 use gipmc_engines::{Plan, Verdict, Watch, check};
 use gipsat_solver::Literal;
 use std::alloc::{AllocError, Allocator};
@@ -46,6 +47,19 @@ pub struct Said<A: Allocator> {
     pub text: Vec<u8, A>,
     /// What it says of all the bad literals that are asked about.
     pub outcome: Outcome,
+    /// The text of an invariant, where the circuit is safe as to each of them.
+    pub certificate: Option<Vec<u8, A>>,
+}
+
+// What is found out about some bad literals.
+#[derive(Drop)]
+struct Findings<A: Allocator> {
+    // The text.
+    text: Vec<u8, A>,
+    // What it says of all of them.
+    outcome: Outcome,
+    // The clauses of the invariants that show it of those that are safe.
+    invariant: Vec<Vec<Literal, A>, A>,
 }
 
 /// Answers about the circuit that a text writes: about the bad literal at the place that is asked for, or about all.
@@ -64,11 +78,23 @@ pub fn answer<A: Allocator + Copy, W: Watch>(
     ensures { IfOk result (λ said. Answers A bytes.now asked said.outcome said.text.items) }
 {
     let circuit = circuit_in(alloc, bytes)?;
-    answer_asked(alloc, &circuit, asked, plan, watch)
+    let found = answer_asked(alloc, &circuit, asked, plan, watch)?;
+    let certificate = match found.outcome {
+        Outcome::Safe => Some(certificate_text(alloc, &circuit, &found.invariant)?),
+        _ => None,
+    };
+    Ok(Said {
+        text: found.text,
+        outcome: found.outcome,
+        certificate,
+    })
 }
 
 // The circuit that a text writes.
-fn circuit_in<A: Allocator + Copy>(alloc: A, bytes: &[u8]) -> Result<Circuit<A>, TaskError>
+pub(crate) fn circuit_in<A: Allocator + Copy>(
+    alloc: A,
+    bytes: &[u8],
+) -> Result<Circuit<A>, TaskError>
     ensures { IfOk result (Writes bytes.now) }
 {
     match read_circuit(alloc, bytes) {
@@ -84,8 +110,8 @@ fn answer_asked<A: Allocator + Copy, W: Watch>(
     asked: Option<usize>,
     plan: &Plan,
     watch: &mut W,
-) -> Result<Said<A>, TaskError>
-    ensures { IfOk result (λ said. TellsAsked circuit.now asked said.outcome said.text.items) }
+) -> Result<Findings<A>, TaskError>
+    ensures { IfOk result (λ found. TellsAsked circuit.now asked found.outcome found.text.items) }
 {
     match asked {
         None => Ok(answer_all(alloc, circuit, plan, watch)?),
@@ -102,18 +128,24 @@ fn answer_all<A: Allocator + Copy, W: Watch>(
     circuit: &Circuit<A>,
     plan: &Plan,
     watch: &mut W,
-) -> Result<Said<A>, AllocError>
-    ensures { IfOk result (λ said.
-        TellsFirst circuit.now (length circuit.now.bads.items) said.outcome said.text.items) }
+) -> Result<Findings<A>, AllocError>
+    ensures { IfOk result (λ found.
+        TellsFirst circuit.now (length circuit.now.bads.items) found.outcome found.text.items) }
 {
     let mut text = Vec::new(alloc);
     let mut outcome = Outcome::Safe;
+    let mut invariant = Vec::new(alloc);
     for place in 0..circuit.bads.len() {
-        let said = answer_at(alloc, circuit, place, plan, watch)?;
-        text.extend_from_slice(&said.text)?;
-        outcome = outcome.and(said.outcome);
+        let mut found = answer_at(alloc, circuit, place, plan, watch)?;
+        text.extend_from_slice(&found.text)?;
+        outcome = outcome.and(found.outcome);
+        invariant.append(&mut found.invariant)?;
     }
-    Ok(Said { text, outcome })
+    Ok(Findings {
+        text,
+        outcome,
+        invariant,
+    })
 }
 
 // Answers about the bad literal at a place.
@@ -123,16 +155,18 @@ fn answer_at<A: Allocator + Copy, W: Watch>(
     place: usize,
     plan: &Plan,
     watch: &mut W,
-) -> Result<Said<A>, AllocError>
+) -> Result<Findings<A>, AllocError>
     requires { place < length circuit.now.bads.items }
-    ensures { IfOk result (λ said. Tells circuit.now place said.outcome said.text.items) }
+    ensures { IfOk result (λ found. Tells circuit.now place found.outcome found.text.items) }
 {
     let bad = circuit.bads[place];
     let verdict = check(alloc, circuit, bad, plan, watch)?;
     let text = verdict_text(alloc, place, &verdict)?;
-    Ok(Said {
+    let outcome = outcome_of(&verdict);
+    Ok(Findings {
         text,
-        outcome: outcome_of(&verdict),
+        outcome,
+        invariant: invariant_of(alloc, verdict),
     })
 }
 
@@ -146,6 +180,62 @@ fn outcome_of<A: Allocator>(verdict: &Verdict<A>) -> Outcome
         Verdict::NoFailureWithin(_) => Outcome::Open,
         Verdict::Unknown => Outcome::Open,
     }
+}
+
+// The invariant of a verdict.
+fn invariant_of<A: Allocator>(alloc: A, verdict: Verdict<A>) -> Vec<Vec<Literal, A>, A> {
+    match verdict {
+        Verdict::Safe(invariant) => invariant,
+        _ => Vec::new(alloc),
+    }
+}
+
+// The text of an invariant of a circuit.
+fn certificate_text<A: Allocator + Copy>(
+    alloc: A,
+    circuit: &Circuit<A>,
+    invariant: &[Vec<Literal, A>],
+) -> Result<Vec<u8, A>, AllocError> {
+    let places = places_of(alloc, circuit)?;
+    let mut clauses = Vec::new(alloc);
+    for clause in invariant {
+        let clause = over_places(alloc, &places, clause)?;
+        clauses.reserve(1)?;
+        clauses.push_reserved(clause);
+    }
+    write_invariant(alloc, circuit.latches.len(), &clauses)
+}
+
+// The place of the latch of each variable, and 0 for one that is no latch's.
+fn places_of<A: Allocator + Copy>(
+    alloc: A,
+    circuit: &Circuit<A>,
+) -> Result<Vec<u32, A>, AllocError> {
+    let mut places = Vec::new(alloc);
+    places.resize(variables(circuit), 0)?;
+    for (place, latch) in circuit.latches.iter().enumerate() {
+        if let Some(entry) = places.get_mut(latch.variable as usize) {
+            *entry = u32::try_from(place).unwrap_or(0);
+        }
+    }
+    Ok(places)
+}
+
+// A clause over variables of latches, over their places.
+fn over_places<A: Allocator + Copy>(
+    alloc: A,
+    places: &[u32],
+    clause: &[Literal],
+) -> Result<Vec<Literal, A>, AllocError> {
+    let mut moved = Vec::new(alloc);
+    for l in clause {
+        let place = places.get(l.variable() as usize).copied().unwrap_or(0);
+        if place >= 2_147_483_647 {
+            return Err(AllocError);
+        }
+        moved.push(Literal::new(place, l.is_positive()))?;
+    }
+    Ok(moved)
 }
 
 // The text of a verdict on the bad literal at a place.
@@ -268,116 +358,4 @@ fn fails_at<A: Allocator + Copy>(
     ensures { IfOk result (λ fails. IsTrue fails → FailsAt circuit.now place trace.now) }
 {
     replay(alloc, circuit, circuit.bads[place], trace)
-}
-
-/// Whether an invariant, clauses over the latches, shows that the circuit which a text writes is safe: as to the bad
-/// literal at the place that is asked for, or as to all. Each question to the solver may learn `limit` clauses.
-///
-/// # Errors
-/// - [`TaskError::Circuit`] and [`TaskError::Invariant`] where a text has another form.
-/// - [`TaskError::NoBad`] where there is no bad literal at the place.
-/// - [`TaskError::Memory`] where memory is refused.
-pub fn certifies<A: Allocator + Copy>(
-    alloc: A,
-    bytes: &[u8],
-    invariant: &[u8],
-    asked: Option<usize>,
-    limit: usize,
-) -> Result<bool, TaskError>
-    ensures { IfOk result (λ safe. IsTrue safe → Certifies A bytes.now asked) }
-{
-    let circuit = circuit_in(alloc, bytes)?;
-    let invariant = invariant_in(alloc, &circuit, invariant)?;
-    certifies_asked(alloc, &circuit, &invariant, asked, limit)
-}
-
-// Whether the circuit is safe by an invariant.
-fn certifies_asked<A: Allocator + Copy>(
-    alloc: A,
-    circuit: &Circuit<A>,
-    invariant: &[Vec<Literal, A>],
-    asked: Option<usize>,
-    limit: usize,
-) -> Result<bool, TaskError>
-    ensures { IfOk result (λ safe. IsTrue safe → IsSafeAsked circuit.now asked) }
-{
-    match asked {
-        None => Ok(certifies_all(alloc, circuit, invariant, limit)?),
-        Some(place) if place < circuit.bads.len() => {
-            Ok(certifies_at(alloc, circuit, invariant, place, limit)?)
-        }
-        Some(place) => Err(TaskError::NoBad(place, circuit.bads.len())),
-    }
-}
-
-// Whether the circuit is safe as to all its bad literals.
-fn certifies_all<A: Allocator + Copy>(
-    alloc: A,
-    circuit: &Circuit<A>,
-    invariant: &[Vec<Literal, A>],
-    limit: usize,
-) -> Result<bool, AllocError>
-    ensures { IfOk result (λ safe. IsTrue safe → (place : ℕ) → IsSafeAt circuit.now place) }
-{
-    for place in 0..circuit.bads.len() {
-        if !certifies_at(alloc, circuit, invariant, place, limit)? {
-            return Ok(false);
-        }
-    }
-    Ok(true)
-}
-
-// Whether the circuit is safe as to the bad literal at a place.
-fn certifies_at<A: Allocator + Copy>(
-    alloc: A,
-    circuit: &Circuit<A>,
-    invariant: &[Vec<Literal, A>],
-    place: usize,
-    limit: usize,
-) -> Result<bool, AllocError>
-    requires { place < length circuit.now.bads.items }
-    ensures { IfOk result (λ safe. IsTrue safe → IsSafeAt circuit.now place) }
-{
-    match certify(alloc, circuit, circuit.bads[place], invariant, limit)? {
-        certificate::Verdict::Certified => Ok(true),
-        _ => Ok(false),
-    }
-}
-
-// The invariant that a text writes, over the variables of a circuit.
-fn invariant_in<A: Allocator + Copy>(
-    alloc: A,
-    circuit: &Circuit<A>,
-    text: &[u8],
-) -> Result<Vec<Vec<Literal, A>, A>, TaskError> {
-    let latches = u32::try_from(circuit.latches.len()).unwrap_or(u32::MAX);
-    let clauses = match read_invariant(alloc, latches, text) {
-        Ok(clauses) => clauses,
-        Err(error) => return Err(TaskError::Invariant(error)),
-    };
-    let mut invariant = Vec::new(alloc);
-    for clause in clauses.iter() {
-        let clause = over_variables(alloc, circuit, clause)?;
-        invariant.reserve(1)?;
-        invariant.push_reserved(clause);
-    }
-    Ok(invariant)
-}
-
-// A clause over places of latches, over their variables.
-fn over_variables<A: Allocator + Copy>(
-    alloc: A,
-    circuit: &Circuit<A>,
-    clause: &[Literal],
-) -> Result<Vec<Literal, A>, AllocError> {
-    let mut moved = Vec::new(alloc);
-    for l in clause {
-        if let Some(latch) = circuit.latches.get(l.variable() as usize) {
-            if latch.variable >= 2_147_483_648 {
-                return Err(AllocError);
-            }
-            moved.push(Literal::new(latch.variable, l.is_positive()))?;
-        }
-    }
-    Ok(moved)
 }

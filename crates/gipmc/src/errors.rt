@@ -20,6 +20,8 @@ pub enum UsageError<'a> {
     ExtraFile(&'a str),
     /// A witness and an invariant are given.
     TwoTasks,
+    /// A file for an invariant is named, but none is searched for.
+    NoSearch,
     /// Standard input is named twice.
     InputTwice,
 }
@@ -32,9 +34,15 @@ impl Display for UsageError<'_> {
             UsageError::NoNumber(setting, word) => {
                 write!(f, "'{setting}' takes a number below 2^64, not '{word}'")
             }
-            UsageError::NoEngine(word) => write!(f, "'--engine' takes sim or bmc, not '{word}'"),
+            UsageError::NoEngine(word) => write!(
+                f,
+                "'--engine' takes sim, bmc or ic3, not '{word}'"
+            ),
             UsageError::ExtraFile(name) => write!(f, "one file too many, '{name}'"),
             UsageError::TwoTasks => f.write_str("'--replay' and '--certify' exclude each other"),
+            UsageError::NoSearch => {
+                f.write_str("'--certificate' goes with neither '--replay' nor '--certify'")
+            }
             UsageError::InputTwice => f.write_str("one file at most is read from standard input"),
         }
     }
@@ -44,8 +52,8 @@ impl Setting {
     // What stands behind the option.
     fn wanted(self) -> &'static str {
         match self {
-            Setting::Replay | Setting::Certify => "a file behind it",
-            Setting::Engine => "sim or bmc behind it",
+            Setting::Replay | Setting::Certify | Setting::Certificate => "a file behind it",
+            Setting::Engine => "sim, bmc or ic3 behind it",
             _ => "a number behind it",
         }
     }
@@ -56,6 +64,7 @@ impl Display for Setting {
     fn fmt<W: fmt::Write>(&self, f: &mut fmt::Formatter<W>) -> fmt::Result {
         f.write_str(match *self {
             Setting::Bad => "--bad",
+            Setting::Certificate => "--certificate",
             Setting::Certify => "--certify",
             Setting::Depth => "--depth",
             Setting::Engine => "--engine",
@@ -73,8 +82,10 @@ pub enum TaskError {
     Circuit(AigerError),
     /// The witness' text has another form.
     Witness(AigerError),
-    /// The invariant's text has another form.
-    Invariant(AigerError),
+    /// The certificate's text has another form.
+    Certificate(AigerError),
+    /// The certificate is a circuit with another number of inputs or latches.
+    OtherShape,
     /// There is no bad literal at this place; there are so many.
     NoBad(usize, usize),
     /// Memory was refused.
@@ -96,10 +107,16 @@ pub enum Failure<'a> {
     Read(Option<&'a str>, io::Error),
     /// A write to standard output failed.
     Write(io::Error),
+    /// The file of this name could not be made, or is there already.
+    Create(&'a str, io::Error),
+    /// A write to the file of this name failed.
+    WriteFile(&'a str, io::Error),
     /// The text in this input has another form.
     Form(Option<&'a str>, AigerError),
     /// The circuit in this input has no bad literal at this place; it has so many.
     NoBad(Option<&'a str>, usize, usize),
+    /// The circuit in this input has another number of inputs or latches than the one that it is to certify.
+    OtherShape(Option<&'a str>),
     /// Memory was refused.
     Memory,
 }
@@ -115,11 +132,22 @@ impl Display for Failure<'_> {
                 Cause(error)
             ),
             Failure::Write(error) => write!(f, "<stdout>: cannot be written: {}", Cause(error)),
+            Failure::Create(name, error) => {
+                write!(f, "{name}: cannot be made: {}", Cause(error))
+            }
+            Failure::WriteFile(name, error) => {
+                write!(f, "{name}: cannot be written: {}", Cause(error))
+            }
             Failure::Form(_, AigerError::Memory) => f.write_str("memory: refused"),
             Failure::Form(name, error) => write!(f, "{}: {error}", name.unwrap_or("<stdin>")),
             Failure::NoBad(name, place, count) => write!(
                 f,
                 "{}: no bad literal {place}, of {count}",
+                name.unwrap_or("<stdin>")
+            ),
+            Failure::OtherShape(name) => write!(
+                f,
+                "{}: not as many inputs and latches as the circuit has",
                 name.unwrap_or("<stdin>")
             ),
             Failure::Memory => f.write_str("memory: refused"),

@@ -1,7 +1,7 @@
-//! Files that are read whole.
+//! Files that are read whole, and new ones.
 use crate::errors::Failure;
-use std::fs::File;
-use std::io::{self, ErrorKind, Read};
+use std::fs::{self, File};
+use std::io::{self, ErrorKind, Read, Write};
 
 /// The bytes of the file of this name; standard input has none.
 ///
@@ -20,9 +20,29 @@ pub fn bytes_of<'a>(rt: &HostRuntime, name: Option<&'a str>) -> Result<Vec<u8>, 
     }
 }
 
-/// The file of this name. A minus is standard input.
-pub fn input<'a>(name: &'a str) -> Option<&'a str> {
-    if name == "-" { None } else { Some(name) }
+/// Nothing, where there is no file of this name.
+///
+/// # Errors
+/// [`Failure::Create`] where there is one.
+pub fn refuse_existing<'a>(rt: &HostRuntime, name: &'a str) -> Result<(), Failure<'a>> {
+    match fs::metadata(rt, name) {
+        Ok(_) => Err(Failure::Create(name, io::Error::from(ErrorKind::AlreadyExists))),
+        Err(_) => Ok(()),
+    }
+}
+
+/// Writes a text to a new file of this name.
+///
+/// # Errors
+/// [`Failure::Create`] where there is one already or it cannot be made, and [`Failure::WriteFile`] where a write fails.
+pub fn write_new<'a>(rt: &HostRuntime, name: &'a str, text: &[u8]) -> Result<(), Failure<'a>> {
+    match File::create_new(rt, name) {
+        Ok(mut file) => match file.write_all(text) {
+            Ok(()) => Ok(()),
+            Err(error) => Err(Failure::WriteFile(name, error)),
+        },
+        Err(error) => Err(Failure::Create(name, error)),
+    }
 }
 
 // Opens a file, which is no directory.

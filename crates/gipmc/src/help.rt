@@ -16,17 +16,21 @@ Input:
       --bad I           only the bad literal at place I
 
 Search:
-      --engine ENGINE   only this one: sim (random simulation) or bmc (bounded model checking)
-      --depth N         bounded model checking up to N transitions (100)
-      --limit N         leave a question open after N learned clauses
+      --engine ENGINE   only this one: sim (random simulation), bmc (bounded model checking) or ic3; without this,
+                        simulation for a moment, and then bmc and ic3 by turns
+      --depth N         bmc asks for traces of at most N transitions (100 with --engine bmc, else without bound)
+      --limit N         bmc leaves a question open after N learned clauses, and ic3 ends after N calls of its solvers
       --seed N          the seed of random simulation (0)
 
 Answers of other programs:
       --replay WITNESS  write `s VERIFIED` if the circuit fails by the trace in the file WITNESS, or `s NOT VERIFIED`
-      --certify CLAUSES write `s VERIFIED` if the clauses over latches in the file CLAUSES, in the DIMACS form, show
-                        that the circuit is safe, or `s NOT VERIFIED`
+      --certify FILE    write `s VERIFIED` if the certificate in FILE shows that the circuit is safe, or `s NOT VERIFIED`.
+                        It is clauses over latches in the DIMACS form, or a circuit in a form of AIGER with as many
+                        inputs and latches, whose bad literals are false, and constraints true, where an invariant holds
 
 Output:
+      --certificate F   write the invariant to the file F, which must not be there, if the circuit is safe as to all
+                        that are asked about; `--certify F` checks it
   -q, --quiet           write no progress; without this it is written where standard error is a terminal
       --stats           write a summary on standard error (lines that begin with c)
 

@@ -10,16 +10,18 @@ ghost use Rattle.std.specs.Process.{exit_status};
 ghost use Rattle.gipmc.specs.Statuses.{outcome_status, refused_status, search_status, telling_status, usage_status, verified_status};
 
 mod answers;
+mod certificates;
 mod errors;
 mod files;
 mod help;
 mod options;
 mod progress;
 
-use answers::{Outcome, answer, certifies, replays};
+use answers::{Outcome, answer, replays};
+use certificates::certifies;
 use errors::{Cause, Failure, TaskError, UsageError};
-use files::{bytes_of, input};
-use gipmc_engines::{Bounds, Plan, Tries};
+use files::{bytes_of, refuse_existing, write_new};
+use gipmc_engines::{Bounds, Engine, Plan, Tries};
 use help::{HELP, VERSION};
 use options::{Options, Task};
 use progress::Teller;
@@ -39,6 +41,9 @@ const ROUNDS: usize = 16;
 
 const MOMENTS: usize = 256;
 
+// The most transitions of bounded model checking alone.
+const DEPTH: usize = 100;
+
 fn main(rt: HostRuntime) -> ExitCode {
     let words = match words_of(&rt) {
         Ok(words) => words,
@@ -48,8 +53,8 @@ fn main(rt: HostRuntime) -> ExitCode {
         Ok(Task::Help) => tell(&rt, HELP),
         Ok(Task::Version) => tell(&rt, VERSION),
         Ok(Task::Search(options)) => end_search(&rt, search_file(&rt, &options)),
-        Ok(Task::Replay(options, name)) => end_check(&rt, replay_file(&rt, &options, name)),
-        Ok(Task::Certify(options, name)) => end_check(&rt, certify_file(&rt, &options, name)),
+        Ok(Task::Replay(options, witness)) => end_check(&rt, replay_file(&rt, &options, witness)),
+        Ok(Task::Certify(options, name)) => { end_check(&rt, certify_file(&rt, &options, name)) }
         Err(error) => explain(&rt, &error),
     }
 }
@@ -126,7 +131,8 @@ fn failure<'a>(circuit: Option<&'a str>, beside: Option<&'a str>, error: TaskErr
     match error {
         TaskError::Circuit(error) => Failure::Form(circuit, error),
         TaskError::Witness(error) => Failure::Form(beside, error),
-        TaskError::Invariant(error) => Failure::Form(beside, error),
+        TaskError::Certificate(error) => Failure::Form(beside, error),
+        TaskError::OtherShape => Failure::OtherShape(beside),
         TaskError::NoBad(place, count) => Failure::NoBad(circuit, place, count),
         TaskError::Memory => Failure::Memory,
     }
@@ -150,15 +156,26 @@ fn plan_of(options: &Options) -> Plan {
             moments: MOMENTS,
         },
         bounds: Bounds {
-            depth: options.depth,
+            depth: depth_of(options),
             limit: options.limit,
         },
+    }
+}
+
+// How far bounded model checking goes, where that is not said: alone it would not end on a safe circuit.
+fn depth_of(options: &Options) -> usize {
+    match options.engine {
+        Engine::Bounded => options.depth.unwrap_or(DEPTH),
+        _ => options.depth.unwrap_or(usize::MAX),
     }
 }
 
 // Answers about the circuit of the file that the options name, or of standard input.
 fn search_file<'a>(rt: &HostRuntime, options: &Options<'a>) -> Result<Outcome, Failure<'a>> {
     let bytes = bytes_of(rt, options.file)?;
+    if let Some(name) = options.certificate {
+        refuse_existing(rt, name)?;
+    }
     let mut teller = Teller::new(rt, options);
     let plan = plan_of(options);
     let said = match answer(rt.alloc(), &bytes, options.bad, &plan, &mut teller) {
@@ -166,35 +183,38 @@ fn search_file<'a>(rt: &HostRuntime, options: &Options<'a>) -> Result<Outcome, F
         Err(error) => return Err(failure(options.file, None, error)),
     };
     teller.end();
+    if let (Some(name), Some(text)) = (options.certificate, &said.certificate) {
+        write_new(rt, name, text)?;
+    }
     write_out(rt, &said.text)?;
     Ok(said.outcome)
 }
 
-// Replays the witness in a file.
+// Replays the witness in the file of this name, or in standard input.
 fn replay_file<'a>(
     rt: &HostRuntime,
     options: &Options<'a>,
-    name: &'a str,
+    name: Option<&'a str>,
 ) -> Result<bool, Failure<'a>> {
     let bytes = bytes_of(rt, options.file)?;
-    let witness = bytes_of(rt, input(name))?;
+    let witness = bytes_of(rt, name)?;
     match replays(rt.alloc(), &bytes, &witness) {
         Ok(verified) => verified_text(rt, verified),
-        Err(error) => Err(failure(options.file, input(name), error)),
+        Err(error) => Err(failure(options.file, name, error)),
     }
 }
 
-// Certifies the invariant in a file.
+// Certifies by the certificate in the file of this name, or in standard input.
 fn certify_file<'a>(
     rt: &HostRuntime,
     options: &Options<'a>,
-    name: &'a str,
+    name: Option<&'a str>,
 ) -> Result<bool, Failure<'a>> {
     let bytes = bytes_of(rt, options.file)?;
-    let invariant = bytes_of(rt, input(name))?;
-    match certifies(rt.alloc(), &bytes, &invariant, options.bad, options.limit) {
+    let certificate = bytes_of(rt, name)?;
+    match certifies(rt.alloc(), &bytes, &certificate, options.bad, options.limit) {
         Ok(verified) => verified_text(rt, verified),
-        Err(error) => Err(failure(options.file, input(name), error)),
+        Err(error) => Err(failure(options.file, name, error)),
     }
 }
 

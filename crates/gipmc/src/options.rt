@@ -1,4 +1,13 @@
 //! The command line.
+ghost use Rattle.std.specs.Prelude.{◌≡◌, map, string_bytes};
+ghost use Rattle.std.specs.Option.{ok_or, option_map};
+ghost use Rattle.std.specs.Result.{result_map_both};
+ghost use Rattle.gipmc.specs.Misuses.{misuse_of, NoEngine, NoNumber};
+ghost use Rattle.gipmc.specs.Options.{engine_of, no_request, number_of, request_of, switched};
+ghost use Rattle.gipmc.specs.Words.{after_file, after_named, after_option, after_word, after_words, answer_of};
+ghost use Rattle.gipmc.specs.Words.{asked_for, input_of, joined_of, no_words, option_of, setting_of, state_of};
+ghost use Rattle.gipmc.specs.Words.{switch_of, task_asked, with_value, work_asked, work_of};
+
 use crate::errors::UsageError;
 use gipmc_engines::Engine;
 
@@ -11,10 +20,23 @@ pub enum Task<'a> {
     Version,
     /// To answer about a circuit.
     Search(Options<'a>),
-    /// To replay the witness in this file.
-    Replay(Options<'a>, &'a str),
-    /// To certify the invariant in this file.
-    Certify(Options<'a>, &'a str),
+    /// To replay the witness in this file. None is standard input.
+    Replay(Options<'a>, Option<&'a str>),
+    /// To certify by the certificate in this file. None is standard input.
+    Certify(Options<'a>, Option<&'a str>),
+}
+
+impl<'a> Task<'a> {
+    /// What some words ask for.
+    ///
+    /// # Errors
+    ///
+    /// That of the first word that has no meaning where it stands, or that a word is missing.
+    pub fn parse(words: &'a [String]) -> Result<Self, UsageError<'a>>
+        ensures { result_map_both work_of misuse_of result ≡ work_asked (map string_bytes words.now) }
+    {
+        Parser::new().words(words)?.end()
+    }
 }
 
 /// What is asked about which circuit, and how.
@@ -26,9 +48,9 @@ pub struct Options<'a> {
     pub bad: Option<usize>,
     /// What searches.
     pub engine: Engine,
-    /// The most transitions of bounded model checking.
-    pub depth: usize,
-    /// How many clauses a question may learn.
+    /// The most transitions of bounded model checking, if that is said.
+    pub depth: Option<usize>,
+    /// How many clauses a question may learn, and how many calls IC3 may make.
     pub limit: usize,
     /// The seed of simulation.
     pub seed: u64,
@@ -36,12 +58,15 @@ pub struct Options<'a> {
     pub quiet: bool,
     /// Whether a summary is written.
     pub stats: bool,
+    /// The file that an invariant is written to, if one is wanted.
+    pub certificate: Option<&'a str>,
 }
 
 /// An option that takes a value.
 #[derive(Clone, Copy)]
 pub enum Setting {
     Bad,
+    Certificate,
     Certify,
     Depth,
     Engine,
@@ -50,225 +75,137 @@ pub enum Setting {
     Seed,
 }
 
-// How the next word is read.
+/// An option of one word.
 #[derive(Clone, Copy)]
-enum Awaits {
-    // As an option or a file.
-    Any,
-    // As the value of a setting.
-    Value(Setting),
-    // As a file, whatever it begins with.
-    File,
+pub enum Switch {
+    Quiet,
+    Stats,
 }
 
-// What is told in place of an answer.
-#[derive(Clone, Copy)]
-enum Info {
-    Help,
-    Version,
-}
-
-// What was read of a command line.
-#[derive(Clone, Copy)]
-struct Parser<'a> {
-    awaits: Awaits,
-    options: Options<'a>,
-    file: Option<&'a str>,
-    replay: Option<&'a str>,
-    certify: Option<&'a str>,
-    info: Option<Info>,
-}
-
-impl<'a> Task<'a> {
-    /// What some words ask for.
-    ///
-    /// # Errors
-    /// That of the first word that has no meaning where it stands, or that a word is missing.
-    pub fn parse(words: &'a [String]) -> Result<Self, UsageError<'a>> {
-        Parser::new().words(words)?.end()
-    }
-}
-
-impl<'a> Parser<'a> {
-    // Before the first word.
-    fn new() -> Self {
-        Parser {
-            awaits: Awaits::Any,
-            options: Options {
-                file: None,
-                bad: None,
-                engine: Engine::Both,
-                depth: 100,
-                limit: usize::MAX,
-                seed: 0,
-                quiet: false,
-                stats: false,
-            },
+impl<'a> Options<'a> {
+    // Where no word asks for anything.
+    fn new() -> Self
+        ensures { request_of result ≡ no_request }
+    {
+        Options {
             file: None,
-            replay: None,
-            certify: None,
-            info: None,
+            bad: None,
+            engine: Engine::All,
+            depth: None,
+            limit: usize::MAX,
+            seed: 0,
+            quiet: false,
+            stats: false,
+            certificate: None,
         }
     }
 
-    // After some more words.
-    fn words(mut self, mut words: &'a [String]) -> Result<Self, UsageError<'a>> {
-        while let [word, rest @ ..] = words {
-            self = self.word(word.as_str())?;
-            words = rest;
-        }
-        Ok(self)
-    }
-
-    // After one more word. Behind one that asks for help, none is read.
-    fn word(self, word: &'a str) -> Result<Self, UsageError<'a>> {
-        if self.info.is_some() {
-            return Ok(self);
-        }
-        match self.awaits {
-            Awaits::Value(setting) => Parser {
-                awaits: Awaits::Any,
+    // The options with what a switch turns on.
+    fn switched(self, switch: Switch) -> Self
+        ensures { request_of result ≡ switched switch (request_of self.entry) }
+    {
+        match switch {
+            Switch::Quiet => Options {
+                quiet: true,
                 ..self
-            }
-            .value(setting, word),
-            Awaits::File => self.file(word),
-            Awaits::Any if word.starts_with('-') && word != "-" => self.option(word),
-            Awaits::Any => self.file(word),
+            },
+            Switch::Stats => Options {
+                stats: true,
+                ..self
+            },
         }
     }
 
-    // After the name of a file.
-    fn file(self, name: &'a str) -> Result<Self, UsageError<'a>> {
-        if self.file.is_some() {
-            return Err(UsageError::ExtraFile(name));
+    // The file of an answer that is checked beside these options.
+    fn answer(self, name: &'a str) -> Result<Option<&'a str>, UsageError<'a>>
+        ensures { result_map_both (option_map (λ name. name.now)) misuse_of result ≡
+            answer_of (request_of self.entry) name.now }
+    {
+        if self.certificate.is_some() {
+            return Err(UsageError::NoSearch);
         }
-        Ok(Parser {
-            file: Some(name),
-            ..self
-        })
+        let answer = input(name);
+        if self.file.is_none() && answer.is_none() {
+            return Err(UsageError::InputTwice);
+        }
+        Ok(answer)
     }
+}
 
-    // After an option.
-    fn option(self, word: &'a str) -> Result<Self, UsageError<'a>> {
-        if let Some(setting) = setting_of(word) {
-            return Ok(Parser {
-                awaits: Awaits::Value(setting),
-                ..self
-            });
-        }
-        if let Some((name, value)) = word.split_once('=') {
-            return match setting_of(name) {
-                Some(setting) => self.value(setting, value),
-                None => Err(UsageError::UnknownOption(word)),
-            };
-        }
-        self.switch(word)
+// The number that a word writes, as this setting's value.
+fn number<'a>(setting: Setting, word: &'a str) -> Result<usize, UsageError<'a>>
+    ensures { result_map_both (λ n. n) misuse_of result ≡ ok_or (number_of word.now) (NoNumber setting word.now) }
+{
+    match word.parse() {
+        Ok(number) => Ok(number),
+        Err(_) => Err(UsageError::NoNumber(setting, word)),
     }
+}
 
-    // After an option that takes no value.
-    fn switch(self, word: &'a str) -> Result<Self, UsageError<'a>> {
-        match word {
-            "--" => Ok(Parser {
-                awaits: Awaits::File,
-                ..self
-            }),
-            "--quiet" | "-q" => Ok(Parser {
-                options: Options {
-                    quiet: true,
-                    ..self.options
-                },
-                ..self
-            }),
-            "--stats" => Ok(Parser {
-                options: Options {
-                    stats: true,
-                    ..self.options
-                },
-                ..self
-            }),
-            _ => self.info(word),
-        }
-    }
-
-    // After an option that asks for help or the version.
-    fn info(self, word: &'a str) -> Result<Self, UsageError<'a>> {
-        let info = match word {
-            "--help" | "-h" => Info::Help,
-            "--version" => Info::Version,
-            _ => return Err(UsageError::UnknownOption(word)),
-        };
-        Ok(Parser {
-            info: Some(info),
-            ..self
-        })
-    }
-
-    // After the value of a setting.
-    fn value(self, setting: Setting, word: &'a str) -> Result<Self, UsageError<'a>> {
-        match setting {
-            Setting::Replay => Ok(Parser {
-                replay: Some(word),
-                ..self
-            }),
-            Setting::Certify => Ok(Parser {
-                certify: Some(word),
-                ..self
-            }),
-            _ => Ok(Parser {
-                options: with_value(self.options, setting, word)?,
-                ..self
-            }),
-        }
-    }
-
-    // What is asked for after the last word.
-    fn end(self) -> Result<Task<'a>, UsageError<'a>> {
-        match self.info {
-            Some(Info::Help) => return Ok(Task::Help),
-            Some(Info::Version) => return Ok(Task::Version),
-            None => {}
-        }
-        if let Awaits::Value(setting) = self.awaits {
-            return Err(UsageError::NoValue(setting));
-        }
-        self.task()
-    }
-
-    // The task: a search, or a check of an answer.
-    fn task(self) -> Result<Task<'a>, UsageError<'a>> {
-        let options = Options {
-            file: input(self.file),
-            ..self.options
-        };
-        match (self.replay, self.certify) {
-            (None, None) => Ok(Task::Search(options)),
-            (Some(name), None) => Ok(Task::Replay(options, beside(options.file, name)?)),
-            (None, Some(name)) => Ok(Task::Certify(options, beside(options.file, name)?)),
-            (Some(_), Some(_)) => Err(UsageError::TwoTasks),
-        }
+// The engine of this name.
+fn engine<'a>(word: &'a str) -> Result<Engine, UsageError<'a>>
+    ensures { result_map_both (λ e. e) misuse_of result ≡ ok_or (engine_of word.now) (NoEngine word.now) }
+{
+    match word {
+        "sim" => Ok(Engine::Simulation),
+        "bmc" => Ok(Engine::Bounded),
+        "ic3" => Ok(Engine::Ic3),
+        _ => Err(UsageError::NoEngine(word)),
     }
 }
 
 // The file of this name. None is standard input.
-fn input<'a>(name: Option<&'a str>) -> Option<&'a str> {
-    match name {
-        Some("-") => None,
-        _ => name,
+fn input<'a>(name: &'a str) -> Option<&'a str>
+    ensures { option_map (λ name. name.now) result ≡ input_of name.now }
+{
+    if name == "-" { None } else { Some(name) }
+}
+
+/// What is told in place of an answer.
+#[derive(Clone, Copy)]
+pub enum Info {
+    Help,
+    Version,
+}
+
+/// What a word that begins with a minus says.
+#[derive(Clone, Copy)]
+pub enum Opt {
+    /// The next word is the value of this setting.
+    Setting(Setting),
+    Switch(Switch),
+    Info(Info),
+    /// All words behind this one are files.
+    End,
+}
+
+impl Opt {
+    // The option of this name.
+    fn of(word: &str) -> Option<Self>
+        ensures { result ≡ option_of word.now }
+    {
+        if let Some(setting) = setting_of(word) {
+            return Some(Opt::Setting(setting));
+        }
+        if let Some(switch) = switch_of(word) {
+            return Some(Opt::Switch(switch));
+        }
+        match word {
+            "--help" => Some(Opt::Info(Info::Help)),
+            "-h" => Some(Opt::Info(Info::Help)),
+            "--version" => Some(Opt::Info(Info::Version)),
+            "--" => Some(Opt::End),
+            _ => None,
+        }
     }
 }
 
-// The name of a file, where the circuit is in another one.
-fn beside<'a>(circuit: Option<&'a str>, name: &'a str) -> Result<&'a str, UsageError<'a>> {
-    if circuit.is_none() && name == "-" {
-        return Err(UsageError::InputTwice);
-    }
-    Ok(name)
-}
-
-// The setting of this name.
-fn setting_of(word: &str) -> Option<Setting> {
+fn setting_of(word: &str) -> Option<Setting>
+    ensures { result ≡ setting_of word.now }
+{
     match word {
         "--bad" => Some(Setting::Bad),
+        "--certificate" => Some(Setting::Certificate),
         "--certify" => Some(Setting::Certify),
         "--depth" => Some(Setting::Depth),
         "--engine" => Some(Setting::Engine),
@@ -279,53 +216,218 @@ fn setting_of(word: &str) -> Option<Setting> {
     }
 }
 
-// The options with this value of a setting.
-fn with_value<'a>(
-    options: Options<'a>,
-    setting: Setting,
-    word: &'a str,
-) -> Result<Options<'a>, UsageError<'a>> {
-    if let Setting::Engine = setting {
-        return Ok(Options {
-            engine: engine_of(word)?,
-            ..options
-        });
-    }
-    let number = number(setting, word)?;
-    Ok(match setting {
-        Setting::Bad => Options {
-            bad: Some(number),
-            ..options
-        },
-        Setting::Depth => Options {
-            depth: number,
-            ..options
-        },
-        Setting::Limit => Options {
-            limit: number,
-            ..options
-        },
-        Setting::Seed => Options {
-            seed: number as u64,
-            ..options
-        },
-        _ => options,
-    })
+// The setting and the value of a word as `--depth=9`.
+fn joined(word: &str) -> Option<(Setting, &str)>
+    ensures { option_map (λ joined. (joined.0, joined.1.now)) result ≡ joined_of word.now }
+{
+    let (name, value) = word.split_once('=')?;
+    let setting = setting_of(name)?;
+    Some((setting, value))
 }
 
-// The engine of this name.
-fn engine_of<'a>(word: &'a str) -> Result<Engine, UsageError<'a>> {
+fn switch_of(word: &str) -> Option<Switch>
+    ensures { result ≡ switch_of word.now }
+{
     match word {
-        "sim" => Ok(Engine::Simulation),
-        "bmc" => Ok(Engine::Bounded),
-        _ => Err(UsageError::NoEngine(word)),
+        "--quiet" => Some(Switch::Quiet),
+        "-q" => Some(Switch::Quiet),
+        "--stats" => Some(Switch::Stats),
+        _ => None,
     }
 }
 
-// The number that a word writes, as this setting's value.
-fn number<'a>(setting: Setting, word: &'a str) -> Result<usize, UsageError<'a>> {
-    match word.parse() {
-        Ok(number) => Ok(number),
-        Err(_) => Err(UsageError::NoNumber(setting, word)),
+/// How the next word is read.
+#[derive(Clone, Copy)]
+pub enum Awaits {
+    /// As an option or a file.
+    Any,
+    /// As the value of a setting.
+    Value(Setting),
+    /// As a file, whatever it begins with.
+    File,
+    /// Not at all: this is told, whatever comes.
+    Nothing(Info),
+}
+
+/// What was read of a command line.
+#[derive(Clone, Copy)]
+pub struct Parser<'a> {
+    awaits: Awaits,
+    options: Options<'a>,
+    replay: Option<&'a str>,
+    certify: Option<&'a str>,
+}
+
+impl<'a> Parser<'a> {
+    // Before the first word.
+    fn new() -> Self
+        ensures { state_of result ≡ no_words }
+    {
+        Parser {
+            awaits: Awaits::Any,
+            options: Options::new(),
+            replay: None,
+            certify: None,
+        }
+    }
+
+    // After some more words.
+    fn words(mut self, mut words: &'a [String]) -> Result<Self, UsageError<'a>>
+        ensures { result_map_both state_of misuse_of result ≡
+            after_words (state_of self.entry) (map string_bytes words.now) }
+    {
+        while let [word, rest @ ..] = words {
+            self = self.word(word.as_str())?;
+            words = rest;
+        }
+        Ok(self)
+    }
+
+    // After one more word.
+    fn word(self, word: &'a str) -> Result<Self, UsageError<'a>>
+        ensures { result_map_both state_of misuse_of result ≡ after_word (state_of self.entry) word.now }
+    {
+        match self.awaits {
+            Awaits::Value(setting) => Parser {
+                awaits: Awaits::Any,
+                ..self
+            }
+            .with_value(setting, word),
+            Awaits::File => self.file(word),
+            Awaits::Nothing(_) => Ok(self),
+            Awaits::Any if word.starts_with('-') && word != "-" => self.named(word),
+            Awaits::Any => self.file(word),
+        }
+    }
+
+    // After a word that is an option, or a setting with its value.
+    fn named(self, word: &'a str) -> Result<Self, UsageError<'a>>
+        ensures { result_map_both state_of misuse_of result ≡
+            after_named (option_of word.now) (joined_of word.now) (state_of self.entry) word.now }
+    {
+        if let Some(option) = Opt::of(word) {
+            return Ok(self.option(option));
+        }
+        match joined(word) {
+            Some((setting, value)) => self.with_value(setting, value),
+            None => Err(UsageError::UnknownOption(word)),
+        }
+    }
+
+    // After an option.
+    fn option(self, option: Opt) -> Self
+        ensures { state_of result ≡ after_option option (state_of self.entry) }
+    {
+        match option {
+            Opt::Setting(setting) => Parser {
+                awaits: Awaits::Value(setting),
+                ..self
+            },
+            Opt::Switch(switch) => self.with(self.options.switched(switch)),
+            Opt::Info(info) => Parser {
+                awaits: Awaits::Nothing(info),
+                ..self
+            },
+            Opt::End => Parser {
+                awaits: Awaits::File,
+                ..self
+            },
+        }
+    }
+
+    // With these options.
+    fn with(self, options: Options<'a>) -> Self
+        ensures { state_of result ≡ record (state_of self.entry) { request = request_of options.entry } }
+    {
+        Parser { options, ..self }
+    }
+
+    // With this value of a setting.
+    fn with_value(self, setting: Setting, word: &'a str) -> Result<Self, UsageError<'a>>
+        ensures { result_map_both state_of misuse_of result ≡ with_value setting (state_of self.entry) word.now }
+    {
+        let options = self.options;
+        match setting {
+            Setting::Bad => {
+                let bad = Some(number(setting, word)?);
+                Ok(self.with(Options { bad, ..options }))
+            }
+            Setting::Depth => {
+                let depth = Some(number(setting, word)?);
+                Ok(self.with(Options { depth, ..options }))
+            }
+            Setting::Limit => {
+                let limit = number(setting, word)?;
+                Ok(self.with(Options { limit, ..options }))
+            }
+            Setting::Seed => {
+                let seed = number(setting, word)? as u64;
+                Ok(self.with(Options { seed, ..options }))
+            }
+            Setting::Engine => {
+                let engine = engine(word)?;
+                Ok(self.with(Options { engine, ..options }))
+            }
+            Setting::Certificate => {
+                let certificate = Some(word);
+                Ok(self.with(Options {
+                    certificate,
+                    ..options
+                }))
+            }
+            Setting::Replay => Ok(Parser {
+                replay: Some(word),
+                ..self
+            }),
+            Setting::Certify => Ok(Parser {
+                certify: Some(word),
+                ..self
+            }),
+        }
+    }
+
+    // After the name of a file.
+    fn file(self, name: &'a str) -> Result<Self, UsageError<'a>>
+        ensures { result_map_both state_of misuse_of result ≡ after_file (state_of self.entry) name.now }
+    {
+        if self.options.file.is_some() {
+            return Err(UsageError::ExtraFile(name));
+        }
+        Ok(self.with(Options {
+            file: Some(name),
+            ..self.options
+        }))
+    }
+
+    // After the last word.
+    fn end(self) -> Result<Task<'a>, UsageError<'a>>
+        ensures { result_map_both work_of misuse_of result ≡ asked_for (state_of self.entry) }
+    {
+        match self.awaits {
+            Awaits::Value(setting) => Err(UsageError::NoValue(setting)),
+            Awaits::Nothing(Info::Help) => Ok(Task::Help),
+            Awaits::Nothing(Info::Version) => Ok(Task::Version),
+            _ => self.task(),
+        }
+    }
+
+    // A search, or a check of one answer.
+    fn task(self) -> Result<Task<'a>, UsageError<'a>>
+        ensures { result_map_both work_of misuse_of result ≡ task_asked (state_of self.entry) }
+    {
+        let file = match self.options.file {
+            Some(name) => input(name),
+            None => None,
+        };
+        let options = Options {
+            file,
+            ..self.options
+        };
+        match (self.replay, self.certify) {
+            (None, None) => Ok(Task::Search(options)),
+            (Some(witness), None) => Ok(Task::Replay(options, options.answer(witness)?)),
+            (None, Some(invariant)) => Ok(Task::Certify(options, options.answer(invariant)?)),
+            (Some(_), Some(_)) => Err(UsageError::TwoTasks),
+        }
     }
 }

@@ -1,15 +1,15 @@
 -- One more place is safe.
 use Rattle.std.proofs.Common.{◌≡◌, length, arith}
 use Rattle.std.proofs.lemmas.Grind.{common_steps}
-use Rattle.gipmc.proofs.Told.{IsSafeAt-all, IsSafeAt-more}
-use Rattle.gipmc.proofs.answers.certifies_all.Goals as goal
+use Rattle.gipmc.proofs.Shown.{ShowsSafeAt-all, ShowsSafeAt-more}
+use Rattle.gipmc.proofs.certificates.certifies_all.Goals as goal
 
 pub loop-place-preserved : goal.loop-place-preserved
 loop-place-preserved g c =
-    IsSafeAt-more c.args.circuit.now c.loop-place.place c.loop-place.invariant
+    ShowsSafeAt-more c.args.circuit.now c.args.certificate.now c.loop-place.place c.loop-place.invariant
     (c.in_ok-certifies_at.ensures c.if-not-branch.false)
 
 pub returns : goal.returns
 returns g c safe =
     let all : c.loop-place.place ≡ length c.args.circuit.now.bads.items = grind (arith, common_steps) in
-    IsSafeAt-all c.args.circuit.now (rw all at c.loop-place.invariant)
+    ShowsSafeAt-all c.args.circuit.now c.args.certificate.now (rw all at c.loop-place.invariant)

@@ -1,0 +1,116 @@
+-- Worked examples of command lines.
+use Rattle.std.proofs.Common.{◌≡◌, [], ◌∷◌, refl, codes, Some, None, Ok, Err, true}
+use Rattle.gipmc_engines.specs.declared.engines.Engine.TheVariants.{Simulation, Bounded, Ic3}
+use Rattle.gipmc.specs.Misuses.{UnknownOption, NoValue, NoNumber, NoEngine, ExtraFile, TwoTasks, NoSearch, InputTwice}
+use Rattle.gipmc.specs.Options.{no_request, number_of}
+use Rattle.gipmc.specs.Words.{work_asked, Help, Version, Search, Replay, Certify}
+use Rattle.gipmc.specs.declared.options.Setting.TheVariants as setting
+
+number-plus : number_of (codes "+07") ≡ Some 7
+number-plus = refl
+
+number-greatest : number_of (codes "18446744073709551615") ≡ Some 18446744073709551615
+number-greatest = refl
+
+refused-minus : number_of (codes "-7") ≡ None
+refused-minus = refl
+
+nothing : work_asked [] ≡ Ok (Search no_request)
+nothing = refl
+
+settings : work_asked
+    (codes "--bad" ∷ codes "1" ∷ codes "--depth" ∷ codes "9" ∷ codes "--limit=5" ∷ codes "--seed=3" ∷ codes "a" ∷ [])
+    ≡ Ok (Search (record no_request { bad = Some 1; depth = Some 9; limit = 5; seed = 3; file = Some (codes "a") }))
+settings = refl
+
+engine : work_asked (codes "--engine" ∷ codes "bmc" ∷ []) ≡ Ok (Search (record no_request { engine = Bounded }))
+engine = refl
+
+switches : work_asked (codes "a" ∷ codes "-q" ∷ codes "--stats" ∷ [])
+    ≡ Ok (Search (record no_request { quiet = true; stats = true; file = Some (codes "a") }))
+switches = refl
+
+certificate : work_asked (codes "--certificate" ∷ codes "c" ∷ codes "a" ∷ [])
+    ≡ Ok (Search (record no_request { certificate = Some (codes "c"); file = Some (codes "a") }))
+certificate = refl
+
+-- a setting with its value in one word; the value is all behind the first equals sign
+joined : work_asked (codes "--depth=7" ∷ codes "--engine=ic3" ∷ codes "--certificate=p=q" ∷ [])
+    ≡ Ok (Search (record no_request { depth = Some 7; engine = Ic3; certificate = Some (codes "p=q") }))
+joined = refl
+
+refused-joined_switch : work_asked (codes "--stats=1" ∷ []) ≡ Err (UnknownOption (codes "--stats=1"))
+refused-joined_switch = refl
+
+refused-joined_nothing : work_asked (codes "--depth=" ∷ []) ≡ Err (NoNumber setting.Depth [])
+refused-joined_nothing = refl
+
+-- the last value counts
+twice : work_asked (codes "--engine" ∷ codes "bmc" ∷ codes "--engine=sim" ∷ [])
+    ≡ Ok (Search (record no_request { engine = Simulation }))
+twice = refl
+
+-- what stands behind a setting is its value, whatever it is
+value-any : work_asked (codes "--certificate" ∷ codes "--stats" ∷ [])
+    ≡ Ok (Search (record no_request { certificate = Some (codes "--stats") }))
+value-any = refl
+
+-- a minus is standard input
+file-stdin : work_asked (codes "-" ∷ []) ≡ Ok (Search no_request)
+file-stdin = refl
+
+-- behind two minuses each word is a file
+file-any : work_asked (codes "--" ∷ codes "--stats" ∷ [])
+    ≡ Ok (Search (record no_request { file = Some (codes "--stats") }))
+file-any = refl
+
+replay : work_asked (codes "a" ∷ codes "--replay" ∷ codes "w" ∷ [])
+    ≡ Ok (Replay (record no_request { file = Some (codes "a") }) (Some (codes "w")))
+replay = refl
+
+-- the answer comes from standard input
+replay-stdin : work_asked (codes "--replay=-" ∷ codes "a" ∷ [])
+    ≡ Ok (Replay (record no_request { file = Some (codes "a") }) None)
+replay-stdin = refl
+
+-- the circuit comes from standard input
+certify : work_asked (codes "--certify" ∷ codes "c" ∷ codes "--bad" ∷ codes "0" ∷ [])
+    ≡ Ok (Certify (record no_request { bad = Some 0 }) (Some (codes "c")))
+certify = refl
+
+-- the help is told whatever stands behind it
+help : work_asked (codes "--stats" ∷ codes "-h" ∷ codes "--other" ∷ []) ≡ Ok Help
+help = refl
+
+version : work_asked (codes "--version" ∷ []) ≡ Ok Version
+version = refl
+
+refused-option : work_asked (codes "--deep=3" ∷ []) ≡ Err (UnknownOption (codes "--deep=3"))
+refused-option = refl
+
+refused-no_value : work_asked (codes "a" ∷ codes "--replay" ∷ []) ≡ Err (NoValue setting.Replay)
+refused-no_value = refl
+
+refused-number : work_asked (codes "--depth" ∷ codes "7x" ∷ []) ≡ Err (NoNumber setting.Depth (codes "7x"))
+refused-number = refl
+
+refused-large_number : work_asked (codes "--seed" ∷ codes "18446744073709551616" ∷ [])
+    ≡ Err (NoNumber setting.Seed (codes "18446744073709551616"))
+refused-large_number = refl
+
+refused-engine : work_asked (codes "--engine" ∷ codes "ic4" ∷ []) ≡ Err (NoEngine (codes "ic4"))
+refused-engine = refl
+
+refused-two_files : work_asked (codes "a" ∷ codes "b" ∷ []) ≡ Err (ExtraFile (codes "b"))
+refused-two_files = refl
+
+refused-two_answers : work_asked (codes "--replay" ∷ codes "w" ∷ codes "--certify" ∷ codes "c" ∷ [])
+    ≡ Err TwoTasks
+refused-two_answers = refl
+
+refused-certificate : work_asked (codes "--replay" ∷ codes "w" ∷ codes "--certificate" ∷ codes "c" ∷ [])
+    ≡ Err NoSearch
+refused-certificate = refl
+
+refused-stdin_twice : work_asked (codes "--replay" ∷ codes "-" ∷ codes "-" ∷ []) ≡ Err InputTwice
+refused-stdin_twice = refl

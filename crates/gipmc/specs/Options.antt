@@ -1,0 +1,71 @@
+-- What the options ask for.
+use Rattle.std.specs.Prelude.{ℕ, ◌^◌, ◌-◌, ◌&&◌, Bool, true, false, List, length, nat_lt, if◌then◌else◌, codes, Option, Some, None}
+use Rattle.std.specs.Option.{option_map}
+use Rattle.std.specs.Str.{all_ascii_digits, bytes_eq}
+use Rattle.std.specs.Str.Parse.{digits_value, without_leading_plus}
+use Rattle.gipmc_engines.specs.declared.engines.Engine.{Engine}
+use Rattle.gipmc_engines.specs.declared.engines.Engine.TheVariants.{Simulation, Bounded, Ic3, All}
+use Rattle.gipmc.specs.declared.options.Options.{Options}
+use Rattle.gipmc.specs.declared.options.Switch.{Switch}
+use Rattle.gipmc.specs.declared.options.Switch.TheVariants.{Quiet, Stats}
+
+-- the file of the circuit, if not standard input, the place of its bad literal, if not all, what searches, the most
+-- transitions, if that is said, the most clauses or calls, the seed, what to write, and where an invariant, if anywhere
+pub record Request : Type 0 where
+  pub file : Option (List ℕ)
+  pub bad : Option ℕ
+  pub engine : Engine
+  pub depth : Option ℕ
+  pub limit : ℕ
+  pub seed : ℕ
+  pub quiet : Bool
+  pub stats : Bool
+  pub certificate : Option (List ℕ)
+
+-- what no word asks for
+abbrev pub no_request : Request
+no_request = record {
+  file = None;
+  bad = None;
+  engine = All;
+  depth = None;
+  limit = 2 ^ 64 - 1;
+  seed = 0;
+  quiet = false;
+  stats = false;
+  certificate = None;
+}
+
+-- the number below 2^64 that a word writes in decimal digits; a plus may stand before them
+abbrev pub number_of : List ℕ → Option ℕ
+number_of word =
+    let digits = without_leading_plus word in
+    if nat_lt 0 (length digits) && all_ascii_digits digits && nat_lt (digits_value 10 digits) (2 ^ 64)
+    then Some (digits_value 10 digits) else None
+
+-- the engine of this name
+abbrev pub engine_of : List ℕ → Option Engine
+engine_of word =
+    if bytes_eq word (codes "sim") then Some Simulation
+    else if bytes_eq word (codes "bmc") then Some Bounded
+    else if bytes_eq word (codes "ic3") then Some Ic3
+    else None
+
+-- with what a switch turns on
+abbrev pub switched : Switch → Request → Request
+switched Quiet r = record r { quiet = true }
+switched Stats r = record r { stats = true }
+
+-- what options ask for
+abbrev pub request_of : Options → Request
+request_of o = record {
+  file = option_map (λ name. name.now) o.file;
+  bad = o.bad;
+  engine = o.engine;
+  depth = o.depth;
+  limit = o.limit;
+  seed = o.seed;
+  quiet = o.quiet;
+  stats = o.stats;
+  certificate = option_map (λ name. name.now) o.certificate;
+}

@@ -1,0 +1,159 @@
+//! Certificates that a circuit is safe, from the bytes of texts to the answer.
+ghost use Rattle.std.specs.Prelude.{ℕ, ◌<◌, length, IfOk, IsTrue};
+ghost use Rattle.gipmc.specs.Certificates.{Certifies, IsCertificateIn, ShowsSafeAsked, ShowsSafeAt};
+ghost use Rattle.gipmc.specs.declared.certificates.Certificate.TheVariants as certificate;
+
+use crate::answers::circuit_in;
+use crate::errors::TaskError;
+use gipmc_aiger::{read_circuit, read_invariant_for};
+use gipmc_circuits::certificate::Verdict;
+use gipmc_circuits::{Circuit, certify, certify_by};
+use gipsat_solver::Literal;
+use std::alloc::Allocator;
+
+/// What may show that a circuit is safe.
+#[derive(Drop)]
+pub enum Certificate<A: Allocator> {
+    /// The clauses of an invariant, over the circuit's variables.
+    Clauses(Vec<Vec<Literal, A>, A>),
+    /// A circuit that tells where an invariant holds.
+    Circuit(Circuit<A>),
+}
+
+/// Whether the certificate that a text writes shows that the circuit of another text is safe: as to the bad literal at
+/// the place that is asked for, or as to all. Each question to the solver may learn `limit` clauses.
+///
+/// # Errors
+/// - [`TaskError::Circuit`] and [`TaskError::Certificate`] where a text has another form.
+/// - [`TaskError::OtherShape`] where the certificate is a circuit with another number of inputs or latches.
+/// - [`TaskError::NoBad`] where there is no bad literal at the place.
+/// - [`TaskError::Memory`] where memory is refused.
+pub fn certifies<A: Allocator + Copy>(
+    alloc: A,
+    bytes: &[u8],
+    text: &[u8],
+    asked: Option<usize>,
+    limit: usize,
+) -> Result<bool, TaskError>
+    ensures { IfOk result (λ safe. IsTrue safe → Certifies A bytes.now text.now asked) }
+{
+    let circuit = circuit_in(alloc, bytes)?;
+    let certificate = certificate_in(alloc, &circuit, text)?;
+    certifies_asked(alloc, &circuit, &certificate, asked, limit)
+}
+
+// Whether the circuit is safe by a certificate.
+fn certifies_asked<A: Allocator + Copy>(
+    alloc: A,
+    circuit: &Circuit<A>,
+    certificate: &Certificate<A>,
+    asked: Option<usize>,
+    limit: usize,
+) -> Result<bool, TaskError>
+    ensures { IfOk result (λ safe. IsTrue safe → ShowsSafeAsked circuit.now certificate.now asked) }
+{
+    match asked {
+        None => certifies_all(alloc, circuit, certificate, limit),
+        Some(place) if place < circuit.bads.len() => {
+            certifies_at(alloc, circuit, certificate, place, limit)
+        }
+        Some(place) => Err(TaskError::NoBad(place, circuit.bads.len())),
+    }
+}
+
+// Whether the circuit is safe as to all its bad literals.
+fn certifies_all<A: Allocator + Copy>(
+    alloc: A,
+    circuit: &Circuit<A>,
+    certificate: &Certificate<A>,
+    limit: usize,
+) -> Result<bool, TaskError>
+    ensures { IfOk result (λ safe. IsTrue safe → (place : ℕ) → ShowsSafeAt circuit.now certificate.now place) }
+{
+    for place in 0..circuit.bads.len() {
+        if !certifies_at(alloc, circuit, certificate, place, limit)? {
+            return Ok(false);
+        }
+    }
+    Ok(true)
+}
+
+// Whether the circuit is safe as to the bad literal at a place.
+fn certifies_at<A: Allocator + Copy>(
+    alloc: A,
+    circuit: &Circuit<A>,
+    certificate: &Certificate<A>,
+    place: usize,
+    limit: usize,
+) -> Result<bool, TaskError>
+    requires { place < length circuit.now.bads.items }
+    ensures { IfOk result (λ safe. IsTrue safe → ShowsSafeAt circuit.now certificate.now place) }
+{
+    match certificate {
+        Certificate::Clauses(clauses) => by_clauses(alloc, circuit, clauses, place, limit),
+        Certificate::Circuit(other) => by_circuit(alloc, circuit, other, place, limit),
+    }
+}
+
+// Whether the circuit is safe by the clauses of an invariant.
+fn by_clauses<A: Allocator + Copy>(
+    alloc: A,
+    circuit: &Circuit<A>,
+    clauses: &Vec<Vec<Literal, A>, A>,
+    place: usize,
+    limit: usize,
+) -> Result<bool, TaskError>
+    requires { place < length circuit.now.bads.items }
+    ensures { IfOk result (λ safe. IsTrue safe → ShowsSafeAt circuit.now (certificate.Clauses clauses.now) place) }
+{
+    match certify(alloc, circuit, circuit.bads[place], clauses, limit)? {
+        Verdict::Certified => Ok(true),
+        _ => Ok(false),
+    }
+}
+
+// Whether the circuit is safe by another one.
+fn by_circuit<A: Allocator + Copy>(
+    alloc: A,
+    circuit: &Circuit<A>,
+    other: &Circuit<A>,
+    place: usize,
+    limit: usize,
+) -> Result<bool, TaskError>
+    requires { place < length circuit.now.bads.items }
+    ensures { IfOk result (λ safe. IsTrue safe → ShowsSafeAt circuit.now (certificate.Circuit other.now) place) }
+{
+    let said = certify_by(alloc, circuit, circuit.bads[place], other, limit)?;
+    let Some(verdict) = said else {
+        return Err(TaskError::OtherShape);
+    };
+    match verdict {
+        Verdict::Certified => Ok(true),
+        _ => Ok(false),
+    }
+}
+
+// The certificate that a text writes for a circuit: another circuit, or clauses.
+fn certificate_in<A: Allocator + Copy>(
+    alloc: A,
+    circuit: &Circuit<A>,
+    text: &[u8],
+) -> Result<Certificate<A>, TaskError>
+    ensures { IfOk result (IsCertificateIn circuit.now text.now) }
+{
+    if begins_as_circuit(text) {
+        return match read_circuit(alloc, text) {
+            Ok(other) => Ok(Certificate::Circuit(other)),
+            Err(error) => Err(TaskError::Certificate(error)),
+        };
+    }
+    match read_invariant_for(alloc, circuit, text) {
+        Ok(clauses) => Ok(Certificate::Clauses(clauses)),
+        Err(error) => Err(TaskError::Certificate(error)),
+    }
+}
+
+// Whether a text begins as that of a circuit does.
+fn begins_as_circuit(text: &[u8]) -> bool {
+    text.starts_with(b"aag ") || text.starts_with(b"aig ")
+}
