@@ -62,6 +62,7 @@ PARTS = {
     "gipsat_drat": (EXAMPLE, PEER + "drat-trim", PROVED, TESTED, CHOICES, COST),
     "gipmc_circuits": (EXAMPLE, PEER + "AIGER", PROVED, TESTED, CHOICES, COST),
     "gipmc_aiger": (EXAMPLE, PEER + "AIGER 1.9", PROVED, TESTED, CHOICES, COST),
+    "gipmc_ic3": (EXAMPLE, PROVED, TESTED, CHOICES, COST),
     "gipmc_engines": (EXAMPLE, PROVED, TESTED, CHOICES, COST),
     "gipmc": (PROVED, TESTED),
     "gip_lines": (PROVED, TESTED, CHOICES, COST),
