@@ -110,7 +110,7 @@ try "the version" 0 "" "gipsat 0.1.0" "" --version
 try "the version behind other words" 0 "" "gipsat 0.1.0" "" a --stats --version --other
 help=$("$gipsat" --help)
 try "the help" 0 "" "$help" "" -h
-for option in --conflicts -t --time -n --no-witness -q --quiet --stats --proof --binary -f --force --relaxed --check -h --help --version --; do
+for option in --conflicts -t --time -n --no-witness -q --quiet --stats --proof --binary -f --force --relaxed --no-simplify --check -h --help --version --; do
     if printf '%s\n' "$help" | grep -qE -- "^ *([^ ]+ )?$option[ ,]"; then
         echo "ok: the help tells of $option"
         passed=$((passed + 1))
@@ -449,6 +449,8 @@ try "a proof is written to a name behind =" 20 "" "s UNSATISFIABLE" "" "--proof=
 try "that proof behind = is checked" 0 "" "s VERIFIED" "" --check "$kept" "$work/joined"
 try "a larger binary proof is written" 20 "" "s UNSATISFIABLE" "" -q --binary --proof "$work/bytes" "$work/crowd"
 try "that larger binary proof is checked" 0 "" "s VERIFIED" "" --check "$work/crowd" "$work/bytes"
+try "a proof without elimination is written" 20 "" "s UNSATISFIABLE" "" -q --no-simplify --proof "$work/plain" "$work/crowd"
+try "that proof without elimination is checked" 0 "" "s VERIFIED" "" --check "$work/crowd" "$work/plain"
 
 # A summary has no average of nothing.
 printf 'p cnf 2 1\n1 2 0\n' | "$gipsat" --stats > "$work/out" 2> "$work/err"

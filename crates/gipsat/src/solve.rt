@@ -59,10 +59,11 @@ pub fn solve<'a, R: Read, W: Write>(
     ensures unwritten { IfErr result (λ error. error ≢ SolveError.Task DimacsError.Output → writer.new ≡ writer.old) }
 {
     let watch = Watch::new(rt, options)?;
-    let instance = match read_instance_by(rt.alloc(), reader, options.rule) {
+    let mut instance = match read_instance_by(rt.alloc(), reader, options.rule) {
         Ok(instance) => instance,
         Err(error) => return Err(SolveError::Task(error)),
     };
+    instance.solver.set_simplifying(options.simplify);
     watch.note_read(&instance);
     let proof = open_proof(rt, options, reader)?;
     answer(rt, options, instance, proof, watch, writer)

@@ -2,6 +2,8 @@
 ghost use Rattle.std.specs.Prelude.{◌^◌, ◌<◌};
 
 use crate::activity::Activity;
+use crate::database::Database;
+use crate::eliminated::Eliminated;
 use crate::glue::Glue;
 use crate::literal::Literal;
 use crate::restart_policy::RestartPolicy;
@@ -47,6 +49,7 @@ pub(crate) struct Heuristics<A: Allocator = Global> {
     pub watches: Watches<A>,
     pub glue: Glue<A>,
     pub restart_policy: RestartPolicy,
+    pub eliminated: Eliminated<A>,
     // How many of the root literals were learned as unit clauses, or need not be.
     pub units: usize,
     // Whether the search is to end where no variable waits, with the formula unread, and whether it ended there.
@@ -63,6 +66,7 @@ impl<A: Allocator + Copy> Heuristics<A> {
             watches: Watches::new(alloc),
             glue: Glue::new(alloc),
             restart_policy: RestartPolicy::new(),
+            eliminated: Eliminated::new(alloc),
             units: 0,
             is_guess: false,
             has_guessed: false,
@@ -83,16 +87,20 @@ impl<A: Allocator + Copy> Heuristics<A> {
     }
 
     // The same with room for so many variables, for a search that guesses or not, among all variables or in a domain.
+    // Eliminated variables that are assumed, in the domain or in a new clause are restored.
     pub(crate) fn begun(
         self,
         alloc: A,
+        database: &Database<A>,
         variables: usize,
         is_guess: bool,
+        assumptions: &[Literal],
         domain: Option<&[u32]>,
     ) -> Result<Self, AllocError>
         requires { variables < 2 ^ 40 }
     {
         let mut heuristics = self.grown(alloc, variables)?;
+        heuristics.restore(database, assumptions, domain.unwrap_or(&[]))?;
         heuristics.begin(is_guess, domain)?;
         Ok(heuristics)
     }
@@ -106,6 +114,7 @@ impl<A: Allocator + Copy> Heuristics<A> {
             mut watches,
             mut glue,
             restart_policy,
+            mut eliminated,
             units,
             is_guess,
             has_guessed,
@@ -113,11 +122,13 @@ impl<A: Allocator + Copy> Heuristics<A> {
         } = self;
         watches.grow(alloc, variables)?;
         glue.grow(variables)?;
+        eliminated.grow(variables)?;
         Ok(Heuristics {
             activity: activity.grown(variables)?,
             watches,
             glue,
             restart_policy,
+            eliminated,
             units,
             is_guess,
             has_guessed,
@@ -129,7 +140,24 @@ impl<A: Allocator + Copy> Heuristics<A> {
     fn begin(&mut self, is_guess: bool, domain: Option<&[u32]>) -> Result<(), AllocError> {
         self.is_guess = is_guess;
         self.has_guessed = false;
+        self.eliminated.rewind();
         self.activity.limit_to(domain)
+    }
+
+    // Restores the eliminated ones among the variables of these literals, of a domain, and of the new clauses.
+    fn restore(
+        &mut self,
+        database: &Database<A>,
+        literals: &[Literal],
+        domain: &[u32],
+    ) -> Result<(), AllocError> {
+        self.eliminated.restore(
+            database,
+            &mut self.watches,
+            &mut self.activity,
+            literals,
+            domain,
+        )
     }
 
     // A conflict was met.

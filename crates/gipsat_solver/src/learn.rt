@@ -410,10 +410,46 @@ fn attach<A: Allocator + Copy>(
         ClauseStatus::Original
     };
     watches.push_pair(pair, status)?;
-    if watches.is_deleted(place) {
+    if watches.is_unwatched(place) {
         return Ok(());
     }
     watches.watch(clause, place)
+}
+
+// Watches the clauses again that wait for it, and assigns the literals of units. The place of a falsified clause, if one
+// is met.
+fn attach_waiting<A: Allocator + Copy>(
+    database: &Database<A>,
+    trail: &mut Trail<A>,
+    watches: &mut Watches<A>,
+) -> Result<Option<usize>, AllocError>
+    requires trail { IsTrailFor database.now trail.old }
+    ensures advances { OnOk result (Advances database.now trail.old trail.new) }
+    ensures conflict { IfOk result (MeetsConflict database.now.clauses trail.new) }
+{
+    for index in 0..watches.waiting().len() {
+        let Some(place) = watches.waiting().get(index) else {
+            return Ok(None);
+        };
+        let place = *place as usize;
+        if place >= database.len() {
+            continue;
+        }
+        let clause = database.clause(place);
+        let Some(free) = non_false_place(trail, clause, clause.len(), 0) else {
+            return Ok(Some(place));
+        };
+        let other = second_place(trail, clause, free);
+        let pair = WatchedPair {
+            first: free,
+            second: other,
+        };
+        watches.set_pair(place, pair);
+        watches.watch(clause, place)?;
+        assign_unit(database, trail, place, free)?;
+    }
+    watches.end_waiting();
+    Ok(None)
 }
 
 // Watches the clauses that are not watched yet, and assigns the literals of units. The place of a falsified clause, if
@@ -427,6 +463,9 @@ pub(crate) fn attach_all<A: Allocator + Copy>(
     ensures advances { OnOk result (Advances database.now trail.old trail.new) }
     ensures conflict { IfOk result (MeetsConflict database.now.clauses trail.new) }
 {
+    if let Some(conflict) = attach_waiting(database, trail, watches)? {
+        return Ok(Some(conflict));
+    }
     for place in watches.len()..database.len() {
         let clause = database.clause(place);
         let Some(first) = non_false_place(trail, clause, clause.len(), 0) else {

@@ -68,6 +68,7 @@ fn keep<A: Allocator + Copy>(
         ClauseStatus::Original => true,
         ClauseStatus::Learned(activity) => activity >= least || clause.len() < 3,
         ClauseStatus::Deleted => false,
+        ClauseStatus::Eliminated => return Ok(false),
     };
     if !stays || holds(trail, clause) {
         watches.set_status(place, ClauseStatus::Deleted);

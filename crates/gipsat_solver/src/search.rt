@@ -222,7 +222,7 @@ fn most_active<A: Allocator + Copy>(trail: &Trail<A>, activity: &mut Activity<A>
 {
     for _ in 0..activity.waiting() {
         let variable = activity.pick()?;
-        if (variable as usize) < trail.values.len() {
+        if (variable as usize) < trail.values.len() && !activity.is_out(variable) {
             let l = Literal::new(variable, trail.phase(variable));
             if let None = trail.value(l) {
                 return Some(l);
@@ -232,7 +232,27 @@ fn most_active<A: Allocator + Copy>(trail: &Trail<A>, activity: &mut Activity<A>
     None
 }
 
-// Decides a variable. Where the queue is empty, an unsatisfied clause says which, unless this is a guess.
+// The variable to decide: the most active one. Where none waits, the last one of those that were eliminated, unless only
+// a domain is decided.
+fn variable_to_decide<A: Allocator + Copy>(
+    database: &Database<A>,
+    trail: &Trail<A>,
+    heuristics: &mut Heuristics<A>,
+) -> Option<Literal>
+    ensures within { IfSome result (λ l. l.variable < length trail.now.values.items) }
+    ensures unset { IfSome result (λ l. value_of trail.now.values.items l ≡ None) }
+{
+    if let Some(l) = most_active(trail, &mut heuristics.activity) {
+        heuristics.eliminated.rewind();
+        return Some(l);
+    }
+    if heuristics.activity.is_limited() {
+        return None;
+    }
+    heuristics.eliminated.next(database, trail)
+}
+
+// Decides a variable. Where none is left, an unsatisfied clause says which, unless this is a guess.
 fn choose<A: Allocator + Copy>(
     database: &Database<A>,
     trail: &mut Trail<A>,
@@ -244,7 +264,7 @@ fn choose<A: Allocator + Copy>(
     ensures choice { IfOk result (FollowsChoice database.now budget trail.old trail.new) }
 {
     heuristics.count_decision();
-    if let Some(l) = most_active(trail, &mut heuristics.activity) {
+    if let Some(l) = variable_to_decide(database, trail, heuristics) {
         trail.decide(l)?;
         return Ok(Choice::Decided);
     }

@@ -13,6 +13,7 @@ ghost use Rattle.gipsat_solver.specs.Values.{model_in};
 use crate::assumptions::{Obstacle, failed_assumptions};
 use crate::compact::{compact, is_deleted, learn_units};
 use crate::database::Database;
+use crate::eliminate::eliminate;
 use crate::heuristics::{Heuristics, Stats};
 use crate::learn::{Learned, learn};
 use crate::literal::Literal;
@@ -83,6 +84,8 @@ pub struct Solver<A: Allocator = Global> {
     seen: Seen<A>,
     // The heuristics of the last search, if it was not refused memory.
     heuristics: Option<Heuristics<A>>,
+    // Whether a search in slices is to eliminate variables.
+    is_simplifying: bool,
     stats: Stats,
     ghost clear: { NoneSeen seen },
 }
@@ -111,6 +114,7 @@ impl<A: Allocator + Copy> Solver<A> {
             trail: Trail::new(alloc),
             seen: Seen::new(alloc),
             heuristics: None,
+            is_simplifying: true,
             stats: Stats::new(),
         }
     }
@@ -342,7 +346,14 @@ impl<A: Allocator + Copy> Solver<A> {
         let heuristics = Heuristics::kept_or_new(self.heuristics.take(), alloc, self.stats)?;
         let mut trail = trail.grown(variables)?;
         let mut seen = seen.grown(variables)?;
-        let mut heuristics = heuristics.begun(alloc, variables, is_guess, domain)?;
+        let mut heuristics = heuristics.begun(
+            alloc,
+            &self.database,
+            variables,
+            is_guess,
+            assumptions,
+            domain,
+        )?;
         trail.backtrack(0, &mut heuristics.activity);
         let until = budget_from(heuristics.stats.propagations, budget);
         let answer = run(
@@ -413,6 +424,59 @@ impl<A: Allocator + Copy> Solver<A> {
         Ok(())
     }
 
+    /// Whether a search in slices ([`crate::progress::solve_in_slices`]) may call [`Solver::eliminate`]. It may at first.
+    pub fn set_simplifying(&mut self, is_simplifying: bool)
+        ensures { self.new ≡ self.old }
+    {
+        self.is_simplifying = is_simplifying;
+    }
+
+    /// What was last said by [`Solver::set_simplifying`].
+    pub fn is_simplifying(&self) -> bool {
+        self.is_simplifying
+    }
+
+    /// Eliminates variables: the clauses of a variable give way to their resolvents, which are learned, where these are
+    /// not more than the clauses and not long; and it drops clauses that follow from others. It ends at the latest after
+    /// about so many steps, each of which looks at a literal. The frozen variables stay.
+    ///
+    /// The formula is the same as before, and each answer is right as before: only the search no longer looks at the
+    /// clauses of an eliminated variable, and decides it last. Where such a variable is assumed, or a clause that is added
+    /// has it, its clauses are looked at again; so who assumes a variable time and again has it frozen.
+    ///
+    /// # Errors
+    /// `AllocError` where memory is refused. Some resolvents may have been learned.
+    pub fn eliminate(&mut self, frozen: &[u32], steps: u64) -> Result<(), AllocError>
+        ensures formula { self.new.formula ≡ self.old.formula }
+        ensures learned { self.new.learned ≡ self.old.learned }
+        ensures kept { KeepsClauses self.old self.new }
+    {
+        let alloc = self.alloc;
+        let variables = self.database.variables();
+        // Where memory is refused, the next call begins with new heuristics.
+        let trail = mem::replace(&mut self.trail, Trail::new(alloc));
+        let seen = mem::replace(&mut self.seen, Seen::new(alloc));
+        let heuristics = Heuristics::kept_or_new(self.heuristics.take(), alloc, self.stats)?;
+        let mut trail = trail.grown(variables)?;
+        let mut seen = seen.grown(variables)?;
+        let mut heuristics = heuristics.begun(alloc, &self.database, variables, false, &[], None)?;
+        trail.backtrack(0, &mut heuristics.activity);
+        eliminate(
+            alloc,
+            &mut self.database,
+            &mut trail,
+            &mut heuristics,
+            &mut seen,
+            frozen,
+            steps,
+        )?;
+        self.trail = trail;
+        self.seen = seen;
+        self.stats = heuristics.stats;
+        self.heuristics = Some(heuristics);
+        Ok(())
+    }
+
     /// Drops the clauses of the formula that a literal satisfies which has to be true, as far as that is found without a
     /// decision, and frees their memory. Each such literal becomes a clause of the formula, so that the same assignments
     /// satisfy it as before. The deleted clauses go too, as they do at [`Solver::compact`].
@@ -437,7 +501,7 @@ impl<A: Allocator + Copy> Solver<A> {
         let trail = mem::replace(&mut self.trail, Trail::new(alloc));
         let heuristics = Heuristics::kept_or_new(self.heuristics.take(), alloc, self.stats)?;
         let mut trail = trail.grown(variables)?;
-        let mut heuristics = heuristics.begun(alloc, variables, false, None)?;
+        let mut heuristics = heuristics.begun(alloc, &self.database, variables, false, &[], None)?;
         trail.backtrack(0, &mut heuristics.activity);
         simplify(alloc, &mut self.database, &mut trail, &mut heuristics)?;
         self.trail = trail;

@@ -53,12 +53,14 @@ impl WatchedPair {
 // The status of a clause.
 #[derive(Clone, Copy)]
 pub(crate) enum ClauseStatus {
-    // It is original, and watched for good.
+    // It is original, or stands for original ones, and is watched for good.
     Original,
     // It is learned, with this activity.
     Learned(u64),
     // It is not watched, or not any more.
     Deleted,
+    // It is not watched, since a variable was eliminated with it; but it is kept, and may be watched again.
+    Eliminated,
 }
 
 // For each literal the clauses that watch it. A heuristic: no contract speaks of it.
@@ -69,6 +71,8 @@ pub(crate) struct Watches<A: Allocator = Global> {
     statuses: Vec<ClauseStatus, A>,
     // For each literal whether the clause at hand has it. Between two clauses none is marked.
     met: Vec<bool, A>,
+    // Clauses that are to be watched again.
+    waiting: Vec<u32, A>,
     // What a bump adds to a clause's activity. It grows, so that recent bumps count more.
     increment: u64,
 }
@@ -87,6 +91,7 @@ impl<A: Allocator + Copy> Watches<A> {
             pairs: Vec::new(alloc),
             statuses: Vec::new(alloc),
             met: Vec::new(alloc),
+            waiting: Vec::new(alloc),
             increment: FIRST_INCREMENT,
         }
     }
@@ -106,6 +111,11 @@ impl<A: Allocator + Copy> Watches<A> {
     // How many clauses have watches or had them.
     pub(crate) fn len(&self) -> usize {
         self.pairs.len()
+    }
+
+    // How many clauses have a status.
+    pub(crate) fn known(&self) -> usize {
+        self.statuses.len()
     }
 
     // The watched places of a clause.
@@ -174,6 +184,19 @@ impl<A: Allocator + Copy> Watches<A> {
         matches!(self.statuses.get(clause), Some(ClauseStatus::Deleted))
     }
 
+    // Whether a clause is not watched, whatever the reason is.
+    pub(crate) fn is_unwatched(&self, clause: usize) -> bool {
+        matches!(
+            self.statuses.get(clause),
+            Some(ClauseStatus::Deleted) | Some(ClauseStatus::Eliminated)
+        )
+    }
+
+    // Whether a clause is watched for good.
+    pub(crate) fn is_kept(&self, clause: usize) -> bool {
+        matches!(self.statuses.get(clause), Some(ClauseStatus::Original))
+    }
+
     // What a bump adds to a clause's activity now.
     pub(crate) fn increment(&self) -> u64 {
         self.increment
@@ -184,6 +207,36 @@ impl<A: Allocator + Copy> Watches<A> {
         if let Some(place) = self.statuses.get_mut(clause) {
             *place = status;
         }
+    }
+
+    // Has the next clause, which has no status yet, watched for good.
+    pub(crate) fn push_kept(&mut self) -> Result<(), AllocError> {
+        self.statuses.push(ClauseStatus::Original)?;
+        Ok(())
+    }
+
+    // An eliminated clause is to be watched again.
+    pub(crate) fn restore(&mut self, clause: u32) -> Result<(), AllocError> {
+        self.set_status(clause as usize, ClauseStatus::Original);
+        self.waiting.push(clause)?;
+        Ok(())
+    }
+
+    // The clauses that are to be watched again.
+    pub(crate) fn waiting(&self) -> &[u32] {
+        &self.waiting
+    }
+
+    // No clause is to be watched again.
+    pub(crate) fn end_waiting(&mut self) {
+        self.waiting.clear();
+    }
+
+    // Takes all watches out, so that each clause that has its status will be watched anew.
+    pub(crate) fn detach_all(&mut self) {
+        self.clear();
+        self.pairs.clear();
+        self.waiting.clear();
     }
 
     // Raises the activity of a learned clause.
@@ -265,8 +318,7 @@ impl<A: Allocator + Copy> Watches<A> {
 
     // Drops the clauses that don't stay. None is watched then, and the others keep their statuses, where they have one.
     pub(crate) fn compact(&mut self, stays: &[bool]) {
-        self.clear();
-        self.pairs.clear();
+        self.detach_all();
         let mut next = 0usize;
         for (place, stays) in stays.iter().take(self.statuses.len()).enumerate() {
             self.set_status(next, self.status(place));
@@ -296,6 +348,7 @@ impl<A: Allocator + Copy> Watches<A> {
             *list = Vec::new(alloc);
         }
         self.pairs = Vec::new(alloc);
+        self.waiting.clear();
         self.statuses = statuses;
         Ok(())
     }
