@@ -98,10 +98,13 @@ impl<A: Allocator + Copy> Activity<A> {
         }
     }
 
-    // Queues a variable.
+    // Queues a variable, unless it is taken out.
     pub(crate) fn put_back(&mut self, variable: u32) {
+        if self.is_out(variable) {
+            return;
+        }
         self.domain.put_back(variable, &self.scores);
-        if variable < self.queue.bound() && !self.is_out(variable) {
+        if variable < self.queue.bound() {
             self.queue.push(variable, &ByRank(&self.scores));
         }
     }

@@ -1,5 +1,6 @@
-use Rattle.std.proofs.Common.{subst, sym, arith}
+use Rattle.std.proofs.Common.{◌≡◌, subst, sym, arith, false}
 use Rattle.gipsat_solver.specs.Database.{KeepsClauses, SolverState}
+use Rattle.gipsat_solver.specs.Seen.{is_seen}
 use Rattle.gipsat_solver.specs.Trail.{IsTrailOf}
 use Rattle.gipsat_solver.proofs.solver.Solver.eliminate.Goals as goal
 
@@ -23,3 +24,7 @@ eliminate-requires g c =
 pub returns-clause-kept : goal.returns-clause-kept
 returns-clause-kept g c =
     subst (λ (k : SolverState). KeepsClauses k c.eliminate.new.database) c.self.view_is c.eliminate.ensures.derives.kept
+
+pub invariant_of-self-inside-in-Break-branch-5 : goal.invariant_of-self-inside-in-Break-branch-5
+invariant_of-self-inside-in-Break-branch-5 g c =
+    (λ l. subst (λ seen. is_seen seen l ≡ false) (sym c.replace-seen.ensures.after) (c.new-2.ensures l), record {})
