@@ -42,7 +42,7 @@ enum Said {
     Open,
 }
 
-fn said<A: Allocator>(answer: &AnswerUnder<A>) -> Said {
+fn told<A: Allocator>(answer: &AnswerUnder<A>) -> Said {
     match answer {
         AnswerUnder::Sat(_) => Said::Satisfiable,
         AnswerUnder::Unsat(_) => Said::Unsatisfiable,
@@ -61,21 +61,30 @@ fn asked_after<A: Allocator + Copy>(
     solver.eliminate(&[], 1000)?;
     add_all(alloc, &mut solver, added)?;
     let answer = solver.solve_under(assumptions, 100)?;
-    Ok((said(&answer), solver.stats().left_open))
+    Ok((told(&answer), solver.stats().left_open))
 }
 
 #[test]
 fn an_eliminated_chain_is_satisfied(rt: HostRuntime) {
-    assert_eq!(rt; asked_after(rt.alloc(), &[], &[]), Ok((Said::Satisfiable, 0)));
+    assert_eq!(rt;
+        asked_after(rt.alloc(), &[], &[]),
+        Ok((Said::Satisfiable, 0))
+    );
 }
 
 #[test]
 fn eliminated_variables_may_be_assumed(rt: HostRuntime) {
     let ends = [Literal::new(1, true), Literal::new(3, false)];
-    assert_eq!(rt; asked_after(rt.alloc(), &[], &ends), Ok((Said::Unsatisfiable, 0)));
+    assert_eq!(rt;
+        asked_after(rt.alloc(), &[], &ends),
+        Ok((Said::Unsatisfiable, 0))
+    );
 }
 
 #[test]
 fn clauses_may_name_eliminated_variables(rt: HostRuntime) {
-    assert_eq!(rt; asked_after(rt.alloc(), &[1, 0, -3, 0], &[]), Ok((Said::Unsatisfiable, 0)));
+    assert_eq!(rt;
+        asked_after(rt.alloc(), &[1, 0, -3, 0], &[]),
+        Ok((Said::Unsatisfiable, 0))
+    );
 }
