@@ -31,7 +31,7 @@ goals may wait for one of them.
 
 A line of tests/wrong.txt is a crate and a sum of all that its refusals rest on: the kit, this script, the crate's line
 of crates.txt, its src, specs, proofs and wrong bodies, and of each library of the repository below it what others read:
-its line, specs, public proofs, and src without the bodies of functions.
+its line, specs, public proofs, and of src the public items without comments and without the bodies of functions.
 """
 
 import argparse
@@ -63,10 +63,15 @@ REASONS = ("goal", "type", "limit", "form", "name", "other")
 # The text of a source: its functions, and what others read of it.
 
 
-def blanked(text):
-    """A source with blanks in the place of comments, strings and characters, so that what is left are words and braces."""
-    found = re.compile(r'//[^\n]*|/\*.*?\*/|b?r(#*)".*?"\1|b?"(?:\\.|[^"\\])*"|' + r"b?'(?:\\[^\n']+|\\'|[^\\'\n])'", re.DOTALL)
-    return found.sub(lambda match: re.sub(r"[^\n]", " ", match[0]), text)
+# Comments, strings and characters.
+UNREAD = re.compile(r'//[^\n]*|/\*.*?\*/|b?r(#*)".*?"\1|b?"(?:\\.|[^"\\])*"|' + r"b?'(?:\\[^\n']+|\\'|[^\\'\n])'", re.DOTALL)
+
+
+def blanked(text, beginning=""):
+    """A source with blanks in the place of comments, strings and characters, so that what is left are words and braces;
+    or only in the place of those that begin with this text."""
+    blank = lambda match: re.sub(r"[^\n]", " ", match[0]) if match[0].startswith(beginning) else match[0]
+    return UNREAD.sub(blank, text)
 
 
 def closing(text, at):
@@ -167,13 +172,44 @@ def names_of(function, module, names):
     return set()
 
 
-def without_bodies(text):
-    """A source without what stands between the braces of its functions' bodies."""
-    kept, at = [], 0
-    for function in functions_of(text):
-        kept.append(text[at : function.opens + 1])
-        at = function.closes
-    return "".join([*kept, text[at:]])
+# How an item begins that other crates can't name, with its attributes: without `pub`, or with one that has a limit.
+PRIVATE = re.compile(
+    r"^ *(?:#\[(?:[^\[\]]|\[[^\[\]]*\])*\]\s*)*(?:pub\([a-z]+\) )?(?:unsafe )?(fn|struct|enum|const|static|type|use)\b", re.MULTILINE
+)
+
+
+def end_of_item(text, at):
+    """The place behind an item that is no function, whose head goes on at this place."""
+    while text[at] != ";":
+        if text[at] in "{([":
+            closes = closing(text, at)
+            if text[at] == "{" and text[closes + 1 : closes + 2] != ";":
+                return closes + 1
+            at = closes
+        at += 1
+    return at + 1
+
+
+def public_part(text):
+    """What other crates read of a source: its public items, without comments and without the bodies of functions."""
+    words = blanked(text)
+    heads = re.finditer(r"^(?:pub(?:\([a-z]+\))? )?(?:unsafe )?(?:trait\b|impl\b[^{;]* for )[^{;]*\{", words, re.MULTILINE)
+    traits = [(head.start(), closing(words, head.end() - 1)) for head in heads]
+    left_out = [(function.opens + 1, function.closes) for function in functions_of(text)]
+    bodies = list(left_out)
+    for match in PRIVATE.finditer(words):
+        if any(start < match.start() < end for start, end in [*traits, *bodies]):
+            continue
+        if match[1] == "fn":
+            body = body_of(words, match.end())
+            left_out.append((match.start(), body[1] + 1 if body else words.index(";", match.end()) + 1))
+        else:
+            left_out.append((match.start(), end_of_item(words, match.end())))
+    kept, at, source = [], 0, blanked(text, "/")
+    for start, end in sorted(left_out):
+        kept.append(source[at : max(start, at)])
+        at = max(end, at)
+    return re.sub(r"\s*\n\s*", "\n", "".join([*kept, source[at:]]))
 
 
 # The sums that tell whether a crate's line is current.
@@ -233,7 +269,7 @@ def sum_of(crate, uses, root=ROOT):
         for file in [*files(folder, ["specs"]), *public_proofs(folder)]:
             add(str(file.relative_to(root)), file.read_bytes())
         for file in files(folder, ["src"]):
-            add(str(file.relative_to(root)), without_bodies(file.read_text(encoding="utf-8")))
+            add(str(file.relative_to(root)), public_part(file.read_text(encoding="utf-8")))
     return total.hexdigest()
 
 

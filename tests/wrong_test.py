@@ -27,8 +27,15 @@ pub fn double(n: u8) -> u16
 pub fn quadruple(n: u8) -> u16
     ensures { result ≡ n + n + n + n }
 {
-    let twice = double(n);
+    let twice = same(double(n));
     twice + twice
+}
+
+// The number itself.
+fn same(m: u16) -> u16
+    ensures { result ≡ m }
+{
+    m
 }
 """
 
@@ -246,8 +253,12 @@ def cases(repository):
     yield "a body of a library is no matter to those above", repository.stale_with(*body), ["low", "odd"]
     clause = ("low/src/lib.rt", "ensures { result ≡ n + n }", "ensures twice { result ≡ n + n }")
     yield "a clause of a library is", repository.stale_with(*clause), ["low", "high", "odd", "told"]
+    private = ("low/src/lib.rt", "ensures { result ≡ m }", "ensures same { result ≡ m }")
+    yield "one of a private function is not", repository.stale_with(*private), ["low", "odd"]
+    comment = ("low/src/lib.rt", "Twice the number", "Two times the number")
+    yield "nor is a comment", repository.stale_with(*comment), ["low", "odd"]
     word = ("low/specs/Numbers.antt", "first = 0", "first = 1")
-    yield "so is a definition of it", repository.stale_with(*word), ["low", "high", "odd", "told"]
+    yield "a definition of it is", repository.stale_with(*word), ["low", "high", "odd", "told"]
     lemma = ("low/proofs/Facts.antt", "itself n = refl", "itself m = refl")
     yield "and a public lemma", repository.stale_with(*lemma), ["low", "high", "odd", "told"]
     own = ("low/proofs/Own.antt", "itself n = refl", "itself m = refl")
