@@ -3,6 +3,7 @@ mod AnswerLemmas
 pub mod MakesTrue
 mod AssumptionLemmas
 mod CompactionLemmas
+mod DerivesLemmas
 pub mod Cores
 mod EncodingExamples
 pub mod Encodings

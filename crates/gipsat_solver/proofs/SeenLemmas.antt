@@ -1,12 +1,13 @@
 -- Marks on literals.
 use Rattle.std.proofs.Common.{◌≡◌, ◌≢◌, ℕ, ◌+◌, ◌*◌, ◌<◌, ◌≤◌, List, [], ◌∷◌, ◌++◌, length, set, Some, sym, ap, subst, ◌∙◌, arith, ◌⊎◌, ⊎_elim, inl, inr, Bool, true, false, cond}
 use Rattle.gipsat_solver.specs.Literals.{Lit, code, negated}
-use Rattle.std.specs.Prelude.{slice_get}
+use Rattle.std.specs.Prelude.{slice_get, Result, Ok, Err, IfOk}
 use Rattle.std.proofs.lemmas.List.{get_or-set_same, get_or_past, length-set}
 use Rattle.std.proofs.lemmas.Bool.{false≢true, cases_lt, cases_Bool}
 use Rattle.std.proofs.lemmas.Option.{slice_get_within}
-use Rattle.gipsat_solver.specs.Formulas.{Clause, Formula, is_true, Has, Implies}
-use Rattle.gipsat_solver.specs.Seen.{is_seen, AreListed, AreSeen, Grows, ImpliesSeen, IsSeenList, IsTaken, NoneSeen}
+use Rattle.gipsat_solver.specs.Database.{SolverState}
+use Rattle.gipsat_solver.specs.Formulas.{AreBelow, Clause, Formula, is_true, Has, Implies}
+use Rattle.gipsat_solver.specs.Seen.{is_seen, AreListed, AreSeen, AreSeenBut, Grows, ImpliesSeen, IsResolvent, IsSeenList, IsTaken, NoneSeen}
 use Rattle.gipsat_solver.proofs.Places.{stays_before, stands_last, before_or_last, none_some, same_some}
 use Rattle.gipsat_solver.proofs.LiteralLemmas.{cases_literal, marked-set_other, unmark, true_literal, satisfied_by, not_both}
 
@@ -139,3 +140,30 @@ ImpliesSeen-resolved f old new l c set_follows clause_follows stay come = record
       (λ others. (found.0, stay found.0 others found.1, found.2))
       (cases_literal found.0 (negated l));
 }
+
+-- resolution: all literals of two clauses but l and its negation
+pub ImpliesSeen-resolvent : (f : Formula) (seen : List Bool) (l : Lit) (c d : Clause) → Implies f c → Implies f d
+    → AreSeenBut l c seen → AreSeenBut (negated l) d seen → ImpliesSeen f seen
+ImpliesSeen-resolvent f seen l c d first second but_l but_negated = record {
+  follows = λ a all.
+      let found = true_literal a c (first.follows a all) in
+      ⊎_elim (λ is_l.
+      let other = true_literal a d (second.follows a all) in
+      let l_true : is_true a l ≡ true = subst (λ x. is_true a x ≡ true) is_l found.2 in
+      (other.0, but_negated other.0 other.1 (λ same. not_both a l l_true (subst (λ x. is_true a x ≡ true) same other.2)), other.2))
+      (λ others. (found.0, but_l found.0 found.1 others, found.2))
+      (cases_literal found.0 l);
+}
+
+-- what was taken follows, and has only variables that there are
+pub Implies-taken : {V E : Type 0} (state : SolverState) (before now : List Bool) (items : V → Clause) (r : Result V E)
+    → IsResolvent state before → IfOk r (λ v. IsTaken before now (items v)) → IfOk r (λ v. Implies state.formula (items v))
+Implies-taken state before now items (Ok v) is taken = Implies-among state.formula before (items v) is.follows taken.all
+Implies-taken state before now items (Err e) is taken = tt
+
+pub AreBelow-taken : {V E : Type 0} (state : SolverState) (before now : List Bool) (items : V → Clause) (r : Result V E)
+    → IsResolvent state before → IfOk r (λ v. IsTaken before now (items v)) → IfOk r (λ v. AreBelow state.variables (items v))
+AreBelow-taken state before now items (Ok v) is taken = λ k l at.
+    let within = marked_within before l (taken.only l (k, at)) in
+    variable-below state.variables l (omega (arith, within, is.room))
+AreBelow-taken state before now items (Err e) is taken = tt

@@ -92,3 +92,10 @@ pub record Learns (old new : SolverState) : Type 0 where
   pub formula : new.formula ≡ old.formula
   pub kept : KeepsClauses old new
   pub adds : AddsLearned old new
+
+-- clauses that follow are added behind the others, and nothing else changes
+pub record Derives (old new : SolverState) : Type 0 where
+  pub formula : new.formula ≡ old.formula
+  pub variables : new.variables ≡ old.variables
+  pub learned : new.learned ≡ old.learned
+  pub kept : KeepsClauses old new

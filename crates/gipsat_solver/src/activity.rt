@@ -20,6 +20,8 @@ pub(crate) struct Activity<A: Allocator = Global> {
     // What a bump adds. It grows, so that recent bumps count more.
     increment: u32,
     domain: Domain<A>,
+    // For each variable whether it is taken out: it is not queued then, and passed over if it is queued already.
+    is_out: Vec<bool, A>,
 }
 
 impl<A: Allocator> Model for Activity<A> {
@@ -44,6 +46,7 @@ impl<A: Allocator + Copy> Activity<A> {
             scores: Vec::new(alloc),
             increment: FIRST_INCREMENT,
             domain: Domain::new(alloc)?,
+            is_out: Vec::new(alloc),
         })
     }
 
@@ -54,15 +57,18 @@ impl<A: Allocator + Copy> Activity<A> {
             mut scores,
             increment,
             domain,
+            mut is_out,
         } = self;
         let old = scores.len();
         scores.resize(old.max(variables), 0)?;
+        is_out.resize(old.max(variables), false)?;
         queue.raise_bound(u32::try_from(variables).unwrap_or(u32::MAX))?;
         let mut activity = Activity {
             queue,
             scores,
             increment,
             domain,
+            is_out,
         };
         for variable in old..variables {
             if let Ok(variable) = u32::try_from(variable) {
@@ -92,12 +98,40 @@ impl<A: Allocator + Copy> Activity<A> {
         }
     }
 
-    // Queues a variable.
+    // Queues a variable, unless it is taken out.
     pub(crate) fn put_back(&mut self, variable: u32) {
+        if self.is_out(variable) {
+            return;
+        }
         self.domain.put_back(variable, &self.scores);
         if variable < self.queue.bound() {
             self.queue.push(variable, &ByRank(&self.scores));
         }
+    }
+
+    // Whether a variable is taken out.
+    pub(crate) fn is_out(&self, variable: u32) -> bool {
+        matches!(self.is_out.get(variable as usize), Some(true))
+    }
+
+    // Takes a variable out.
+    pub(crate) fn take_out(&mut self, variable: u32) {
+        if let Some(is_out) = self.is_out.get_mut(variable as usize) {
+            *is_out = true;
+        }
+    }
+
+    // Brings a variable back, and queues it.
+    pub(crate) fn bring_back(&mut self, variable: u32) {
+        if let Some(is_out) = self.is_out.get_mut(variable as usize) {
+            *is_out = false;
+        }
+        self.put_back(variable);
+    }
+
+    // Whether only the variables of a domain may be decided.
+    pub(crate) fn is_limited(&self) -> bool {
+        self.domain.is_set()
     }
 
     // Queues all variables.

@@ -26,7 +26,9 @@ pub(crate) fn compact<A: Allocator + Copy>(
     trail.backtrack(0, &mut heuristics.activity);
     learn_units(database, trail, &mut heuristics.units)?;
     let stays = staying(alloc, database, trail, &heuristics.watches)?;
+    let moved = heuristics.eliminated.moved(alloc, 0, &stays)?;
     *database = database.compacted(alloc, &stays)?;
+    heuristics.eliminated.renumber(&moved);
     trail.clear();
     heuristics.units = 0;
     heuristics.activity.put_all_back();

@@ -153,8 +153,9 @@ impl<A: Allocator + Copy> Database<A> {
         })
     }
 
-    // A database that says the same: each literal of a trail without decisions is a clause of its formula, and then come
-    // the clauses that stay. One that does not stay and has no such literal is kept all the same, if it is original.
+    // A database that says the same: each literal of a trail without decisions is a clause of its formula, and then
+    // come the clauses that stay. One that does not stay and has no such literal is kept all the same, if it is
+    // original.
     pub(crate) fn simplified(
         &self,
         alloc: A,

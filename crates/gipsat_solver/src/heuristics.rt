@@ -1,12 +1,17 @@
 //! The heuristics of a search. No contract speaks of them.
-ghost use Rattle.std.specs.Prelude.{◌^◌, ◌<◌};
+ghost use Rattle.std.specs.Prelude.{◌≡◌, ◌^◌, ◌<◌};
+ghost use Rattle.gipsat_solver.specs.Trail.{KeepsTrail};
 
 use crate::activity::Activity;
+use crate::database::Database;
+use crate::eliminated::Eliminated;
 use crate::glue::Glue;
 use crate::literal::Literal;
+use crate::phases::Phases;
+use crate::reduce::SAFE_GLUE;
 use crate::restart_policy::RestartPolicy;
 use crate::trail::Trail;
-use crate::watches::Watches;
+use crate::watches::{ClauseStatus, Watches};
 use std::alloc::{AllocError, Allocator, Global};
 
 /// How much a solver did since it was made. After a call that was refused memory the counts are those of before it.
@@ -20,7 +25,7 @@ pub struct Stats {
     pub propagations: u64,
     /// How often all decisions were taken back to begin anew.
     pub restarts: u64,
-    /// Learned clauses that are not looked at any more.
+    /// Learned clauses and resolvents that are not looked at any more.
     pub deleted: u64,
     /// How often a clause with no true literal was left where no variable waited to be decided.
     pub left_open: u64,
@@ -40,13 +45,15 @@ impl Stats {
     }
 }
 
-// The decision queue, the watches, the glue, the restart policy, and the statistics.
+// The decision queue, the watches, the glue, the phases, the restart policy, and the statistics.
 #[derive(Drop)]
 pub(crate) struct Heuristics<A: Allocator = Global> {
     pub activity: Activity<A>,
     pub watches: Watches<A>,
     pub glue: Glue<A>,
     pub restart_policy: RestartPolicy,
+    pub phases: Phases<A>,
+    pub eliminated: Eliminated<A>,
     // How many of the root literals were learned as unit clauses, or need not be.
     pub units: usize,
     // Whether the search is to end where no variable waits, with the formula unread, and whether it ended there.
@@ -63,6 +70,8 @@ impl<A: Allocator + Copy> Heuristics<A> {
             watches: Watches::new(alloc),
             glue: Glue::new(alloc),
             restart_policy: RestartPolicy::new(),
+            phases: Phases::new(alloc),
+            eliminated: Eliminated::new(alloc),
             units: 0,
             is_guess: false,
             has_guessed: false,
@@ -83,16 +92,23 @@ impl<A: Allocator + Copy> Heuristics<A> {
     }
 
     // The same with room for so many variables, for a search that guesses or not, among all variables or in a domain.
+    // Eliminated variables that are assumed, in the domain or in a new clause are restored. The search may be stable only
+    // if nothing is assumed and there is no domain.
     pub(crate) fn begun(
         self,
         alloc: A,
+        database: &Database<A>,
         variables: usize,
         is_guess: bool,
+        assumptions: &[Literal],
         domain: Option<&[u32]>,
     ) -> Result<Self, AllocError>
         requires { variables < 2 ^ 40 }
     {
         let mut heuristics = self.grown(alloc, variables)?;
+        heuristics.restore(database, assumptions, domain.unwrap_or(&[]))?;
+        let is_plain = assumptions.is_empty() && domain.is_none();
+        heuristics.restart_policy.modes.allow(is_plain);
         heuristics.begin(is_guess, domain)?;
         Ok(heuristics)
     }
@@ -106,6 +122,8 @@ impl<A: Allocator + Copy> Heuristics<A> {
             mut watches,
             mut glue,
             restart_policy,
+            mut phases,
+            mut eliminated,
             units,
             is_guess,
             has_guessed,
@@ -113,11 +131,15 @@ impl<A: Allocator + Copy> Heuristics<A> {
         } = self;
         watches.grow(alloc, variables)?;
         glue.grow(variables)?;
+        phases.grow(variables)?;
+        eliminated.grow(variables)?;
         Ok(Heuristics {
             activity: activity.grown(variables)?,
             watches,
             glue,
             restart_policy,
+            phases,
+            eliminated,
             units,
             is_guess,
             has_guessed,
@@ -129,7 +151,24 @@ impl<A: Allocator + Copy> Heuristics<A> {
     fn begin(&mut self, is_guess: bool, domain: Option<&[u32]>) -> Result<(), AllocError> {
         self.is_guess = is_guess;
         self.has_guessed = false;
+        self.eliminated.rewind();
         self.activity.limit_to(domain)
+    }
+
+    // Restores the eliminated ones among the variables of these literals, of a domain, and of the new clauses.
+    fn restore(
+        &mut self,
+        database: &Database<A>,
+        literals: &[Literal],
+        domain: &[u32],
+    ) -> Result<(), AllocError> {
+        self.eliminated.restore(
+            database,
+            &mut self.watches,
+            &mut self.activity,
+            literals,
+            domain,
+        )
     }
 
     // A conflict was met.
@@ -139,10 +178,67 @@ impl<A: Allocator + Copy> Heuristics<A> {
         self.watches.decay();
     }
 
-    // This clause was learned from a conflict. To be called before the backjump.
-    pub(crate) fn note_learned(&mut self, trail: &Trail<A>, clause: &[Literal]) {
+    // This clause was learned from a conflict: its glue. To be called before the backjump.
+    pub(crate) fn note_learned(&mut self, trail: &Trail<A>, clause: &[Literal]) -> u32 {
         let glue = self.glue.of(trail, clause);
         self.restart_policy.add(glue);
+        if self.restart_policy.modes.is_stable() {
+            self.phases.note_conflict(trail);
+        }
+        glue
+    }
+
+    // A conflict was resolved with the clause at a place.
+    pub(crate) fn note_use(&mut self, trail: &Trail<A>, place: usize, clause: &[Literal]) {
+        if let Some(old) = self.watches.glue(place) {
+            let glue = if old > SAFE_GLUE {
+                self.glue.of(trail, clause)
+            } else {
+                old
+            };
+            self.watches.use_clause(place, glue);
+        }
+    }
+
+    // The phase with which a variable is decided: in the stable mode that of the longest trail, else the saved one.
+    pub(crate) fn phase(&self, trail: &Trail<A>, variable: u32) -> bool {
+        let saved = trail.phase(variable);
+        if self.restart_policy.modes.is_stable() {
+            self.phases.target(variable).unwrap_or(saved)
+        } else {
+            saved
+        }
+    }
+
+    // The search has restarted: begins the next turn and resets the saved phases, if that is due.
+    pub(crate) fn note_restart(&mut self, alloc: A, trail: &mut Trail<A>) -> Result<(), AllocError>
+        ensures values { trail.new.values ≡ trail.old.values }
+        ensures trail { KeepsTrail trail.old trail.new }
+    {
+        self.stats.restarts = self.stats.restarts.saturating_add(1);
+        let conflicts = self.stats.conflicts;
+        if self.restart_policy.turn(conflicts, self.stats.propagations) {
+            self.phases.begin_turn();
+        }
+        if !self.restart_policy.modes.is_allowed() {
+            return Ok(());
+        }
+        if let Some(phases) = self.phases.reset(alloc, trail, conflicts)? {
+            trail.set_phases(phases);
+        }
+        Ok(())
+    }
+
+    // A clause that is not original was deleted.
+    pub(crate) fn count_deleted(&mut self) {
+        self.stats.deleted = self.stats.deleted.saturating_add(1);
+    }
+
+    // Deletes the clause at a place, which was learned from a conflict.
+    pub(crate) fn delete_learned(&mut self, place: usize) {
+        self.watches.set_status(place, ClauseStatus::Deleted);
+        self.restart_policy.learned = self.restart_policy.learned.saturating_sub(1);
+        self.count_deleted();
     }
 
     // A variable was decided.

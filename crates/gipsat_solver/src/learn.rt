@@ -125,7 +125,6 @@ pub(crate) fn resolve_with_reason<A: Allocator + Copy>(
     if reason >= database.len() {
         return Ok(pending);
     }
-    heuristics.watches.bump(reason);
     seen.remove(l.negated());
     let more = mark_others(
         trail,
@@ -134,6 +133,7 @@ pub(crate) fn resolve_with_reason<A: Allocator + Copy>(
         database.clause(reason),
         l,
     )?;
+    heuristics.note_use(trail, reason, database.clause(reason));
     Ok(pending.saturating_add(more).saturating_sub(1))
 }
 
@@ -303,13 +303,13 @@ pub(crate) fn analyze<A: Allocator + Copy>(
     requires conflict { IsConflictOf database.now.clauses trail.now conflict }
     ensures resolvent { OnOk result (IsResolvent database.now seen.new) }
 {
-    heuristics.watches.bump(conflict);
     let pending = mark_all(
         trail,
         &mut heuristics.activity,
         seen,
         database.clause(conflict),
     )?;
+    heuristics.note_use(trail, conflict, database.clause(conflict));
     resolve_and_minimize(alloc, database, trail, heuristics, seen, pending)?;
     drop_root(database, trail, seen);
     Ok(())
@@ -373,14 +373,14 @@ pub(crate) fn learn<A: Allocator + Copy>(
     };
     let place = database.len();
     database.add_learned(&learned_clause.clause, trail, conflict)?;
-    heuristics.note_learned(trail, &learned_clause.clause);
+    let glue = heuristics.note_learned(trail, &learned_clause.clause);
     trail.backtrack_to(learned_clause.start, &mut heuristics.activity);
     attach(
         &mut heuristics.watches,
         &learned_clause.clause,
         place,
         learned_clause.pair,
-        false,
+        Some(glue),
     )?;
     trail.assign(learned_clause.clause[learned_clause.pair.first], place)?;
     Ok(Learned::Clause)
@@ -394,26 +394,73 @@ fn second_place<A: Allocator + Copy>(trail: &Trail<A>, clause: &[Literal], first
     }
 }
 
-// Watches two places of the next clause.
+// The glue of a clause at a place, for all that is known before it is used: None if the clause is original.
+fn greatest_glue<A: Allocator + Copy>(database: &Database<A>, place: usize) -> Option<u32>
+    requires { place < length database.now.clauses }
+{
+    if database.is_original(place) {
+        None
+    } else {
+        Some(u32::MAX)
+    }
+}
+
+// Watches two places of the next clause, which is learned if it has a glue.
 fn attach<A: Allocator + Copy>(
     watches: &mut Watches<A>,
     clause: &[Literal],
     place: usize,
     pair: WatchedPair,
-    is_original: bool,
+    glue: Option<u32>,
 ) -> Result<(), AllocError> {
-    let status = if !is_original {
-        ClauseStatus::Learned(watches.increment())
+    let status = if let Some(glue) = glue {
+        watches.new_status(glue)
     } else if watches.is_tautology(clause) {
         ClauseStatus::Deleted
     } else {
-        ClauseStatus::Original
+        ClauseStatus::Kept
     };
     watches.push_pair(pair, status)?;
-    if watches.is_deleted(place) {
+    if watches.is_unwatched(place) {
         return Ok(());
     }
     watches.watch(clause, place)
+}
+
+// Watches the clauses again that wait for it, and assigns the literals of units. The place of a falsified clause, if
+// one is met.
+fn attach_waiting<A: Allocator + Copy>(
+    database: &Database<A>,
+    trail: &mut Trail<A>,
+    watches: &mut Watches<A>,
+) -> Result<Option<usize>, AllocError>
+    requires trail { IsTrailFor database.now trail.old }
+    ensures advances { OnOk result (Advances database.now trail.old trail.new) }
+    ensures conflict { IfOk result (MeetsConflict database.now.clauses trail.new) }
+{
+    for index in 0..watches.waiting().len() {
+        let Some(place) = watches.waiting().get(index) else {
+            return Ok(None);
+        };
+        let place = *place as usize;
+        if place >= database.len() {
+            continue;
+        }
+        let clause = database.clause(place);
+        let Some(free) = non_false_place(trail, clause, clause.len(), 0) else {
+            return Ok(Some(place));
+        };
+        let other = second_place(trail, clause, free);
+        let pair = WatchedPair {
+            first: free,
+            second: other,
+        };
+        watches.set_pair(place, pair);
+        watches.watch(clause, place)?;
+        assign_unit(database, trail, place, free)?;
+    }
+    watches.end_waiting();
+    Ok(None)
 }
 
 // Watches the clauses that are not watched yet, and assigns the literals of units. The place of a falsified clause, if
@@ -427,6 +474,9 @@ pub(crate) fn attach_all<A: Allocator + Copy>(
     ensures advances { OnOk result (Advances database.now trail.old trail.new) }
     ensures conflict { IfOk result (MeetsConflict database.now.clauses trail.new) }
 {
+    if let Some(conflict) = attach_waiting(database, trail, watches)? {
+        return Ok(Some(conflict));
+    }
     for place in watches.len()..database.len() {
         let clause = database.clause(place);
         let Some(first) = non_false_place(trail, clause, clause.len(), 0) else {
@@ -434,7 +484,7 @@ pub(crate) fn attach_all<A: Allocator + Copy>(
         };
         let second = second_place(trail, clause, first);
         let pair = WatchedPair { first, second };
-        attach(watches, clause, place, pair, database.is_original(place))?;
+        attach(watches, clause, place, pair, greatest_glue(database, place))?;
         assign_unit(database, trail, place, first)?;
     }
     Ok(None)

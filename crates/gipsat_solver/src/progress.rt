@@ -14,6 +14,9 @@ const CLAUSES: usize = 2_000;
 // How many literals a slice propagates at first. It is doubled where a slice meets no conflict.
 const PROPAGATIONS: u64 = 4_000_000;
 
+// About how many literals an elimination of variables looks at.
+const STEPS: u64 = 100_000_000;
+
 // The database is compacted once one clause of so many was deleted.
 const PARTS: u64 = 4;
 
@@ -26,7 +29,7 @@ pub trait Progress<A: Allocator> {
     /// [`Progress::note`].
     fn begin(&mut self, solver: &Solver<A>);
 
-    /// A slice has ended without an answer. `Break` stops the search.
+    /// A slice has ended without an answer, or variables were eliminated. `Break` stops the search.
     fn note(&mut self, solver: &Solver<A>) -> ControlFlow<()>
         ensures { IsTrue (is_some (break_value result)) → IsTrue (wants_stop self.new) };
 
@@ -123,7 +126,7 @@ fn solve_on<A: Allocator + Copy, P: Progress<A>>(
     let mut left = limit;
     let mut propagations = PROPAGATIONS;
     let mut compacted = solver.stats().deleted;
-    for _ in 0..usize::MAX {
+    for slice in 0..usize::MAX {
         progress.begin(solver);
         let before = solver.learned();
         if let Some(answer) = solve_slice(solver, left.min(CLAUSES), propagations)? {
@@ -137,7 +140,7 @@ fn solve_on<A: Allocator + Copy, P: Progress<A>>(
         if learned == 0 {
             propagations = propagations.saturating_mul(2);
         }
-        let Some(deleted) = pause(solver, progress, compacted)? else {
+        let Some(deleted) = pause(solver, progress, compacted, slice == 0)? else {
             return Ok(None);
         };
         compacted = deleted;
@@ -167,12 +170,13 @@ fn solve_slice<A: Allocator + Copy>(
     })
 }
 
-// Between two slices: learns units, tells `progress`, and compacts. How many clauses were deleted when it last did, or
-// None where `progress` stops the search.
+// Between two slices: learns units, tells `progress`, eliminates variables if the slice was the first, and compacts. How
+// many clauses were deleted when it last did, or None where `progress` stops the search.
 fn pause<A: Allocator + Copy, P: Progress<A>>(
     solver: &mut Solver<A>,
     progress: &mut P,
     compacted: u64,
+    is_first: bool,
 ) -> Result<Option<u64>, AllocError>
     ensures stopped { IfOk result (λ now. IfNone now (IsTrue (P.wants_stop progress.new))) }
     ensures formula { solver.new.formula ≡ solver.old.formula }
@@ -181,6 +185,12 @@ fn pause<A: Allocator + Copy, P: Progress<A>>(
     solver.learn_units()?;
     if progress.note(solver).is_break() {
         return Ok(None);
+    }
+    if is_first && solver.is_eliminating() {
+        solver.eliminate(&[], STEPS)?;
+        if progress.note(solver).is_break() {
+            return Ok(None);
+        }
     }
     compact(solver, progress, compacted)
 }

@@ -1,13 +1,17 @@
 //! Deletion of learned clauses.
 
+use crate::compact::is_satisfied;
 use crate::database::Database;
 use crate::heuristics::Heuristics;
 use crate::literal::Literal;
 use crate::trail::Trail;
-use crate::watches::{ClauseStatus, Watches};
+use crate::watches::{ClauseStatus, Rating, Watches};
 use std::alloc::{AllocError, Allocator};
 
-// Deletes learned clauses of low activity, once the policy says so. To be called at the root.
+// Clauses of at most this glue stay for good.
+pub(crate) const SAFE_GLUE: u32 = 2;
+
+// Deletes three quarters of the learned clauses that were not used of late, once the policy says so.
 pub(crate) fn reduce<A: Allocator + Copy>(
     alloc: A,
     database: &Database<A>,
@@ -20,7 +24,7 @@ pub(crate) fn reduce<A: Allocator + Copy>(
     {
         return Ok(());
     }
-    let least = median(alloc, &heuristics.watches)?;
+    let least = least_worth(alloc, &heuristics.watches)?;
     heuristics.watches.clear();
     let mut learned = 0usize;
     for place in 0..database.len() {
@@ -39,23 +43,36 @@ pub(crate) fn reduce<A: Allocator + Copy>(
     Ok(())
 }
 
-// The median activity of the learned clauses.
-fn median<A: Allocator + Copy>(alloc: A, watches: &Watches<A>) -> Result<u64, AllocError> {
-    let mut activities: Vec<u64, A> = Vec::new(alloc);
+// Whether a learned clause stays whatever it is worth: its glue is low, or it was used of late.
+fn is_safe(rating: Rating) -> bool {
+    rating.glue <= SAFE_GLUE || rating.turns > 0
+}
+
+// What a learned clause is worth: by its glue, and then by its activity.
+fn worth(rating: Rating) -> u64 {
+    let glue = u64::from(255u32.saturating_sub(rating.glue));
+    (glue << 32) | (rating.activity >> 20).min(0xffff_ffff)
+}
+
+// What a clause has to be worth to be among the best quarter of those that may go.
+fn least_worth<A: Allocator + Copy>(alloc: A, watches: &Watches<A>) -> Result<u64, AllocError> {
+    let mut worths: Vec<u64, A> = Vec::new(alloc);
     for place in 0..watches.len() {
-        if let ClauseStatus::Learned(activity) = watches.status(place) {
-            activities.push(activity)?;
+        if let ClauseStatus::Learned(rating) = watches.status(place) {
+            if !is_safe(rating) {
+                worths.push(worth(rating))?;
+            }
         }
     }
-    activities.sort_unstable();
-    Ok(match activities.get(activities.len() / 2) {
-        Some(activity) => *activity,
+    worths.sort_unstable();
+    Ok(match worths.get(worths.len() - worths.len() / 4) {
+        Some(worth) => *worth,
         None => 0,
     })
 }
 
-// Watches a clause again, or deletes it if it is satisfied, or learned and less active. Whether it is learned and
-// stays.
+// Watches a clause again, or deletes it if it is satisfied at the root, or learned and worth less. Whether it is learned
+// and stays.
 fn keep<A: Allocator + Copy>(
     watches: &mut Watches<A>,
     trail: &Trail<A>,
@@ -65,19 +82,18 @@ fn keep<A: Allocator + Copy>(
 ) -> Result<bool, AllocError> {
     let status = watches.status(place);
     let stays = match status {
-        ClauseStatus::Original => true,
-        ClauseStatus::Learned(activity) => activity >= least || clause.len() < 3,
+        ClauseStatus::Kept => true,
+        ClauseStatus::Learned(rating) => {
+            is_safe(rating) || worth(rating) >= least || clause.len() < 3
+        }
         ClauseStatus::Deleted => false,
+        ClauseStatus::Eliminated => return Ok(false),
     };
-    if !stays || holds(trail, clause) {
+    if !stays || is_satisfied(trail, clause) {
         watches.set_status(place, ClauseStatus::Deleted);
         return Ok(false);
     }
     watches.watch(clause, place)?;
+    watches.age(place);
     Ok(matches!(status, ClauseStatus::Learned(_)))
-}
-
-// Whether a literal of a clause is true.
-fn holds<A: Allocator + Copy>(trail: &Trail<A>, clause: &[Literal]) -> bool {
-    clause.iter().any(|l| matches!(trail.value(*l), Some(true)))
 }

@@ -7,7 +7,6 @@ ghost use Rattle.gipsat_solver.specs.Obstacles.{IsSearchEnd};
 ghost use Rattle.gipsat_solver.specs.Trail.{Advances, IsTrailFor, MeetsConflict, Propagates, progress};
 ghost use Rattle.gipsat_solver.specs.Values.{AreAllSet, AreFalseBetween, AreFalseBut, value_of};
 
-use crate::activity::Activity;
 use crate::assumptions::{Obstacle, assume};
 use crate::database::Database;
 use crate::heuristics::Heuristics;
@@ -215,15 +214,18 @@ fn unassigned_literal<A: Allocator + Copy>(trail: &Trail<A>, clause: &[Literal])
     None
 }
 
-// The most active unassigned variable, in its saved phase.
-fn most_active<A: Allocator + Copy>(trail: &Trail<A>, activity: &mut Activity<A>) -> Option<Literal>
+// The most active unassigned variable, with its phase.
+fn most_active<A: Allocator + Copy>(
+    trail: &Trail<A>,
+    heuristics: &mut Heuristics<A>,
+) -> Option<Literal>
     ensures within { IfSome result (λ l. l.variable < length trail.now.values.items) }
     ensures unset { IfSome result (λ l. value_of trail.now.values.items l ≡ None) }
 {
-    for _ in 0..activity.waiting() {
-        let variable = activity.pick()?;
-        if (variable as usize) < trail.values.len() {
-            let l = Literal::new(variable, trail.phase(variable));
+    for _ in 0..heuristics.activity.waiting() {
+        let variable = heuristics.activity.pick()?;
+        if (variable as usize) < trail.values.len() && !heuristics.activity.is_out(variable) {
+            let l = Literal::new(variable, heuristics.phase(trail, variable));
             if let None = trail.value(l) {
                 return Some(l);
             }
@@ -232,7 +234,27 @@ fn most_active<A: Allocator + Copy>(trail: &Trail<A>, activity: &mut Activity<A>
     None
 }
 
-// Decides a variable. Where the queue is empty, an unsatisfied clause says which, unless this is a guess.
+// The variable to decide: the most active one. Where none waits, the last one of those that were eliminated, unless
+// only a domain is decided.
+fn variable_to_decide<A: Allocator + Copy>(
+    database: &Database<A>,
+    trail: &Trail<A>,
+    heuristics: &mut Heuristics<A>,
+) -> Option<Literal>
+    ensures within { IfSome result (λ l. l.variable < length trail.now.values.items) }
+    ensures unset { IfSome result (λ l. value_of trail.now.values.items l ≡ None) }
+{
+    if let Some(l) = most_active(trail, heuristics) {
+        heuristics.eliminated.rewind();
+        return Some(l);
+    }
+    if heuristics.activity.is_limited() {
+        return None;
+    }
+    heuristics.eliminated.next(database, trail)
+}
+
+// Decides a variable. Where none is left, an unsatisfied clause says which, unless this is a guess.
 fn choose<A: Allocator + Copy>(
     database: &Database<A>,
     trail: &mut Trail<A>,
@@ -244,7 +266,7 @@ fn choose<A: Allocator + Copy>(
     ensures choice { IfOk result (FollowsChoice database.now budget trail.old trail.new) }
 {
     heuristics.count_decision();
-    if let Some(l) = most_active(trail, &mut heuristics.activity) {
+    if let Some(l) = variable_to_decide(database, trail, heuristics) {
         trail.decide(l)?;
         return Ok(Choice::Decided);
     }

@@ -52,6 +52,10 @@ fn drop_satisfied<A: Allocator + Copy>(
 {
     let stays = unsatisfied(alloc, database, trail, &heuristics.watches)?;
     let simpler = database.simplified(alloc, trail, &stays)?;
+    let moved = heuristics
+        .eliminated
+        .moved(alloc, trail.steps.len(), &stays)?;
+    heuristics.eliminated.renumber(&moved);
     heuristics
         .watches
         .simplify(alloc, trail.steps.len(), &stays)?;

@@ -13,6 +13,7 @@ ghost use Rattle.gipsat_solver.specs.Values.{model_in};
 use crate::assumptions::{Obstacle, failed_assumptions};
 use crate::compact::{compact, is_deleted, learn_units};
 use crate::database::Database;
+use crate::eliminate::eliminate;
 use crate::heuristics::{Heuristics, Stats};
 use crate::learn::{Learned, learn};
 use crate::literal::Literal;
@@ -52,8 +53,8 @@ pub enum AnswerUnder<A: Allocator = Global> {
 /// What is found out about a formula under assumptions where the formula is not read at the end.
 #[derive(Drop)]
 pub enum Guess<A: Allocator = Global> {
-    /// No conflict was met, and no variable waits to be decided: [`Solver::value`] tells the values. Nothing is promised
-    /// of them; nothing is known to be wrong with them.
+    /// No conflict was met, and no variable waits to be decided: [`Solver::value`] tells the values. Nothing is
+    /// promised of them; nothing is known to be wrong with them.
     Sat,
     /// Some of the assumptions: no assignment satisfies the formula and makes all of them true. Where it is empty, none
     /// satisfies the formula.
@@ -83,6 +84,8 @@ pub struct Solver<A: Allocator = Global> {
     seen: Seen<A>,
     // The heuristics of the last search, if it was not refused memory.
     heuristics: Option<Heuristics<A>>,
+    // Whether a search in slices is to eliminate variables.
+    is_eliminating: bool,
     stats: Stats,
     ghost clear: { NoneSeen seen },
 }
@@ -111,6 +114,7 @@ impl<A: Allocator + Copy> Solver<A> {
             trail: Trail::new(alloc),
             seen: Seen::new(alloc),
             heuristics: None,
+            is_eliminating: true,
             stats: Stats::new(),
         }
     }
@@ -138,7 +142,8 @@ impl<A: Allocator + Copy> Solver<A> {
         self.database.len()
     }
 
-    /// How many clauses were learned so far, without the units of [`Solver::learn_units`].
+    /// How many clauses were learned from conflicts so far. The units of [`Solver::learn_units`] and the resolvents of
+    /// [`Solver::eliminate`] do not count.
     pub fn learned(&self) -> usize
         ensures { result ≡ self.now.learned }
     {
@@ -223,12 +228,13 @@ impl<A: Allocator + Copy> Solver<A> {
         )
     }
 
-    /// Looks for a contradiction between the assumptions and the formula, as [`Solver::solve_under`] does, but does not
-    /// read the formula once more before it answers `Sat`, and makes no list of values: [`Solver::value`] tells them one
-    /// by one until the solver is called again. So a call costs no more than its search, however large the formula is.
+    /// Looks for a contradiction between the assumptions and the formula, as [`Solver::solve_under`] does, but does
+    /// not read the formula once more before it answers `Sat`, and makes no list of values: [`Solver::value`] tells them
+    /// one by one until the solver is called again. So a call costs no more than its search, however large the formula
+    /// is.
     ///
-    /// `Unsat` is as sure as that of `solve_under`, and so is its core. Of `Sat` nothing is proved: each variable that a
-    /// clause has was assigned and no conflict was met. Who needs a model asks `solve_under`, or tries the values.
+    /// `Unsat` is as sure as that of `solve_under`, and so is its core. Of `Sat` nothing is proved: each variable that
+    /// a clause has was assigned and no conflict was met. Who needs a model asks `solve_under`, or tries the values.
     ///
     /// # Errors
     /// `AllocError` where memory is refused. The formula stays as it was; some clauses may have been learned.
@@ -342,7 +348,14 @@ impl<A: Allocator + Copy> Solver<A> {
         let heuristics = Heuristics::kept_or_new(self.heuristics.take(), alloc, self.stats)?;
         let mut trail = trail.grown(variables)?;
         let mut seen = seen.grown(variables)?;
-        let mut heuristics = heuristics.begun(alloc, variables, is_guess, domain)?;
+        let mut heuristics = heuristics.begun(
+            alloc,
+            &self.database,
+            variables,
+            is_guess,
+            assumptions,
+            domain,
+        )?;
         trail.backtrack(0, &mut heuristics.activity);
         let until = budget_from(heuristics.stats.propagations, budget);
         let answer = run(
@@ -380,8 +393,8 @@ impl<A: Allocator + Copy> Solver<A> {
         learn_units(&mut self.database, &self.trail, &mut heuristics.units)
     }
 
-    /// Whether [`Solver::compact`] would drop the clause at a place: it is learned, has other than one literal, and is
-    /// either not watched any more or satisfied at the root. Nothing is proved of it.
+    /// Whether [`Solver::compact`] would drop the clause at a place: it is no clause of the formula, has other than one
+    /// literal, and was deleted or is satisfied at the root. Nothing is proved of it.
     ///
     /// The place must be below [`Solver::len`].
     pub fn is_deleted(&self, place: usize) -> bool
@@ -413,13 +426,68 @@ impl<A: Allocator + Copy> Solver<A> {
         Ok(())
     }
 
-    /// Drops the clauses of the formula that a literal satisfies which has to be true, as far as that is found without a
-    /// decision, and frees their memory. Each such literal becomes a clause of the formula, so that the same assignments
-    /// satisfy it as before. The deleted clauses go too, as they do at [`Solver::compact`].
+    /// Sets whether a search in slices ([`crate::progress::solve_in_slices`]) calls [`Solver::eliminate`]. By default
+    /// it does.
+    pub fn set_eliminating(&mut self, is_eliminating: bool)
+        ensures { self.new ≡ self.old }
+    {
+        self.is_eliminating = is_eliminating;
+    }
+
+    /// Whether a search in slices calls [`Solver::eliminate`].
+    pub fn is_eliminating(&self) -> bool {
+        self.is_eliminating
+    }
+
+    /// Eliminates variables: the clauses of a variable give way to their resolvents, which become clauses of the solver,
+    /// if these are not more than the clauses and not long. It also drops clauses that follow from others. Besides a
+    /// walk over all clauses it takes about `steps` steps at most, each of which looks at a literal. The `frozen`
+    /// variables are not eliminated; one that was eliminated before is not brought back.
     ///
-    /// So a clause that was added with the negation of a variable is gone for good once the negation was added alone, and
-    /// this was called; a clause of one literal, and the tables of the variable stay. It takes time and memory as the
-    /// first call of [`Solver::solve`] does, and the next call sets up all watches. Where propagation alone meets a
+    /// The formula is the same as before, and each answer is right as before: only the search no longer looks at the
+    /// clauses of an eliminated variable, and decides it last. If such a variable is assumed, or a clause with it is
+    /// added, its clauses are looked at again; so freeze a variable that you will assume or constrain often.
+    ///
+    /// # Errors
+    /// `AllocError` where memory is refused. Some resolvents may have been added.
+    pub fn eliminate(&mut self, frozen: &[u32], steps: u64) -> Result<(), AllocError>
+        ensures formula { self.new.formula ≡ self.old.formula }
+        ensures learned { self.new.learned ≡ self.old.learned }
+        ensures kept { KeepsClauses self.old self.new }
+    {
+        let alloc = self.alloc;
+        let variables = self.database.variables();
+        // Where memory is refused, the next call begins with new heuristics.
+        let trail = mem::replace(&mut self.trail, Trail::new(alloc));
+        let seen = mem::replace(&mut self.seen, Seen::new(alloc));
+        let heuristics = Heuristics::kept_or_new(self.heuristics.take(), alloc, self.stats)?;
+        let mut trail = trail.grown(variables)?;
+        let mut seen = seen.grown(variables)?;
+        let mut heuristics = heuristics.begun(alloc, &self.database, variables, false, &[], None)?;
+        trail.backtrack(0, &mut heuristics.activity);
+        eliminate(
+            alloc,
+            &mut self.database,
+            &mut trail,
+            &mut heuristics,
+            &mut seen,
+            frozen,
+            steps,
+        )?;
+        self.trail = trail;
+        self.seen = seen;
+        self.stats = heuristics.stats;
+        self.heuristics = Some(heuristics);
+        Ok(())
+    }
+
+    /// Drops the clauses of the formula that a literal satisfies which has to be true, as far as that is found without
+    /// a decision, and frees their memory. Each such literal becomes a clause of the formula, so that the same
+    /// assignments satisfy it as before. The deleted clauses go too, as they do at [`Solver::compact`].
+    ///
+    /// So a clause that was added with the negation of a variable is gone for good once the negation was added alone,
+    /// and this was called; a clause of one literal, and the tables of the variable stay. It takes time and memory as
+    /// the first call of [`Solver::solve`] does, and the next call sets up all watches. Where propagation alone meets a
     /// contradiction, it drops nothing.
     ///
     /// # Errors
@@ -437,7 +505,7 @@ impl<A: Allocator + Copy> Solver<A> {
         let trail = mem::replace(&mut self.trail, Trail::new(alloc));
         let heuristics = Heuristics::kept_or_new(self.heuristics.take(), alloc, self.stats)?;
         let mut trail = trail.grown(variables)?;
-        let mut heuristics = heuristics.begun(alloc, variables, false, None)?;
+        let mut heuristics = heuristics.begun(alloc, &self.database, variables, false, &[], None)?;
         trail.backtrack(0, &mut heuristics.activity);
         simplify(alloc, &mut self.database, &mut trail, &mut heuristics)?;
         self.trail = trail;
@@ -481,7 +549,7 @@ fn budget_from(propagations: u64, budget: Option<u64>) -> Option<u64>
     }
 }
 
-// Restarts and reduces if the policy says so and a restart is left.
+// Reduces if the policy says so, and restarts if it says so and a restart is left.
 fn restart<A: Allocator + Copy>(
     alloc: A,
     database: &Database<A>,
@@ -493,6 +561,7 @@ fn restart<A: Allocator + Copy>(
     ensures trail { KeepsTrail trail.old trail.new }
     ensures left { OneLessOr left.old left.new (progress trail.new ≡ progress trail.old) }
 {
+    reduce(alloc, database, trail, heuristics)?;
     if !heuristics.restart_policy.restart_is_due() {
         return Ok(());
     }
@@ -500,9 +569,8 @@ fn restart<A: Allocator + Copy>(
         return Ok(());
     };
     *left = fewer;
-    heuristics.stats.restarts = heuristics.stats.restarts.saturating_add(1);
     trail.backtrack(0, &mut heuristics.activity);
-    reduce(alloc, database, trail, heuristics)
+    heuristics.note_restart(alloc, trail)
 }
 
 // Searches until a model is found, a conflict is met or the budget is spent, and learns from a conflict. None if a

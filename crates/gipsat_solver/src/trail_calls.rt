@@ -207,6 +207,16 @@ impl<A: Allocator + Copy> Trail<A> {
         }
     }
 
+    // Saves other phases, if they are as many as the variables.
+    pub(crate) fn set_phases(&mut self, phases: Vec<bool, A>)
+        ensures values { self.new.values ≡ self.old.values }
+        ensures trail { KeepsTrail self.old self.new }
+    {
+        if phases.len() == self.phases.len() {
+            self.phases = phases;
+        }
+    }
+
     // The next literal to propagate.
     pub(crate) fn next(&mut self) -> Option<Literal>
         ensures values { self.new.values ≡ self.old.values }

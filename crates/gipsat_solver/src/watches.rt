@@ -50,15 +50,27 @@ impl WatchedPair {
     }
 }
 
+// By what a reduction judges a learned clause.
+#[derive(Clone, Copy)]
+pub(crate) struct Rating {
+    pub activity: u64,
+    // The least glue that was met.
+    pub glue: u32,
+    // How many reductions it stays for since it was used.
+    pub turns: u8,
+}
+
 // The status of a clause.
 #[derive(Clone, Copy)]
 pub(crate) enum ClauseStatus {
-    // It is original, and watched for good.
-    Original,
-    // It is learned, with this activity.
-    Learned(u64),
+    // It is original, or stands for original ones as a resolvent, and is watched for good.
+    Kept,
+    // It is learned from a conflict.
+    Learned(Rating),
     // It is not watched, or not any more.
     Deleted,
+    // It is not watched, since a variable was eliminated with it; but it is kept, and may be watched again.
+    Eliminated,
 }
 
 // For each literal the clauses that watch it. A heuristic: no contract speaks of it.
@@ -69,6 +81,8 @@ pub(crate) struct Watches<A: Allocator = Global> {
     statuses: Vec<ClauseStatus, A>,
     // For each literal whether the clause at hand has it. Between two clauses none is marked.
     met: Vec<bool, A>,
+    // Clauses that are to be watched again.
+    waiting: Vec<u32, A>,
     // What a bump adds to a clause's activity. It grows, so that recent bumps count more.
     increment: u64,
 }
@@ -79,6 +93,14 @@ const FIRST_INCREMENT: u64 = 0x10_0000;
 // By how many binary digits all activities are shifted down once the increment has grown by as many.
 const SHIFT: u32 = 24;
 
+// Clauses of at most this glue stay for two reductions after each use, and others for one.
+const LOW_GLUE: u32 = 6;
+
+// For how many reductions a clause of this glue stays after its use.
+fn turns_of(glue: u32) -> u8 {
+    if glue <= LOW_GLUE { 2 } else { 1 }
+}
+
 impl<A: Allocator + Copy> Watches<A> {
     // No clause is watched. It takes no memory.
     pub(crate) fn new(alloc: A) -> Self {
@@ -87,6 +109,7 @@ impl<A: Allocator + Copy> Watches<A> {
             pairs: Vec::new(alloc),
             statuses: Vec::new(alloc),
             met: Vec::new(alloc),
+            waiting: Vec::new(alloc),
             increment: FIRST_INCREMENT,
         }
     }
@@ -106,6 +129,11 @@ impl<A: Allocator + Copy> Watches<A> {
     // How many clauses have watches or had them.
     pub(crate) fn len(&self) -> usize {
         self.pairs.len()
+    }
+
+    // How many clauses have a status.
+    pub(crate) fn known(&self) -> usize {
+        self.statuses.len()
     }
 
     // The watched places of a clause.
@@ -169,14 +197,22 @@ impl<A: Allocator + Copy> Watches<A> {
         }
     }
 
-    // Whether a clause has watches no more, or is never to have any.
+    // Whether a clause was deleted.
     pub(crate) fn is_deleted(&self, clause: usize) -> bool {
         matches!(self.statuses.get(clause), Some(ClauseStatus::Deleted))
     }
 
-    // What a bump adds to a clause's activity now.
-    pub(crate) fn increment(&self) -> u64 {
-        self.increment
+    // Whether a clause is not watched, whatever the reason is.
+    pub(crate) fn is_unwatched(&self, clause: usize) -> bool {
+        matches!(
+            self.statuses.get(clause),
+            Some(ClauseStatus::Deleted) | Some(ClauseStatus::Eliminated)
+        )
+    }
+
+    // Whether a clause is watched for good.
+    pub(crate) fn is_kept(&self, clause: usize) -> bool {
+        matches!(self.statuses.get(clause), Some(ClauseStatus::Kept))
     }
 
     // Sets the status of a clause.
@@ -186,12 +222,79 @@ impl<A: Allocator + Copy> Watches<A> {
         }
     }
 
-    // Raises the activity of a learned clause.
-    pub(crate) fn bump(&mut self, clause: usize) {
-        if let ClauseStatus::Learned(activity) = self.status(clause) {
+    // Has the next clause, which has no status yet, watched for good.
+    pub(crate) fn push_kept(&mut self) -> Result<(), AllocError> {
+        self.statuses.push(ClauseStatus::Kept)?;
+        Ok(())
+    }
+
+    // An eliminated clause is to be watched again: with the others, where all are to be watched anew.
+    pub(crate) fn restore(&mut self, clause: u32) -> Result<(), AllocError> {
+        self.set_status(clause as usize, ClauseStatus::Kept);
+        if (clause as usize) < self.pairs.len() {
+            self.waiting.push(clause)?;
+        }
+        Ok(())
+    }
+
+    // The clauses that are to be watched again.
+    pub(crate) fn waiting(&self) -> &[u32] {
+        &self.waiting
+    }
+
+    // No clause is to be watched again.
+    pub(crate) fn end_waiting(&mut self) {
+        self.waiting.clear();
+    }
+
+    // Takes all watches out, so that each clause that has its status will be watched anew.
+    pub(crate) fn detach_all(&mut self) {
+        self.clear();
+        self.pairs.clear();
+        self.waiting.clear();
+    }
+
+    // The status of a clause of this glue that is learned now.
+    pub(crate) fn new_status(&self, glue: u32) -> ClauseStatus {
+        ClauseStatus::Learned(Rating {
+            activity: self.increment,
+            glue,
+            turns: turns_of(glue),
+        })
+    }
+
+    // The glue of a learned clause.
+    pub(crate) fn glue(&self, clause: usize) -> Option<u32> {
+        match self.status(clause) {
+            ClauseStatus::Learned(rating) => Some(rating.glue),
+            _ => None,
+        }
+    }
+
+    // A learned clause was used, and has this glue now.
+    pub(crate) fn use_clause(&mut self, clause: usize, glue: u32) {
+        if let ClauseStatus::Learned(rating) = self.status(clause) {
+            let glue = rating.glue.min(glue);
             self.set_status(
                 clause,
-                ClauseStatus::Learned(activity.saturating_add(self.increment)),
+                ClauseStatus::Learned(Rating {
+                    activity: rating.activity.saturating_add(self.increment),
+                    glue,
+                    turns: turns_of(glue),
+                }),
+            );
+        }
+    }
+
+    // A learned clause has stayed at a reduction.
+    pub(crate) fn age(&mut self, clause: usize) {
+        if let ClauseStatus::Learned(rating) = self.status(clause) {
+            self.set_status(
+                clause,
+                ClauseStatus::Learned(Rating {
+                    turns: rating.turns.saturating_sub(1),
+                    ..rating
+                }),
             );
         }
     }
@@ -203,7 +306,10 @@ impl<A: Allocator + Copy> Watches<A> {
             self.increment = FIRST_INCREMENT;
             for status in self.statuses.iter_mut() {
                 if let ClauseStatus::Learned(old) = *status {
-                    *status = ClauseStatus::Learned(old >> SHIFT);
+                    *status = ClauseStatus::Learned(Rating {
+                        activity: old.activity >> SHIFT,
+                        ..old
+                    });
                 }
             }
         }
@@ -265,8 +371,7 @@ impl<A: Allocator + Copy> Watches<A> {
 
     // Drops the clauses that don't stay. None is watched then, and the others keep their statuses, where they have one.
     pub(crate) fn compact(&mut self, stays: &[bool]) {
-        self.clear();
-        self.pairs.clear();
+        self.detach_all();
         let mut next = 0usize;
         for (place, stays) in stays.iter().take(self.statuses.len()).enumerate() {
             self.set_status(next, self.status(place));
@@ -285,7 +390,7 @@ impl<A: Allocator + Copy> Watches<A> {
     ) -> Result<(), AllocError> {
         let mut statuses = Vec::new(alloc);
         for _ in 0..units {
-            statuses.push(ClauseStatus::Original)?;
+            statuses.push(ClauseStatus::Kept)?;
         }
         for (place, stays) in stays.iter().take(self.statuses.len()).enumerate() {
             if *stays {
@@ -296,6 +401,7 @@ impl<A: Allocator + Copy> Watches<A> {
             *list = Vec::new(alloc);
         }
         self.pairs = Vec::new(alloc);
+        self.waiting.clear();
         self.statuses = statuses;
         Ok(())
     }

@@ -11,6 +11,8 @@ mod budgets;
 #[cfg(test)]
 mod costs;
 #[cfg(test)]
+mod elimination;
+#[cfg(test)]
 mod formulas;
 #[cfg(test)]
 mod guesses;

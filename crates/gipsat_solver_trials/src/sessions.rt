@@ -218,7 +218,7 @@ fn is_solved_under_some(
     }
 }
 
-// Asks or tidies in a random way, and tells whether what is answered is right.
+// Asks, tidies or eliminates in a random way, and tells whether what is answered is right.
 fn is_right(
     solver: &mut Solver<&Refusing>,
     clauses: &[Bits],
@@ -226,7 +226,7 @@ fn is_right(
     variables: u32,
 ) -> bool {
     let limit = random.below(6) as usize;
-    match random.below(13) {
+    match random.below(16) {
         0..=1 => is_solved(solver, clauses, limit),
         2..=4 => is_solved_under_some(solver, clauses, random, variables, limit),
         5 => {
@@ -241,7 +241,13 @@ fn is_right(
             let _ = solver.learn_units();
             true
         }
-        8..=9 => {
+        8..=10 => {
+            let frozen = [random.below(variables)];
+            let steps = u64::from(random.below(2000));
+            let _ = solver.eliminate(&frozen, steps);
+            true
+        }
+        11..=12 => {
             let _ = solver.simplify();
             true
         }

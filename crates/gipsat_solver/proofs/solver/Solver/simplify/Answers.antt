@@ -1,4 +1,4 @@
-use Rattle.std.proofs.Common.{subst, sym, arith}
+use Rattle.std.proofs.Common.{◌≡◌, ◌∙◌, rules, subst, sym, arith}
 use Rattle.gipsat_solver.specs.Database.{AddsUnits, SolverState}
 use Rattle.gipsat_solver.specs.Simplifying.{SaysSame}
 use Rattle.gipsat_solver.specs.Trail.{IsTrailOf}
@@ -24,3 +24,8 @@ returns-clause-same g c =
 pub returns-clause-units : goal.returns-clause-units
 returns-clause-units g c =
     subst (λ (k : SolverState). AddsUnits k c.simplify.new.database) c.self.view_is c.in_ok-simplify.ensures.simplifies.units
+
+pub returns-in_err-simplify-clause-refused : goal.returns-in_err-simplify-clause-refused
+returns-in_err-simplify-clause-refused g c =
+    let same : c.simplify.new.database ≡ c.args.self.now = c.in_err-simplify.ensures.refused ∙ c.self.view_is in
+    search (rules, same)

@@ -1,9 +1,21 @@
-use Rattle.std.proofs.Common.{◌∙◌, subst, sym, ◌≡◌, length, ap, arith, false}
-use Rattle.gipsat_solver.specs.Database.{SolverState}
+use Rattle.std.proofs.Common.{◌∙◌, subst, sym, ◌≡◌, ◌+◌, length, take, ap, arith, false}
+use Rattle.gipsat_solver.specs.Database.{Learns, SolverState}
 use Rattle.gipsat_solver.specs.Seen.{is_seen}
 use Rattle.gipsat_solver.specs.Trail.{IsTrailOf}
 use Rattle.gipsat_solver.proofs.AnswerLemmas.{IsRightOr-weaker, IsSpent-since}
 use Rattle.gipsat_solver.proofs.solver.Solver.solve_up_to.Goals as goal
+
+-- a search learns where it begins with a database that has the same formula and clauses
+Learns-since : (old mid new : SolverState) → mid.formula ≡ old.formula → mid.clauses ≡ old.clauses
+    → mid.learned ≡ old.learned → Learns mid new → Learns old new
+Learns-since old mid new formula clauses learned learns =
+    let same : length mid.clauses ≡ length old.clauses = ap length clauses in
+    let adds : length new.clauses + mid.learned ≡ length mid.clauses + new.learned = learns.adds in
+    record {
+      formula = learns.formula ∙ formula;
+      kept = subst (λ cs. take (length cs) new.clauses ≡ cs) clauses learns.kept;
+      adds = omega (arith, adds, same, learned);
+    }
 
 pub run-requires : goal.run-requires
 run-requires g c =
@@ -35,6 +47,20 @@ returns-clause-right g c =
     (c.raise_variables.ensures.learned ∙ ap (λ (k : SolverState). k.learned) c.self.view_is) c.budget_from-until.ensures)
     c.in_ok-answer.ensures.right
 
+pub returns-clause-learns : goal.returns-clause-learns
+returns-clause-learns g c =
+    Learns-since c.args.self.now c.raise_variables.new.self c.run.new.database
+    (c.raise_variables.ensures.formula ∙ ap (λ (k : SolverState). k.formula) c.self.view_is)
+    (c.raise_variables.ensures.clauses ∙ ap (λ (k : SolverState). k.clauses) c.self.view_is)
+    (c.raise_variables.ensures.learned ∙ ap (λ (k : SolverState). k.learned) c.self.view_is) c.run.ensures.learns
+
+pub returns-in_err-answer-clause-learns : goal.returns-in_err-answer-clause-learns
+returns-in_err-answer-clause-learns g c =
+    Learns-since c.args.self.now c.raise_variables.new.self c.run.new.database
+    (c.raise_variables.ensures.formula ∙ ap (λ (k : SolverState). k.formula) c.self.view_is)
+    (c.raise_variables.ensures.clauses ∙ ap (λ (k : SolverState). k.clauses) c.self.view_is)
+    (c.raise_variables.ensures.learned ∙ ap (λ (k : SolverState). k.learned) c.self.view_is) c.run.ensures.learns
+
 pub invariant_of-self-2 : goal.invariant_of-self-2
 invariant_of-self-2 g c =
     let rewound : length c.rewind_if_refuted.new.trail.values.items ≡ length c.run.new.trail.values.items =
@@ -47,4 +73,8 @@ invariant_of-self-2 g c =
 
 pub invariant_of-self-inside-in-Break-branch-5 : goal.invariant_of-self-inside-in-Break-branch-5
 invariant_of-self-inside-in-Break-branch-5 g c =
+    (λ l. subst (λ seen. is_seen seen l ≡ false) (sym c.replace-seen.ensures.after) (c.new-2.ensures l), record {})
+
+pub invariant_of-self-inside-in-Break-branch-4 : goal.invariant_of-self-inside-in-Break-branch-4
+invariant_of-self-inside-in-Break-branch-4 g c =
     (λ l. subst (λ seen. is_seen seen l ≡ false) (sym c.replace-seen.ensures.after) (c.new-2.ensures l), record {})

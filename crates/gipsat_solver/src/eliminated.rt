@@ -1,0 +1,317 @@
+//! Eliminated variables: which they are, the clauses that were taken out with each, and their values at the end.
+ghost use Rattle.std.specs.Prelude.{◌≡◌, ◌<◌, None, length, IfSome};
+ghost use Rattle.gipsat_solver.specs.Values.{value_of};
+
+use crate::activity::Activity;
+use crate::database::Database;
+use crate::literal::Literal;
+use crate::trail::Trail;
+use crate::watches::{ClauseStatus, Watches, short};
+use std::alloc::{AllocError, Allocator, Global};
+use std::mem;
+
+// An eliminated variable, and where the clauses that were taken out with it are listed.
+#[derive(Clone, Copy)]
+struct Record {
+    // The variable itself.
+    literal: Literal,
+    start: usize,
+    end: usize,
+    // Whether it is not eliminated any more.
+    is_over: bool,
+}
+
+// The eliminated variables, in the order in which they were eliminated. It is a heuristic: no contract speaks of it.
+#[derive(Drop)]
+pub(crate) struct Eliminated<A: Allocator = Global> {
+    records: Vec<Record, A>,
+    places: Vec<u32, A>,
+    // For each variable the place behind that of its record; 0 where it is not eliminated.
+    homes: Vec<usize, A>,
+    // The places of the records of variables that are to be restored.
+    wanted: Vec<usize, A>,
+    // How many records were not asked yet for a value.
+    left: usize,
+}
+
+impl<A: Allocator + Copy> Eliminated<A> {
+    // No variable.
+    pub(crate) fn new(alloc: A) -> Self {
+        Eliminated {
+            records: Vec::new(alloc),
+            places: Vec::new(alloc),
+            homes: Vec::new(alloc),
+            wanted: Vec::new(alloc),
+            left: 0,
+        }
+    }
+
+    // Makes room for so many variables.
+    pub(crate) fn grow(&mut self, variables: usize) -> Result<(), AllocError> {
+        let len = self.homes.len().max(variables);
+        self.homes.resize(len, 0)?;
+        Ok(())
+    }
+
+    // Whether no variable is eliminated.
+    pub(crate) fn is_empty(&self) -> bool {
+        self.records.is_empty()
+    }
+
+    // Whether a variable is eliminated.
+    pub(crate) fn has(&self, variable: u32) -> bool {
+        match self.homes.get(variable as usize) {
+            Some(home) => *home > 0,
+            None => false,
+        }
+    }
+
+    // A variable is eliminated, and these clauses with it.
+    pub(crate) fn push(&mut self, literal: Literal, clauses: &[u32]) -> Result<(), AllocError> {
+        let start = self.places.len();
+        self.places.extend_from_slice(clauses)?;
+        self.records.push(Record {
+            literal,
+            start,
+            end: self.places.len(),
+            is_over: false,
+        })?;
+        let len = self.records.len();
+        if let Some(home) = self.homes.get_mut(literal.variable() as usize) {
+            *home = len;
+        }
+        Ok(())
+    }
+
+    // Forgets the variables that are not eliminated any more.
+    pub(crate) fn tidy(&mut self, alloc: A) -> Result<(), AllocError> {
+        let records = mem::replace(&mut self.records, Vec::new(alloc));
+        let places = mem::replace(&mut self.places, Vec::new(alloc));
+        for record in &records {
+            if !record.is_over {
+                let clauses = listed(alloc, &places, record.start, record.end)?;
+                self.push(record.literal, &clauses)?;
+            }
+        }
+        Ok(())
+    }
+
+    // A variable is to be restored, if it is eliminated.
+    fn want(&mut self, variable: u32) -> Result<(), AllocError> {
+        if let Some(home) = self.homes.get_mut(variable as usize) {
+            if let Some(index) = home.checked_sub(1) {
+                *home = 0;
+                self.wanted.push(index)?;
+            }
+        }
+        Ok(())
+    }
+
+    // The eliminated ones among the variables of these literals are to be restored.
+    fn want_all(&mut self, literals: &[Literal]) -> Result<(), AllocError> {
+        for l in literals {
+            self.want(l.variable())?;
+        }
+        Ok(())
+    }
+
+    // Restores the eliminated ones among the variables of these literals, of a domain, and of the clauses from a place
+    // on.
+    pub(crate) fn restore(
+        &mut self,
+        database: &Database<A>,
+        watches: &mut Watches<A>,
+        activity: &mut Activity<A>,
+        literals: &[Literal],
+        domain: &[u32],
+    ) -> Result<(), AllocError> {
+        if self.is_empty() {
+            return Ok(());
+        }
+        self.want_all(literals)?;
+        for variable in domain {
+            self.want(*variable)?;
+        }
+        for place in watches.known()..database.len() {
+            self.want_all(database.clause(place))?;
+        }
+        self.restore_wanted(database, watches, activity)
+    }
+
+    // Restores the variables that are to be restored, and those that their clauses have.
+    fn restore_wanted(
+        &mut self,
+        database: &Database<A>,
+        watches: &mut Watches<A>,
+        activity: &mut Activity<A>,
+    ) -> Result<(), AllocError> {
+        for _ in 0..usize::MAX {
+            let Some(index) = self.wanted.pop() else {
+                return Ok(());
+            };
+            let Some(record) = self.records.get_mut(index) else {
+                return Ok(());
+            };
+            record.is_over = true;
+            let Record {
+                literal,
+                start,
+                end,
+                ..
+            } = *record;
+            activity.bring_back(literal.variable());
+            self.restore_clauses(database, watches, start, end)?;
+        }
+        Ok(())
+    }
+
+    // Has the listed clauses watched again, and their other variables restored.
+    fn restore_clauses(
+        &mut self,
+        database: &Database<A>,
+        watches: &mut Watches<A>,
+        start: usize,
+        end: usize,
+    ) -> Result<(), AllocError> {
+        for index in start..end {
+            let Some(place) = self.places.get(index) else {
+                return Ok(());
+            };
+            let place = *place;
+            if let ClauseStatus::Eliminated = watches.status(place as usize) {
+                watches.restore(place)?;
+                if (place as usize) < database.len() {
+                    self.want_all(database.clause(place as usize))?;
+                }
+            }
+        }
+        Ok(())
+    }
+
+    // For each clause its new place where those that stay move together, behind so many new ones. Of no clause, if no
+    // variable is eliminated.
+    pub(crate) fn moved(
+        &self,
+        alloc: A,
+        units: usize,
+        stays: &[bool],
+    ) -> Result<Vec<u32, A>, AllocError> {
+        let mut moved: Vec<u32, A> = Vec::new(alloc);
+        if self.is_empty() {
+            return Ok(moved);
+        }
+        let mut next = units;
+        for stays in stays {
+            moved.push(if *stays { short(next) } else { u32::MAX })?;
+            next = next.saturating_add(usize::from(*stays));
+        }
+        Ok(moved)
+    }
+
+    // The clauses have these new places.
+    pub(crate) fn renumber(&mut self, moved: &[u32]) {
+        for place in self.places.iter_mut() {
+            *place = match moved.get(*place as usize) {
+                Some(place) => *place,
+                None => u32::MAX,
+            };
+        }
+    }
+
+    // All are to be asked for values, the last first.
+    pub(crate) fn rewind(&mut self) {
+        self.left = self.records.len();
+    }
+
+    // The next eliminated variable without a value, with the sign that its clauses ask for. None where none is left.
+    pub(crate) fn next(&mut self, database: &Database<A>, trail: &Trail<A>) -> Option<Literal>
+        ensures within { IfSome result (λ l. l.variable < length trail.now.values.items) }
+        ensures unset { IfSome result (λ l. value_of trail.now.values.items l ≡ None) }
+    {
+        let Some((index, l)) = self.last_left(database, trail) else {
+            self.left = 0;
+            return None;
+        };
+        self.left = index;
+        Some(l)
+    }
+
+    // The last one without a value of those that are left, with its place and the sign that its clauses ask for.
+    fn last_left(&self, database: &Database<A>, trail: &Trail<A>) -> Option<(usize, Literal)>
+        ensures within { IfSome result (λ found. found.1.variable < length trail.now.values.items) }
+        ensures unset { IfSome result (λ found. value_of trail.now.values.items found.1 ≡ None) }
+    {
+        for index in (0..self.left).rev() {
+            let Record {
+                literal,
+                start,
+                end,
+                is_over,
+                ..
+            } = *self.records.get(index)?;
+            let variable = literal.variable();
+            if variable as usize >= trail.values.len() {
+                continue;
+            }
+            if is_over || trail.value(literal).is_some() {
+                continue;
+            }
+            let l = Literal::new(
+                variable,
+                self.needs_true(database, trail, literal, start, end),
+            );
+            if let None = trail.value(l) {
+                return Some((index, l));
+            }
+        }
+        None
+    }
+
+    // Whether one of the listed clauses has a literal, and no true one.
+    fn needs_true(
+        &self,
+        database: &Database<A>,
+        trail: &Trail<A>,
+        literal: Literal,
+        start: usize,
+        end: usize,
+    ) -> bool {
+        for index in start..end {
+            if let Some(place) = self.places.get(index) {
+                let place = *place as usize;
+                if place < database.len() && asks_for(trail, database.clause(place), literal) {
+                    return true;
+                }
+            }
+        }
+        false
+    }
+}
+
+// The listed clauses from one place to another.
+fn listed<A: Allocator + Copy>(
+    alloc: A,
+    places: &[u32],
+    start: usize,
+    end: usize,
+) -> Result<Vec<u32, A>, AllocError> {
+    let mut clauses = Vec::new(alloc);
+    for index in start..end {
+        if let Some(place) = places.get(index) {
+            clauses.push(*place)?;
+        }
+    }
+    Ok(clauses)
+}
+
+// Whether a clause has a literal, and no true one.
+fn asks_for<A: Allocator + Copy>(trail: &Trail<A>, clause: &[Literal], literal: Literal) -> bool {
+    let mut has = false;
+    for l in clause {
+        if let Some(true) = trail.value(*l) {
+            return false;
+        }
+        has |= l.code() == literal.code();
+    }
+    has
+}
