@@ -110,7 +110,7 @@ try "the version" 0 "" "gipsat 0.1.0" "" --version
 try "the version behind other words" 0 "" "gipsat 0.1.0" "" a --stats --version --other
 help=$("$gipsat" --help)
 try "the help" 0 "" "$help" "" -h
-for option in --conflicts -t --time -n --no-witness -q --quiet --stats --proof --binary -f --force --relaxed --check -h --help --version --; do
+for option in --conflicts -t --time -n --no-witness -q --quiet --stats --proof --binary -f --force --relaxed --no-simplify --check -h --help --version --; do
     if printf '%s\n' "$help" | grep -qE -- "^ *([^ ]+ )?$option[ ,]"; then
         echo "ok: the help tells of $option"
         passed=$((passed + 1))
@@ -302,8 +302,8 @@ for name in repeated often moved; do
     fi
 done
 
-# Proofs that the program writes: of the squares, of six pigeons in five holes, and of eight in seven, which takes so many
-# conflicts that clauses leave the store.
+# Proofs that the program writes: of the squares, of six pigeons in five holes, of eight in seven, after whose first slice
+# variables are eliminated, and of nine in eight, which takes so many conflicts that clauses leave the store.
 # HOLES: a formula that seats one pigeon more than there are holes.
 pigeons() {
     python3 - "$1" <<'END'
@@ -320,7 +320,8 @@ END
 }
 pigeons 5 > "$work/pigeons"
 pigeons 7 > "$work/crowd"
-for formula in formula pigeons crowd; do
+pigeons 8 > "$work/throng"
+for formula in formula pigeons crowd throng; do
     try "a proof of $formula is written" 20 "" "s UNSATISFIABLE" "" -q --proof "$work/written" "$work/$formula"
     try "the proof of $formula is checked" 0 "" "s VERIFIED" "" --check "$work/$formula" "$work/written"
 done
@@ -449,6 +450,19 @@ try "a proof is written to a name behind =" 20 "" "s UNSATISFIABLE" "" "--proof=
 try "that proof behind = is checked" 0 "" "s VERIFIED" "" --check "$kept" "$work/joined"
 try "a larger binary proof is written" 20 "" "s UNSATISFIABLE" "" -q --binary --proof "$work/bytes" "$work/crowd"
 try "that larger binary proof is checked" 0 "" "s VERIFIED" "" --check "$work/crowd" "$work/bytes"
+try "a proof without elimination is written" 20 "" "s UNSATISFIABLE" "" -q --no-simplify --proof "$work/plain" "$work/crowd"
+try "that proof without elimination is checked" 0 "" "s VERIFIED" "" --check "$work/crowd" "$work/plain"
+
+# An elimination of variables shows in the summary, and --no-simplify prevents it.
+with=$("$gipsat" -n --stats "$work/crowd" 2>&1 > "$work/out" | grep ' conflicts, ')
+without=$("$gipsat" -n --stats --no-simplify "$work/crowd" 2>&1 > "$work/out" | grep ' conflicts, ')
+if [ -n "$with" ] && [ -n "$without" ] && [ "$with" != "$without" ]; then
+    echo "ok: variables are eliminated, but for --no-simplify"
+    passed=$((passed + 1))
+else
+    echo "FAILED: variables are eliminated, but for --no-simplify ($with, $without)"
+    failed=$((failed + 1))
+fi
 
 # A summary has no average of nothing.
 printf 'p cnf 2 1\n1 2 0\n' | "$gipsat" --stats > "$work/out" 2> "$work/err"

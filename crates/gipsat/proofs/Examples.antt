@@ -34,6 +34,9 @@ switches : work_asked (codes "a" ∷ codes "--stats" ∷ codes "-q" ∷ codes "-
     ≡ Ok (Solve (record no_request { stats = true; quiet = true; witness = false; force = true; binary = true; file = Some (codes "a") }))
 switches = refl
 
+no_simplify : work_asked (codes "--no-simplify" ∷ []) ≡ Ok (Solve (record no_request { simplify = false }))
+no_simplify = refl
+
 -- a long setting with its value in one word; the value is all behind the first equals sign
 joined : work_asked (codes "--conflicts=7" ∷ codes "--time=9" ∷ codes "--proof=p=q" ∷ codes "a" ∷ [])
     ≡ Ok (Solve (record no_request { conflicts = 7; time = Some 9; proof = Some (codes "p=q"); file = Some (codes "a") }))

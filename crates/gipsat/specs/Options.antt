@@ -10,10 +10,11 @@ use Rattle.gipsat.specs.declared.options.Options.{Options}
 use Rattle.gipsat.specs.declared.options.Setting.{Setting}
 use Rattle.gipsat.specs.declared.options.Setting.TheVariants.{Conflicts, Time, Proof}
 use Rattle.gipsat.specs.declared.options.Switch.{Switch}
-use Rattle.gipsat.specs.declared.options.Switch.TheVariants.{Stats, Quiet, NoWitness, Force, Binary, Relaxed}
+use Rattle.gipsat.specs.declared.options.Switch.TheVariants.{Stats, Quiet, NoWitness, Force, Binary, NoSimplify, Relaxed}
 
 -- the limits of a search in conflicts and in seconds, what to write, where to write a proof, if anywhere, and in which
--- form, what the counts of the header mean, and which file to read, if not standard input
+-- form, whether to eliminate variables, what the counts of the header mean, and which file to read, if not standard
+-- input
 pub record Request : Type 0 where
   pub conflicts : ℕ
   pub time : Option ℕ
@@ -23,6 +24,7 @@ pub record Request : Type 0 where
   pub proof : Option (List ℕ)
   pub force : Bool
   pub binary : Bool
+  pub simplify : Bool
   pub rule : HeaderRule
   pub file : Option (List ℕ)
 
@@ -37,6 +39,7 @@ no_request = record {
   proof = None;
   force = false;
   binary = false;
+  simplify = true;
   rule = rule.Strict;
   file = None;
 }
@@ -62,6 +65,7 @@ switched Quiet r = record r { quiet = true }
 switched NoWitness r = record r { witness = false }
 switched Force r = record r { force = true }
 switched Binary r = record r { binary = true }
+switched NoSimplify r = record r { simplify = false }
 switched Relaxed r = record r { rule = rule.Relaxed }
 
 -- the file to read has this name; standard input has none
@@ -79,6 +83,7 @@ request_of o = record {
   proof = option_map (λ name. name.now) o.proof;
   force = o.force;
   binary = o.binary;
+  simplify = o.simplify;
   rule = o.rule;
   file = option_map (λ name. name.now) o.file;
 }

@@ -15,7 +15,7 @@ use Rattle.gipsat.specs.declared.options.Parser.{Parser}
 use Rattle.gipsat.specs.declared.options.Setting.{Setting}
 use Rattle.gipsat.specs.declared.options.Setting.TheVariants.{Conflicts, Time, Proof}
 use Rattle.gipsat.specs.declared.options.Switch.{Switch}
-use Rattle.gipsat.specs.declared.options.Switch.TheVariants.{Stats, Quiet, NoWitness, Force, Binary, Relaxed}
+use Rattle.gipsat.specs.declared.options.Switch.TheVariants.{Stats, Quiet, NoWitness, Force, Binary, NoSimplify, Relaxed}
 use Rattle.gipsat.specs.declared.options.Task.{Task}
 use Rattle.gipsat.specs.declared.options.Task.TheVariants as task
 
@@ -50,6 +50,7 @@ switch_of word =
     else if bytes_eq word (codes "--force") then Some Force
     else if bytes_eq word (codes "-f") then Some Force
     else if bytes_eq word (codes "--binary") then Some Binary
+    else if bytes_eq word (codes "--no-simplify") then Some NoSimplify
     else if bytes_eq word (codes "--relaxed") then Some Relaxed
     else None
 

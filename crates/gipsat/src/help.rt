@@ -13,6 +13,9 @@ and writes `s SATISFIABLE` and values that satisfy it, `s UNSATISFIABLE`, or `s 
 Input:
       --relaxed         take the counts of the header as hints; there may be no header
 
+Search:
+      --no-simplify     eliminate no variables
+
 Limits:
       --conflicts N     give up after N conflicts
   -t, --time SECONDS    give up when the search first pauses after so many seconds; reading is not cut short

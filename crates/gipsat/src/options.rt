@@ -57,6 +57,8 @@ pub struct Options<'a> {
     pub force: bool,
     /// Whether to write the proof in the binary form.
     pub binary: bool,
+    /// Whether to eliminate variables.
+    pub simplify: bool,
     /// What the counts of the header mean.
     pub rule: HeaderRule,
     /// The file to read, if not standard input.
@@ -79,6 +81,7 @@ pub enum Switch {
     NoWitness,
     Force,
     Binary,
+    NoSimplify,
     Relaxed,
 }
 
@@ -96,6 +99,7 @@ impl<'a> Options<'a> {
             proof: None,
             force: false,
             binary: false,
+            simplify: true,
             rule: HeaderRule::Strict,
             file: None,
         }
@@ -144,6 +148,10 @@ impl<'a> Options<'a> {
             },
             Switch::Binary => Options {
                 binary: true,
+                ..self
+            },
+            Switch::NoSimplify => Options {
+                simplify: false,
                 ..self
             },
             Switch::Relaxed => Options {
@@ -246,6 +254,7 @@ fn switch_of(word: &str) -> Option<Switch>
         "--force" => Some(Switch::Force),
         "-f" => Some(Switch::Force),
         "--binary" => Some(Switch::Binary),
+        "--no-simplify" => Some(Switch::NoSimplify),
         "--relaxed" => Some(Switch::Relaxed),
         _ => None,
     }

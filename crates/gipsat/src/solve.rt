@@ -3,7 +3,7 @@ ghost use Rattle.std.specs.Prelude.{◌≡◌, ◌≢◌, ℕ, is_some, IfOk, If
 ghost use Rattle.std.specs.Io.KnownBytes.{IsAtEnd};
 ghost use Rattle.gipsat_dimacs.specs.Instances.{HasLearnedNone};
 ghost use Rattle.gipsat_answers.specs.Answers.{problem_in, WritesAnswerWith};
-ghost use Rattle.gipsat_dimacs.specs.Inputs.{HasClauses, HasForm, IsRefusedAt, OfProblem, WritesNone};
+ghost use Rattle.gipsat_dimacs.specs.Inputs.{HasClauses, HasForm, IsRefusedAt, OfProblem, Writes, WritesNone};
 ghost use Rattle.gipsat_dimacs.specs.declared.error.DimacsError.TheVariants as dimacs_error;
 ghost use Rattle.gipsat.specs.declared.solve.SolveError.TheVariants as solve_error;
 
@@ -59,13 +59,37 @@ pub fn solve<'a, R: Read, W: Write>(
     ensures unwritten { IfErr result (λ error. error ≢ SolveError.Task DimacsError.Output → writer.new ≡ writer.old) }
 {
     let watch = Watch::new(rt, options)?;
-    let instance = match read_instance_by(rt.alloc(), reader, options.rule) {
+    let instance = match read_formula(rt, options, reader) {
         Ok(instance) => instance,
         Err(error) => return Err(SolveError::Task(error)),
     };
     watch.note_read(&instance);
     let proof = open_proof(rt, options, reader)?;
     answer(rt, options, instance, proof, watch, writer)
+}
+
+// Reads a formula, whose solver is to eliminate variables where the options say so.
+fn read_formula<'a, R: Read>(
+    rt: &HostRuntime,
+    options: &Options<'a>,
+    reader: &mut R,
+) -> Result<Instance, DimacsError>
+    ensures end { OnOk result (IsAtEnd (R.remaining reader.new)) }
+    ensures ok { IfOk result (λ f. Writes options.now.rule (R.remaining reader.old)
+        (record { variables = f.variables; clauses = f.solver.formula })) }
+    ensures fresh { IfOk result (λ f. HasLearnedNone f.solver) }
+    ensures line { (line : ℕ) (reason : Reason) → IsErrOf result (DimacsError.Line line reason) →
+        WritesNone options.now.rule (R.remaining reader.old) }
+    ensures in_line { (line : ℕ) (reason : Reason) → IsErrOf result (DimacsError.Line line reason) →
+        IsRefusedAt options.now.rule (R.remaining reader.old) line }
+{
+    match read_instance_by(rt.alloc(), reader, options.rule) {
+        Ok(mut instance) => {
+            instance.solver.set_eliminating(options.simplify);
+            Ok(instance)
+        }
+        Err(error) => Err(error),
+    }
 }
 
 // The file of the proof, if one is wanted, and its name. It is made once the formula was read to its end.

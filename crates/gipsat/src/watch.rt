@@ -208,8 +208,9 @@ pub struct Watch<'a> {
     logger: IntervalLogger,
     // Of the last learned clauses.
     lengths: MovingAverage,
-    // How many of the known clauses need not be counted.
+    // How many of the known clauses need not be counted, and how many were learned when they were known.
     seen: usize,
+    learned: usize,
     // Whether nothing is written.
     quiet: bool,
     // Whether a summary is written at the end.
@@ -228,6 +229,7 @@ impl<'a> Watch<'a> {
             logger: every_interval(),
             lengths: MovingAverage::with_room(rt.alloc(), LAST)?,
             seen: 0,
+            learned: 0,
             quiet: options.quiet,
             stats: options.stats,
         })
@@ -246,16 +248,19 @@ impl<'a> Watch<'a> {
             Seconds(now)
         );
     }
-}
 
-// Counts the lengths of the last of the clauses that were learned since `seen` were known.
-fn count(lengths: &mut MovingAverage, seen: &mut usize, solver: &Solver) {
-    let len = solver.len();
-    let start = *seen;
-    for place in start.max(len.saturating_sub(LAST))..len {
-        lengths.push(solver.clause(place).len());
+    // Counts the lengths of the last clauses that came since the last count, if some of them were learned: those that an
+    // elimination adds do not count.
+    fn count(&mut self, solver: &Solver) {
+        let len = solver.len();
+        if solver.learned() > self.learned {
+            for place in self.seen.max(len.saturating_sub(LAST))..len {
+                self.lengths.push(solver.clause(place).len());
+            }
+        }
+        self.seen = len;
+        self.learned = solver.learned();
     }
-    *seen = len;
 }
 
 impl Progress<Global> for Watch<'_> {
@@ -263,10 +268,11 @@ impl Progress<Global> for Watch<'_> {
 
     fn begin(&mut self, solver: &Solver) {
         self.seen = solver.len();
+        self.learned = solver.learned();
     }
 
     fn note(&mut self, solver: &Solver) -> ControlFlow<()> {
-        count(&mut self.lengths, &mut self.seen, solver);
+        self.count(solver);
         if !self.quiet {
             let now = self.clock.now();
             let snapshot = Snapshot::of(solver, &self.lengths);
@@ -284,7 +290,7 @@ impl Progress<Global> for Watch<'_> {
         if self.quiet || !self.stats {
             return;
         }
-        count(&mut self.lengths, &mut self.seen, solver);
+        self.count(solver);
         let stats = solver.stats();
         let _ = eprintln!(self.rt; "c {}", Snapshot::of(solver, &self.lengths));
         let _ = eprintln!(self.rt;
