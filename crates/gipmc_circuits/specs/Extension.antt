@@ -61,7 +61,8 @@ pub record IsNaming {A B : Type 0} (n : ℕ) (c : Circuit A) (w : Circuit B) (na
   pub stacked : IsTrue (are_stacked (map (renamed_gate name) w.gates.items) n)
 
 -- e is c with the gates of w behind its own, under such names, and the clauses say what w claims
-pub record IsExtension {A B : Type 0} (n : ℕ) (c : Circuit A) (w : Circuit B) (e : Circuit B) (rows : List (Vec Lit B)) : Type 0 where
+pub record IsExtension {A B : Type 0} (n : ℕ) (c : Circuit A) (w : Circuit B) (e : Circuit B) (rows : List (Vec Lit B))
+    : Type 0 where
   pub name : ℕ → ℕ
   pub naming : IsNaming n c w name
   pub latches : e.latches.items ≡ c.latches.items
