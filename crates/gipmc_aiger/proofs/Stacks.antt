@@ -1,10 +1,9 @@
 -- Gates that wait in a search in depth.
-use Rattle.std.proofs.Common.{◌≡◌, ⊎_elim, ℕ, zero, suc, ◌++◌, ◌&&◌, ◌||◌, IsTrue, eqb, Bool, true, false, List, [], ◌∷◌, length, set, get_or, slice_get, Option, Some, None, refl, sym, ap, subst, ◌∙◌, append_assoc, append-nil, replicate, take, drop, arith}
+use Rattle.std.proofs.Common.{◌≡◌, ⊎_elim, ℕ, zero, suc, ◌++◌, ◌||◌, IsTrue, eqb, Bool, true, false, List, [], ◌∷◌, length, set, slice_get, Some, refl, sym, ap, subst, ◌∙◌, append_assoc, append-nil, replicate, take, drop, arith}
 use Rattle.std.proofs.lemmas.Bool.{cases_Bool, eqb-true, eq-eqb, false≢true}
 use Rattle.std.proofs.Math.ListN.{drop_of_length-le}
 use Rattle.std.proofs.lemmas.List.{get_or-set_other, take_all}
 use Rattle.gipmc_aiger.specs.Lists.{Every}
-use Rattle.gipsat_solver.specs.Literals.{Lit}
 use Rattle.gipmc_circuits.specs.declared.circuit.And.{And}
 use Rattle.gipmc_aiger.specs.declared.error.Defect.{Defect}
 use Rattle.gipmc_aiger.specs.declared.error.Defect.TheVariants as defect

@@ -1,11 +1,10 @@
 -- Tables of what defines variables, and lists that are read one after the other.
-use Rattle.std.proofs.Common.{◌≡◌, ⊎_elim, ℕ, zero, suc, ◌<◌, ◌++◌, ◌||◌, ◌&&◌, not, map, IsTrue, eqb, Bool, true, false, List, [], ◌∷◌, length, set, get_or, take, drop, Option, Some, None, refl, sym, ap, subst, ◌∙◌, ◌+◌, arith}
+use Rattle.std.proofs.Common.{◌≡◌, ⊎_elim, ℕ, zero, suc, ◌<◌, ◌++◌, ◌||◌, ◌&&◌, not, IsTrue, eqb, Bool, true, false, List, [], ◌∷◌, length, set, get_or, take, drop, Option, Some, None, refl, sym, ap, subst, ◌∙◌, ◌+◌, arith}
 use Rattle.std.proofs.Math.Path.{fun_ext}
 use Rattle.std.proofs.lemmas.Bool.{cases_Bool, eqb-true, eq-eqb, false≢true}
 use Rattle.std.proofs.lemmas.List.{get_or-set_other, get_or-set_same, get_or_default, take-append-drop, take_more}
 use Rattle.std.proofs.Math.Seq.{drop-cons}
 use Rattle.std.specs.Prelude.{is_some}
-use Rattle.std.specs.List.{list_any}
 use Rattle.gipsat_solver.specs.Literals.{Lit}
 use Rattle.gipmc_circuits.specs.declared.circuit.And.{And}
 use Rattle.gipmc_circuits.specs.WellFormed.{is_constant, with_variable, with_variables}

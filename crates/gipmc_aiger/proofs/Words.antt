@@ -1,5 +1,5 @@
 -- One word too many.
-use Rattle.std.proofs.Common.{◌≡◌, ℕ, List, [], ◌∷◌, map, Option, Some, None, arith, refl, ap, sym, ◌∙◌}
+use Rattle.std.proofs.Common.{◌≡◌, ℕ, List, ◌∷◌, map, Option, Some, None, arith, refl, ap, sym, ◌∙◌}
 use Rattle.giputils_text.specs.Lines.{pieces, space}
 use Rattle.giputils_text.proofs.Pieces.{pieces-cons}
 use Rattle.gipsat_solver.specs.Formulas.{Clause}

@@ -47,7 +47,10 @@ sizes_at bytes = do
   latches ← count_at inputs.1
   outputs ← count_at latches.1
   gates ← count_at outputs.1
-  Some (record { maximum = maximum.0; inputs = inputs.0; latches = latches.0; outputs = outputs.0; gates = gates.0 }, gates.1)
+  Some (
+    record { maximum = maximum.0; inputs = inputs.0; latches = latches.0; outputs = outputs.0; gates = gates.0 },
+    gates.1,
+  )
 
 -- the other four numbers of a header
 unfoldable pub properties_at : List ℕ → Option (Properties × List ℕ)
@@ -70,7 +73,13 @@ header_at bytes = do
   sizes ← sizes_at form.1
   properties ← properties_at sizes.1
   rest ← expected_at line_feed properties.1
-  if nat_lt 0 properties.0.justice then None else if nat_lt 0 properties.0.fairness then None else if has_counts form.0 sizes.0 then Some (record { form = form.0; sizes = sizes.0; bads = properties.0.bads; constraints = properties.0.constraints }, rest) else None
+  if nat_lt 0 properties.0.justice then None else if nat_lt 0 properties.0.fairness then None
+      else if has_counts form.0 sizes.0
+      then Some (
+        record { form = form.0; sizes = sizes.0; bads = properties.0.bads; constraints = properties.0.constraints },
+        rest,
+      )
+      else None
 
 -- so many rows, by what the row at each place says
 abbrev pub rows_at : {X : Type 0} → (ℕ → List ℕ → Option (X × List ℕ)) → ℕ → ℕ → List ℕ → Option (List X × List ℕ)
@@ -157,7 +166,8 @@ unfoldable pub packed_operands_at : ℕ → List ℕ → Option (ℕ × ℕ × L
 packed_operands_at output bytes = do
   first ← delta_at 5 bytes
   second ← delta_at 5 first.1
-  if first.0 == 0 then None else if nat_lt (2 * output) (first.0 + second.0) then None else Some (2 * output - first.0, 2 * output - first.0 - second.0, second.1)
+  if first.0 == 0 then None else if nat_lt (2 * output) (first.0 + second.0) then None
+      else Some (2 * output - first.0, 2 * output - first.0 - second.0, second.1)
 
 -- the numbers of the operands of a gate with this output
 abbrev pub operands_in : Form → Header → ℕ → List ℕ → Option (ℕ × ℕ × List ℕ)
@@ -184,7 +194,13 @@ pub record Netlist : Type 0 where
 
 -- the parts of a circuit
 abbrev pub netlist_of : {A : Type 0} → Circuit A → Netlist
-netlist_of c = record { inputs = c.inputs.items; latches = c.latches.items; gates = c.gates.items; bads = c.bads.items; constraints = c.constraints.items }
+netlist_of c = record {
+  inputs = c.inputs.items;
+  latches = c.latches.items;
+  gates = c.gates.items;
+  bads = c.bads.items;
+  constraints = c.constraints.items;
+}
 
 -- the outputs, where a text has no bad literals; else those
 abbrev pub bads_of : Header → List Lit → List Lit → List Lit
@@ -199,7 +215,15 @@ body_at h bytes = do
   bads ← rows_at (literal_at h) 0 h.bads outputs.1
   constraints ← rows_at (literal_at h) 0 h.constraints bads.1
   gates ← rows_at (gate_at h) 0 h.sizes.gates constraints.1
-  if is_tail h gates.1 then Some (record { inputs = inputs.0; latches = latches.0; gates = gates.0; bads = bads_of h outputs.0 bads.0; constraints = constraints.0 }) else None
+  if is_tail h gates.1
+      then Some (record {
+        inputs = inputs.0;
+        latches = latches.0;
+        gates = gates.0;
+        bads = bads_of h outputs.0 bads.0;
+        constraints = constraints.0;
+      })
+      else None
 
 -- the circuit that a text writes in either form, if it has one
 unfoldable pub circuit_of : List ℕ → Option Netlist

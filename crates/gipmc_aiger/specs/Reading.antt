@@ -38,7 +38,8 @@ abbrev pub expected_at : ℕ → List ℕ → Option (List ℕ)
 expected_at byte [] = None
 expected_at byte (first ∷ rest) = if first == byte then Some rest else None
 
--- the number that the digits at the front write behind those of n, if it is at most the limit, and the bytes behind them
+-- the number that the digits at the front write behind those of n, if it is at most the limit, and the bytes behind
+-- them
 abbrev pub digits_at : ℕ → ℕ → List ℕ → Option (ℕ × List ℕ)
 digits_at limit n [] = Some (n, [])
 digits_at limit n (digit ∷ rest) =

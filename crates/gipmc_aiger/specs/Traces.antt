@@ -6,7 +6,8 @@ use Rattle.gipmc_aiger.specs.Witnesses.{Stimulus, bits_line, frames_lines, frame
 
 -- a witness without where it lies in memory
 abbrev pub witness_view : {A : Type 0} → Witness A → Stimulus
-witness_view w = record { property = w.property; latches = w.trace.latches.items; inputs = frames_view w.trace.inputs.items }
+witness_view w =
+    record { property = w.property; latches = w.trace.latches.items; inputs = frames_view w.trace.inputs.items }
 
 -- the text of a trace as a witness: `1`, the property, the latches at first, and the inputs at each moment
 abbrev pub witness_text : {A : Type 0} → ℕ → Trace A → List ℕ

@@ -71,7 +71,7 @@ fn status(text: &[u8]) -> Result<&[u8], Stop>
         return Err(Stop::Refused(Reason::End, 0));
     };
     if !is_status(line) {
-        return Err(Stop::Refused(Reason::Status, text.len()));
+        return Err(Stop::Refused(Reason::Status, left_at(line, rest)));
     }
     Ok(rest)
 }
@@ -96,7 +96,7 @@ fn property(text: &[u8]) -> Result<(u32, &[u8]), Stop>
     match property_of(line) {
         Ok(property) => Ok((property, rest)),
         Err(Stop::Memory) => Err(Stop::Memory),
-        Err(Stop::Refused(reason, _)) => Err(Stop::Refused(reason, text.len())),
+        Err(Stop::Refused(reason, _)) => Err(Stop::Refused(reason, left_at(line, rest))),
     }
 }
 
@@ -126,7 +126,7 @@ fn bits<A: Allocator + Copy>(
     let Some((line, rest)) = said_line(text) else {
         return Err(Stop::Refused(Reason::End, 0));
     };
-    let bits = bits_in(alloc, count, line, text.len())?;
+    let bits = bits_in(alloc, count, line, left_at(line, rest))?;
     Ok((bits, rest))
 }
 
@@ -183,7 +183,7 @@ fn frames<A: Allocator + Copy>(
         if is_end(line) {
             return Ok(frames);
         }
-        let frame = bits_in(alloc, count, line, rest.len())?;
+        let frame = bits_in(alloc, count, line, left_at(line, after))?;
         frames.push(frame)?;
         rest = after;
     }
@@ -224,6 +224,11 @@ fn said_line(text: &[u8]) -> Option<(&[u8], &[u8])>
         rest = after;
     }
     None
+}
+
+// How many bytes are left at a place within a line, by the line and what comes after it.
+fn left_at(line: &[u8], after: &[u8]) -> usize {
+    after.len().saturating_add(line.len().max(1))
 }
 
 /// Writes a trace as a witness that it makes this property's bad literal true.

@@ -137,7 +137,7 @@ const CIRCUITS: [(&[u8], AigerError); 32] = [
     ),
 ];
 
-const WITNESSES: [(&[u8], AigerError); 10] = [
+const WITNESSES: [(&[u8], AigerError); 18] = [
     (b"", AigerError::Refused(Place::Line(1), Reason::End)),
     (
         b"0\nb0\n.\n",
@@ -174,6 +174,38 @@ const WITNESSES: [(&[u8], AigerError); 10] = [
     (
         b"1\nb0\n0\n00\n",
         AigerError::Refused(Place::Line(5), Reason::End),
+    ),
+    (
+        b"c\nu0\n0\n",
+        AigerError::Refused(Place::Line(3), Reason::Status),
+    ),
+    (
+        b"u0\n\n1\n",
+        AigerError::Refused(Place::Line(2), Reason::Status),
+    ),
+    (
+        b"1\nc\nj0",
+        AigerError::Refused(Place::Line(3), Reason::Property),
+    ),
+    (
+        b"1\nb0\nc\nc\n00\n.\n",
+        AigerError::Refused(Place::Line(5), Reason::Length),
+    ),
+    (
+        b"1\nb0\nc\n2\n.\n",
+        AigerError::Refused(Place::Line(4), Reason::Bit),
+    ),
+    (
+        b"1\nb0\n0\n00\nu1\nc\n0\n.\n",
+        AigerError::Refused(Place::Line(7), Reason::Length),
+    ),
+    (
+        b"1\nb0\n0\nc\n\n",
+        AigerError::Refused(Place::Line(5), Reason::Length),
+    ),
+    (
+        b"1\nb0\n0\nc\n0x2",
+        AigerError::Refused(Place::Line(5), Reason::Length),
     ),
 ];
 

@@ -1,5 +1,5 @@
 -- Those so far are defined.
-use Rattle.std.proofs.Common.{◌≡◌, map, take}
+use Rattle.std.proofs.Common.{◌≡◌, take}
 use Rattle.gipmc_circuits.specs.WellFormed.{with_variables}
 use Rattle.gipmc_aiger.specs.Defects.{defined_in}
 use Rattle.gipmc_aiger.proofs.order.define_inputs.Given as goal

@@ -1,5 +1,5 @@
 -- The gates of the operands wait, or one is open.
-use Rattle.std.proofs.Common.{◌≡◌, ◌++◌, ◌∷◌, [], slice_get, Some, sym, subst, ◌∙◌}
+use Rattle.std.proofs.Common.{◌≡◌, slice_get, Some, sym, subst, ◌∙◌}
 use Rattle.std.proofs.lemmas.Result.{err_from_is_err_and}
 use Rattle.gipmc_aiger.specs.Defects.{AddsGateOf, IsStack, MeetsOpen}
 use Rattle.gipmc_aiger.proofs.Stacks.{meets, opened_both, uses_left, uses_right}
