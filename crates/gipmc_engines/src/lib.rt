@@ -10,7 +10,7 @@ pub mod watch;
 
 pub use bounded::{Bounds, search};
 pub use engines::{Engine, Plan, check};
-pub use simulation::{Tries, simulate};
+pub use simulation::{RUNS, Tries, simulate};
 pub use turns::{decide, decide_by_turns};
 pub use verdict::{Verdict, fails_by, safe_by};
 pub use watch::Watch;

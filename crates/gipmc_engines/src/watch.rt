@@ -12,7 +12,8 @@ pub trait Watch {
     /// clauses, and so many were learned. `Break` stops the search.
     fn note(&mut self, depth: usize, clauses: usize, learned: usize) -> ControlFlow<()>;
 
-    /// A slice of IC3 found nothing. It came to this frame, and so much was done up to now. `Break` stops the search.
+    /// A slice of IC3 ended. It came to this frame, and so much was done up to now. `Break` stops the search, if the
+    /// slice found nothing.
     fn note_slice(&mut self, frame: usize, statistics: &Statistics) -> ControlFlow<()>;
 }
 

@@ -29,6 +29,7 @@ fn told<A: Allocator + Copy>(
     let bounds = Bounds {
         depth: usize::from(depth),
         limit: 100,
+        calls: 0,
     };
     Ok(match search(alloc, &circuit, bad, bounds, &mut watch)? {
         Verdict::Fails(trace) => Found::Trace(trace.inputs.len()),

@@ -1,4 +1,4 @@
-//! A register of two latches.
+//! Registers: of two latches, and of many.
 
 use gipmc_circuits::{And, Circuit, Latch};
 use gipsat_solver::Literal;
@@ -25,6 +25,23 @@ pub fn shifter<A: Allocator + Copy>(alloc: A) -> Result<Circuit<A>, AllocError> 
         left: first,
         right: second,
     })?;
+    Ok(circuit)
+}
+
+/// Latch 2 is one after a moment at which input 1 was, and each latch behind it once the one before it was. All begin
+/// at 0.
+///
+/// # Errors
+/// `AllocError` where memory is refused.
+pub fn register<A: Allocator + Copy>(alloc: A, latches: u8) -> Result<Circuit<A>, AllocError> {
+    let mut circuit = Circuit::new(alloc);
+    circuit.inputs.push(1)?;
+    let mut before = Literal::new(1, true);
+    for place in 0..latches {
+        let variable = u32::from(place) + 2;
+        circuit.latches.push(begins_low(variable, before))?;
+        before = Literal::new(variable, true);
+    }
     Ok(circuit)
 }
 

@@ -2,7 +2,9 @@
 
 use crate::shifter::{full, shifter};
 use crate::stopper::Stopper;
+use gipmc_circuits::{And, Circuit, Latch};
 use gipmc_engines::{Tries, simulate};
+use gipsat_solver::Literal;
 use std::alloc::{AllocError, Allocator};
 
 // How many moments the trace has that simulation finds for the register, and of how many rounds a listener was told
@@ -26,7 +28,7 @@ fn found<A: Allocator + Copy>(
 
 #[test]
 fn finds_a_trace(rt: HostRuntime) -> Result<(), AllocError> {
-    // Of 64 runs one in four has the inputs for it.
+    // Of the runs one in four has the inputs for it.
     assert_eq!(rt; found(rt.alloc(), 9, 1, 9)?, (Some(3), 0));
     Ok(())
 }
@@ -41,5 +43,53 @@ fn ends_with_its_budget(rt: HostRuntime) -> Result<(), AllocError> {
 #[test]
 fn ends_where_a_listener_stops_it(rt: HostRuntime) -> Result<(), AllocError> {
     assert_eq!(rt; found(rt.alloc(), 2, 255, 3)?, (None, 3));
+    Ok(())
+}
+
+// The gate of two variables.
+fn both(output: u8, left: u8, right: u8) -> And {
+    And {
+        output: u32::from(output),
+        left: Literal::new(u32::from(left), true),
+        right: Literal::new(u32::from(right), true),
+    }
+}
+
+// Gate 11 is true where latches 1 to 3, which may begin at either value, and inputs 4 to 6 are.
+fn all_at_once<A: Allocator + Copy>(alloc: A) -> Result<Circuit<A>, AllocError> {
+    let mut circuit = Circuit::new(alloc);
+    for variable in [1u8, 2, 3] {
+        circuit.latches.push(Latch {
+            variable: u32::from(variable),
+            next: Literal::new(u32::from(variable), false),
+            reset: None,
+        })?;
+    }
+    for variable in [4u32, 5, 6] {
+        circuit.inputs.push(variable)?;
+    }
+    for (output, left, right) in [(7, 1, 2), (8, 7, 3), (9, 8, 4), (10, 9, 5), (11, 10, 6)] {
+        circuit.gates.push(both(output, left, right))?;
+    }
+    Ok(circuit)
+}
+
+#[test]
+fn draws_a_trace_again(rt: HostRuntime) -> Result<(), AllocError> {
+    // Of the runs one in 64 has these values at the first moment: a trace with others would be refused.
+    let alloc = rt.alloc();
+    let tries = Tries {
+        seed: 1,
+        rounds: 1,
+        moments: 9,
+    };
+    let trace = simulate(
+        alloc,
+        &all_at_once(alloc)?,
+        Literal::new(11, true),
+        tries,
+        &mut (),
+    )?;
+    assert_eq!(rt; trace.map(|trace| trace.inputs.len()), Some(1));
     Ok(())
 }

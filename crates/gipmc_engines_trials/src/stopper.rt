@@ -4,7 +4,7 @@ use gipmc_engines::Watch;
 use gipmc_ic3::Statistics;
 use std::ops::ControlFlow;
 
-/// Stops simulation after so many rounds, and bounded model checking before so many transitions.
+/// Stops simulation after so many rounds, and bounded model checking before so many transitions; at 0 of these IC3 too.
 #[derive(Clone, Copy)]
 pub struct Stopper {
     /// The rounds.
@@ -13,6 +13,8 @@ pub struct Stopper {
     pub depth: usize,
     /// How often it was told of a round.
     pub told: usize,
+    /// How often it was told of a slice of IC3.
+    pub slices: usize,
 }
 
 impl Stopper {
@@ -22,6 +24,7 @@ impl Stopper {
             rounds,
             depth,
             told: 0,
+            slices: 0,
         }
     }
 }
@@ -37,6 +40,7 @@ impl Watch for Stopper {
     }
 
     fn note_slice(&mut self, _frame: usize, _statistics: &Statistics) -> ControlFlow<()> {
+        self.slices = self.slices.saturating_add(1);
         stop_if(self.depth == 0)
     }
 }
