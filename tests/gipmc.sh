@@ -95,7 +95,10 @@ try "a witness that ends too early" 1 "" "s NOT VERIFIED" "$held" --replay wit
 witness '1\nb0\n1\n0\n.\n'
 try "a witness that begins elsewhere" 1 "" "s NOT VERIFIED" "$held" --replay wit
 witness '1\nb3\n0\n1\n0\n.\n'
-try "a witness of another literal" 1 "<stdin>: no bad literal 3, of 1" "" "$held" --replay wit
+try "a witness of a literal that is not there" 1 \
+    "wit: it names bad literal 3, and the circuit has 1" "" "$held" --replay wit
+try "a witness of a literal that is not there, from standard input" 1 \
+    "<stdin>: it names bad literal 3, and the circuit has 1" "" '1\nb3\n0\n1\n0\n.\n' --replay - held.aag
 witness '2\nb0\n.\n'
 # shellcheck disable=SC2016
 try "no witness" 1 'wit: line 1: no line `1`, with which a witness begins' "" "$held" --replay wit
@@ -103,7 +106,7 @@ witness '1\nb0\n00\n1\n.\n'
 try "a witness with a value too many" 1 \
     "wit: line 3: more or fewer values than the circuit has latches or inputs" "" "$held" --replay wit
 
-# Invariants of other programs.
+# Certificates of other programs that are clauses.
 invariant() { printf '%b' "$1" > inv; }
 invariant 'p cnf 1 1\n-1 0\n'
 try "an invariant" 0 "" "s VERIFIED" "$kept" --certify inv
@@ -132,25 +135,71 @@ try "a circuit of more latches" 1 \
 printf '%b' 'aag 1 0 1 0 0 1\n2 2\n' > cert.aag
 try "a circuit that ends too early" 1 "cert.aag: line 3: not a number" "" "$kept" --certify cert.aag
 
-# Invariants that are written, and checked again.
+# Certificates that are written, and checked again. The answer is written first.
 printf '%b' "$two" > two.aag
 rm -f cert
 "$gipmc" --bad 0 --certificate cert two.aag > out 2> err
 status=$?
-[ "$status" = 20 ] && [ "$("$gipmc" --certify cert --bad 0 two.aag)" = "s VERIFIED" ]
-told "an invariant that is written" $?
+[ "$status" = 20 ] && [ "$(cat out)" = "$safe" ] && [ ! -s err ] &&
+    [ "$("$gipmc" --certify cert --bad 0 two.aag)" = "s VERIFIED" ]
+told "a certificate that is written" $?
+[ "$("$gipmc" --certify cert two.aag)" = "s NOT VERIFIED" ]
+told "a certificate of the first literal is none of both" $?
 cp cert kept
-try "an invariant, and a file that is there" 1 \
+try "a certificate, and a file that is there" 1 \
     "cert: cannot be made: entity already exists" "" "" --bad 0 --certificate cert two.aag
 cmp -s cert kept
 told "a file that is there is left" $?
-try "an invariant in no folder" 1 \
-    "none/cert: cannot be made: no such file" "" "" --bad 0 --certificate none/cert two.aag
 rm cert
+ln -s nowhere cert
+try "a certificate, and a link to nothing" 1 \
+    "cert: cannot be made: entity already exists" "" "" --bad 0 --certificate cert two.aag
+[ -L cert ] && [ ! -e nowhere ]
+told "a link to nothing is left" $?
+rm cert
+try "a certificate in no folder" 1 \
+    "none/cert: cannot be made: no such file" "" "" --bad 0 --certificate none/cert two.aag
+if [ "$(id -u)" != 0 ]; then
+    mkdir locked
+    chmod a-w locked
+    try "a certificate in a folder that may not be written" 1 \
+        "locked/cert: cannot be made: permission denied" "" "" --bad 0 --certificate locked/cert two.aag
+fi
+out=$(trap '' XFSZ; ulimit -f 0; exec "$gipmc" --bad 0 --certificate cert two.aag 2>&1)
+status=$?
+[ "$status" = 1 ] && [ "$out" = "$safe"$'\n'"cert: cannot be written: file too large" ] && [ ! -e cert ]
+told "a certificate that cannot be written, behind the answer" $?
+if [ -e /dev/full ]; then
+    "$gipmc" --bad 0 --certificate cert two.aag > /dev/full 2> err
+    status=$?
+    [ "$status" = 1 ] && [ "$(cat err)" = "<stdout>: cannot be written: no space left" ] &&
+        [ "$("$gipmc" --certify cert --bad 0 two.aag)" = "s VERIFIED" ]
+    told "a certificate where the answer cannot be written" $?
+    rm -f cert
+fi
 "$gipmc" --certificate cert two.aag > out 2> err
 status=$?
-[ "$status" = 10 ] && [ ! -e cert ]
-told "no invariant of a circuit that fails" $?
+[ "$status" = 10 ] && [ ! -e cert ] && [ ! -s err ]
+told "no certificate of a circuit that fails" $?
+"$gipmc" --engine bmc --depth 3 --bad 0 --certificate cert two.aag > out 2> err
+status=$?
+[ "$status" = 0 ] && [ "$(cat out)" = "$(open 3)" ] && [ ! -e cert ] && [ ! -s err ]
+told "no certificate where the answer is open" $?
+try "no certificate of a literal that is not there" 1 \
+    "two.aag: no bad literal 2, of 2" "" "" --bad 2 --certificate cert two.aag
+[ ! -e cert ]
+told "no file is left where nothing is answered" $?
+"$gipmc" --certificate ./- --bad 0 two.aag > out 2> err
+status=$?
+[ "$status" = 20 ] && [ "$("$gipmc" --certify ./- --bad 0 two.aag)" = "s VERIFIED" ]
+told "a certificate in a file of the name of a minus" $?
+printf '%b' 'aag 2 0 2 0 0 2\n2 2\n4 4\n2\n4\n' > both.aag
+"$gipmc" --engine ic3 --certificate cert both.aag > out 2> err
+status=$?
+[ "$status" = 20 ] && [ "$("$gipmc" --certify cert both.aag)" = "s VERIFIED" ] &&
+    [ "$("$gipmc" --certify cert --bad 1 both.aag)" = "s VERIFIED" ]
+told "a certificate of two literals" $?
+rm -f cert
 
 # Texts that are refused.
 # shellcheck disable=SC2016
@@ -185,10 +234,16 @@ try "no engine" 2 "gipmc: '--engine' needs sim, bmc or ic3 behind it (try --help
 try "another engine" 2 "gipmc: '--engine' takes sim, bmc or ic3, not 'ic4' (try --help)" "" "" --engine ic4
 try "a depth that is no number" 2 "gipmc: '--depth' takes a number below 2^64, not 'x' (try --help)" "" "" --depth x
 try "two files" 2 "gipmc: one file too many, 'b' (try --help)" "" "" a b
-try "a witness and an invariant" 2 \
+try "a witness and a certificate" 2 \
     "gipmc: '--replay' and '--certify' exclude each other (try --help)" "" "" --replay a --certify b
-try "a witness, and a file for an invariant" 2 \
+try "a witness, and a file for a certificate" 2 \
     "gipmc: '--certificate' goes with neither '--replay' nor '--certify' (try --help)" "" "" --replay a --certificate b
+try "standard output for a certificate" 2 \
+    "gipmc: '--certificate' takes the name of a file, since standard output has the answer (try --help)" "" "" \
+    --certificate -
+try "standard output for a certificate, joined" 2 \
+    "gipmc: '--certificate' takes the name of a file, since standard output has the answer (try --help)" "" "" \
+    --certificate=-
 try "standard input twice" 2 "gipmc: one file at most is read from standard input (try --help)" "" "" --replay -
 try "the version" 0 "" "gipmc 0.1.0" "" --version
 cp held.aag ./-held.aag
@@ -198,16 +253,28 @@ try "a minus for standard input" 10 "" "$fails" "$held" --engine bmc -
 status=$?
 [ "$status" = 0 ] && grep -q "^usage: gipmc" out && [ ! -s err ]
 told "help" $?
-printf '%b' "$kept" | "$gipmc" --stats --engine bmc --depth 5 > out 2> err
-status=$?
-[ "$status" = 0 ] && grep -q "^c depth 5, [0-9]* clauses, [0-9]* learned, [0-9.]* s$" err
-told "a summary" $?
+
+# Summaries: a line for each bad literal, with the parts that ran.
+# NAME STATUS LINES [ARGUMENT..]: runs the program, and expects these lines on standard error, with `#` behind each.
+summary() {
+    local name=$1 wanted=$2 lines=$3
+    shift 3
+    "$gipmc" --stats "$@" > out 2> err
+    status=$?
+    [ "$status" = "$wanted" ] && tr '\n' '#' < err | grep -qx "$lines"
+    told "$name" $?
+}
+bmc='depth [0-9]*, [0-9]* clauses, [0-9]* learned; '
+ic3='frame [0-9]*, [0-9]* calls, [0-9]* obligations, [^#]* literals in each of [0-9]* lemmas; '
+took='[0-9]*[.][0-9][0-9][0-9] s#'
+printf '%b' "$kept" > kept.aag
+summary "a summary" 0 "c b0: $bmc$took" --engine bmc --depth 5 kept.aag
+summary "a summary of simulation" 0 "c b0: round [0-9]*; $took" --engine sim kept.aag
+summary "a summary of IC3 where its first calls decide" 20 "c b0: $ic3$took" --engine ic3 kept.aag
 "${rows%/*}/pdr.py" --family queue_length 4 > queue.aag
-"$gipmc" --stats --engine ic3 queue.aag > out 2> err
-status=$?
-told='; frame [0-9]*, [0-9]* calls, [0-9]* obligations, .* literals in each of [0-9]* lemmas, [0-9.]* s$'
-[ "$status" = 20 ] && grep -q "$told" err
-told "a summary of IC3" $?
+summary "a summary of IC3" 20 "c b0: $ic3$took" --engine ic3 queue.aag
+summary "a summary of two literals" 10 "c b0: $bmc${took}c b1: $bmc$took" --engine bmc --depth 3 two.aag
+summary "a summary of the second literal" 10 "c b1: $bmc$took" --engine bmc --bad 1 two.aag
 printf '%b' "$kept" | "$gipmc" --quiet > out 2> err
 status=$?
 [ "$status" = 20 ] && [ ! -s err ]

@@ -1,7 +1,7 @@
 -- Worked examples of command lines.
 use Rattle.std.proofs.Common.{◌≡◌, [], ◌∷◌, refl, codes, Some, None, Ok, Err, true}
 use Rattle.gipmc_engines.specs.declared.engines.Engine.TheVariants.{Simulation, Bounded, Ic3}
-use Rattle.gipmc.specs.Misuses.{UnknownOption, NoValue, NoNumber, NoEngine, ExtraFile, TwoTasks, NoSearch, InputTwice}
+use Rattle.gipmc.specs.Misuses.{UnknownOption, NoValue, NoNumber, NoEngine, ExtraFile, TwoTasks, NoSearch, InputTwice, OutputTwice}
 use Rattle.gipmc.specs.Options.{no_request, number_of}
 use Rattle.gipmc.specs.Words.{work_asked, Help, Version, Search, Replay, Certify}
 use Rattle.gipmc.specs.declared.options.Setting.TheVariants as setting
@@ -114,3 +114,11 @@ refused-certificate = refl
 
 refused-stdin_twice : work_asked (codes "--replay" ∷ codes "-" ∷ codes "-" ∷ []) ≡ Err InputTwice
 refused-stdin_twice = refl
+
+refused-stdout : work_asked (codes "--certificate=-" ∷ []) ≡ Err OutputTwice
+refused-stdout = refl
+
+-- a file of the name of a minus has another name too
+certificate-minus : work_asked (codes "--certificate" ∷ codes "./-" ∷ [])
+    ≡ Ok (Search (record no_request { certificate = Some (codes "./-") }))
+certificate-minus = refl

@@ -1,10 +1,9 @@
 -- Certificates that a circuit is safe, as texts.
-use Rattle.std.specs.Prelude.{◌≡◌, ℕ, List, length, slice_get, Option, Some, None}
-use Rattle.std.specs.declared.vec.Vec.{Vec}
+use Rattle.std.specs.Prelude.{◌≡◌, ◌<◌, ℕ, List, length, slice_get, Option, Some, None}
 use Rattle.gipsat_solver.specs.Literals.{Lit}
 use Rattle.gipmc_aiger.specs.Circuits.{Writes}
 use Rattle.gipmc_aiger.specs.Invariants.{clauses_view, invariant_for}
-use Rattle.gipmc_circuits.specs.Certificate.{Excludes, IsInductive, IsInitiated}
+use Rattle.gipmc_circuits.specs.Certificate.{IsSafeByClauses}
 use Rattle.gipmc_circuits.specs.Circuit.{IsSafe}
 use Rattle.gipmc_circuits.specs.Extension.{IsCertifiedBy}
 use Rattle.gipmc_circuits.specs.declared.circuit.Circuit.{Circuit}
@@ -16,13 +15,6 @@ abbrev pub IsCertificateIn : {A B : Type 0} → Circuit A → List ℕ → Certi
 IsCertificateIn c text (certificate.Clauses clauses) = invariant_for c text ≡ Some (clauses_view clauses.items)
 IsCertificateIn c text (certificate.Circuit other) = Writes text other
 
--- by the clauses of an invariant the circuit is safe as to the literal
-pub record IsSafeByClauses {A B : Type 0} (c : Circuit A) (invariant : List (Vec Lit B)) (bad : Lit) : Type 0 where
-  pub initiated : IsInitiated c invariant
-  pub inductive : IsInductive c invariant
-  pub excluded : Excludes c invariant bad
-  pub safe : IsSafe c bad
-
 -- by the other circuit it is safe as to the literal
 abbrev pub IsSafeByCircuit : {A B : Type 0} → Circuit A → Circuit B → Lit → Type 0
 IsSafeByCircuit c other bad = IsCertifiedBy c bad other × IsSafe c bad
@@ -32,13 +24,17 @@ abbrev pub ShowsSafe : {A B : Type 0} → Circuit A → Certificate B → Lit �
 ShowsSafe c (certificate.Clauses clauses) bad = IsSafeByClauses c clauses.items bad
 ShowsSafe c (certificate.Circuit other) bad = IsSafeByCircuit c other bad
 
--- by the certificate the circuit is safe as to the bad literal at a place, if there is one
+-- the circuit has a bad literal at the place, and by the certificate it is safe as to it
 abbrev pub ShowsSafeAt : {A B : Type 0} → Circuit A → Certificate B → ℕ → Type 0
-ShowsSafeAt c shown place = (bad : Lit) → slice_get c.bads.items place ≡ Some bad → ShowsSafe c shown bad
+ShowsSafeAt c shown place = (bad : Lit) × (slice_get c.bads.items place ≡ Some bad) × ShowsSafe c shown bad
 
--- by the certificate the circuit is safe as to the bad literal that is asked for, or as to all
+-- by the certificate it is safe as to each of its bad literals
+abbrev pub ShowsSafeAll : {A B : Type 0} → Circuit A → Certificate B → Type 0
+ShowsSafeAll c shown = (place : ℕ) → place < length c.bads.items → ShowsSafeAt c shown place
+
+-- by the certificate it is safe as to the bad literal that is asked for, which it has, or as to all
 abbrev pub ShowsSafeAsked : {A B : Type 0} → Circuit A → Certificate B → Option ℕ → Type 0
-ShowsSafeAsked c shown None = (place : ℕ) → ShowsSafeAt c shown place
+ShowsSafeAsked c shown None = ShowsSafeAll c shown
 ShowsSafeAsked c shown (Some place) = ShowsSafeAt c shown place
 
 -- the bytes write a circuit, and the text a certificate by which it is safe so

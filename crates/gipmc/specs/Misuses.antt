@@ -5,8 +5,8 @@ use Rattle.gipmc.specs.declared.errors.UsageError.TheVariants as error
 use Rattle.gipmc.specs.declared.options.Setting.{Setting}
 
 -- an option of no such name, one without its value, with one that is no number or with one that is no engine, a second
--- file, a witness beside an invariant, a file for an invariant though none is searched for, and standard input as both
--- the circuit and the answer
+-- file, a witness beside a certificate, a file for a certificate though none is searched for, standard input as both
+-- the circuit and the answer, and standard output for a certificate
 pub data Misuse : Type 0 where
   UnknownOption : List ℕ → Misuse
   NoValue : Setting → Misuse
@@ -16,6 +16,7 @@ pub data Misuse : Type 0 where
   TwoTasks : Misuse
   NoSearch : Misuse
   InputTwice : Misuse
+  OutputTwice : Misuse
 
 -- what an error tells
 abbrev pub misuse_of : UsageError → Misuse
@@ -27,3 +28,4 @@ misuse_of (error.ExtraFile name) = ExtraFile name.now
 misuse_of error.TwoTasks = TwoTasks
 misuse_of error.NoSearch = NoSearch
 misuse_of error.InputTwice = InputTwice
+misuse_of error.OutputTwice = OutputTwice

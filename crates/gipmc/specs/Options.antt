@@ -10,7 +10,8 @@ use Rattle.gipmc.specs.declared.options.Switch.{Switch}
 use Rattle.gipmc.specs.declared.options.Switch.TheVariants.{Quiet, Stats}
 
 -- the file of the circuit, if not standard input, the place of its bad literal, if not all, what searches, the most
--- transitions, if that is said, the most clauses or calls, the seed, what to write, and where an invariant, if anywhere
+-- transitions, if that is said, the most clauses or calls, the seed, what to write, and where to write a certificate, if
+-- one is wanted
 pub record Request : Type 0 where
   pub file : Option (List ℕ)
   pub bad : Option ℕ

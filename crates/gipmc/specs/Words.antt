@@ -4,7 +4,7 @@ use Rattle.std.specs.List.{after_first, before_first, position_or_len}
 use Rattle.std.specs.Option.{ok_or, option_map, option_or, option_and_then}
 use Rattle.std.specs.Result.{result_map_both}
 use Rattle.std.specs.Str.{byte, bytes_eq}
-use Rattle.gipmc.specs.Misuses.{Misuse, UnknownOption, NoValue, NoNumber, NoEngine, ExtraFile, TwoTasks, NoSearch, InputTwice}
+use Rattle.gipmc.specs.Misuses.{Misuse, UnknownOption, NoValue, NoNumber, NoEngine, ExtraFile, TwoTasks, NoSearch, InputTwice, OutputTwice}
 use Rattle.gipmc.specs.Options.{Request, engine_of, no_request, number_of, request_of, switched}
 use Rattle.gipmc.specs.declared.options.Awaits.{Awaits}
 use Rattle.gipmc.specs.declared.options.Awaits.TheVariants.{Any, Value, File, Nothing}
@@ -63,8 +63,8 @@ option_of word =
     option_or (option_map opt.Setting (setting_of word))
     (option_or (option_map opt.Switch (switch_of word)) (other_of word))
 
--- how the next word is read, what the words so far ask for, and the files of a witness to be replayed and of an
--- invariant to be certified
+-- how the next word is read, what the words so far ask for, and the files of a witness to be replayed and of a
+-- certificate to be checked
 pub record State : Type 0 where
   pub awaits : Awaits
   pub request : Request
@@ -83,6 +83,10 @@ asking s r = result_map_both (λ r. record s { request = r }) (λ e. e) r
 abbrev pub with_number : Setting → State → List ℕ → (ℕ → Request) → Result State Misuse
 with_number setting s word request = asking s (ok_or (option_map request (number_of word)) (NoNumber setting word))
 
+-- the file of this name for a certificate: it is no minus, since standard output has the answer
+abbrev pub output_of : List ℕ → Result (List ℕ) Misuse
+output_of name = if bytes_eq name (codes "-") then Err OutputTwice else Ok name
+
 -- with this value of a setting: a number, the name of an engine, or that of a file
 abbrev pub with_value : Setting → State → List ℕ → Result State Misuse
 with_value setting.Bad s word = with_number setting.Bad s word (λ n. record s.request { bad = Some n })
@@ -91,7 +95,8 @@ with_value setting.Limit s word = with_number setting.Limit s word (λ n. record
 with_value setting.Seed s word = with_number setting.Seed s word (λ n. record s.request { seed = n })
 with_value setting.Engine s word =
     asking s (ok_or (option_map (λ e. record s.request { engine = e }) (engine_of word)) (NoEngine word))
-with_value setting.Certificate s word = Ok (record s { request = record s.request { certificate = Some word } })
+with_value setting.Certificate s word =
+    asking s (result_map_both (λ name. record s.request { certificate = Some name }) (λ e. e) (output_of word))
 with_value setting.Replay s word = Ok (record s { replay = Some word })
 with_value setting.Certify s word = Ok (record s { certify = Some word })
 
@@ -133,8 +138,8 @@ after_word_as (Nothing told) s word = Ok s
 abbrev pub after_word : State → List ℕ → Result State Misuse
 after_word s word = after_word_as s.awaits s word
 
--- the help or the version is told, a circuit is to be searched, or the witness or the invariant in the file of this
--- name is to be replayed or certified for it; standard input has no name
+-- the help or the version is told, a circuit is to be searched, or the witness or the certificate in the file of this
+-- name is to be replayed or checked for it; standard input has no name
 pub data Work : Type 0 where
   Help : Work
   Version : Work
@@ -146,7 +151,7 @@ pub data Work : Type 0 where
 abbrev pub input_of : List ℕ → Option (List ℕ)
 input_of name = if bytes_eq name (codes "-") then None else Some name
 
--- the file of an answer: beside it no invariant is wanted, and the circuit does not come from standard input as well
+-- the file of an answer: beside it no certificate is wanted, and the circuit does not come from standard input as well
 abbrev pub answer_of : Request → List ℕ → Result (Option (List ℕ)) Misuse
 answer_of r name =
     if is_some r.certificate then Err NoSearch
@@ -157,8 +162,8 @@ answer_of r name =
 abbrev pub task_of : Option (List ℕ) → Option (List ℕ) → Request → Result Work Misuse
 task_of None None r = Ok (Search r)
 task_of (Some witness) None r = result_map_both (Replay r) (λ e. e) (answer_of r witness)
-task_of None (Some invariant) r = result_map_both (Certify r) (λ e. e) (answer_of r invariant)
-task_of (Some witness) (Some invariant) r = Err TwoTasks
+task_of None (Some certificate) r = result_map_both (Certify r) (λ e. e) (answer_of r certificate)
+task_of (Some witness) (Some certificate) r = Err TwoTasks
 
 abbrev pub task_asked : State → Result Work Misuse
 task_asked s = task_of s.replay s.certify (record s.request { file = option_and_then input_of s.request.file })
@@ -202,4 +207,4 @@ work_of task.Help = Help
 work_of task.Version = Version
 work_of (task.Search options) = Search (request_of options)
 work_of (task.Replay options witness) = Replay (request_of options) (option_map (λ name. name.now) witness)
-work_of (task.Certify options invariant) = Certify (request_of options) (option_map (λ name. name.now) invariant)
+work_of (task.Certify options certificate) = Certify (request_of options) (option_map (λ name. name.now) certificate)

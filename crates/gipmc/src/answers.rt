@@ -4,12 +4,12 @@ ghost use Rattle.gipmc.specs.Answers.{Answers, FailsAt, IsWitnessIn, Replays, Te
 ghost use Rattle.gipmc_aiger.specs.Circuits.{Writes};
 
 use crate::errors::TaskError;
-use gipmc_aiger::{Witness, read_circuit, read_witness, write_invariant, write_witness};
-use gipmc_circuits::encoding::variables;
+use crate::progress::Listener;
+use gipmc_aiger::{Witness, read_circuit, read_witness, write_witness};
 use gipmc_circuits::{Circuit, Trace, replay};
-use gipmc_engines::{Plan, Verdict, Watch, check};
+use gipmc_engines::{Plan, Verdict, check};
 use gipsat_solver::Literal;
-use std::alloc::{AllocError, Allocator};
+use std::alloc::{AllocError, Allocator, Global};
 use std::io::Write;
 
 /// What is known of some bad literals together.
@@ -40,26 +40,15 @@ impl Outcome {
     }
 }
 
-/// What is said, and what it says.
+/// What is said of some bad literals.
 #[derive(Drop)]
-pub struct Said<A: Allocator> {
+pub struct Said<A: Allocator = Global> {
     /// The text.
     pub text: Vec<u8, A>,
-    /// What it says of all the bad literals that are asked about.
+    /// What it says of all of them.
     pub outcome: Outcome,
-    /// The text of an invariant, where the circuit is safe as to each of them.
-    pub certificate: Option<Vec<u8, A>>,
-}
-
-// What is found out about some bad literals.
-#[derive(Drop)]
-struct Findings<A: Allocator> {
-    // The text.
-    text: Vec<u8, A>,
-    // What it says of all of them.
-    outcome: Outcome,
-    // The clauses of the invariants that show it of those that are safe.
-    invariant: Vec<Vec<Literal, A>, A>,
+    /// The clauses of the invariants that were found, over the circuit's variables.
+    pub invariant: Vec<Vec<Literal, A>, A>,
 }
 
 /// Answers about the circuit that a text writes: about the bad literal at the place that is asked for, or about all.
@@ -68,26 +57,17 @@ struct Findings<A: Allocator> {
 /// - [`TaskError::Circuit`] where the text writes no circuit.
 /// - [`TaskError::NoBad`] where there is no bad literal at the place.
 /// - [`TaskError::Memory`] where memory is refused.
-pub fn answer<A: Allocator + Copy, W: Watch>(
+pub fn answer<A: Allocator + Copy, L: Listener>(
     alloc: A,
     bytes: &[u8],
     asked: Option<usize>,
     plan: &Plan,
-    watch: &mut W,
+    listener: &mut L,
 ) -> Result<Said<A>, TaskError>
     ensures { IfOk result (λ said. Answers A bytes.now asked said.outcome said.text.items) }
 {
     let circuit = circuit_in(alloc, bytes)?;
-    let found = answer_asked(alloc, &circuit, asked, plan, watch)?;
-    let certificate = match found.outcome {
-        Outcome::Safe => Some(certificate_text(alloc, &circuit, &found.invariant)?),
-        _ => None,
-    };
-    Ok(Said {
-        text: found.text,
-        outcome: found.outcome,
-        certificate,
-    })
+    answer_asked(alloc, &circuit, asked, plan, listener)
 }
 
 // The circuit that a text writes.
@@ -104,44 +84,44 @@ pub(crate) fn circuit_in<A: Allocator + Copy>(
 }
 
 // Answers about a circuit.
-fn answer_asked<A: Allocator + Copy, W: Watch>(
+fn answer_asked<A: Allocator + Copy, L: Listener>(
     alloc: A,
     circuit: &Circuit<A>,
     asked: Option<usize>,
     plan: &Plan,
-    watch: &mut W,
-) -> Result<Findings<A>, TaskError>
-    ensures { IfOk result (λ found. TellsAsked circuit.now asked found.outcome found.text.items) }
+    listener: &mut L,
+) -> Result<Said<A>, TaskError>
+    ensures { IfOk result (λ said. TellsAsked circuit.now asked said.outcome said.text.items) }
 {
     match asked {
-        None => Ok(answer_all(alloc, circuit, plan, watch)?),
+        None => Ok(answer_all(alloc, circuit, plan, listener)?),
         Some(place) if place < circuit.bads.len() => {
-            Ok(answer_at(alloc, circuit, place, plan, watch)?)
+            Ok(answer_at(alloc, circuit, place, plan, listener)?)
         }
         Some(place) => Err(TaskError::NoBad(place, circuit.bads.len())),
     }
 }
 
 // Answers about all bad literals of a circuit.
-fn answer_all<A: Allocator + Copy, W: Watch>(
+fn answer_all<A: Allocator + Copy, L: Listener>(
     alloc: A,
     circuit: &Circuit<A>,
     plan: &Plan,
-    watch: &mut W,
-) -> Result<Findings<A>, AllocError>
-    ensures { IfOk result (λ found.
-        TellsFirst circuit.now (length circuit.now.bads.items) found.outcome found.text.items) }
+    listener: &mut L,
+) -> Result<Said<A>, AllocError>
+    ensures { IfOk result (λ said.
+        TellsFirst circuit.now (length circuit.now.bads.items) said.outcome said.text.items) }
 {
     let mut text = Vec::new(alloc);
     let mut outcome = Outcome::Safe;
     let mut invariant = Vec::new(alloc);
     for place in 0..circuit.bads.len() {
-        let mut found = answer_at(alloc, circuit, place, plan, watch)?;
-        text.extend_from_slice(&found.text)?;
-        outcome = outcome.and(found.outcome);
-        invariant.append(&mut found.invariant)?;
+        let mut said = answer_at(alloc, circuit, place, plan, listener)?;
+        text.extend_from_slice(&said.text)?;
+        outcome = outcome.and(said.outcome);
+        invariant.append(&mut said.invariant)?;
     }
-    Ok(Findings {
+    Ok(Said {
         text,
         outcome,
         invariant,
@@ -149,21 +129,24 @@ fn answer_all<A: Allocator + Copy, W: Watch>(
 }
 
 // Answers about the bad literal at a place.
-fn answer_at<A: Allocator + Copy, W: Watch>(
+fn answer_at<A: Allocator + Copy, L: Listener>(
     alloc: A,
     circuit: &Circuit<A>,
     place: usize,
     plan: &Plan,
-    watch: &mut W,
-) -> Result<Findings<A>, AllocError>
+    listener: &mut L,
+) -> Result<Said<A>, AllocError>
     requires { place < length circuit.now.bads.items }
-    ensures { IfOk result (λ found. Tells circuit.now place found.outcome found.text.items) }
+    ensures { IfOk result (λ said. Tells circuit.now place said.outcome said.text.items) }
 {
     let bad = circuit.bads[place];
-    let verdict = check(alloc, circuit, bad, plan, watch)?;
+    listener.begin(place);
+    let verdict = check(alloc, circuit, bad, plan, listener);
+    listener.end();
+    let verdict = verdict?;
     let text = verdict_text(alloc, place, &verdict)?;
     let outcome = outcome_of(&verdict);
-    Ok(Findings {
+    Ok(Said {
         text,
         outcome,
         invariant: invariant_of(alloc, verdict),
@@ -188,54 +171,6 @@ fn invariant_of<A: Allocator>(alloc: A, verdict: Verdict<A>) -> Vec<Vec<Literal,
         Verdict::Safe(invariant) => invariant,
         _ => Vec::new(alloc),
     }
-}
-
-// The text of an invariant of a circuit.
-fn certificate_text<A: Allocator + Copy>(
-    alloc: A,
-    circuit: &Circuit<A>,
-    invariant: &[Vec<Literal, A>],
-) -> Result<Vec<u8, A>, AllocError> {
-    let places = places_of(alloc, circuit)?;
-    let mut clauses = Vec::new(alloc);
-    for clause in invariant {
-        let clause = over_places(alloc, &places, clause)?;
-        clauses.reserve(1)?;
-        clauses.push_reserved(clause);
-    }
-    write_invariant(alloc, circuit.latches.len(), &clauses)
-}
-
-// The place of the latch of each variable, and 0 for one that is no latch's.
-fn places_of<A: Allocator + Copy>(
-    alloc: A,
-    circuit: &Circuit<A>,
-) -> Result<Vec<u32, A>, AllocError> {
-    let mut places = Vec::new(alloc);
-    places.resize(variables(circuit), 0)?;
-    for (place, latch) in circuit.latches.iter().enumerate() {
-        if let Some(entry) = places.get_mut(latch.variable as usize) {
-            *entry = u32::try_from(place).unwrap_or(0);
-        }
-    }
-    Ok(places)
-}
-
-// A clause over variables of latches, over their places.
-fn over_places<A: Allocator + Copy>(
-    alloc: A,
-    places: &[u32],
-    clause: &[Literal],
-) -> Result<Vec<Literal, A>, AllocError> {
-    let mut moved = Vec::new(alloc);
-    for l in clause {
-        let place = places.get(l.variable() as usize).copied().unwrap_or(0);
-        if place >= 2_147_483_647 {
-            return Err(AllocError);
-        }
-        moved.push(Literal::new(place, l.is_positive()))?;
-    }
-    Ok(moved)
 }
 
 // The text of a verdict on the bad literal at a place.
@@ -304,7 +239,7 @@ fn write_number<A: Allocator>(text: &mut Vec<u8, A>, number: u64) -> Result<(), 
 ///
 /// # Errors
 /// - [`TaskError::Circuit`] and [`TaskError::Witness`] where a text has another form.
-/// - [`TaskError::NoBad`] where the circuit has no such bad literal.
+/// - [`TaskError::OtherBad`] where the circuit has no such bad literal.
 /// - [`TaskError::Memory`] where memory is refused.
 pub fn replays<A: Allocator + Copy>(
     alloc: A,
@@ -342,7 +277,7 @@ fn fails_by<A: Allocator + Copy>(
 {
     let place = witness.property as usize;
     if place >= circuit.bads.len() {
-        return Err(TaskError::NoBad(place, circuit.bads.len()));
+        return Err(TaskError::OtherBad(place, circuit.bads.len()));
     }
     Ok(fails_at(alloc, circuit, place, &witness.trace)?)
 }

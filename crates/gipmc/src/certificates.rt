@@ -1,15 +1,16 @@
 //! Certificates that a circuit is safe, from the bytes of texts to the answer.
-ghost use Rattle.std.specs.Prelude.{ℕ, ◌<◌, length, IfOk, IsTrue};
-ghost use Rattle.gipmc.specs.Certificates.{Certifies, IsCertificateIn, ShowsSafeAsked, ShowsSafeAt};
+ghost use Rattle.std.specs.Prelude.{◌<◌, length, IfOk, IsTrue};
+ghost use Rattle.gipmc.specs.Certificates.{Certifies, IsCertificateIn, ShowsSafeAll, ShowsSafeAsked, ShowsSafeAt};
 ghost use Rattle.gipmc.specs.declared.certificates.Certificate.TheVariants as certificate;
 
 use crate::answers::circuit_in;
 use crate::errors::TaskError;
-use gipmc_aiger::{read_circuit, read_invariant_for};
+use gipmc_aiger::{read_circuit, read_invariant_for, write_invariant};
 use gipmc_circuits::certificate::Verdict;
+use gipmc_circuits::encoding::variables;
 use gipmc_circuits::{Circuit, certify, certify_by};
 use gipsat_solver::Literal;
-use std::alloc::Allocator;
+use std::alloc::{AllocError, Allocator};
 
 /// What may show that a circuit is safe.
 #[derive(Drop)]
@@ -42,6 +43,83 @@ pub fn certifies<A: Allocator + Copy>(
     certifies_asked(alloc, &circuit, &certificate, asked, limit)
 }
 
+/// The text of a certificate that the circuit of another text is safe: as to the bad literal at the place that is asked
+/// for, or as to all. It writes the clauses of this invariant, which are over the circuit's variables. They are read
+/// back, and certify the circuit again. Each question to the solver may learn `limit` clauses.
+///
+/// # Errors
+/// - [`TaskError::Uncertified`] where the clauses do not show it.
+/// - Those of [`certifies`].
+pub fn certificate_of<A: Allocator + Copy>(
+    alloc: A,
+    bytes: &[u8],
+    invariant: &[Vec<Literal, A>],
+    asked: Option<usize>,
+    limit: usize,
+) -> Result<Vec<u8, A>, TaskError>
+    ensures { IfOk result (λ text. Certifies A bytes.now text.items asked) }
+{
+    let text = invariant_text(alloc, bytes, invariant)?;
+    if !certifies(alloc, bytes, &text, asked, limit)? {
+        return Err(TaskError::Uncertified);
+    }
+    Ok(text)
+}
+
+// The text of some clauses over the latches of the circuit that a text writes.
+fn invariant_text<A: Allocator + Copy>(
+    alloc: A,
+    bytes: &[u8],
+    invariant: &[Vec<Literal, A>],
+) -> Result<Vec<u8, A>, TaskError> {
+    let circuit = circuit_in(alloc, bytes)?;
+    let places = places_of(alloc, &circuit)?;
+    let mut clauses = Vec::new(alloc);
+    for clause in invariant {
+        let clause = over_places(alloc, &places, clause)?;
+        clauses.reserve(1)?;
+        clauses.push_reserved(clause);
+    }
+    Ok(write_invariant(alloc, circuit.latches.len(), &clauses)?)
+}
+
+// The place of the latch of each variable that is a latch's.
+fn places_of<A: Allocator + Copy>(
+    alloc: A,
+    circuit: &Circuit<A>,
+) -> Result<Vec<Option<u32>, A>, AllocError> {
+    let mut places = Vec::new(alloc);
+    places.resize(variables(circuit), None)?;
+    for (place, latch) in circuit.latches.iter().enumerate() {
+        if let Some(entry) = places.get_mut(latch.variable as usize) {
+            *entry = u32::try_from(place).ok();
+        }
+    }
+    Ok(places)
+}
+
+// A clause over variables of latches, over their places.
+fn over_places<A: Allocator + Copy>(
+    alloc: A,
+    places: &[Option<u32>],
+    clause: &[Literal],
+) -> Result<Vec<Literal, A>, TaskError> {
+    let mut moved = Vec::new(alloc);
+    for l in clause {
+        match places.get(l.variable() as usize) {
+            Some(Some(place)) if *place < LATCHES => {
+                moved.reserve(1)?;
+                moved.push_reserved(Literal::new(*place, l.is_positive()));
+            }
+            _ => return Err(TaskError::Uncertified),
+        }
+    }
+    Ok(moved)
+}
+
+// The most latches that the text of an invariant may name.
+const LATCHES: u32 = 2_147_483_647;
+
 // Whether the circuit is safe by a certificate.
 fn certifies_asked<A: Allocator + Copy>(
     alloc: A,
@@ -68,7 +146,7 @@ fn certifies_all<A: Allocator + Copy>(
     certificate: &Certificate<A>,
     limit: usize,
 ) -> Result<bool, TaskError>
-    ensures { IfOk result (λ safe. IsTrue safe → (place : ℕ) → ShowsSafeAt circuit.now certificate.now place) }
+    ensures { IfOk result (λ safe. IsTrue safe → ShowsSafeAll circuit.now certificate.now) }
 {
     for place in 0..circuit.bads.len() {
         if !certifies_at(alloc, circuit, certificate, place, limit)? {

@@ -18,12 +18,14 @@ pub enum UsageError<'a> {
     NoEngine(&'a str),
     /// More files are named than are read.
     ExtraFile(&'a str),
-    /// A witness and an invariant are given.
+    /// A witness and a certificate are given.
     TwoTasks,
-    /// A file for an invariant is named, but none is searched for.
+    /// A file for a certificate is named, but none is searched for.
     NoSearch,
     /// Standard input is named twice.
     InputTwice,
+    /// A certificate is to be written to standard output.
+    OutputTwice,
 }
 
 impl Display for UsageError<'_> {
@@ -44,6 +46,9 @@ impl Display for UsageError<'_> {
                 f.write_str("'--certificate' goes with neither '--replay' nor '--certify'")
             }
             UsageError::InputTwice => f.write_str("one file at most is read from standard input"),
+            UsageError::OutputTwice => f.write_str(
+                "'--certificate' takes the name of a file, since standard output has the answer",
+            ),
         }
     }
 }
@@ -88,6 +93,10 @@ pub enum TaskError {
     OtherShape,
     /// There is no bad literal at this place; there are so many.
     NoBad(usize, usize),
+    /// The witness names the bad literal at this place; there are so many.
+    OtherBad(usize, usize),
+    /// The clauses that were found do not certify the circuit.
+    Uncertified,
     /// Memory was refused.
     Memory,
 }
@@ -111,10 +120,16 @@ pub enum Failure<'a> {
     Create(&'a str, io::Error),
     /// A write to the file of this name failed.
     WriteFile(&'a str, io::Error),
+    /// The file of this name could not be removed.
+    Remove(&'a str, io::Error),
+    /// No certificate was written to this file.
+    NoCertificate(Option<&'a str>, TaskError),
     /// The text in this input has another form.
     Form(Option<&'a str>, AigerError),
     /// The circuit in this input has no bad literal at this place; it has so many.
     NoBad(Option<&'a str>, usize, usize),
+    /// The witness in this input names the bad literal at this place; the circuit has so many.
+    OtherBad(Option<&'a str>, usize, usize),
     /// The circuit in this input has another number of inputs or latches than the one that it is to certify.
     OtherShape(Option<&'a str>),
     /// Memory was refused.
@@ -138,11 +153,29 @@ impl Display for Failure<'_> {
             Failure::WriteFile(name, error) => {
                 write!(f, "{name}: cannot be written: {}", Cause(error))
             }
+            Failure::Remove(name, error) => {
+                write!(f, "{name}: cannot be removed: {}", Cause(error))
+            }
+            Failure::NoCertificate(name, TaskError::Memory) => write!(
+                f,
+                "{}: cannot be written: memory refused",
+                name.unwrap_or("<stdout>")
+            ),
+            Failure::NoCertificate(name, _) => write!(
+                f,
+                "{}: not written, since what was found does not certify the circuit",
+                name.unwrap_or("<stdout>")
+            ),
             Failure::Form(_, AigerError::Memory) => f.write_str("memory: refused"),
             Failure::Form(name, error) => write!(f, "{}: {error}", name.unwrap_or("<stdin>")),
             Failure::NoBad(name, place, count) => write!(
                 f,
                 "{}: no bad literal {place}, of {count}",
+                name.unwrap_or("<stdin>")
+            ),
+            Failure::OtherBad(name, place, count) => write!(
+                f,
+                "{}: it names bad literal {place}, and the circuit has {count}",
                 name.unwrap_or("<stdin>")
             ),
             Failure::OtherShape(name) => write!(

@@ -20,28 +20,53 @@ pub fn bytes_of<'a>(rt: &HostRuntime, name: Option<&'a str>) -> Result<Vec<u8>, 
     }
 }
 
-/// Nothing, where there is no file of this name.
-///
-/// # Errors
-/// [`Failure::Create`] where there is one.
-pub fn refuse_existing<'a>(rt: &HostRuntime, name: &'a str) -> Result<(), Failure<'a>> {
-    match fs::metadata(rt, name) {
-        Ok(_) => Err(Failure::Create(name, io::Error::from(ErrorKind::AlreadyExists))),
-        Err(_) => Ok(()),
-    }
+/// A file that this run made. It is to be written or removed.
+#[derive(Drop)]
+pub struct NewFile<'a> {
+    name: &'a str,
+    file: File,
 }
 
-/// Writes a text to a new file of this name.
-///
-/// # Errors
-/// [`Failure::Create`] where there is one already or it cannot be made, and [`Failure::WriteFile`] where a write fails.
-pub fn write_new<'a>(rt: &HostRuntime, name: &'a str, text: &[u8]) -> Result<(), Failure<'a>> {
-    match File::create_new(rt, name) {
-        Ok(mut file) => match file.write_all(text) {
+impl<'a> NewFile<'a> {
+    /// Makes the file of this name.
+    ///
+    /// # Errors
+    /// [`Failure::Create`] where something has this name already, or the file cannot be made.
+    pub fn create(rt: &HostRuntime, name: &'a str) -> Result<Self, Failure<'a>> {
+        match File::create_new(rt, name) {
+            Ok(file) => Ok(NewFile { name, file }),
+            Err(error) => Err(Failure::Create(name, error)),
+        }
+    }
+
+    /// Its name.
+    pub fn name(&self) -> &'a str {
+        self.name
+    }
+
+    /// Writes a text to it.
+    ///
+    /// # Errors
+    /// [`Failure::WriteFile`] where that fails. Then the file is removed.
+    pub fn write(mut self, rt: &HostRuntime, text: &[u8]) -> Result<(), Failure<'a>> {
+        match self.file.write_all(text) {
             Ok(()) => Ok(()),
-            Err(error) => Err(Failure::WriteFile(name, error)),
-        },
-        Err(error) => Err(Failure::Create(name, error)),
+            Err(error) => {
+                let _ = fs::remove_file(rt, self.name);
+                Err(Failure::WriteFile(self.name, error))
+            }
+        }
+    }
+
+    /// Removes it.
+    ///
+    /// # Errors
+    /// [`Failure::Remove`] where that fails.
+    pub fn remove(self, rt: &HostRuntime) -> Result<(), Failure<'a>> {
+        match fs::remove_file(rt, self.name) {
+            Ok(()) => Ok(()),
+            Err(error) => Err(Failure::Remove(self.name, error)),
+        }
     }
 }
 

@@ -7,10 +7,10 @@ pub const VERSION: &str = "gipmc 0.1.0\n";
 pub const HELP: &str = "usage: gipmc [OPTION]... [FILE]
 
 Reads a circuit in the ascii or the binary form of AIGER 1.9 from FILE, or from standard input where none is named or
-its name is -, and writes for each bad literal in turn what it found: the lines `1`, `b` with the literal's place (from
-0 on), a witness and `.`; or `0` in place of `1` where the circuit is safe, and `2` where that is open. A line `u` with
-a number before a `2` says that no trace of at most so many transitions fails. Where the circuit has no bad literals,
-its outputs are taken for them.
+its name is -, and searches for each bad literal in turn. At the end it writes for each what it found: the lines `1`,
+`b` with the literal's place (from 0 on), a witness and `.`; or `0` in place of `1` where the circuit is safe, and `2`
+where that is open. A line `u` with a number before a `2` says that no trace of at most so many transitions fails.
+Where the circuit has no bad literals, its outputs are taken for them.
 
 Input:
       --bad I           only the bad literal at place I
@@ -19,20 +19,24 @@ Search:
       --engine ENGINE   only this one: sim (random simulation), bmc (bounded model checking) or ic3; without this,
                         simulation for a moment, and then bmc and ic3 by turns
       --depth N         bmc asks for traces of at most N transitions (100 with --engine bmc, else without bound)
-      --limit N         bmc leaves a question open after N learned clauses, and ic3 ends after N calls of its solvers
+      --limit N         bmc leaves a question open after N learned clauses, and so does --certify; ic3 ends after N
+                        calls of its solvers. Without this there is no bound: ic3 goes on until it finds an answer
       --seed N          the seed of random simulation (0)
 
 Answers of other programs:
       --replay WITNESS  write `s VERIFIED` if the circuit fails by the trace in the file WITNESS, or `s NOT VERIFIED`
-      --certify FILE    write `s VERIFIED` if the certificate in FILE shows that the circuit is safe, or `s NOT VERIFIED`.
-                        It is clauses over latches in the DIMACS form, or a circuit in a form of AIGER with as many
-                        inputs and latches, whose bad literals are false, and constraints true, where an invariant holds
+      --certify FILE    write `s VERIFIED` if the certificate in FILE shows that the circuit is safe as to all that are
+                        asked about, or `s NOT VERIFIED`, also where a question is left open by --limit. A certificate
+                        is clauses over latches in the DIMACS form, or a circuit in a form of AIGER with as many inputs
+                        and latches, whose bad literals are false, and constraints true, where an invariant holds
 
 Output:
-      --certificate F   write the invariant to the file F, which must not be there, if the circuit is safe as to all
-                        that are asked about; `--certify F` checks it
+      --certificate F   make the file F, which must not be there, before the search, and write a certificate to it if
+                        the circuit is safe as to all that are asked about: clauses, which `--certify F` checks. If no
+                        certificate is found, F is removed. A minus is refused, since standard output has the answer
   -q, --quiet           write no progress; without this it is written where standard error is a terminal
-      --stats           write a summary on standard error (lines that begin with c)
+      --stats           write a summary for each bad literal on standard error (lines that begin with c): how far each
+                        engine that ran came, and the time
 
 Other:
   -h, --help            write this, and do nothing else

@@ -17,10 +17,10 @@ mod help;
 mod options;
 mod progress;
 
-use answers::{Outcome, answer, replays};
-use certificates::certifies;
+use answers::{Outcome, Said, answer, replays};
+use certificates::{certificate_of, certifies};
 use errors::{Cause, Failure, TaskError, UsageError};
-use files::{bytes_of, refuse_existing, write_new};
+use files::{NewFile, bytes_of};
 use gipmc_engines::{Bounds, Engine, Plan, Tries};
 use help::{HELP, VERSION};
 use options::{Options, Task};
@@ -37,7 +37,7 @@ const REFUSED: u8 = 1;
 const USAGE: u8 = 2;
 
 // How often simulation begins anew, and how many moments it has then.
-const ROUNDS: usize = 16;
+const ROUNDS: usize = 2;
 
 const MOMENTS: usize = 256;
 
@@ -134,6 +134,8 @@ fn failure<'a>(circuit: Option<&'a str>, beside: Option<&'a str>, error: TaskErr
         TaskError::Certificate(error) => Failure::Form(beside, error),
         TaskError::OtherShape => Failure::OtherShape(beside),
         TaskError::NoBad(place, count) => Failure::NoBad(circuit, place, count),
+        TaskError::OtherBad(place, count) => Failure::OtherBad(beside, place, count),
+        TaskError::Uncertified => Failure::NoCertificate(beside, error),
         TaskError::Memory => Failure::Memory,
     }
 }
@@ -158,6 +160,7 @@ fn plan_of(options: &Options) -> Plan {
         bounds: Bounds {
             depth: depth_of(options),
             limit: options.limit,
+            calls: options.limit,
         },
     }
 }
@@ -170,24 +173,71 @@ fn depth_of(options: &Options) -> usize {
     }
 }
 
-// Answers about the circuit of the file that the options name, or of standard input.
+// Answers about the circuit of the file that the options name, or of standard input, and writes the answer and then the
+// certificate, if one is wanted and was found.
 fn search_file<'a>(rt: &HostRuntime, options: &Options<'a>) -> Result<Outcome, Failure<'a>> {
     let bytes = bytes_of(rt, options.file)?;
-    if let Some(name) = options.certificate {
-        refuse_existing(rt, name)?;
+    match options.certificate {
+        Some(name) => certified_search(rt, options, &bytes, NewFile::create(rt, name)?),
+        None => {
+            let said = search(rt, options, &bytes)?;
+            write_out(rt, &said.text)?;
+            Ok(said.outcome)
+        }
     }
-    let mut teller = Teller::new(rt, options);
+}
+
+// Answers about a circuit.
+fn search<'a>(rt: &HostRuntime, options: &Options<'a>, bytes: &[u8]) -> Result<Said, Failure<'a>> {
     let plan = plan_of(options);
-    let said = match answer(rt.alloc(), &bytes, options.bad, &plan, &mut teller) {
-        Ok(said) => said,
-        Err(error) => return Err(failure(options.file, None, error)),
-    };
-    teller.end();
-    if let (Some(name), Some(text)) = (options.certificate, &said.certificate) {
-        write_new(rt, name, text)?;
+    let mut teller = Teller::new(rt, options);
+    match answer(rt.alloc(), bytes, options.bad, &plan, &mut teller) {
+        Ok(said) => Ok(said),
+        Err(error) => Err(failure(options.file, None, error)),
     }
-    write_out(rt, &said.text)?;
+}
+
+// Answers about a circuit, writes the answer, and then the certificate to the file. The file is removed where there is
+// none.
+fn certified_search<'a>(
+    rt: &HostRuntime,
+    options: &Options<'a>,
+    bytes: &[u8],
+    file: NewFile<'a>,
+) -> Result<Outcome, Failure<'a>> {
+    let said = match search(rt, options, bytes) {
+        Ok(said) => said,
+        Err(error) => {
+            let _ = file.remove(rt);
+            return Err(error);
+        }
+    };
+    let told = write_out(rt, &said.text);
+    let kept = match said.outcome {
+        Outcome::Safe => write_certificate(rt, options, bytes, &said, file),
+        _ => file.remove(rt),
+    };
+    told?;
+    kept?;
     Ok(said.outcome)
+}
+
+// Writes the certificate that was found to the file. The file is removed where that fails.
+fn write_certificate<'a>(
+    rt: &HostRuntime,
+    options: &Options<'a>,
+    bytes: &[u8],
+    said: &Said,
+    file: NewFile<'a>,
+) -> Result<(), Failure<'a>> {
+    match certificate_of(rt.alloc(), bytes, &said.invariant, options.bad, usize::MAX) {
+        Ok(text) => file.write(rt, &text),
+        Err(error) => {
+            let name = file.name();
+            let _ = file.remove(rt);
+            Err(Failure::NoCertificate(Some(name), error))
+        }
+    }
 }
 
 // Replays the witness in the file of this name, or in standard input.

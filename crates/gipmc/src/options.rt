@@ -5,8 +5,8 @@ ghost use Rattle.std.specs.Result.{result_map_both};
 ghost use Rattle.gipmc.specs.Misuses.{misuse_of, NoEngine, NoNumber};
 ghost use Rattle.gipmc.specs.Options.{engine_of, no_request, number_of, request_of, switched};
 ghost use Rattle.gipmc.specs.Words.{after_file, after_named, after_option, after_word, after_words, answer_of};
-ghost use Rattle.gipmc.specs.Words.{asked_for, input_of, joined_of, no_words, option_of, setting_of, state_of};
-ghost use Rattle.gipmc.specs.Words.{switch_of, task_asked, with_value, work_asked, work_of};
+ghost use Rattle.gipmc.specs.Words.{asked_for, input_of, joined_of, no_words, option_of, output_of, setting_of};
+ghost use Rattle.gipmc.specs.Words.{state_of, switch_of, task_asked, with_value, work_asked, work_of};
 
 use crate::errors::UsageError;
 use gipmc_engines::Engine;
@@ -58,7 +58,7 @@ pub struct Options<'a> {
     pub quiet: bool,
     /// Whether a summary is written.
     pub stats: bool,
-    /// The file that an invariant is written to, if one is wanted.
+    /// The file that a certificate is written to, if one is wanted.
     pub certificate: Option<&'a str>,
 }
 
@@ -159,6 +159,16 @@ fn input<'a>(name: &'a str) -> Option<&'a str>
     ensures { option_map (λ name. name.now) result ≡ input_of name.now }
 {
     if name == "-" { None } else { Some(name) }
+}
+
+// The file of this name, to which a certificate is written: not standard output.
+fn output<'a>(name: &'a str) -> Result<&'a str, UsageError<'a>>
+    ensures { result_map_both (λ name. name.now) misuse_of result ≡ output_of name.now }
+{
+    if name == "-" {
+        return Err(UsageError::OutputTwice);
+    }
+    Ok(name)
 }
 
 /// What is told in place of an answer.
@@ -369,7 +379,7 @@ impl<'a> Parser<'a> {
                 Ok(self.with(Options { engine, ..options }))
             }
             Setting::Certificate => {
-                let certificate = Some(word);
+                let certificate = Some(output(word)?);
                 Ok(self.with(Options {
                     certificate,
                     ..options
@@ -426,7 +436,7 @@ impl<'a> Parser<'a> {
         match (self.replay, self.certify) {
             (None, None) => Ok(Task::Search(options)),
             (Some(witness), None) => Ok(Task::Replay(options, options.answer(witness)?)),
-            (None, Some(invariant)) => Ok(Task::Certify(options, options.answer(invariant)?)),
+            (None, Some(certificate)) => Ok(Task::Certify(options, options.answer(certificate)?)),
             (Some(_), Some(_)) => Err(UsageError::TwoTasks),
         }
     }

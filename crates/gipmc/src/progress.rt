@@ -14,7 +14,17 @@ use std::time::{Duration, Instant};
 // How many seconds it is at least from one line to the next.
 const INTERVAL_SECONDS: u64 = 1;
 
-/// Writes now and then how far a search is, where standard error is a terminal. It stops none.
+/// A listener to the searches about some bad literals, one after another.
+pub trait Listener: Watch {
+    /// The search about the bad literal at this place begins.
+    fn begin(&mut self, place: usize);
+
+    /// It ended.
+    fn end(&mut self);
+}
+
+/// Writes now and then how far a search is, where standard error is a terminal, and a summary of each, if that is
+/// wanted. It stops none.
 #[derive(Drop)]
 pub struct Teller<'a> {
     rt: &'a HostRuntime,
@@ -22,33 +32,82 @@ pub struct Teller<'a> {
     logger: IntervalLogger,
     // Whether lines are written while the search goes on.
     is_told: bool,
-    // Whether a summary is written.
+    // Whether summaries are written.
     stats: bool,
+    // When the search about this bad literal began, and how far it is.
+    begun: Option<Instant>,
     snapshot: Snapshot,
 }
 
-// How far a search is.
+// How far the search about a bad literal is. A part that did not run says nothing.
 #[derive(Clone, Copy)]
 struct Snapshot {
-    // Of bounded model checking: the most transitions, and the clauses and the learned ones there.
-    depth: usize,
-    clauses: usize,
-    learned: usize,
-    // Of IC3: the last frame, and what was done.
-    ic3: Option<(usize, Statistics)>,
+    place: usize,
+    simulated: Simulated,
+    unrolled: Unrolled,
+    framed: Framed,
+}
+
+impl Snapshot {
+    // Before the search.
+    fn new(place: usize) -> Self {
+        Snapshot {
+            place,
+            simulated: Simulated(None),
+            unrolled: Unrolled(None),
+            framed: Framed(None),
+        }
+    }
 }
 
 impl Display for Snapshot {
     fn fmt<W: fmt::Write>(&self, f: &mut fmt::Formatter<W>) -> fmt::Result {
         write!(
             f,
-            "depth {}, {} clauses, {} learned",
-            self.depth, self.clauses, self.learned
-        )?;
-        match &self.ic3 {
+            "b{}: {}{}{}",
+            self.place, self.simulated, self.unrolled, self.framed
+        )
+    }
+}
+
+// Of simulation: the last round that found nothing.
+#[derive(Clone, Copy)]
+struct Simulated(Option<usize>);
+
+impl Display for Simulated {
+    fn fmt<W: fmt::Write>(&self, f: &mut fmt::Formatter<W>) -> fmt::Result {
+        match self.0 {
+            Some(round) => write!(f, "round {round}; "),
+            None => Ok(()),
+        }
+    }
+}
+
+// Of bounded model checking: the most transitions, and the clauses and the learned ones there.
+#[derive(Clone, Copy)]
+struct Unrolled(Option<(usize, usize, usize)>);
+
+impl Display for Unrolled {
+    fn fmt<W: fmt::Write>(&self, f: &mut fmt::Formatter<W>) -> fmt::Result {
+        match self.0 {
+            Some((depth, clauses, learned)) => {
+                write!(f, "depth {depth}, {clauses} clauses, {learned} learned; ")
+            }
+            None => Ok(()),
+        }
+    }
+}
+
+// Of IC3: the last frame, and what was done.
+#[derive(Clone, Copy)]
+struct Framed(Option<(usize, Statistics)>);
+
+impl Display for Framed {
+    fn fmt<W: fmt::Write>(&self, f: &mut fmt::Formatter<W>) -> fmt::Result {
+        match &self.0 {
             Some((frame, statistics)) => write!(
                 f,
-                "; frame {frame}, {} calls, {} obligations, {:?} literals in each of {} lemmas",
+                "frame {frame}, {} calls, {} obligations, {:?} literals in each of {} lemmas; ",
                 statistics.calls,
                 statistics.obligations,
                 statistics.lengths,
@@ -92,30 +151,27 @@ impl Log for Comments<'_> {
 }
 
 impl<'a> Teller<'a> {
-    /// Before the search.
+    /// Before the searches.
     pub fn new(rt: &'a HostRuntime, options: &Options) -> Self {
+        let started = Instant::now(rt).ok();
         Teller {
             rt,
-            started: Instant::now(rt).ok(),
+            started,
             logger: IntervalLogger::new(
                 Duration::from_secs(0),
                 Duration::from_secs(INTERVAL_SECONDS),
             ),
             is_told: !options.quiet && rt.stderr().is_terminal(),
             stats: options.stats,
-            snapshot: Snapshot {
-                depth: 0,
-                clauses: 0,
-                learned: 0,
-                ic3: None,
-            },
+            begun: started,
+            snapshot: Snapshot::new(0),
         }
     }
 
-    // The time since the search began, or none where there is no clock.
-    fn elapsed(&self) -> Duration {
-        match self.started {
-            Some(started) => started.elapsed(self.rt).unwrap_or(Duration::from_secs(0)),
+    // The time since then, or none where there is no clock.
+    fn since(&self, then: Option<Instant>) -> Duration {
+        match then {
+            Some(then) => then.elapsed(self.rt).unwrap_or(Duration::from_secs(0)),
             None => Duration::from_secs(0),
         }
     }
@@ -123,36 +179,43 @@ impl<'a> Teller<'a> {
     // Writes how far it is, where that is due.
     fn tell(&mut self) -> ControlFlow<()> {
         if self.is_told {
-            let now = self.elapsed();
-            let told = format_args!("{}, {}", self.snapshot, Seconds(now));
+            let now = self.since(self.started);
+            let took = Seconds(self.since(self.begun));
+            let told = format_args!("{}{took}", self.snapshot);
             self.logger
                 .log(&Comments { rt: self.rt }, now, Level::Info, &told);
         }
         ControlFlow::Continue(())
     }
+}
 
-    /// Writes the summary, if one is wanted.
-    pub fn end(&self) {
+impl Listener for Teller<'_> {
+    fn begin(&mut self, place: usize) {
+        self.begun = Instant::now(self.rt).ok();
+        self.snapshot = Snapshot::new(place);
+    }
+
+    fn end(&mut self) {
         if self.stats {
-            let _ = eprintln!(self.rt; "c {}, {}", self.snapshot, Seconds(self.elapsed()));
+            let took = Seconds(self.since(self.begun));
+            let _ = eprintln!(self.rt; "c {}{took}", self.snapshot);
         }
     }
 }
 
 impl Watch for Teller<'_> {
-    fn note_round(&mut self, _rounds: usize) -> ControlFlow<()> {
-        ControlFlow::Continue(())
+    fn note_round(&mut self, rounds: usize) -> ControlFlow<()> {
+        self.snapshot.simulated = Simulated(Some(rounds));
+        self.tell()
     }
 
     fn note(&mut self, depth: usize, clauses: usize, learned: usize) -> ControlFlow<()> {
-        self.snapshot.depth = depth;
-        self.snapshot.clauses = clauses;
-        self.snapshot.learned = learned;
+        self.snapshot.unrolled = Unrolled(Some((depth, clauses, learned)));
         self.tell()
     }
 
     fn note_slice(&mut self, frame: usize, statistics: &Statistics) -> ControlFlow<()> {
-        self.snapshot.ic3 = Some((frame, *statistics));
+        self.snapshot.framed = Framed(Some((frame, *statistics)));
         self.tell()
     }
 }

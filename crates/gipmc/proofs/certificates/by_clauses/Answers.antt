@@ -1,19 +1,19 @@
 -- A certified invariant says that the circuit is safe as to the literal that is read.
 use Rattle.std.proofs.Common.{length, refl}
 use Rattle.std.proofs.lemmas.Option.{slice_get_read}
-use Rattle.gipmc.specs.declared.certificates.Certificate.TheVariants.{Clauses}
-use Rattle.gipmc.proofs.Shown.{ShowsSafeAt-read}
 use Rattle.gipmc.proofs.certificates.by_clauses.Goals as goal
 
 pub returns-in-Certified : goal.returns-in-Certified
 returns-in-Certified g c safe =
     let bads = c.args.circuit.now.bads.items in
     let here = slice_get_read bads (length bads) c.args.place c.index.result.now refl c.requires c.index.ensures in
-    let said = c.in_ok-certify.ensures in
-    ShowsSafeAt-read c.args.circuit.now (Clauses c.args.clauses.now) c.args.place c.index.result.now here
-    (record {
-      initiated = (rw (c.in-Certified.is, c.deref.ensures.value) at said.initiated) refl;
-      inductive = (rw (c.in-Certified.is, c.deref.ensures.value) at said.inductive) refl;
-      excluded = (rw (c.in-Certified.is, c.deref.ensures.value) at said.excluded) refl;
-      safe = (rw (c.in-Certified.is) at said.safe) refl;
-    })
+    let said = c.in_ok-certify.ensures in (
+      c.index.result.now,
+      here,
+      record {
+        initiated = (rw (c.in-Certified.is, c.deref.ensures.value) at said.initiated) refl;
+        inductive = (rw (c.in-Certified.is, c.deref.ensures.value) at said.inductive) refl;
+        excluded = (rw (c.in-Certified.is, c.deref.ensures.value) at said.excluded) refl;
+        safe = (rw (c.in-Certified.is) at said.safe) refl;
+      },
+    )

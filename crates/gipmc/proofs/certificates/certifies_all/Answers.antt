@@ -1,7 +1,7 @@
 -- One more place is safe.
 use Rattle.std.proofs.Common.{◌≡◌, length, arith}
 use Rattle.std.proofs.lemmas.Grind.{common_steps}
-use Rattle.gipmc.proofs.Shown.{ShowsSafeAt-all, ShowsSafeAt-more}
+use Rattle.gipmc.proofs.Shown.{ShowsSafeAt-more}
 use Rattle.gipmc.proofs.certificates.certifies_all.Goals as goal
 
 pub loop-place-preserved : goal.loop-place-preserved
@@ -12,4 +12,4 @@ loop-place-preserved g c =
 pub returns : goal.returns
 returns g c safe =
     let all : c.loop-place.place ≡ length c.args.circuit.now.bads.items = grind (arith, common_steps) in
-    ShowsSafeAt-all c.args.circuit.now c.args.certificate.now (rw all at c.loop-place.invariant)
+    rw all at c.loop-place.invariant
