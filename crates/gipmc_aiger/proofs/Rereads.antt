@@ -281,10 +281,10 @@ bads_are h (l ∷ bads) same =
 limit_is : (m : ℕ) → m < 2 ^ 31 → min (2 * m + 1) 4294967295 ≡ 2 * m + 1
 limit_is m small = omega (arith, small)
 
-no_rows : {X : Type 0} (row : ℕ → List ℕ → Option (X × List ℕ)) (n : ℕ) (bytes : List ℕ) → n ≡ 0
-    → rows_at row 0 n bytes ≡ Some ([], bytes)
-no_rows row zero bytes same = refl
-no_rows row (suc n) bytes same = absurd (omega (arith, same))
+no_rows : {X : Type 0} (one_at : ℕ → List ℕ → Option (X × List ℕ)) (n : ℕ) (bytes : List ℕ) → n ≡ 0
+    → rows_at one_at 0 n bytes ≡ Some ([], bytes)
+no_rows one_at zero bytes same = refl
+no_rows one_at (suc n) bytes same = absurd (omega (arith, same))
 
 of_six : (o a b c d e : List ℕ) → o ++ a ++ b ++ c ++ d ++ e ≡ o ++ (a ++ (b ++ (c ++ (d ++ (e ++ [])))))
 of_six o a b c d e = simp (append_assoc, append-nil)

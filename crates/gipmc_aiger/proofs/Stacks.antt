@@ -168,7 +168,8 @@ module _ (gates : List And) where
     closed d =
         popped (set visits place (visit.Done d))
         (λ q is_open.
-        let other : q ≡ place → ⊥ = λ e. done_not_open visits place d (subst (λ (p : ℕ). visit_at (set visits place (visit.Done d)) p ≡ visit.Open) e is_open) in
+        let other : q ≡ place → ⊥ = λ e. done_not_open visits place d
+        (subst (λ (p : ℕ). visit_at (set visits place (visit.Done d)) p ≡ visit.Open) e is_open) in
         (sym (get_or-set_other visits place q (visit.Done d) (visit.Done 0) other) ∙ is_open, other))
 
     -- the last one was done before

@@ -19,7 +19,8 @@ pub defined_set : (t : List (Option Definition)) (place : ℕ) (by : Definition)
     → defined_in (set t place (Some by)) ≡ with_variable place (defined_in t)
 defined_set t place by within =
     fun_ext (λ v. ⊎_elim
-    (λ same. subst (λ w. is_some (get_or (set t place (Some by)) w None) ≡ true) (sym (eqb-true v place same)) (ap (λ d. is_some d) (get_or-set_same t place (Some by) None within))
+    (λ same. subst (λ w. is_some (get_or (set t place (Some by)) w None) ≡ true) (sym (eqb-true v place same))
+    (ap (λ d. is_some d) (get_or-set_same t place (Some by) None within))
     ∙ sym (ap (λ b. b || defined_in t v) same))
     (λ other. ap (λ d. is_some d) (get_or-set_other t place v (Some by) None (λ e. false≢true (sym other ∙ eq-eqb v place e)))
     ∙ sym (ap (λ b. b || defined_in t v) other))

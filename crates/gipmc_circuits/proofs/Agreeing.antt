@@ -34,7 +34,8 @@ has_value-alike n a b g agree within =
     let (output, operands) = and_parts (ltb g.output n) (literal_below n g.left && literal_below n g.right) within in
     let (left, right) = and_parts (literal_below n g.left) (literal_below n g.right) operands in
     ap (λ v. beq v (is_true a g.left && is_true a g.right)) (agree g.output (ltb-true g.output n output))
-    ∙ ap (beq (b g.output)) (both_alike (is_true a g.left) (is_true b g.left) (is_true a g.right) (is_true b g.right) (is_true-alike n a b g.left agree left) (is_true-alike n a b g.right agree right))
+    ∙ ap (beq (b g.output)) (both_alike (is_true a g.left) (is_true b g.left) (is_true a g.right) (is_true b g.right)
+    (is_true-alike n a b g.left agree left) (is_true-alike n a b g.right agree right))
 
 -- what `is_below` says of each part
 pub record Below {A : Type 0} (n : ℕ) (c : Circuit A) : Type 0 where

@@ -13,7 +13,8 @@ pub defined_set : (values : List Bool) (place : ℕ) → place < length values
     → assignment_in (set values place true) ≡ with_variable place (assignment_in values)
 defined_set values place within =
     fun_ext (λ v. ⊎_elim
-    (λ same. subst (λ w. get_or (set values place true) w false ≡ true) (sym (eqb-true v place same)) (get_or-set_same values place true false within)
+    (λ same. subst (λ w. get_or (set values place true) w false ≡ true) (sym (eqb-true v place same))
+    (get_or-set_same values place true false within)
     ∙ sym (ap (λ b. b || assignment_in values v) same))
     (λ other. get_or-set_other values place v true false (λ e. false≢true (sym other ∙ eq-eqb v place e))
     ∙ sym (ap (λ b. b || assignment_in values v) other))
@@ -31,7 +32,8 @@ defined_pushed values = fun_ext (defined_pushed_at values)
 
 -- at first 0 alone is defined
 pub defined_first : with_variable 0 (assignment_in []) ≡ is_constant
-defined_first = fun_ext (λ v. ⊎_elim (λ same. ap (λ b. b || false) same ∙ sym same) (λ other. ap (λ b. b || false) other ∙ sym other) (cases_Bool (eqb v 0)))
+defined_first = fun_ext (λ v. ⊎_elim (λ same. ap (λ b. b || false) same ∙ sym same)
+    (λ other. ap (λ b. b || false) other ∙ sym other) (cases_Bool (eqb v 0)))
 
 false_second : (a b rest : Bool) → b ≡ false → false ≡ ((a && b) && rest)
 false_second true b rest is_not = rw is_not refl
@@ -85,7 +87,9 @@ in_order_uses c start inputs latches gates notes new latches_are ordered gates_a
     let sources : latches ≡ is_source c = latches_are ∙ ap (with_variables (latch_variables c)) (notes_sources c start inputs notes) in
     let variables : gates ≡ is_variable c = gates_are ∙ ap (with_variables (map (λ g. g.output) c.gates.items)) sources in
     ap (λ d. uses_defined d c) variables
-    ∙ joined (are_new c.inputs.items is_constant) (are_new (latch_variables c) (with_variables c.inputs.items is_constant)) (are_in_order c.gates.items (is_source c)) (uses_defined (is_variable c) c)
+    ∙ joined (are_new c.inputs.items is_constant) (are_new (latch_variables c)
+    (with_variables c.inputs.items is_constant)) (are_in_order c.gates.items (is_source c))
+    (uses_defined (is_variable c) c)
     (ap (are_new c.inputs.items) (sym notes.first) ∙ notes.new)
     (ap (are_new (latch_variables c)) (sym (notes_sources c start inputs notes)) ∙ new)
     (ap (are_in_order c.gates.items) (sym sources) ∙ ordered)

@@ -38,14 +38,28 @@ reset_latch = refl
 -- such a latch alone may hold 1 after three transitions
 free_latch_fails : {A : Type 0} (c : Circuit A) → c.latches.items ≡ record { variable = 1; next = yes_of 1; reset = None } ∷ []
     → c.gates.items ≡ [] → c.constraints.items ≡ [] → FailsAfter c (yes_of 1) 3
-free_latch_fails c latches gates constraints =
-    ((λ i. first), record { initial = rw latches refl; moments = λ i within. rw (gates, constraints) refl; transitions = λ i less. rw latches refl }, refl)
+free_latch_fails c latches gates constraints = (
+  (λ i. first),
+  record {
+    initial = rw latches refl;
+    moments = λ i within. rw (gates, constraints) refl;
+    transitions = λ i less. rw latches refl;
+  },
+  refl,
+)
 
 -- an input may be bad at the start
 bad_at_the_start : {A : Type 0} (c : Circuit A) → c.latches.items ≡ [] → c.gates.items ≡ [] → c.constraints.items ≡ []
     → FailsAfter c (yes_of 1) 0
-bad_at_the_start c latches gates constraints =
-    ((λ i. first), record { initial = rw latches refl; moments = λ i within. rw (gates, constraints) refl; transitions = λ i less. rw latches refl }, refl)
+bad_at_the_start c latches gates constraints = (
+  (λ i. first),
+  record {
+    initial = rw latches refl;
+    moments = λ i within. rw (gates, constraints) refl;
+    transitions = λ i less. rw latches refl;
+  },
+  refl,
+)
 
 -- a trace of one row, by which an input is bad
 holds_one : {B : Type 0} (row : Vec Bool B) → row.items ≡ true ∷ [] → HoldsRows (λ i. first) (1 ∷ []) (row ∷ [])

@@ -52,7 +52,8 @@ stacked-in_order (g ∷ gates) n is =
     (subst (λ o. IsTrue (are_in_order gates (λ v. ltb v (o + 1)))) here (stacked-in_order gates (g.output + 1) rest))
     in
     let new : not (ltb g.output n) ≡ true = ap not (le-ltb g.output n (at_least g.output n here)) in
-    and_from (literal_below n g.left && literal_below n g.right) (not (ltb g.output n) && are_in_order gates (with_variable g.output (λ v. ltb v n))) operands
+    and_from (literal_below n g.left && literal_below n g.right)
+    (not (ltb g.output n) && are_in_order gates (with_variable g.output (λ v. ltb v n))) operands
     (and_from (not (ltb g.output n)) (are_in_order gates (with_variable g.output (λ v. ltb v n))) new behind)
   where
     at_least : (a b : ℕ) → a ≡ b → b ≤ a
@@ -71,7 +72,8 @@ extended : {A B : Type 0} (n : ℕ) (c : Circuit A) (e : Circuit B) (gates : Lis
 extended n c e gates a below stacked same_gates same_constraints is_now =
     let (b, keeps, all) = values_from gates (λ v. ltb v n) a (stacked-in_order gates n stacked) in
     let agree : AgreeBelow n b a = λ v less. keeps v (lt-ltb v n less) in
-    let (valuation, constraints) = and_parts (is_valuation c b) (makes_true b c.constraints.items) (subst IsTrue (sym (is_moment-alike n c b a below agree)) is_now) in
+    let (valuation, constraints) = and_parts (is_valuation c b) (makes_true b c.constraints.items)
+    (subst IsTrue (sym (is_moment-alike n c b a below agree)) is_now) in
     let (zero_false, old_gates) = and_parts (not (b 0)) (list_all (has_value b) c.gates.items) valuation in
     let both : IsTrue (list_all (has_value b) (c.gates.items ++ gates)) =
     list_all-append (has_value b) c.gates.items gates ∙ and_from (list_all (has_value b) c.gates.items) (list_all (has_value b) gates) old_gates all
@@ -80,7 +82,8 @@ extended n c e gates a below stacked same_gates same_constraints is_now =
       values = b;
       agree = agree;
       moment = and_from (is_valuation e b) (makes_true b e.constraints.items)
-          (and_from (not (b 0)) (list_all (has_value b) e.gates.items) zero_false (subst (λ gs. IsTrue (list_all (has_value b) gs)) (sym same_gates) both))
+          (and_from (not (b 0)) (list_all (has_value b) e.gates.items) zero_false
+          (subst (λ gs. IsTrue (list_all (has_value b) gs)) (sym same_gates) both))
           (subst (λ ls. IsTrue (makes_true b ls)) (sym same_constraints) constraints);
       new_gates = all;
     }
@@ -91,7 +94,8 @@ agree_with : (vs : List ℕ) (defined : ℕ → Bool) (a b : Assignment) → map
 agree_with [] defined a b same agree = agree
 agree_with (v ∷ vs) defined a b same agree =
     agree_with vs (with_variable v defined) a b (ap rest_of same)
-    (λ w is. ⊎_elim (λ here. subst (λ u. a u ≡ b u) (sym (eqb-true w v here)) (ap first_of same)) (λ old. agree w old) (or_cases (eqb w v) (defined w) is))
+    (λ w is. ⊎_elim (λ here. subst (λ u. a u ≡ b u) (sym (eqb-true w v here)) (ap first_of same)) (λ old. agree w old)
+    (or_cases (eqb w v) (defined w) is))
   where
     first_of : List Bool → Bool
     first_of [] = false
@@ -106,10 +110,12 @@ claims_defined : {A : Type 0} (w : Circuit A) → IsTrue (is_well_formed w)
     → IsTrue (list_all (λ l. is_variable w l.variable) (claims w))
 claims_defined w formed =
     let inside : Lit → Bool = λ l. is_variable w l.variable in
-    let (next, others) = and_parts (list_all (λ l. is_variable w l.next.variable) w.latches.items) (list_all inside w.bads.items && list_all inside w.constraints.items) (uses-part w formed) in
+    let (next, others) = and_parts (list_all (λ l. is_variable w l.next.variable) w.latches.items)
+    (list_all inside w.bads.items && list_all inside w.constraints.items) (uses-part w formed) in
     let (bads, constraints) = and_parts (list_all inside w.bads.items) (list_all inside w.constraints.items) others in
     list_all-append inside (map negated w.bads.items) w.constraints.items
-    ∙ and_from (list_all inside (map negated w.bads.items)) (list_all inside w.constraints.items) (list_all-map inside negated w.bads.items ∙ bads) constraints
+    ∙ and_from (list_all inside (map negated w.bads.items)) (list_all inside w.constraints.items)
+    (list_all-map inside negated w.bads.items ∙ bads) constraints
 
 -- two valuations of the certificate with the same inputs and latches make the same claims true
 claims_alike : {A : Type 0} (w : Circuit A) (a b : Assignment) → IsTrue (is_well_formed w) → IsTrue (is_valuation w a)
@@ -119,9 +125,11 @@ claims_alike w a b formed in_a in_b inputs latches =
     let zero_a = (and_parts (not (a 0)) (list_all (has_value a) w.gates.items) in_a).0 in
     let zero_b = (and_parts (not (b 0)) (list_all (has_value b) w.gates.items) in_b).0 in
     let constant : AgreeAt is_constant a b = λ v is. subst (λ u. a u ≡ b u) (sym (eqb-true v 0 is)) (both_false (a 0) (b 0) zero_a zero_b) in
-    let sources = agree_with (latch_variables w) (with_variables w.inputs.items is_constant) a b latches (agree_with w.inputs.items is_constant a b inputs constant) in
+    let sources = agree_with (latch_variables w) (with_variables w.inputs.items is_constant) a b latches
+    (agree_with w.inputs.items is_constant a b inputs constant) in
     let agree = valuations-agree w a b formed in_a in_b sources in
-    all_alike (λ l. is_variable w l.variable) (is_true a) (is_true b) (claims w) (λ l inside. ap (λ v. beq v l.positive) (agree l.variable inside)) (claims_defined w formed)
+    all_alike (λ l. is_variable w l.variable) (is_true a) (is_true b) (claims w)
+    (λ l inside. ap (λ v. beq v l.positive) (agree l.variable inside)) (claims_defined w formed)
   where
     both_false : (x y : Bool) → not x ≡ true → not y ≡ true → x ≡ y
     both_false false false is too = refl
@@ -196,12 +204,14 @@ pub certified_by : {A B : Type 0} (n : ℕ) (c : Circuit A) (w e : Circuit B) (r
 certified_by n c w e rows bad x below bad_below first stays good = record {
   initiated = λ a is_first is_now.
       let (m, agree) = named n c w e rows x below a is_now in
-      let there = subst (λ ls. IsTrue (list_all (holds_reset m.values) ls)) (sym x.latches) (is_initial-alike n c m.values a below agree ∙ is_first) in
+      let there = subst (λ ls. IsTrue (list_all (holds_reset m.values) ls)) (sym x.latches)
+      (is_initial-alike n c m.values a below agree ∙ is_first) in
       accepts_here n c w e rows x a m (first m.values there m.moment);
   inductive = λ a b is_now accepts goes is_next.
       let (m, agree) = named n c w e rows x below a is_now in
       let (k, also) = named n c w e rows x below b is_next in
-      let there = subst (λ ls. IsTrue (list_all (holds_next m.values k.values) ls)) (sym x.latches) (is_transition-alike n c m.values a k.values b below agree also ∙ goes) in
+      let there = subst (λ ls. IsTrue (list_all (holds_next m.values k.values) ls)) (sym x.latches)
+      (is_transition-alike n c m.values a k.values b below agree also ∙ goes) in
       accepts_here n c w e rows x b k (stays m.values k.values m.moment (holds_there n c w e rows x a m accepts) there k.moment);
   excluded = λ a is_now accepts fails.
       let (m, agree) = named n c w e rows x below a is_now in

@@ -57,11 +57,13 @@ pub holds_first : {A : Type 0} (a : Assignment) (inputs : List ℕ) (rows rest :
     → rows ≡ first ∷ rest → HoldsRow a inputs first.items → HoldsRowsUpTo 0 (λ i. a) inputs rows
 holds_first a inputs rows rest first split holds i row within at =
     let none : i ≡ 0 = omega (arith, within) in
-    let same : first ≡ row = same_some first row (subst (λ j. slice_get (first ∷ rest) j ≡ Some row) none (subst (λ xs. slice_get xs i ≡ Some row) split at)) in
+    let same : first ≡ row = same_some first row (subst (λ j. slice_get (first ∷ rest) j ≡ Some row) none
+    (subst (λ xs. slice_get xs i ≡ Some row) split at)) in
     subst (λ r. HoldsRow a inputs r.items) same holds
 
 -- those of one more row
-pub holds_more : {A : Type 0} (n : ℕ) (t : ℕ → Assignment) (b : Assignment) (inputs : List ℕ) (rows rest : List (Vec Bool A)) (first last : Vec Bool A)
+pub holds_more : {A : Type 0} (n : ℕ) (t : ℕ → Assignment) (b : Assignment) (inputs : List ℕ)
+    (rows rest : List (Vec Bool A)) (first last : Vec Bool A)
     → rows ≡ first ∷ rest → last ≡ get_or rest n last → HoldsRowsUpTo n t inputs rows → HoldsRow b inputs last.items
     → HoldsRowsUpTo (n + 1) (followed_by b n t) inputs rows
 holds_more n t b inputs rows rest first last split read old new i row within at =
@@ -70,7 +72,8 @@ holds_more n t b inputs rows rest first last split read old new i row within at 
     (λ more.
     let same : i ≡ suc n = omega (arith, within, more) in
     let next : i ≡ n + 1 = omega (arith, within, more) in
-    let behind : slice_get rest n ≡ Some row = subst (λ j. slice_get (first ∷ rest) j ≡ Some row) same (subst (λ xs. slice_get xs i ≡ Some row) split at) in
+    let behind : slice_get rest n ≡ Some row = subst (λ j. slice_get (first ∷ rest) j ≡ Some row) same
+    (subst (λ xs. slice_get xs i ≡ Some row) split at) in
     let here : last ≡ row = read ∙ get_or_from_slice_get rest n row last behind in
     subst (λ j. HoldsRow (followed_by b n t j) inputs row.items) (sym next)
     (subst (λ a. HoldsRow a inputs row.items) (sym (followed_by-new b n t)) (subst (λ r. HoldsRow b inputs r.items) here new)))

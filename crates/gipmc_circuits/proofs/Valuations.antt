@@ -40,7 +40,8 @@ record InOrder (g : And) (gates : List And) (defined : ℕ → Bool) : Type 0 wh
 
 in_order-parts : (g : And) (gates : List And) (defined : ℕ → Bool) → IsTrue (are_in_order (g ∷ gates) defined) → InOrder g gates defined
 in_order-parts g gates defined is =
-    let (operands, others) = and_parts (defined g.left.variable && defined g.right.variable) (not (defined g.output) && are_in_order gates (with_variable g.output defined)) is in
+    let (operands, others) = and_parts (defined g.left.variable && defined g.right.variable)
+    (not (defined g.output) && are_in_order gates (with_variable g.output defined)) is in
     let (output, rest) = and_parts (not (defined g.output)) (are_in_order gates (with_variable g.output defined)) others in
     record { operands = operands; output = not-true (defined g.output) output; rest = rest }
 
@@ -59,7 +60,8 @@ same_from (g ∷ gates) defined a b order in_a in_b agree =
     ∙ sym (same_of_beq (b g.output) (is_true b g.left && is_true b g.right) here_b)
     in
     same_from gates (with_variable g.output defined) a b parts.rest rest_a rest_b
-    (λ v is. ⊎_elim (λ same. let here : v ≡ g.output = eqb-true v g.output same in subst (λ w. a w ≡ b w) (sym here) output) (λ old. agree v old) (or_cases (eqb v g.output) (defined v) is))
+    (λ v is. ⊎_elim (λ same. let here : v ≡ g.output = eqb-true v g.output same in subst (λ w. a w ≡ b w) (sym here)
+    output) (λ old. agree v old) (or_cases (eqb v g.output) (defined v) is))
 
 -- gates in order have values, whatever they start from
 pub values_from : (gates : List And) (defined : ℕ → Bool) (a : Assignment) → IsTrue (are_in_order gates defined)
@@ -73,7 +75,8 @@ values_from (g ∷ gates) defined a order =
     let old : AgreeAt defined b a = λ v is.
     keeps v (or_right (eqb v g.output) (defined v) is)
     ∙ cond-false (eqb v g.output) value (a v)
-    (⊎_elim (λ same. absurd (both_ways (defined g.output) parts.output (subst (λ w. defined w ≡ true) (eqb-true v g.output same) is))) (λ other. other) (cases_Bool (eqb v g.output)))
+    (⊎_elim (λ same. absurd (both_ways (defined g.output) parts.output
+    (subst (λ w. defined w ≡ true) (eqb-true v g.output same) is))) (λ other. other) (cases_Bool (eqb v g.output)))
     in
     let output : b g.output ≡ value =
     keeps g.output (or_left (eqb g.output g.output) (defined g.output) (eq-eqb g.output g.output refl))
@@ -118,5 +121,6 @@ pub valuation-exists : {A : Type 0} (c : Circuit A) (a : Assignment) → IsTrue 
     → (b : Assignment) × IsTrue (is_valuation c b) × ((v : ℕ) → IsTrue (is_source c v) → b v ≡ a v)
 valuation-exists c a is zero_false =
     let (b, keeps, all) = values_from c.gates.items (is_source c) a (order-part c is) in
-    let zero_source = keeps_defined (latch_variables c) (with_variables c.inputs.items is_constant) 0 (keeps_defined c.inputs.items is_constant 0 refl) in
+    let zero_source = keeps_defined (latch_variables c) (with_variables c.inputs.items is_constant) 0
+    (keeps_defined c.inputs.items is_constant 0 refl) in
     (b, and_from (not (b 0)) (list_all (has_value b) c.gates.items) (ap not (keeps 0 zero_source ∙ zero_false)) all, keeps)

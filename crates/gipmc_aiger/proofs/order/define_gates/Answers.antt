@@ -14,12 +14,19 @@ returns-in_err-define-clause-defect g c =
     let i = c.loop-place.place in
     let within : i < length (map (λ (x : And). x.output) c.args.gates.now) = grind (arith, common_steps) in
     rw (p.1, p.2)
-    (twice_at (map (λ (x : And). x.output) c.args.gates.now) i ((get_or c.args.gates.now c.loop-place.place c.index-gates-place.result).output) (defined_in c.loop-place.definitions.items) (defined_in c.args.definitions.now.items) within
-    (get_or-map (λ (x : And). x.output) c.args.gates.now c.loop-place.place c.index-gates-place.result 0 (grind (arith, common_steps))) c.loop-place.invariant c.in_err-define.field-0.0 c.in_err-define.ensures.defect)
+    (twice_at (map (λ (x : And). x.output) c.args.gates.now) i
+    ((get_or c.args.gates.now c.loop-place.place c.index-gates-place.result).output)
+    (defined_in c.loop-place.definitions.items) (defined_in c.args.definitions.now.items) within
+    (get_or-map (λ (x : And). x.output) c.args.gates.now c.loop-place.place c.index-gates-place.result 0
+    (grind (arith, common_steps))) c.loop-place.invariant c.in_err-define.field-0.0 c.in_err-define.ensures.defect)
 
 pub loop-place-preserved : goal.loop-place-preserved
 loop-place-preserved g c =
     let i = c.loop-place.place in
     let within : i < length (map (λ (x : And). x.output) c.args.gates.now) = grind (arith, common_steps) in
-    defined_more (map (λ (x : And). x.output) c.args.gates.now) i ((get_or c.args.gates.now c.loop-place.place c.index-gates-place.result).output) (defined_in c.loop-place.definitions.items) (defined_in c.args.definitions.now.items) within
-    (get_or-map (λ (x : And). x.output) c.args.gates.now c.loop-place.place c.index-gates-place.result 0 (grind (arith, common_steps))) c.loop-place.invariant (defined_in c.define.new.definitions.items) c.in_ok-define.ensures.ok
+    defined_more (map (λ (x : And). x.output) c.args.gates.now) i
+    ((get_or c.args.gates.now c.loop-place.place c.index-gates-place.result).output)
+    (defined_in c.loop-place.definitions.items) (defined_in c.args.definitions.now.items) within
+    (get_or-map (λ (x : And). x.output) c.args.gates.now c.loop-place.place c.index-gates-place.result 0
+    (grind (arith, common_steps))) c.loop-place.invariant (defined_in c.define.new.definitions.items)
+    c.in_ok-define.ensures.ok

@@ -11,12 +11,14 @@ returns-in_err-define-clause-defect g c =
     let i = c.loop-input.input-index in
     let within : i < length (c.args.inputs.now) = c.loop-input-test.true in
     rw (p.1, p.2)
-    (twice_at (c.args.inputs.now) i (get_or c.args.inputs.now c.loop-input.input-index 0) (defined_in c.loop-input.definitions.items) (defined_in c.args.definitions.now.items) within
+    (twice_at (c.args.inputs.now) i (get_or c.args.inputs.now c.loop-input.input-index 0)
+    (defined_in c.loop-input.definitions.items) (defined_in c.args.definitions.now.items) within
     (refl) c.loop-input.invariant c.in_err-define.field-0.0 c.in_err-define.ensures.defect)
 
 pub loop-input-preserved : goal.loop-input-preserved
 loop-input-preserved g c =
     let i = c.loop-input.input-index in
     let within : i < length (c.args.inputs.now) = c.loop-input-test.true in
-    defined_more (c.args.inputs.now) i (get_or c.args.inputs.now c.loop-input.input-index 0) (defined_in c.loop-input.definitions.items) (defined_in c.args.definitions.now.items) within
+    defined_more (c.args.inputs.now) i (get_or c.args.inputs.now c.loop-input.input-index 0)
+    (defined_in c.loop-input.definitions.items) (defined_in c.args.definitions.now.items) within
     (refl) c.loop-input.invariant (defined_in c.define.new.definitions.items) c.in_ok-define.ensures.ok

@@ -14,12 +14,18 @@ returns-in_err-define-clause-defect g c =
     let i = c.loop-latch.latch-index in
     let within : i < length (map (λ (l : Latch). l.variable) c.args.latches.now) = grind (arith, common_steps) in
     rw (p.1, p.2)
-    (twice_at (map (λ (l : Latch). l.variable) c.args.latches.now) i (c.latch-item.result.variable) (defined_in c.loop-latch.definitions.items) (defined_in c.args.definitions.now.items) within
-    (get_or-map (λ (l : Latch). l.variable) c.args.latches.now c.loop-latch.latch-index c.latch-item.result 0 c.loop-latch-test.true ∙ ap (λ (l : Latch). l.variable) (sym c.latch-item.is)) c.loop-latch.invariant c.in_err-define.field-0.0 c.in_err-define.ensures.defect)
+    (twice_at (map (λ (l : Latch). l.variable) c.args.latches.now) i (c.latch-item.result.variable)
+    (defined_in c.loop-latch.definitions.items) (defined_in c.args.definitions.now.items) within
+    (get_or-map (λ (l : Latch). l.variable) c.args.latches.now c.loop-latch.latch-index c.latch-item.result 0
+    c.loop-latch-test.true ∙ ap (λ (l : Latch). l.variable) (sym c.latch-item.is)) c.loop-latch.invariant
+    c.in_err-define.field-0.0 c.in_err-define.ensures.defect)
 
 pub loop-latch-preserved : goal.loop-latch-preserved
 loop-latch-preserved g c =
     let i = c.loop-latch.latch-index in
     let within : i < length (map (λ (l : Latch). l.variable) c.args.latches.now) = grind (arith, common_steps) in
-    defined_more (map (λ (l : Latch). l.variable) c.args.latches.now) i (c.latch-item.result.variable) (defined_in c.loop-latch.definitions.items) (defined_in c.args.definitions.now.items) within
-    (get_or-map (λ (l : Latch). l.variable) c.args.latches.now c.loop-latch.latch-index c.latch-item.result 0 c.loop-latch-test.true ∙ ap (λ (l : Latch). l.variable) (sym c.latch-item.is)) c.loop-latch.invariant (defined_in c.define.new.definitions.items) c.in_ok-define.ensures.ok
+    defined_more (map (λ (l : Latch). l.variable) c.args.latches.now) i (c.latch-item.result.variable)
+    (defined_in c.loop-latch.definitions.items) (defined_in c.args.definitions.now.items) within
+    (get_or-map (λ (l : Latch). l.variable) c.args.latches.now c.loop-latch.latch-index c.latch-item.result 0
+    c.loop-latch-test.true ∙ ap (λ (l : Latch). l.variable) (sym c.latch-item.is)) c.loop-latch.invariant
+    (defined_in c.define.new.definitions.items) c.in_ok-define.ensures.ok

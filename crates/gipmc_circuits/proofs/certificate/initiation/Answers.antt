@@ -7,5 +7,6 @@ use Rattle.gipmc_circuits.proofs.certificate.initiation.Goals as goal
 pub returns : goal.returns
 returns g c =
     IfOk-weaker c.first_doubt.result _ _
-    (λ doubt. IfNone-more doubt (initiated c.args.circuit.now c.args.invariant.now _ _ _ c.new-solver.ensures.formula c.in_ok-add_initial.ensures.adds c.in_ok-add_moment.ensures.adds))
+    (λ doubt. IfNone-more doubt (initiated c.args.circuit.now c.args.invariant.now _ _ _ c.new-solver.ensures.formula
+    c.in_ok-add_initial.ensures.adds c.in_ok-add_moment.ensures.adds))
     c.first_doubt.ensures

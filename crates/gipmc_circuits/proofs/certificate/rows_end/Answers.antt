@@ -13,4 +13,5 @@ loop-place-preserved g c =
 
 pub returns : goal.returns
 returns g c =
-    all_taken (λ n r. list_all (literal_below n) r.items) c.args.invariant.now c.loop-place.place c.loop-place.end c.loop-place-test.false c.loop-place.invariant
+    all_taken (λ n r. list_all (literal_below n) r.items) c.args.invariant.now c.loop-place.place c.loop-place.end
+    c.loop-place-test.false c.loop-place.invariant
