@@ -14,7 +14,7 @@ Input:
       --relaxed         take the counts of the header as hints; there may be no header
 
 Search:
-      --no-simplify     eliminate no variables
+      --no-simplify     eliminate no variables, and shorten no learned clauses
 
 Limits:
       --conflicts N     give up after N conflicts

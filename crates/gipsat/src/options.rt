@@ -57,7 +57,7 @@ pub struct Options<'a> {
     pub force: bool,
     /// Whether to write the proof in the binary form.
     pub binary: bool,
-    /// Whether to eliminate variables.
+    /// Whether to eliminate variables and to shorten learned clauses.
     pub simplify: bool,
     /// What the counts of the header mean.
     pub rule: HeaderRule,

@@ -68,7 +68,7 @@ pub fn solve<'a, R: Read, W: Write>(
     answer(rt, options, instance, proof, watch, writer)
 }
 
-// Reads a formula, whose solver is to eliminate variables where the options say so.
+// Reads a formula, whose solver is to eliminate variables and to shorten clauses where the options say so.
 fn read_formula<'a, R: Read>(
     rt: &HostRuntime,
     options: &Options<'a>,
@@ -85,7 +85,7 @@ fn read_formula<'a, R: Read>(
 {
     match read_instance_by(rt.alloc(), reader, options.rule) {
         Ok(mut instance) => {
-            instance.solver.set_eliminating(options.simplify);
+            instance.solver.set_inprocessing(options.simplify);
             Ok(instance)
         }
         Err(error) => Err(error),

@@ -249,8 +249,8 @@ impl<'a> Watch<'a> {
         );
     }
 
-    // Counts the lengths of the last clauses that came since the last count, if some of them were learned: those that an
-    // elimination adds do not count.
+    // Counts the lengths of the last clauses that came since the last count, if some of them were learned: those that are
+    // added between two slices do not count.
     fn count(&mut self, solver: &Solver) {
         let len = solver.len();
         if solver.learned() > self.learned {

@@ -37,7 +37,7 @@ impl Obstacle {
 }
 
 // Propagates, and then decides one assumption unless it is true already. The obstacle, if one is met.
-fn assume_one<A: Allocator + Copy>(
+pub(crate) fn assume_one<A: Allocator + Copy>(
     alloc: A,
     database: &Database<A>,
     trail: &mut Trail<A>,

@@ -241,6 +241,21 @@ impl<A: Allocator + Copy> Heuristics<A> {
         self.count_deleted();
     }
 
+    // The next clause, which has so many literals, stands for the learned clause at a place, which is deleted.
+    pub(crate) fn replace(&mut self, place: usize, literals: usize) -> Result<(), AllocError> {
+        self.watches.replace(place, literals)?;
+        self.count_deleted();
+        Ok(())
+    }
+
+    // Goes back to earlier statistics, but for the number of deleted clauses.
+    pub(crate) fn keep_stats(&mut self, earlier: Stats) {
+        self.stats = Stats {
+            deleted: self.stats.deleted,
+            ..earlier
+        };
+    }
+
     // A variable was decided.
     pub(crate) fn count_decision(&mut self) {
         self.stats.decisions = self.stats.decisions.saturating_add(1);

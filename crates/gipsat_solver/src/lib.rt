@@ -29,6 +29,7 @@ pub mod solver;
 mod subsume;
 mod trail;
 mod trail_calls;
+mod vivify;
 mod watches;
 
 pub use heuristics::Stats;

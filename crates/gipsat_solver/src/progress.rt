@@ -17,6 +17,9 @@ const PROPAGATIONS: u64 = 4_000_000;
 // About how many literals an elimination of variables looks at.
 const STEPS: u64 = 100_000_000;
 
+// For each literal that is shortening clauses propagates, the search propagates so many.
+const SHARE: u64 = 5;
+
 // The database is compacted once one clause of so many was deleted.
 const PARTS: u64 = 4;
 
@@ -29,7 +32,7 @@ pub trait Progress<A: Allocator> {
     /// [`Progress::note`].
     fn begin(&mut self, solver: &Solver<A>);
 
-    /// A slice has ended without an answer, or variables were eliminated. `Break` stops the search.
+    /// A slice has ended without an answer, or clauses were added between two slices. `Break` stops the search.
     fn note(&mut self, solver: &Solver<A>) -> ControlFlow<()>
         ensures { IsTrue (is_some (break_value result)) → IsTrue (wants_stop self.new) };
 
@@ -128,11 +131,11 @@ fn solve_on<A: Allocator + Copy, P: Progress<A>>(
     let mut compacted = solver.stats().deleted;
     for slice in 0..usize::MAX {
         progress.begin(solver);
-        let before = solver.learned();
+        let start = Start::of(solver);
         if let Some(answer) = solve_slice(solver, left.min(CLAUSES), propagations)? {
             return Ok(Some(answer));
         }
-        let learned = solver.learned() - before;
+        let learned = solver.learned() - start.learned;
         left -= learned;
         if left == 0 {
             return Ok(Some(Answer::Unknown));
@@ -140,7 +143,7 @@ fn solve_on<A: Allocator + Copy, P: Progress<A>>(
         if learned == 0 {
             propagations = propagations.saturating_mul(2);
         }
-        let Some(deleted) = pause(solver, progress, compacted, slice == 0)? else {
+        let Some(deleted) = pause(solver, progress, compacted, start, slice == 0)? else {
             return Ok(None);
         };
         compacted = deleted;
@@ -170,12 +173,34 @@ fn solve_slice<A: Allocator + Copy>(
     })
 }
 
-// Between two slices: learns units, tells `progress`, eliminates variables if the slice was the first, and compacts. How
-// many clauses were deleted when it last did, or None where `progress` stops the search.
+// How far a search was when a slice of it began.
+#[derive(Clone, Copy)]
+struct Start {
+    clauses: usize,
+    learned: usize,
+    propagations: u64,
+}
+
+impl Start {
+    // Of the slice that begins now.
+    fn of<A: Allocator + Copy>(solver: &Solver<A>) -> Self
+        ensures { result.learned ≡ solver.now.learned }
+    {
+        Start {
+            clauses: solver.len(),
+            learned: solver.learned(),
+            propagations: solver.stats().propagations,
+        }
+    }
+}
+
+// Between two slices: learns units, inprocesses, tells `progress`, and compacts. How many clauses were deleted when it
+// last compacted, or None where `progress` stops the search.
 fn pause<A: Allocator + Copy, P: Progress<A>>(
     solver: &mut Solver<A>,
     progress: &mut P,
     compacted: u64,
+    start: Start,
     is_first: bool,
 ) -> Result<Option<u64>, AllocError>
     ensures stopped { IfOk result (λ now. IfNone now (IsTrue (P.wants_stop progress.new))) }
@@ -186,13 +211,32 @@ fn pause<A: Allocator + Copy, P: Progress<A>>(
     if progress.note(solver).is_break() {
         return Ok(None);
     }
-    if is_first && solver.is_eliminating() {
-        solver.eliminate(&[], STEPS)?;
+    if solver.is_inprocessing() {
+        inprocess(solver, start, is_first)?;
         if progress.note(solver).is_break() {
             return Ok(None);
         }
     }
     compact(solver, progress, compacted)
+}
+
+// Eliminates variables if the slice was the first, and shortens the clauses that it learned.
+fn inprocess<A: Allocator + Copy>(
+    solver: &mut Solver<A>,
+    start: Start,
+    is_first: bool,
+) -> Result<(), AllocError>
+    ensures formula { solver.new.formula ≡ solver.old.formula }
+    ensures learned { solver.new.learned ≡ solver.old.learned }
+{
+    let propagations = solver
+        .stats()
+        .propagations
+        .saturating_sub(start.propagations);
+    if is_first {
+        solver.eliminate(&[], STEPS)?;
+    }
+    solver.vivify(start.clauses, propagations / SHARE)
 }
 
 // Compacts once a quarter of the clauses were deleted since the last compaction. The deletion count then, or None where

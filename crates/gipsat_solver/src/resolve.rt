@@ -10,7 +10,7 @@ use crate::database::Database;
 use crate::learn::drop_root;
 use crate::literal::Literal;
 use crate::seen::Seen;
-use crate::trail::Trail;
+use crate::trail::{Step, Trail};
 use std::alloc::{AllocError, Allocator};
 
 // Two clauses by their places, of which the first has a literal, and the second its negation.
@@ -37,6 +37,27 @@ fn mark_but<A: Allocator + Copy>(
             seen.add(*l)?;
         }
     }
+    Ok(())
+}
+
+// Resolves the marked literals with the reason of a step, if the negation of the step's literal is marked.
+pub(crate) fn resolve_with<A: Allocator + Copy>(
+    database: &Database<A>,
+    seen: &mut Seen<A>,
+    step: Step,
+) -> Result<(), AllocError>
+    requires resolvent { IsResolvent database.now seen.old }
+    ensures resolvent { OnOk result (IsResolvent database.now seen.new) }
+{
+    let l = step.literal;
+    let Some(reason) = step.reason else {
+        return Ok(());
+    };
+    if reason >= database.len() || !seen.has(l.negated()) {
+        return Ok(());
+    }
+    seen.remove(l.negated());
+    mark_but(seen, database.clause(reason), l)?;
     Ok(())
 }
 

@@ -4,7 +4,7 @@ ghost use Rattle.gipsat_solver.specs.Answers.{IsModel, IsRight};
 ghost use Rattle.gipsat_solver.specs.Encodings.{Adds};
 ghost use Rattle.gipsat_solver.specs.Formulas.{AreBelow, Implies, IsSatisfiable, satisfies_clause};
 ghost use Rattle.gipsat_solver.specs.Seen.{NoneSeen};
-ghost use Rattle.gipsat_solver.specs.Database.{AddsUnits, AreAmong, KeepsClauses, Learns};
+ghost use Rattle.gipsat_solver.specs.Database.{AddsUnits, AreAmong, Derives, KeepsClauses, Learns};
 ghost use Rattle.gipsat_solver.specs.Simplifying.{SaysSame};
 ghost use Rattle.gipsat_solver.specs.Trail.{GoesOnUnlessAnswered, IsReady, OneLessOr, KeepsTrail, progress};
 ghost use Rattle.gipsat_solver.specs.Assumptions.{IsRightGuess, IsRightLimited, IsRightSoFar, IsRightUnder, IsRightWithin};
@@ -22,6 +22,7 @@ use crate::search::{SearchEnd, search};
 use crate::seen::Seen;
 use crate::simplify::simplify;
 use crate::trail::Trail;
+use crate::vivify::vivify;
 use std::alloc::{AllocError, Allocator, Global};
 use std::marker::Model;
 use std::mem;
@@ -84,8 +85,8 @@ pub struct Solver<A: Allocator = Global> {
     seen: Seen<A>,
     // The heuristics of the last search, if it was not refused memory.
     heuristics: Option<Heuristics<A>>,
-    // Whether a search in slices is to eliminate variables.
-    is_eliminating: bool,
+    // Whether a search in slices is to eliminate variables and to shorten clauses.
+    is_inprocessing: bool,
     stats: Stats,
     ghost clear: { NoneSeen seen },
 }
@@ -114,7 +115,7 @@ impl<A: Allocator + Copy> Solver<A> {
             trail: Trail::new(alloc),
             seen: Seen::new(alloc),
             heuristics: None,
-            is_eliminating: true,
+            is_inprocessing: true,
             stats: Stats::new(),
         }
     }
@@ -426,17 +427,17 @@ impl<A: Allocator + Copy> Solver<A> {
         Ok(())
     }
 
-    /// Sets whether a search in slices ([`crate::progress::solve_in_slices`]) calls [`Solver::eliminate`]. By default
-    /// it does.
-    pub fn set_eliminating(&mut self, is_eliminating: bool)
+    /// Sets whether a search in slices ([`crate::progress::solve_in_slices`]) calls [`Solver::eliminate`] and
+    /// [`Solver::vivify`] between them. By default it does.
+    pub fn set_inprocessing(&mut self, is_inprocessing: bool)
         ensures { self.new ≡ self.old }
     {
-        self.is_eliminating = is_eliminating;
+        self.is_inprocessing = is_inprocessing;
     }
 
-    /// Whether a search in slices calls [`Solver::eliminate`].
-    pub fn is_eliminating(&self) -> bool {
-        self.is_eliminating
+    /// Whether a search in slices calls [`Solver::eliminate`] and [`Solver::vivify`].
+    pub fn is_inprocessing(&self) -> bool {
+        self.is_inprocessing
     }
 
     /// Eliminates variables: the clauses of a variable give way to their resolvents, which become clauses of the solver,
@@ -455,6 +456,30 @@ impl<A: Allocator + Copy> Solver<A> {
         ensures learned { self.new.learned ≡ self.old.learned }
         ensures kept { KeepsClauses self.old self.new }
     {
+        self.inprocess(Inprocessing::Eliminate { frozen, steps })
+    }
+
+    /// Shortens learned clauses, those of low glue from the place `from` on, the latest first. It makes the literals of a
+    /// clause false, one after another; where propagation shows that some of them can't all be false, the clause of
+    /// these becomes a clause of the solver, and the longer one is deleted. It ends once it has propagated about as many
+    /// literals as `propagations`. [`Solver::stats`] does not count what it does, but for the clauses that it deletes.
+    ///
+    /// # Errors
+    /// `AllocError` where memory is refused. Some clauses may have been added.
+    pub fn vivify(&mut self, from: usize, propagations: u64) -> Result<(), AllocError>
+        ensures formula { self.new.formula ≡ self.old.formula }
+        ensures learned { self.new.learned ≡ self.old.learned }
+        ensures kept { KeepsClauses self.old self.new }
+    {
+        self.inprocess(Inprocessing::Vivify { from, propagations })
+    }
+
+    // Lets clauses that follow stand for others.
+    fn inprocess(&mut self, inprocessing: Inprocessing<'_>) -> Result<(), AllocError>
+        ensures formula { self.new.formula ≡ self.old.formula }
+        ensures learned { self.new.learned ≡ self.old.learned }
+        ensures kept { KeepsClauses self.old self.new }
+    {
         let alloc = self.alloc;
         let variables = self.database.variables();
         // Where memory is refused, the next call begins with new heuristics.
@@ -465,14 +490,13 @@ impl<A: Allocator + Copy> Solver<A> {
         let mut seen = seen.grown(variables)?;
         let mut heuristics = heuristics.begun(alloc, &self.database, variables, false, &[], None)?;
         trail.backtrack(0, &mut heuristics.activity);
-        eliminate(
+        inprocess(
             alloc,
             &mut self.database,
             &mut trail,
             &mut heuristics,
             &mut seen,
-            frozen,
-            steps,
+            inprocessing,
         )?;
         self.trail = trail;
         self.seen = seen;
@@ -513,6 +537,38 @@ impl<A: Allocator + Copy> Solver<A> {
         self.heuristics = Some(heuristics);
         self.database.all_original();
         Ok(())
+    }
+}
+
+// What is done between two slices of a search, by which clauses that follow are added.
+#[derive(Clone, Copy)]
+enum Inprocessing<'a> {
+    // Variables are eliminated, but for the frozen ones, in so many steps.
+    Eliminate { frozen: &'a [u32], steps: u64 },
+    // Learned clauses are shortened, those from a place on, with so many propagations.
+    Vivify { from: usize, propagations: u64 },
+}
+
+// Eliminates variables, or shortens learned clauses.
+fn inprocess<A: Allocator + Copy>(
+    alloc: A,
+    database: &mut Database<A>,
+    trail: &mut Trail<A>,
+    heuristics: &mut Heuristics<A>,
+    seen: &mut Seen<A>,
+    inprocessing: Inprocessing<'_>,
+) -> Result<(), AllocError>
+    requires ready { IsReady database.old trail.old seen.old }
+    ensures ready { OnOk result (IsReady database.new trail.new seen.new) }
+    ensures derives { Derives database.old database.new }
+{
+    match inprocessing {
+        Inprocessing::Eliminate { frozen, steps } => {
+            eliminate(alloc, database, trail, heuristics, seen, frozen, steps)
+        }
+        Inprocessing::Vivify { from, propagations } => {
+            vivify(alloc, database, trail, heuristics, seen, from, propagations)
+        }
     }
 }
 

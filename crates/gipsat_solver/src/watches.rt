@@ -228,6 +228,25 @@ impl<A: Allocator + Copy> Watches<A> {
         Ok(())
     }
 
+    // Lets the next clause, which has so many literals and no status yet, stand for a learned one, which is deleted and
+    // loses its watches when they are visited.
+    pub(crate) fn replace(&mut self, clause: usize, literals: usize) -> Result<(), AllocError> {
+        if let ClauseStatus::Learned(rating) = self.status(clause) {
+            let glue = rating.glue.min(short(literals.saturating_sub(1)));
+            self.statuses
+                .push(ClauseStatus::Learned(Rating { glue, ..rating }))?;
+            self.set_status(clause, ClauseStatus::Deleted);
+            self.set_pair(
+                clause,
+                WatchedPair {
+                    first: usize::MAX,
+                    second: usize::MAX,
+                },
+            );
+        }
+        Ok(())
+    }
+
     // An eliminated clause is to be watched again: with the others, where all are to be watched anew.
     pub(crate) fn restore(&mut self, clause: u32) -> Result<(), AllocError> {
         self.set_status(clause as usize, ClauseStatus::Kept);

@@ -22,3 +22,5 @@ mod refusals;
 mod sessions;
 #[cfg(test)]
 mod under;
+#[cfg(test)]
+mod vivification;

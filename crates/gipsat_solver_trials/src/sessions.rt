@@ -218,7 +218,7 @@ fn is_solved_under_some(
     }
 }
 
-// Asks, tidies or eliminates in a random way, and tells whether what is answered is right.
+// Asks, tidies, eliminates or shortens in a random way, and tells whether what is answered is right.
 fn is_right(
     solver: &mut Solver<&Refusing>,
     clauses: &[Bits],
@@ -226,7 +226,7 @@ fn is_right(
     variables: u32,
 ) -> bool {
     let limit = random.below(6) as usize;
-    match random.below(16) {
+    match random.below(18) {
         0..=1 => is_solved(solver, clauses, limit),
         2..=4 => is_solved_under_some(solver, clauses, random, variables, limit),
         5 => {
@@ -249,6 +249,10 @@ fn is_right(
         }
         11..=12 => {
             let _ = solver.simplify();
+            true
+        }
+        13..=14 => {
+            let _ = solver.vivify(0, u64::from(random.below(400)));
             true
         }
         _ => {

@@ -2,10 +2,10 @@ use Rattle.std.proofs.Common.{◌≡◌, subst, sym, arith, false}
 use Rattle.gipsat_solver.specs.Database.{KeepsClauses, SolverState}
 use Rattle.gipsat_solver.specs.Seen.{is_seen}
 use Rattle.gipsat_solver.specs.Trail.{IsTrailOf}
-use Rattle.gipsat_solver.proofs.solver.Solver.eliminate.Goals as goal
+use Rattle.gipsat_solver.proofs.solver.Solver.inprocess.Goals as goal
 
-pub eliminate-requires : goal.eliminate-requires
-eliminate-requires g c =
+pub inprocess-requires : goal.inprocess-requires
+inprocess-requires g c =
     let clauses = c.self.inside.database.clauses in
     let taken : IsTrailOf c.self.inside.database.clauses c.replace-trail.result =
     subst (IsTrailOf c.self.inside.database.clauses) (sym c.replace-trail.ensures.value) c.self.invariant.trail
@@ -23,7 +23,7 @@ eliminate-requires g c =
 
 pub returns-clause-kept : goal.returns-clause-kept
 returns-clause-kept g c =
-    subst (λ (k : SolverState). KeepsClauses k c.eliminate.new.database) c.self.view_is c.eliminate.ensures.derives.kept
+    subst (λ (k : SolverState). KeepsClauses k c.inprocess.new.database) c.self.view_is c.inprocess.ensures.derives.kept
 
 pub invariant_of-self-inside-in-Break-branch-5 : goal.invariant_of-self-inside-in-Break-branch-5
 invariant_of-self-inside-in-Break-branch-5 g c =
