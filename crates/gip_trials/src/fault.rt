@@ -5,7 +5,7 @@ use std::test::Fail;
 
 #[test]
 fn each_fault_writes_its_text(rt: HostRuntime) -> Result<(), Fail> {
-    let table = [
+    let table = &[
         (GipFault::Input, "input: refused"),
         (GipFault::Line(1), "line 1: refused"),
         (
@@ -15,8 +15,8 @@ fn each_fault_writes_its_text(rt: HostRuntime) -> Result<(), Fail> {
         (GipFault::Memory, "memory: refused"),
         (GipFault::Output, "output: failed"),
     ];
-    for (fault, text) in table {
-        assert_eq!(rt; format!(in rt.alloc(); "{fault}")?.as_str(), text);
+    for &(fault, text) in table {
+        assert!(rt; format!(in rt.alloc(); "{fault}")?.as_str() == text);
     }
     Ok(())
 }

@@ -7,7 +7,7 @@ use std::test::Fail;
 
 #[test]
 fn answers_scripts(rt: HostRuntime) -> Result<(), Fail> {
-    let table: [(&[u8], &[u8]); 13] = [
+    let table: &[(&[u8], &[u8])] = &[
         (README_SCRIPT, README_REPLIES),
         (b"", b""),
         (b"push 003\npop", b"ok\n3\n"),
@@ -41,18 +41,18 @@ fn answers_scripts(rt: HostRuntime) -> Result<(), Fail> {
             b"ok\nok\nok\n14\n15\n",
         ),
     ];
-    for (input, replies) in table {
+    for &(input, replies) in table {
         let mut reader = Watched::new(input);
         let mut writer = Watched::new(Vec::new(rt.alloc()));
-        assert_eq!(rt; script(rt.alloc(), &mut reader, &mut writer), Ok(()));
-        assert_eq!(rt; writer.device().as_slice(), replies);
+        assert!(rt; script(rt.alloc(), &mut reader, &mut writer) == Ok(()));
+        assert!(rt; writer.device().as_slice() == replies);
     }
     Ok(())
 }
 
 #[test]
 fn refuses_the_first_line_of_another_form(rt: HostRuntime) {
-    let table: [(&[u8], usize); 24] = [
+    let table: &[(&[u8], usize)] = &[
         (b"push 1\npush 16\n", 2),
         (b"push  3", 1),
         (b"pop ", 1),
@@ -81,11 +81,11 @@ fn refuses_the_first_line_of_another_form(rt: HostRuntime) {
             2,
         ),
     ];
-    for (input, number) in table {
+    for &(input, number) in table {
         let mut reader = Watched::new(input);
         let mut writer = Watched::new(Vec::new(rt.alloc()));
         let outcome = script(rt.alloc(), &mut reader, &mut writer);
-        assert_eq!(rt; outcome, Err(GipFault::Line(number)), "at {input:?}");
+        assert!(rt; outcome == Err(GipFault::Line(number)), "at {input:?}");
         assert!(rt; writer.device().is_empty());
     }
 }

@@ -12,26 +12,26 @@ const REFUSES: Failure = Failure::Refuses(ErrorKind::Interrupted);
 
 #[test]
 fn moves_one_byte_at_a_time(rt: HostRuntime) {
-    for (task, input, output) in TASKS {
+    for &(task, input, output) in &TASKS {
         let mut reader = Watched::new(Source::new(input, 1, 0));
         let mut writer = Watched::new(Sink::new(rt.alloc(), 1, 0, REFUSES));
-        assert_eq!(rt; task.run(rt.alloc(), &mut reader, &mut writer), Ok(()));
-        assert_eq!(rt; writer.device().text.as_slice(), output);
-        assert_eq!(rt; reader.device().calls, 1 + input.len() as u64);
-        assert_eq!(rt; writer.device().calls, output.len() as u64);
+        assert!(rt; task.run(rt.alloc(), &mut reader, &mut writer) == Ok(()));
+        assert!(rt; writer.device().text.as_slice() == output);
+        assert!(rt; reader.device().calls == 1 + input.len() as u64);
+        assert!(rt; writer.device().calls == output.len() as u64);
     }
 }
 
 #[test]
 fn stops_at_a_failed_read(rt: HostRuntime) {
-    for (task, input, _) in TASKS {
+    for &(task, input, _) in &TASKS {
         for call in 1..=1 + input.len() as u64 {
             let mut reader = Watched::new(Source::new(input, 1, call));
             let mut writer = Watched::new(Vec::new(rt.alloc()));
             let outcome = task.run(rt.alloc(), &mut reader, &mut writer);
-            assert_eq!(rt; outcome, Err(GipFault::Input), "{task:?} at call {call}");
+            assert!(rt; outcome == Err(GipFault::Input), "{task:?} at call {call}");
             assert!(rt; reader.failed());
-            assert_eq!(rt; reader.device().calls, call);
+            assert!(rt; reader.device().calls == call);
             assert!(rt; writer.device().is_empty());
         }
     }
@@ -39,19 +39,18 @@ fn stops_at_a_failed_read(rt: HostRuntime) {
 
 #[test]
 fn stops_at_a_failed_write(rt: HostRuntime) {
-    for (task, input, output) in TASKS {
-        for failure in [REFUSES, Failure::TakesNone] {
+    for &(task, input, output) in &TASKS {
+        for &failure in &[REFUSES, Failure::TakesNone] {
             for call in 1..=output.len() as u64 {
                 let mut reader = Watched::new(input);
                 let mut writer = Watched::new(Sink::new(rt.alloc(), 1, call, failure));
                 let outcome = task.run(rt.alloc(), &mut reader, &mut writer);
-                assert_eq!(rt;
-                    outcome,
-                    Err(GipFault::Output),
+                assert!(rt;
+                    outcome == Err(GipFault::Output),
                     "{task:?}, {failure:?} at call {call}"
                 );
                 assert!(rt; writer.failed());
-                assert_eq!(rt; writer.device().calls, call);
+                assert!(rt; writer.device().calls == call);
             }
         }
     }
@@ -61,11 +60,11 @@ fn stops_at_a_failed_write(rt: HostRuntime) {
 fn refuses_an_input_that_is_too_long(rt: HostRuntime) {
     let limit = INPUT_LIMIT as u64;
     for (len, fault) in [(limit, GipFault::Line(1)), (limit + 1, GipFault::Input)] {
-        for task in [Task::Script, Task::Bits] {
+        for &task in &[Task::Script, Task::Bits] {
             let mut reader = Watched::new(io::repeat(b'2').take(len));
             let mut writer = Watched::new(Vec::new(rt.alloc()));
             let outcome = task.run(rt.alloc(), &mut reader, &mut writer);
-            assert_eq!(rt; outcome, Err(fault), "{task:?}, {len} bytes");
+            assert!(rt; outcome == Err(fault), "{task:?}, {len} bytes");
             assert!(rt; !reader.failed());
             assert!(rt; writer.device().is_empty());
         }
@@ -80,12 +79,12 @@ fn zeros(alloc: Global, len: usize) -> Result<Vec<u8>, AllocError> {
 #[test]
 fn reads_an_input_that_is_too_long_no_further(rt: HostRuntime) -> Result<(), Fail> {
     let input = zeros(rt.alloc(), 2 * INPUT_LIMIT)?;
-    for task in [Task::Script, Task::Bits] {
+    for &task in &[Task::Script, Task::Bits] {
         let mut reader = Watched::new(Source::new(&input, 1, 0));
         let mut writer = Watched::new(Vec::new(rt.alloc()));
         let outcome = task.run(rt.alloc(), &mut reader, &mut writer);
-        assert_eq!(rt; outcome, Err(GipFault::Input), "{task:?}");
-        assert_eq!(rt; reader.device().calls, 1_048_577);
+        assert!(rt; outcome == Err(GipFault::Input), "{task:?}");
+        assert!(rt; reader.device().calls == 1_048_577);
     }
     Ok(())
 }
@@ -95,14 +94,13 @@ fn reads_an_input_that_is_too_long_no_further(rt: HostRuntime) -> Result<(), Fai
 fn refuses_the_length_before_the_first_line(rt: HostRuntime) {
     let limit = INPUT_LIMIT as u64;
     for (more, fault) in [(limit - 1, GipFault::Line(1)), (limit, GipFault::Input)] {
-        for task in [Task::Script, Task::Bits] {
+        for &task in &[Task::Script, Task::Bits] {
             let first: &[u8] = b"\n";
             let mut reader = Watched::new(first.chain(io::repeat(b'2').take(more)));
             let mut writer = Watched::new(Vec::new(rt.alloc()));
             let outcome = task.run(rt.alloc(), &mut reader, &mut writer);
-            assert_eq!(rt;
-                outcome,
-                Err(fault),
+            assert!(rt;
+                outcome == Err(fault),
                 "{task:?}, an empty line, then {more} bytes"
             );
             assert!(rt; writer.device().is_empty());

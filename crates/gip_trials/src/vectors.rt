@@ -7,7 +7,7 @@ use std::test::Fail;
 
 #[test]
 fn shows_each_line_of_bits(rt: HostRuntime) -> Result<(), Fail> {
-    let table: [(&[u8], &[u8]); 5] = [
+    let table: &[(&[u8], &[u8])] = &[
         (BITS, BITS_TEXTS),
         (b"", b""),
         (b"1", b"1 0x1 1\n"),
@@ -20,18 +20,18 @@ fn shows_each_line_of_bits(rt: HostRuntime) -> Result<(), Fail> {
             b"0000000000000000000000000000000000000000000000000000000000001010 0xa 64\n",
         ),
     ];
-    for (input, texts) in table {
+    for &(input, texts) in table {
         let mut reader = Watched::new(input);
         let mut writer = Watched::new(Vec::new(rt.alloc()));
-        assert_eq!(rt; bits(rt.alloc(), &mut reader, &mut writer), Ok(()));
-        assert_eq!(rt; writer.device().as_slice(), texts);
+        assert!(rt; bits(rt.alloc(), &mut reader, &mut writer) == Ok(()));
+        assert!(rt; writer.device().as_slice() == texts);
     }
     Ok(())
 }
 
 #[test]
 fn refuses_the_first_line_without_bits(rt: HostRuntime) {
-    let table: [(&[u8], usize); 12] = [
+    let table: &[(&[u8], usize)] = &[
         (b"0\n012\n", 2),
         (b"\n", 1),
         (b"\xff", 1),
@@ -45,11 +45,11 @@ fn refuses_the_first_line_without_bits(rt: HostRuntime) {
         (b"0x1", 1),
         (b"0\n1\n\xff\n2\n", 3),
     ];
-    for (input, number) in table {
+    for &(input, number) in table {
         let mut reader = Watched::new(input);
         let mut writer = Watched::new(Vec::new(rt.alloc()));
         let outcome = bits(rt.alloc(), &mut reader, &mut writer);
-        assert_eq!(rt; outcome, Err(GipFault::Line(number)), "at {input:?}");
+        assert!(rt; outcome == Err(GipFault::Line(number)), "at {input:?}");
         assert!(rt; writer.device().is_empty());
     }
 }

@@ -12,17 +12,17 @@ fn remembers_a_failed_call(rt: HostRuntime) {
     let mut buf = [0u8; 4];
     assert!(rt; !reader.failed());
     let outcome = reader.read(&mut buf).map_err(|e| e.kind());
-    assert_eq!(rt; outcome, Err(ErrorKind::Interrupted));
+    assert!(rt; outcome == Err(ErrorKind::Interrupted));
     assert!(rt; reader.failed());
-    assert_eq!(rt; reader.read(&mut buf).map_err(|e| e.kind()), Ok(2));
+    assert!(rt; reader.read(&mut buf).map_err(|e| e.kind()) == Ok(2));
     assert!(rt; reader.failed());
 
     // A write of no bytes may take none.
     let mut writer = Watched::new(Sink::new(rt.alloc(), 1, 2, REFUSES));
-    assert_eq!(rt; writer.write(b"").map_err(|e| e.kind()), Ok(0));
+    assert!(rt; writer.write(b"").map_err(|e| e.kind()) == Ok(0));
     assert!(rt; !writer.failed());
     let outcome = writer.write(b"").map_err(|e| e.kind());
-    assert_eq!(rt; outcome, Err(ErrorKind::Interrupted));
+    assert!(rt; outcome == Err(ErrorKind::Interrupted));
     assert!(rt; writer.failed());
 }
 
@@ -33,21 +33,21 @@ fn makes_one_call_on_the_device(rt: HostRuntime) {
     let mut buf = [0u8; 4];
     let reads = [Err(ErrorKind::Interrupted), Ok(2), Ok(1), Ok(0), Ok(0)];
     for (made, outcome) in reads.into_iter().enumerate() {
-        assert_eq!(rt; reader.device().calls, made as u64);
-        assert_eq!(rt; reader.read(&mut buf).map_err(|e| e.kind()), outcome);
+        assert!(rt; reader.device().calls == made as u64);
+        assert!(rt; reader.read(&mut buf).map_err(|e| e.kind()) == outcome);
     }
-    assert_eq!(rt; reader.device().calls, 5);
+    assert!(rt; reader.device().calls == 5);
 
-    for (failure, outcome) in [
+    for &(failure, outcome) in &[
         (REFUSES, Err(ErrorKind::Interrupted)),
         (Failure::TakesNone, Ok(0)),
     ] {
         let mut writer = Watched::new(Sink::new(rt.alloc(), 2, 2, failure));
         let writes = [Ok(2), outcome, Ok(2)];
         for (made, outcome) in writes.into_iter().enumerate() {
-            assert_eq!(rt; writer.device().calls, made as u64);
-            assert_eq!(rt; writer.write(b"abc").map_err(|e| e.kind()), outcome);
+            assert!(rt; writer.device().calls == made as u64);
+            assert!(rt; writer.write(b"abc").map_err(|e| e.kind()) == outcome);
         }
-        assert_eq!(rt; writer.device().calls, 3);
+        assert!(rt; writer.device().calls == 3);
     }
 }

@@ -40,30 +40,27 @@ fn told<A: Allocator + Copy>(
 
 #[test]
 fn finds_a_shortest_trace(rt: HostRuntime) -> Result<(), AllocError> {
-    assert_eq!(rt; told(rt.alloc(), full(), 9, 9)?, Found::Trace(3));
-    assert_eq!(rt; told(rt.alloc(), full(), 2, 9)?, Found::Trace(3));
+    assert!(rt; told(rt.alloc(), full(), 9, 9)? == Found::Trace(3));
+    assert!(rt; told(rt.alloc(), full(), 2, 9)? == Found::Trace(3));
     Ok(())
 }
 
 #[test]
 fn ends_at_the_greatest_depth(rt: HostRuntime) -> Result<(), AllocError> {
-    assert_eq!(rt; told(rt.alloc(), full(), 1, 9)?, Found::Within(1));
-    assert_eq!(rt; told(rt.alloc(), full(), 0, 9)?, Found::Within(0));
+    assert!(rt; told(rt.alloc(), full(), 1, 9)? == Found::Within(1));
+    assert!(rt; told(rt.alloc(), full(), 0, 9)? == Found::Within(0));
     Ok(())
 }
 
 #[test]
 fn ends_where_a_listener_stops_it(rt: HostRuntime) -> Result<(), AllocError> {
-    assert_eq!(rt; told(rt.alloc(), full(), 9, 2)?, Found::Within(1));
-    assert_eq!(rt; told(rt.alloc(), full(), 9, 0)?, Found::Within(0));
+    assert!(rt; told(rt.alloc(), full(), 9, 2)? == Found::Within(1));
+    assert!(rt; told(rt.alloc(), full(), 9, 0)? == Found::Within(0));
     Ok(())
 }
 
 #[test]
 fn says_nothing_of_a_variable_that_is_not_there(rt: HostRuntime) -> Result<(), AllocError> {
-    assert_eq!(rt;
-        told(rt.alloc(), Literal::new(9, true), 5, 9)?,
-        Found::Other
-    );
+    assert!(rt; told(rt.alloc(), Literal::new(9, true), 5, 9)? == Found::Other);
     Ok(())
 }

@@ -85,68 +85,39 @@ fn answer_of_register<A: Allocator + Copy>(
 fn finds_shortest_traces(rt: HostRuntime) -> Result<(), AllocError> {
     // No constraint.
     let none = Literal::new(0, false);
-    assert_eq!(rt;
-        answer_of_register(rt.alloc(), Some(false), none)?,
-        Answer::Fails(4)
-    );
+    assert!(rt; answer_of_register(rt.alloc(), Some(false), none)? == Answer::Fails(4));
     // A free latch may begin at 1.
-    assert_eq!(rt;
-        answer_of_register(rt.alloc(), None, none)?,
-        Answer::Fails(1)
-    );
+    assert!(rt; answer_of_register(rt.alloc(), None, none)? == Answer::Fails(1));
     let circuit = counter(rt.alloc())?;
-    assert_eq!(rt;
-        answer_of(rt.alloc(), &circuit, Literal::new(6, true), 1000)?,
-        Answer::Fails(4)
-    );
+    assert!(rt; answer_of(rt.alloc(), &circuit, Literal::new(6, true), 1000)? == Answer::Fails(4));
     Ok(())
 }
 
 #[test]
 fn constraints_hold_at_each_moment(rt: HostRuntime) -> Result<(), AllocError> {
     // The input is always 0.
-    assert_eq!(rt;
-        answer_of_register(rt.alloc(), Some(false), Literal::new(1, false))?,
-        Answer::Safe
+    assert!(rt;
+        answer_of_register(rt.alloc(), Some(false), Literal::new(1, false))? == Answer::Safe
     );
     // Only the last moment would break this.
-    assert_eq!(rt;
-        answer_of_register(rt.alloc(), Some(false), Literal::new(4, false))?,
-        Answer::Safe
+    assert!(rt;
+        answer_of_register(rt.alloc(), Some(false), Literal::new(4, false))? == Answer::Safe
     );
     // It excludes the bad literal at each moment.
-    assert_eq!(rt;
-        answer_of_register(rt.alloc(), None, Literal::new(5, false))?,
-        Answer::Safe
-    );
+    assert!(rt; answer_of_register(rt.alloc(), None, Literal::new(5, false))? == Answer::Safe);
     // No moment meets this.
-    assert_eq!(rt;
-        answer_of_register(rt.alloc(), None, Literal::new(0, true))?,
-        Answer::Safe
-    );
+    assert!(rt; answer_of_register(rt.alloc(), None, Literal::new(0, true))? == Answer::Safe);
     Ok(())
 }
 
 #[test]
 fn finds_invariants(rt: HostRuntime) -> Result<(), AllocError> {
     let circuit = ring(rt.alloc())?;
-    assert_eq!(rt;
-        answer_of(rt.alloc(), &circuit, Literal::new(6, true), 1000)?,
-        Answer::Safe
-    );
+    assert!(rt; answer_of(rt.alloc(), &circuit, Literal::new(6, true), 1000)? == Answer::Safe);
     // A constant.
-    assert_eq!(rt;
-        answer_of(rt.alloc(), &circuit, Literal::new(0, true), 1000)?,
-        Answer::Safe
-    );
-    assert_eq!(rt;
-        answer_of(rt.alloc(), &circuit, Literal::new(0, false), 1000)?,
-        Answer::Fails(1)
-    );
+    assert!(rt; answer_of(rt.alloc(), &circuit, Literal::new(0, true), 1000)? == Answer::Safe);
+    assert!(rt; answer_of(rt.alloc(), &circuit, Literal::new(0, false), 1000)? == Answer::Fails(1));
     // An input.
-    assert_eq!(rt;
-        answer_of(rt.alloc(), &circuit, Literal::new(1, true), 1000)?,
-        Answer::Fails(1)
-    );
+    assert!(rt; answer_of(rt.alloc(), &circuit, Literal::new(1, true), 1000)? == Answer::Fails(1));
     Ok(())
 }

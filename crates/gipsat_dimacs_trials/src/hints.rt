@@ -22,8 +22,8 @@ const READ: [(&[u8], u32); 14] = [
 
 #[test]
 fn reads_past_the_counts(rt: HostRuntime) {
-    for (text, variables) in READ {
-        assert_eq!(rt; variables_of(rt.alloc(), text), Ok(variables));
+    for &(text, variables) in &READ {
+        assert!(rt; variables_of(rt.alloc(), text) == Ok(variables));
     }
 }
 
@@ -46,8 +46,8 @@ const REFUSED: [(&[u8], usize, Reason); 14] = [
 
 #[test]
 fn refuses_what_is_no_formula(rt: HostRuntime) {
-    for (text, line, reason) in REFUSED {
+    for &(text, line, reason) in &REFUSED {
         let refused = variables_of(rt.alloc(), text).err();
-        assert_eq!(rt; refused, Some(DimacsError::Line(line, reason)));
+        assert!(rt; refused == Some(DimacsError::Line(line, reason)));
     }
 }

@@ -27,10 +27,10 @@ fn moves_one_byte_at_a_time(rt: HostRuntime) {
     let mut reader = Source::new(TEXT, 1, 0);
     let mut writer = Sink::new(rt.alloc(), 1, 0, REFUSES);
     let outcome = solve(rt.alloc(), &mut reader, &mut writer);
-    assert_eq!(rt; outcome, Ok(Verdict::Satisfiable));
-    assert_eq!(rt; writer.text.as_slice(), ANSWER);
-    assert_eq!(rt; reader.calls, 1 + TEXT.len() as u64);
-    assert_eq!(rt; writer.calls, ANSWER.len() as u64);
+    assert!(rt; outcome == Ok(Verdict::Satisfiable));
+    assert!(rt; writer.text.as_slice() == ANSWER);
+    assert!(rt; reader.calls == 1 + TEXT.len() as u64);
+    assert!(rt; writer.calls == ANSWER.len() as u64);
 }
 
 #[test]
@@ -39,24 +39,23 @@ fn stops_at_each_failed_read(rt: HostRuntime) {
         let mut reader = Source::new(TEXT, 1, call);
         let mut writer = Sink::new(rt.alloc(), 1, 0, REFUSES);
         let outcome = solve(rt.alloc(), &mut reader, &mut writer);
-        assert_eq!(rt; outcome, Err(DimacsError::Input), "at call {call}");
-        assert_eq!(rt; (reader.calls, writer.calls), (call, 0));
+        assert!(rt; outcome == Err(DimacsError::Input), "at call {call}");
+        assert!(rt; (reader.calls, writer.calls) == (call, 0));
     }
 }
 
 #[test]
 fn stops_at_each_failed_write(rt: HostRuntime) {
-    for failure in [REFUSES, Failure::TakesNone] {
+    for &failure in &[REFUSES, Failure::TakesNone] {
         for call in 1..=ANSWER.len() as u64 {
             let mut reader = Source::new(TEXT, 1, 0);
             let mut writer = Sink::new(rt.alloc(), 1, call, failure);
             let outcome = solve(rt.alloc(), &mut reader, &mut writer);
-            assert_eq!(rt;
-                outcome,
-                Err(DimacsError::Output),
+            assert!(rt;
+                outcome == Err(DimacsError::Output),
                 "{failure:?} at call {call}"
             );
-            assert_eq!(rt; (writer.calls, writer.text.len() as u64), (call, call - 1));
+            assert!(rt; (writer.calls, writer.text.len() as u64) == (call, call - 1));
         }
     }
 }

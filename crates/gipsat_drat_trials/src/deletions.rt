@@ -66,5 +66,5 @@ fn tried(alloc: Global) -> Result<[bool; 4], AllocError> {
 
 #[test]
 fn forgets_deleted_clauses_alone(rt: HostRuntime) {
-    assert_eq!(rt; tried(rt.alloc()), Ok([true, false, true, true]));
+    assert!(rt; tried(rt.alloc()) == Ok([true, false, true, true]));
 }

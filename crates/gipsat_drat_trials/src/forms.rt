@@ -43,19 +43,19 @@ const VERIFIED: [(&[u8], &[u8]); 6] = [
 
 #[test]
 fn verifies_proofs_of_both_forms(rt: HostRuntime) {
-    for (formula, proof) in VERIFIED {
+    for &(formula, proof) in &VERIFIED {
         let mut whole = proof;
         let found = outcome(rt.alloc(), formula, &mut whole);
-        assert_eq!(rt; found, Ok(Outcome::Verified), "{proof:?}");
+        assert!(rt; found == Ok(Outcome::Verified), "{proof:?}");
     }
 }
 
 #[test]
 fn verifies_proofs_that_come_byte_by_byte(rt: HostRuntime) {
-    for (formula, proof) in VERIFIED {
+    for &(formula, proof) in &VERIFIED {
         let mut slow = Source::new(proof, 1, 0);
         let found = outcome(rt.alloc(), formula, &mut slow);
-        assert_eq!(rt; found, Ok(Outcome::Verified), "{proof:?}");
+        assert!(rt; found == Ok(Outcome::Verified), "{proof:?}");
     }
 }
 
@@ -107,11 +107,11 @@ const REFUSED: [(&[u8], &[u8], Place, Flaw); 19] = [
 
 #[test]
 fn names_the_place_and_the_flaw(rt: HostRuntime) {
-    for (formula, proof, place, flaw) in REFUSED {
+    for &(formula, proof, place, flaw) in &REFUSED {
         let mut whole = proof;
         let found = outcome(rt.alloc(), formula, &mut whole);
         let refusal = Refusal { place, flaw };
-        assert_eq!(rt; found, Ok(Outcome::Refused(refusal)), "{proof:?}");
+        assert!(rt; found == Ok(Outcome::Refused(refusal)), "{proof:?}");
     }
 }
 
@@ -128,9 +128,9 @@ const OTHERS: [(&[u8], OtherForm); 8] = [
 
 #[test]
 fn names_the_forms_that_are_not_read(rt: HostRuntime) {
-    for (proof, form) in OTHERS {
+    for &(proof, form) in &OTHERS {
         let mut whole = proof;
         let found = outcome(rt.alloc(), EIGHT, &mut whole);
-        assert_eq!(rt; found, Err(DratError::Form(form)), "{proof:?}");
+        assert!(rt; found == Err(DratError::Form(form)), "{proof:?}");
     }
 }

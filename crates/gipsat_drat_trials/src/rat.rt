@@ -42,9 +42,9 @@ const VERIFIED: [(&[u8], &[u8]); 3] = [
 
 #[test]
 fn verifies_proofs_with_rat_steps(rt: HostRuntime) {
-    for (formula, proof) in VERIFIED {
+    for &(formula, proof) in &VERIFIED {
         let found = outcome(rt.alloc(), formula, proof);
-        assert_eq!(rt; found, Ok(Outcome::Verified), "{proof:?}");
+        assert!(rt; found == Ok(Outcome::Verified), "{proof:?}");
     }
 }
 
@@ -86,10 +86,10 @@ const REFUSED: [(&[u8], &[u8], usize, Flaw); 9] = [
 
 #[test]
 fn refuses_what_is_not_rat(rt: HostRuntime) {
-    for (formula, proof, line, flaw) in REFUSED {
+    for &(formula, proof, line, flaw) in &REFUSED {
         let found = outcome(rt.alloc(), formula, proof);
         let place = Place::Line(line);
         let refused = Outcome::Refused(Refusal { place, flaw });
-        assert_eq!(rt; found, Ok(refused), "{proof:?}");
+        assert!(rt; found == Ok(refused), "{proof:?}");
     }
 }

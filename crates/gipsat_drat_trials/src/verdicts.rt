@@ -57,7 +57,7 @@ const VERIFIED: [(&[u8], &[u8]); 9] = [
 
 #[test]
 fn verifies_proofs(rt: HostRuntime) {
-    for (formula, proof) in VERIFIED {
+    for &(formula, proof) in &VERIFIED {
         assert!(rt; is_verified(rt.alloc(), formula, proof), "{proof:?}");
     }
 }
@@ -121,9 +121,9 @@ const REFUSED: [(&[u8], &[u8], usize, Flaw); 19] = [
 
 #[test]
 fn names_the_line_and_the_flaw(rt: HostRuntime) {
-    for (formula, proof, line, flaw) in REFUSED {
+    for &(formula, proof, line, flaw) in &REFUSED {
         let found = refusal(rt.alloc(), formula, proof);
-        assert_eq!(rt; found, Some((line, flaw)), "{proof:?}");
+        assert!(rt; found == Some((line, flaw)), "{proof:?}");
     }
 }
 
@@ -131,7 +131,7 @@ fn names_the_line_and_the_flaw(rt: HostRuntime) {
 fn refuses_a_broken_formula(rt: HostRuntime) {
     let error = outcome(rt.alloc(), b"p cnf 1 1\n2 0\n", b"0\n").err();
     let broken = DimacsError::Line(2, Reason::Variable);
-    assert_eq!(rt; error, Some(DratError::Formula(broken)));
+    assert!(rt; error == Some(DratError::Formula(broken)));
 }
 
 #[test]
@@ -140,12 +140,12 @@ fn tells_a_failed_device(rt: HostRuntime) {
     let mut proof = Source::new(b"0\n", 1, 1);
     let mut writer = Vec::new(rt.alloc());
     let outcome = check_text(rt.alloc(), &mut formula, &mut proof, &mut writer);
-    assert_eq!(rt; outcome, Err(DratError::Proof));
+    assert!(rt; outcome == Err(DratError::Proof));
     assert!(rt; writer.is_empty());
     let mut formula = EIGHT;
     let mut proof = b"".as_slice();
     let refuses = Failure::Refuses(ErrorKind::StorageFull);
     let mut writer = Sink::new(rt.alloc(), 1, 1, refuses);
     let outcome = check_text(rt.alloc(), &mut formula, &mut proof, &mut writer);
-    assert_eq!(rt; outcome, Err(DratError::Output));
+    assert!(rt; outcome == Err(DratError::Output));
 }

@@ -70,7 +70,7 @@ fn a_budget_of_no_propagations_decides_nothing(rt: HostRuntime) {
         learned: 0,
         refuted: true,
     };
-    assert_eq!(rt; two_calls(rt.alloc(), &[], budget), Ok(wanted));
+    assert!(rt; two_calls(rt.alloc(), &[], budget) == Ok(wanted));
 }
 
 #[test]
@@ -85,7 +85,7 @@ fn a_budget_of_one_propagation_ends_at_the_next_decision(rt: HostRuntime) {
         learned: 0,
         refuted: true,
     };
-    assert_eq!(rt; two_calls(rt.alloc(), &[], budget), Ok(wanted));
+    assert!(rt; two_calls(rt.alloc(), &[], budget) == Ok(wanted));
 }
 
 #[test]
@@ -100,5 +100,5 @@ fn a_budget_of_one_clause_learns_one(rt: HostRuntime) {
         learned: 1,
         refuted: true,
     };
-    assert_eq!(rt; two_calls(rt.alloc(), &[], budget), Ok(wanted));
+    assert!(rt; two_calls(rt.alloc(), &[], budget) == Ok(wanted));
 }

@@ -21,17 +21,17 @@ fn clauses_after<A: Allocator + Copy>(
 
 #[test]
 fn a_variable_gives_way_to_its_resolvent(rt: HostRuntime) {
-    assert_eq!(rt; clauses_after(rt.alloc(), &[1, 3], 1000), Ok(3));
+    assert!(rt; clauses_after(rt.alloc(), &[1, 3], 1000) == Ok(3));
 }
 
 #[test]
 fn frozen_variables_stay(rt: HostRuntime) {
-    assert_eq!(rt; clauses_after(rt.alloc(), &[1, 2, 3], 1000), Ok(2));
+    assert!(rt; clauses_after(rt.alloc(), &[1, 2, 3], 1000) == Ok(2));
 }
 
 #[test]
 fn without_a_step_nothing_is_eliminated(rt: HostRuntime) {
-    assert_eq!(rt; clauses_after(rt.alloc(), &[1, 3], 0), Ok(2));
+    assert!(rt; clauses_after(rt.alloc(), &[1, 3], 0) == Ok(2));
 }
 
 // What is said of the chain after an elimination of all its variables.
@@ -66,19 +66,13 @@ fn asked_after<A: Allocator + Copy>(
 
 #[test]
 fn an_eliminated_chain_is_satisfied(rt: HostRuntime) {
-    assert_eq!(rt;
-        asked_after(rt.alloc(), &[], &[]),
-        Ok((Said::Satisfiable, 0))
-    );
+    assert!(rt; asked_after(rt.alloc(), &[], &[]) == Ok((Said::Satisfiable, 0)));
 }
 
 #[test]
 fn eliminated_variables_may_be_assumed(rt: HostRuntime) {
     let ends = [Literal::new(1, true), Literal::new(3, false)];
-    assert_eq!(rt;
-        asked_after(rt.alloc(), &[], &ends),
-        Ok((Said::Unsatisfiable, 0))
-    );
+    assert!(rt; asked_after(rt.alloc(), &[], &ends) == Ok((Said::Unsatisfiable, 0)));
 }
 
 // What is guessed after an elimination of all variables, under assumptions, among all variables or in a domain; and the
@@ -106,10 +100,7 @@ fn guessed_after<A: Allocator + Copy>(
 #[test]
 fn a_guess_may_assume_eliminated_variables(rt: HostRuntime) {
     let first = [Literal::new(1, true)];
-    assert_eq!(rt;
-        guessed_after(rt.alloc(), &first, None),
-        Ok((Said::Satisfiable, Some(true)))
-    );
+    assert!(rt; guessed_after(rt.alloc(), &first, None) == Ok((Said::Satisfiable, Some(true))));
 }
 
 #[test]
@@ -122,16 +113,12 @@ fn a_guess_refutes_with_eliminated_variables(rt: HostRuntime) {
 #[test]
 fn a_domain_may_have_eliminated_variables(rt: HostRuntime) {
     let first = [Literal::new(1, true)];
-    assert_eq!(rt;
-        guessed_after(rt.alloc(), &first, Some(&[1, 2, 3])),
-        Ok((Said::Satisfiable, Some(true)))
+    assert!(rt;
+        guessed_after(rt.alloc(), &first, Some(&[1, 2, 3])) == Ok((Said::Satisfiable, Some(true)))
     );
 }
 
 #[test]
 fn clauses_may_name_eliminated_variables(rt: HostRuntime) {
-    assert_eq!(rt;
-        asked_after(rt.alloc(), &[1, 0, -3, 0], &[]),
-        Ok((Said::Unsatisfiable, 0))
-    );
+    assert!(rt; asked_after(rt.alloc(), &[1, 0, -3, 0], &[]) == Ok((Said::Unsatisfiable, 0)));
 }

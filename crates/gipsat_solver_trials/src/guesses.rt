@@ -51,12 +51,12 @@ fn three_guesses<A: Allocator + Copy>(alloc: A) -> Result<[Guessed; 3], AllocErr
 
 #[test]
 fn a_guess_decides_its_domain_alone(rt: HostRuntime) {
-    assert_eq!(rt;
-        three_guesses(rt.alloc()),
-        Ok([
-            Guessed::Sat(Some(true), None),
-            Guessed::Sat(Some(true), Some(false)),
-            Guessed::Unsat(2),
-        ])
+    assert!(rt;
+        three_guesses(rt.alloc())
+            == Ok([
+                Guessed::Sat(Some(true), None),
+                Guessed::Sat(Some(true), Some(false)),
+                Guessed::Unsat(2),
+            ])
     );
 }

@@ -61,7 +61,7 @@ fn learned_clauses_are_shortened(rt: HostRuntime) {
         panic!(rt; "memory was refused");
     };
     assert!(rt; change.added > 0);
-    assert_eq!(rt; change.added as u64, change.deleted);
+    assert!(rt; change.added as u64 == change.deleted);
     assert!(rt; is_refuted);
 }
 
@@ -72,13 +72,10 @@ const NOTHING: Change = Change {
 
 #[test]
 fn without_a_budget_nothing_is_shortened(rt: HostRuntime) {
-    assert_eq!(rt; vivified(rt.alloc(), 0, 0), Ok((NOTHING, true)));
+    assert!(rt; vivified(rt.alloc(), 0, 0) == Ok((NOTHING, true)));
 }
 
 #[test]
 fn clauses_before_the_place_stay(rt: HostRuntime) {
-    assert_eq!(rt;
-        vivified(rt.alloc(), usize::MAX, 1_000_000),
-        Ok((NOTHING, true))
-    );
+    assert!(rt; vivified(rt.alloc(), usize::MAX, 1_000_000) == Ok((NOTHING, true)));
 }

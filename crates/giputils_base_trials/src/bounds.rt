@@ -12,7 +12,7 @@ fn an_average_merged_with_itself_ends_at_the_greatest_count(rt: HostRuntime) {
         let same = average;
         average += same;
     }
-    assert_eq!(rt; average.count(), 9_223_372_036_854_775_808);
+    assert!(rt; average.count() == 9_223_372_036_854_775_808);
     assert!(rt; !average.can_merge(&average));
     assert!(rt; average.can_add());
 }
@@ -44,8 +44,8 @@ fn successes_and_failures_are_bounded_together(rt: HostRuntime) {
         let same = failures;
         failures += same;
     }
-    assert_eq!(rt; rate.count(), 9_223_372_036_854_775_808);
-    assert_eq!(rt; failures.count(), 9_223_372_036_854_775_808);
+    assert!(rt; rate.count() == 9_223_372_036_854_775_808);
+    assert!(rt; failures.count() == 9_223_372_036_854_775_808);
     assert!(rt; !rate.can_merge(&failures));
     assert!(rt; rate.can_merge(&SuccessRate::default()));
 }

@@ -100,7 +100,7 @@ fn refused_calls<A: Allocator>(replies: &[GallocReply<u32, A>]) -> usize {
 
 #[test]
 fn a_run_answers_each_call(rt: HostRuntime) -> Result<(), Fail> {
-    let answers = [
+    let answers = &[
         ("index", 0usize),
         ("index", 1),
         ("index", 2),
@@ -114,26 +114,20 @@ fn a_run_answers_each_call(rt: HostRuntime) -> Result<(), Fail> {
         ("map", 2),
     ];
     let (allocator, replies) = galloc_run(rt.alloc(), &CALLS)?;
-    assert_eq!(rt; replies.len(), 11);
+    assert!(rt; replies.len() == 11);
     for (reply, answer) in replies.iter().zip(answers) {
-        assert_eq!(rt; text(reply), answer);
+        assert!(rt; text(reply) == *answer);
     }
     let (first, second) = (&replies[4], &replies[10]);
-    assert_eq!(rt;
-        (moved(first, 0), moved(first, 1), moved(first, 2)),
-        (None, Some(0), Some(1))
-    );
-    assert_eq!(rt;
-        (moved(second, 0), moved(second, 1), moved(second, 2)),
-        (Some(0), Some(1), None)
-    );
-    assert_eq!(rt; allocator.len(), 2);
+    assert!(rt; (moved(first, 0), moved(first, 1), moved(first, 2)) == (None, Some(0), Some(1)));
+    assert!(rt; (moved(second, 0), moved(second, 1), moved(second, 2)) == (Some(0), Some(1), None));
+    assert!(rt; allocator.len() == 2);
     Ok(())
 }
 
 #[test]
 fn a_marked_value_can_be_written_and_read(rt: HostRuntime) -> Result<(), Fail> {
-    let calls = [
+    let calls = &[
         GallocCall::Alloc(1u32),
         GallocCall::Dealloc(0),
         GallocCall::Write(0, 2),
@@ -141,7 +135,7 @@ fn a_marked_value_can_be_written_and_read(rt: HostRuntime) -> Result<(), Fail> {
         GallocCall::Read(0),
         GallocCall::Dealloc(1),
     ];
-    let answers = [
+    let answers = &[
         ("index", 0usize),
         ("done", 0),
         ("done", 0),
@@ -149,10 +143,10 @@ fn a_marked_value_can_be_written_and_read(rt: HostRuntime) -> Result<(), Fail> {
         ("value", 2),
         ("skipped", 0),
     ];
-    let (_, replies) = galloc_run(rt.alloc(), calls.as_slice())?;
-    assert_eq!(rt; replies.len(), 6);
+    let (_, replies) = galloc_run(rt.alloc(), calls)?;
+    assert!(rt; replies.len() == 6);
     for (reply, answer) in replies.iter().zip(answers) {
-        assert_eq!(rt; text(reply), answer);
+        assert!(rt; text(reply) == *answer);
     }
     Ok(())
 }
@@ -177,7 +171,7 @@ fn each_request_of_an_allocator_is_refused_in_turn(rt: HostRuntime) {
 fn a_run_asks_for_its_list_of_replies_first(rt: HostRuntime) {
     let memory = Refusing::nth(rt.alloc(), 1);
     assert!(rt; galloc_run(&memory, &CALLS).is_err());
-    assert_eq!(rt; memory.requests(), 1);
+    assert!(rt; memory.requests() == 1);
 }
 
 const TWO_COLLECTIONS: [GallocCall<u32>; 6] = [
@@ -226,7 +220,7 @@ fn an_allocator_of_no_slots_is_collected_in_place(rt: HostRuntime) -> Result<(),
     let (_, replies) = galloc_run(&memory, &[GallocCall::<u32>::Gc])?;
     assert!(rt; replies.iter().map(text).eq([("map", 0usize)]));
     assert!(rt; galloc_run(&memory, [GallocCall::<u32>::Gc; 0].as_slice()).is_ok());
-    assert_eq!(rt; memory.requests(), 1);
+    assert!(rt; memory.requests() == 1);
     Ok(())
 }
 
@@ -236,18 +230,18 @@ fn a_refused_collection_can_be_made_again(rt: HostRuntime) -> Result<(), Fail> {
     drop(three_slots(&counted)?);
     let memory = Refusing::nth(rt.alloc(), counted.requests().saturating_add(1));
     let mut slots = three_slots(&memory)?;
-    assert_eq!(rt; slots.len(), 3);
+    assert!(rt; slots.len() == 3);
     slots.dealloc(1);
     assert!(rt; slots.gc().is_err());
-    assert_eq!(rt; slots.len(), 3);
-    assert_eq!(rt; (slots.is_removed(1), slots[1usize]), (true, 20));
+    assert!(rt; slots.len() == 3);
+    assert!(rt; (slots.is_removed(1), slots[1usize]) == (true, 20));
     let indexes = slots.gc()?;
     let moved = (
         indexes.len(),
         indexes.get(&0).copied(),
         indexes.get(&2).copied(),
     );
-    assert_eq!(rt; moved, (2, Some(0), Some(1)));
+    assert!(rt; moved == (2, Some(0), Some(1)));
     Ok(())
 }
 
@@ -257,7 +251,7 @@ fn a_table_is_asked_for_once(rt: HostRuntime) -> Result<(), Fail> {
     let mut slots = three_slots(&memory)?;
     let before = memory.requests();
     let entries = slots.gc_table()?.len();
-    assert_eq!(rt; (entries, memory.requests()), (3, before.saturating_add(1)));
+    assert!(rt; (entries, memory.requests()) == (3, before.saturating_add(1)));
     Ok(())
 }
 
@@ -267,19 +261,16 @@ fn slots_are_marked_read_and_written_in_place(rt: HostRuntime) -> Result<(), Fai
     drop(three_slots(&counted)?);
     let memory = Refusing::from(rt.alloc(), counted.requests().saturating_add(1));
     let mut slots = three_slots(&memory)?;
-    assert_eq!(rt; slots.len(), 3);
+    assert!(rt; slots.len() == 3);
     slots[0usize] = 5;
-    assert_eq!(rt; slots.len(), 3);
+    assert!(rt; slots.len() == 3);
     slots[1u32] = 6;
-    assert_eq!(rt; slots.len(), 3);
+    assert!(rt; slots.len() == 3);
     slots.dealloc(1);
-    assert_eq!(rt; slots.len(), 3);
-    assert_eq!(rt;
-        (slots[0usize], slots[1u32], slots.is_removed(1)),
-        (5, 6, true)
-    );
-    assert_eq!(rt; memory.requests(), counted.requests());
-    assert_eq!(rt; Slots::new(&memory).len(), 0);
+    assert!(rt; slots.len() == 3);
+    assert!(rt; (slots[0usize], slots[1u32], slots.is_removed(1)) == (5, 6, true));
+    assert!(rt; memory.requests() == counted.requests());
+    assert!(rt; Slots::new(&memory).len() == 0);
     Ok(())
 }
 
@@ -305,14 +296,8 @@ fn slots_are_taken_walked_and_renamed_in_place(rt: HostRuntime) -> Result<(), Fa
     let value = taken(&mut slots);
     rename(&[Some(0), None, Some(1)], &mut watched);
     let seen = (value, slots.live_len(), slots.get(1).is_none());
-    assert_eq!(rt;
-        (seen, last_live(&slots)),
-        ((Some(20), 2, true), Some((2, 30)))
-    );
-    assert_eq!(rt;
-        (watched.pop(), watched.len(), memory.requests()),
-        (Some(1), 0, before)
-    );
+    assert!(rt; (seen, last_live(&slots)) == ((Some(20), 2, true), Some((2, 30))));
+    assert!(rt; (watched.pop(), watched.len(), memory.requests()) == (Some(1), 0, before));
     Ok(())
 }
 
@@ -326,7 +311,7 @@ fn values_with_room_ahead_take_no_memory(rt: HostRuntime) -> Result<(), Fail> {
     let mut room = slots.into_reserved();
     room.reserve(1)?;
     let index = room.alloc_reserved(30);
-    assert_eq!(rt; (index, room.finish().len(), memory.requests()), (2, 3, 1));
+    assert!(rt; (index, room.finish().len(), memory.requests()) == (2, 3, 1));
     Ok(())
 }
 
@@ -340,7 +325,7 @@ fn an_element_keeps_its_value_in_place(rt: HostRuntime) -> Result<(), Fail> {
         element.deref().len(),
         element.take().len(),
     );
-    assert_eq!(rt; seen, (false, 1, 1));
-    assert_eq!(rt; memory.requests(), 1);
+    assert!(rt; seen == (false, 1, 1));
+    assert!(rt; memory.requests() == 1);
     Ok(())
 }

@@ -53,32 +53,26 @@ fn later_values(alloc: Global) -> Result<GHashMap<u32, u32>, AllocError>
 #[test]
 fn of_equal_keys_the_last_value_stands(rt: HostRuntime) -> Result<(), Fail> {
     let map = later_values(rt.alloc())?;
-    assert_eq!(rt; map.len(), 2);
-    assert_eq!(rt; value_at(&map, 1), Some(7));
-    assert_eq!(rt; value_at(&map, 2), Some(6));
+    assert!(rt; map.len() == 2);
+    assert!(rt; value_at(&map, 1) == Some(7));
+    assert!(rt; value_at(&map, 2) == Some(6));
     let clone = cloned(&map)?;
-    assert_eq!(rt; clone.len(), 2);
-    assert_eq!(rt;
-        (value_at(&clone, 1), value_at(&clone, 2)),
-        (Some(7), Some(6))
-    );
+    assert!(rt; clone.len() == 2);
+    assert!(rt; (value_at(&clone, 1), value_at(&clone, 2)) == (Some(7), Some(6)));
     Ok(())
 }
 
 #[test]
 fn a_set_has_each_member_once(rt: HostRuntime) -> Result<(), Fail> {
     let mut set = GHashSet::from_iter(rt.alloc(), [3u32, 3])?;
-    assert_eq!(rt; set.len(), 1);
+    assert!(rt; set.len() == 1);
     let clone = set.clone()?;
-    assert_eq!(rt; clone.len(), 1);
+    assert!(rt; clone.len() == 1);
     assert!(rt; has(&clone, 3));
-    assert_eq!(rt; format!(in rt.alloc(); "{clone:?}")?.as_str(), "{3}");
-    assert_eq!(rt;
-        (exchange(&mut set, 3, 4)?, exchange(&mut set, 3, 4)?),
-        (true, false)
-    );
-    assert_eq!(rt; (set.len(), has(&set, 3), has(&set, 4)), (1, false, true));
-    assert_eq!(rt; (set.remove(&4), set.remove(&4)), (true, false));
+    assert!(rt; format!(in rt.alloc(); "{clone:?}")?.as_str() == "{3}");
+    assert!(rt; (exchange(&mut set, 3, 4)?, exchange(&mut set, 3, 4)?) == (true, false));
+    assert!(rt; (set.len(), has(&set, 3), has(&set, 4)) == (1, false, true));
+    assert!(rt; (set.remove(&4), set.remove(&4)) == (true, false));
     assert!(rt; has(&clone, 3));
     Ok(())
 }
@@ -108,8 +102,8 @@ fn members_of(alloc: Global, items: [u32; 3]) -> Result<Vec<u32>, AllocError> {
 fn each_pair_and_each_member_is_given_once(rt: HostRuntime) -> Result<(), Fail> {
     let pairs = pairs_left(rt.alloc())?;
     let members = members_of(rt.alloc(), [9, 8, 9])?;
-    assert_eq!(rt; pairs.as_slice(), [(4, 20), (5, 25)].as_slice());
-    assert_eq!(rt; members.as_slice(), [8, 9].as_slice());
+    assert!(rt; pairs.as_slice() == [(4, 20), (5, 25)].as_slice());
+    assert!(rt; members.as_slice() == [8, 9].as_slice());
     Ok(())
 }
 
@@ -128,8 +122,8 @@ fn raised(map: &mut GHashMap<u32, u32>, key: u32) -> bool {
 fn a_value_is_written_in_place(rt: HostRuntime) -> Result<(), Fail> {
     let mut map = later_values(rt.alloc())?;
     let raised = (raised(&mut map, 1), raised(&mut map, 3));
-    assert_eq!(rt; raised, (true, false));
-    assert_eq!(rt; (value_at(&map, 1), value_at(&map, 2)), (Some(8), Some(6)));
+    assert!(rt; raised == (true, false));
+    assert!(rt; (value_at(&map, 1), value_at(&map, 2)) == (Some(8), Some(6)));
     Ok(())
 }
 
@@ -137,8 +131,8 @@ fn a_value_is_written_in_place(rt: HostRuntime) -> Result<(), Fail> {
 fn a_key_is_taken_out_once(rt: HostRuntime) -> Result<(), Fail> {
     let mut map = GHashMap::new(rt.alloc());
     put(&mut map, 4, 20)?;
-    assert_eq!(rt; format!(in rt.alloc(); "{map:?}")?.as_str(), "{4: 20}");
+    assert!(rt; format!(in rt.alloc(); "{map:?}")?.as_str() == "{4: 20}");
     let taken = (map.remove(&4), map.contains_key(&4), map.remove(&4));
-    assert_eq!(rt; taken, (Some(20), false, None));
+    assert!(rt; taken == (Some(20), false, None));
     Ok(())
 }

@@ -34,29 +34,29 @@ fn none() -> OptionU8
 fn writing_the_greatest_number_leaves_none(rt: HostRuntime) {
     let mut o = OptionU8::some(254);
     assert!(rt; o.is_some());
-    assert_eq!(rt; *o, 254);
-    assert_eq!(rt; o.get(), Some(254));
+    assert!(rt; *o == 254);
+    assert!(rt; o.get() == Some(254));
     write(&mut o, 255);
     assert!(rt; o.is_none());
-    assert_eq!(rt; o.get(), None);
-    assert_eq!(rt; o, OptionU8::NONE);
-    assert_eq!(rt; o, none());
+    assert!(rt; o.get().is_none());
+    assert!(rt; o == OptionU8::NONE);
+    assert!(rt; o == none());
 }
 
 #[test]
 fn holds_every_number_below_the_greatest(rt: HostRuntime) {
     let mut o = OptionU32::default();
     assert!(rt; o.is_none());
-    assert_eq!(rt; number(o), None);
+    assert!(rt; number(o).is_none());
     write_some(&mut o, 4294967294);
-    assert_eq!(rt; number(o), Some(4294967294));
-    assert_eq!(rt; o, OptionU32::some(4294967294));
-    assert_ne!(rt; o, OptionU32::NONE);
+    assert!(rt; number(o) == Some(4294967294));
+    assert!(rt; o == OptionU32::some(4294967294));
+    assert!(rt; o != OptionU32::NONE);
 }
 
 #[test]
 fn shows_the_number_that_is_kept(rt: HostRuntime) -> Result<(), Fail> {
     let text = format!(in rt.alloc(); "{:?} {:?}", OptionU8::NONE, OptionU32::some(7))?;
-    assert_eq!(rt; text.as_str(), "OptionU8(255) OptionU32(7)");
+    assert!(rt; text.as_str() == "OptionU8(255) OptionU32(7)");
     Ok(())
 }

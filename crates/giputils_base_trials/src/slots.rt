@@ -31,8 +31,8 @@ fn replaced(mut elem: GallocElem<u32>, value: u32) -> GallocElem<u32>
 fn an_element_keeps_its_value_and_is_not_removed(rt: HostRuntime) {
     let elem = replaced(GallocElem::new(3), 4);
     assert!(rt; !elem.is_removed());
-    assert_eq!(rt; *elem, 4);
-    assert_eq!(rt; elem.take(), 4);
+    assert!(rt; *elem == 4);
+    assert!(rt; elem.take() == 4);
 }
 
 // Three values, of which the second is marked, and marked again.
@@ -77,15 +77,15 @@ fn collected(mut allocator: Gallocator<u32>) -> Result<(usize, Option<bool>), Al
 fn a_marked_value_is_still_read(rt: HostRuntime) -> Result<(), Fail> {
     let allocator = three_values(rt.alloc())?;
     let lengths = (allocator.len(), allocator.live_len());
-    assert_eq!(rt;
-        (lengths, live_at(&allocator), last_two(&allocator)),
-        (
-            (3, 2),
-            [Some(10), None, None],
-            Some(([true, false], [20, 30]))
-        )
+    assert!(rt;
+        (lengths, live_at(&allocator), last_two(&allocator))
+            == (
+                (3, 2),
+                [Some(10), None, None],
+                Some(([true, false], [20, 30]))
+            )
     );
-    assert_eq!(rt; collected(allocator)?, (2, Some(false)));
+    assert!(rt; collected(allocator)? == (2, Some(false)));
     Ok(())
 }
 
@@ -93,20 +93,19 @@ fn a_marked_value_is_still_read(rt: HostRuntime) -> Result<(), Fail> {
 fn a_collection_drops_marked_values_and_renumbers_the_others(rt: HostRuntime) -> Result<(), Fail> {
     let mut allocator = three_values(rt.alloc())?;
     let indexes = allocator.gc()?;
-    assert_eq!(rt;
+    assert!(rt;
         (
             indexes.get(&0).copied(),
             indexes.get(&1).copied(),
             indexes.get(&2).copied()
-        ),
-        (Some(0), None, Some(1))
+        ) == (Some(0), None, Some(1))
     );
     if allocator.len() == 2 {
         overwrite(&mut allocator, 1, 31);
     }
-    assert_eq!(rt;
-        format!(in rt.alloc(); "{allocator:?}")?.as_str(),
-        "Gallocator { slots: Gvec { items: [GallocElem { value: 10, removed: false }, \
+    assert!(rt;
+        format!(in rt.alloc(); "{allocator:?}")?.as_str()
+            == "Gallocator { slots: Gvec { items: [GallocElem { value: 10, removed: false }, \
          GallocElem { value: 31, removed: false }] }, live: 2 }"
     );
     Ok(())
@@ -116,9 +115,9 @@ fn a_collection_drops_marked_values_and_renumbers_the_others(rt: HostRuntime) ->
 fn a_table_renumbers_as_a_map_does(rt: HostRuntime) -> Result<(), Fail> {
     let mut allocator = three_values(rt.alloc())?;
     let table = allocator.gc_table()?;
-    assert_eq!(rt; table.as_slice(), [Some(0), None, Some(1)].as_slice());
-    assert_eq!(rt; allocator.alloc(40).ok(), Some(2));
-    assert_eq!(rt; (allocator.len(), allocator.live_len()), (3, 3));
+    assert!(rt; table.as_slice() == [Some(0), None, Some(1)].as_slice());
+    assert!(rt; allocator.alloc(40).ok() == Some(2));
+    assert!(rt; (allocator.len(), allocator.live_len()) == (3, 3));
     Ok(())
 }
 
@@ -126,7 +125,7 @@ fn a_table_renumbers_as_a_map_does(rt: HostRuntime) -> Result<(), Fail> {
 fn a_list_of_indexes_is_renamed_in_place(rt: HostRuntime) -> Result<(), Fail> {
     let mut indexes = vec![in rt.alloc(); 2usize, 1, 0, 2, 7]?;
     rename([Some(0), None, Some(1)].as_slice(), &mut indexes);
-    assert_eq!(rt; indexes.as_slice(), [1, 0, 1].as_slice());
+    assert!(rt; indexes.as_slice() == [1, 0, 1].as_slice());
     Ok(())
 }
 
@@ -147,7 +146,7 @@ fn a_walk_gives_each_live_value_with_its_index(rt: HostRuntime) -> Result<(), Fa
         allocator.dealloc(1);
     }
     let items = live_values(&allocator, rt.alloc())?;
-    assert_eq!(rt; items.as_slice(), [(0, 10), (2, 30), (3, 40)].as_slice());
+    assert!(rt; items.as_slice() == [(0, 10), (2, 30), (3, 40)].as_slice());
     Ok(())
 }
 
@@ -170,11 +169,11 @@ fn a_value_is_taken_out_of_its_slot(rt: HostRuntime) -> Result<(), Fail> {
     let mut allocator = Gallocator::new(rt.alloc());
     let index = allocator.alloc(7u32).unwrap_or(1);
     if index < allocator.len() {
-        assert_eq!(rt; allocator.take_out(index, 0), 7);
+        assert!(rt; allocator.take_out(index, 0) == 7);
         assert!(rt; allocator.get(index).is_none());
     }
-    assert_eq!(rt; (allocator.len(), allocator.live_len()), (1, 0));
-    assert_eq!(rt; collected(allocator)?, (0, None));
+    assert!(rt; (allocator.len(), allocator.live_len()) == (1, 0));
+    assert!(rt; collected(allocator)? == (0, None));
     Ok(())
 }
 
@@ -195,15 +194,15 @@ fn a_live_value_is_written_and_taken_once(rt: HostRuntime) -> Result<(), Fail> {
     let written = (set_to_8(&mut allocator, 1), set_to_8(&mut allocator, 2));
     let taken = (allocator.take(1), allocator.take(1), allocator.take(2));
     let again = set_to_8(&mut allocator, 1);
-    assert_eq!(rt; (written, again), ((true, false), false));
-    assert_eq!(rt; taken, (Some(8), None, None));
-    assert_eq!(rt; (allocator.len(), allocator.live_len()), (2, 1));
+    assert!(rt; (written, again) == ((true, false), false));
+    assert!(rt; taken == (Some(8), None, None));
+    assert!(rt; (allocator.len(), allocator.live_len()) == (2, 1));
     Ok(())
 }
 
 #[test]
 fn a_run_of_no_calls_answers_nothing(rt: HostRuntime) -> Result<(), Fail> {
     let (allocator, replies) = galloc_run(rt.alloc(), [GallocCall::<u32>::Len; 0].as_slice())?;
-    assert_eq!(rt; (allocator.len(), replies.len()), (0, 0));
+    assert!(rt; (allocator.len(), replies.len()) == (0, 0));
     Ok(())
 }

@@ -10,7 +10,7 @@ fn is_made(memory: &Refusing) -> bool {
 
 #[test]
 fn a_moving_average_asks_for_its_memory_where_it_is_made(rt: HostRuntime) -> Result<(), Fail> {
-    assert_eq!(rt; refuse_each(rt.alloc(), is_made), Ok(1));
+    assert!(rt; refuse_each(rt.alloc(), is_made) == Ok(1));
     let memory = Refusing::from(rt.alloc(), 2);
     let mut average = MovingAverage::with_room(&memory, 3)?;
     for number in 0..5 {
@@ -18,7 +18,7 @@ fn a_moving_average_asks_for_its_memory_where_it_is_made(rt: HostRuntime) -> Res
     }
     let held = (average.average().count(), average.len(), average.capacity());
     average.clear();
-    assert_eq!(rt; (held, average.is_empty()), ((3, 3, 3), true));
-    assert_eq!(rt; memory.requests(), 1);
+    assert!(rt; (held, average.is_empty()) == ((3, 3, 3), true));
+    assert!(rt; memory.requests() == 1);
     Ok(())
 }

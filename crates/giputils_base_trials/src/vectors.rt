@@ -100,29 +100,26 @@ fn drawn(alloc: Global, seed: u64) -> Result<Gvec<u32>, AllocError>
 fn pushes_reads_and_clears(rt: HostRuntime) -> Result<(), Fail> {
     let mut g = Gvec::new(rt.alloc());
     push_two(&mut g)?;
-    assert_eq!(rt; g.len(), 2);
-    assert_eq!(rt; exchange(&mut g, 1, 5), 2);
+    assert!(rt; g.len() == 2);
+    assert!(rt; exchange(&mut g, 1, 5) == 2);
     bump(&mut g, 0);
-    assert_eq!(rt; total(&g), 7);
+    assert!(rt; total(&g) == 7);
     assert!(rt; holds(&g, 5));
-    assert_eq!(rt;
-        format!(in rt.alloc(); "{g:?}")?.as_str(),
-        "Gvec { items: [2, 5] }"
-    );
+    assert!(rt; format!(in rt.alloc(); "{g:?}")?.as_str() == "Gvec { items: [2, 5] }");
     clear_through(&mut g);
-    assert_eq!(rt; g.len(), 0);
+    assert!(rt; g.len() == 0);
     Ok(())
 }
 
 #[test]
 fn indexes_by_three_types(rt: HostRuntime) -> Result<(), Fail> {
     let mut g = Gvec::from_array(rt.alloc(), [7u8, 8, 9])?;
-    assert_eq!(rt; g.len(), 3);
+    assert!(rt; g.len() == 3);
     g[0usize] += 1;
     g[1u32] += 2;
     g[2i32] += 3;
-    assert_eq!(rt; (g[0i32], g[1usize], g[2u32]), (8, 10, 12));
-    assert_eq!(rt; into_vec(rt.alloc(), g)?.as_slice(), [8, 10, 12].as_slice());
+    assert!(rt; (g[0i32], g[1usize], g[2u32]) == (8, 10, 12));
+    assert!(rt; into_vec(rt.alloc(), g)?.as_slice() == [8, 10, 12].as_slice());
     Ok(())
 }
 
@@ -130,13 +127,13 @@ fn indexes_by_three_types(rt: HostRuntime) -> Result<(), Fail> {
 fn swaps_removes_and_grows(rt: HostRuntime) -> Result<(), Fail> {
     let mut g = Gvec::from_array(rt.alloc(), [1u32, 2, 3, 4])?;
     g.swap(0, 3);
-    assert_eq!(rt; g.as_slice(), [4, 2, 3, 1].as_slice());
+    assert!(rt; g.as_slice() == [4, 2, 3, 1].as_slice());
     g.swap_remove(1);
-    assert_eq!(rt; g.as_slice(), [4, 1, 3].as_slice());
+    assert!(rt; g.as_slice() == [4, 1, 3].as_slice());
     g.reserve(5)?;
-    assert_eq!(rt; g.as_slice(), [4, 1, 3, 0, 0].as_slice());
+    assert!(rt; g.as_slice() == [4, 1, 3, 0, 0].as_slice());
     g.reserve(2)?;
-    assert_eq!(rt; g.as_slice(), [4, 1, 3, 0, 0].as_slice());
+    assert!(rt; g.as_slice() == [4, 1, 3, 0, 0].as_slice());
     Ok(())
 }
 
@@ -144,9 +141,9 @@ fn swaps_removes_and_grows(rt: HostRuntime) -> Result<(), Fail> {
 fn swapping_with_itself_and_removing_the_last_item(rt: HostRuntime) -> Result<(), Fail> {
     let mut g = Gvec::from_array(rt.alloc(), [9u32])?;
     g.swap(0, 0);
-    assert_eq!(rt; g.as_slice(), [9].as_slice());
+    assert!(rt; g.as_slice() == [9].as_slice());
     g.swap_remove(0);
-    assert_eq!(rt; g.len(), 0);
+    assert!(rt; g.len() == 0);
     Ok(())
 }
 
@@ -157,19 +154,19 @@ fn made_from_an_array_an_iterator_a_vec_and_a_clone(rt: HostRuntime) -> Result<(
     let iterator = Gvec::from_iter(rt.alloc(), 1u32..3)?;
     let vec = Gvec::from(vec![in rt.alloc(); 1u32, 2]?);
     let clone = cloned(&copied)?;
-    assert_eq!(rt; array.as_slice(), vec.as_slice());
-    assert_eq!(rt; copied.as_slice(), [1, 2].as_slice());
-    assert_eq!(rt; iterator.as_slice(), [1, 2].as_slice());
-    assert_eq!(rt; clone.as_slice(), copied.as_slice());
+    assert!(rt; array.as_slice() == vec.as_slice());
+    assert!(rt; copied.as_slice() == [1, 2].as_slice());
+    assert!(rt; iterator.as_slice() == [1, 2].as_slice());
+    assert!(rt; clone.as_slice() == copied.as_slice());
     Ok(())
 }
 
 #[test]
 fn one_seed_draws_one_list(rt: HostRuntime) -> Result<(), Fail> {
     let first = drawn(rt.alloc(), 42)?;
-    assert_eq!(rt; first.as_slice(), drawn(rt.alloc(), 42)?.as_slice());
-    assert_ne!(rt; first.as_slice(), drawn(rt.alloc(), 43)?.as_slice());
-    assert_eq!(rt; first.len(), 5);
-    assert_eq!(rt; first[0usize], 0xa15c02b7);
+    assert!(rt; first.as_slice() == drawn(rt.alloc(), 42)?.as_slice());
+    assert!(rt; first.as_slice() != drawn(rt.alloc(), 43)?.as_slice());
+    assert!(rt; first.len() == 5);
+    assert!(rt; first[0usize] == 0xa15c02b7);
     Ok(())
 }

@@ -53,7 +53,7 @@ fn requests(alloc: Global, making: Making) -> Result<u64, TurnFault> {
 
 #[test]
 fn a_call_that_makes_a_vector_makes_one_request(rt: HostRuntime) {
-    for (call, making) in [
+    for &(call, making) in &[
         ("from_elem", Making::FromElem),
         ("zero", Making::Zero),
         ("ones", Making::Ones),
@@ -63,7 +63,7 @@ fn a_call_that_makes_a_vector_makes_one_request(rt: HostRuntime) {
         ("from", Making::From),
         ("from_binary_text", Making::FromBinaryText),
     ] {
-        assert_eq!(rt; requests(rt.alloc(), making), Ok(1), "{call}");
+        assert!(rt; requests(rt.alloc(), making) == Ok(1), "{call}");
     }
 }
 
@@ -144,7 +144,7 @@ fn each_request_of_a_growing_vector_is_refused_in_turn(rt: HostRuntime) {
         ("push_word", refuse_each(alloc, is_word_pushed), 1),
     ];
     for (call, outcome, requests) in outcomes {
-        assert_eq!(rt; outcome, Ok(requests), "{call}");
+        assert!(rt; outcome == Ok(requests), "{call}");
     }
 }
 
@@ -160,10 +160,7 @@ fn is_rand(memory: &Refusing, num_word: usize, rng: &mut Pcg32) -> bool {
 fn the_greatest_length_is_one_request(rt: HostRuntime) {
     let memory = Refusing::from(rt.alloc(), 1);
     let is_made = is_filled(&memory, usize::MAX);
-    assert_eq!(rt;
-        (is_made, memory.requests(), memory.largest()),
-        (false, 1, 1 << 61)
-    );
+    assert!(rt; (is_made, memory.requests(), memory.largest()) == (false, 1, 1 << 61));
 }
 
 #[test]
@@ -171,9 +168,9 @@ fn the_most_words_are_one_request_before_anything_is_drawn(rt: HostRuntime) {
     let memory = Refusing::from(rt.alloc(), 1);
     let mut rng = Pcg32::new(42, 54);
     let is_made = is_rand(&memory, (1 << 58) - 1, &mut rng);
-    assert_eq!(rt;
-        (is_made, memory.requests(), memory.largest(), rng.next_u32()),
-        (false, 1, (1 << 61) - 8, FIRST_DRAWN)
+    assert!(rt;
+        (is_made, memory.requests(), memory.largest(), rng.next_u32())
+            == (false, 1, (1 << 61) - 8, FIRST_DRAWN)
     );
 }
 
@@ -181,5 +178,5 @@ fn the_most_words_are_one_request_before_anything_is_drawn(rt: HostRuntime) {
 fn a_length_that_no_usize_is_asks_for_nothing(rt: HostRuntime) {
     let memory = Refusing::from(rt.alloc(), 1);
     let is_made = is_rand(&memory, 1 << 58, &mut Pcg32::new(42, 54));
-    assert_eq!(rt; (is_made, memory.requests()), (false, 0));
+    assert!(rt; (is_made, memory.requests()) == (false, 0));
 }

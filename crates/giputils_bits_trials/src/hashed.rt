@@ -76,7 +76,7 @@ fn a_hasher_is_fed_the_words_and_then_the_length(rt: HostRuntime) -> Result<(), 
         feeds(alloc, 130, &[full, full, 3])?,
         feeds(alloc, 130, &[full, 3, full])?,
     ];
-    assert_eq!(rt; outcomes, [true, true, true, true, true, true, true, false]);
+    assert!(rt; outcomes == [true, true, true, true, true, true, true, false]);
     Ok(())
 }
 
@@ -90,6 +90,6 @@ fn members(alloc: Global) -> Result<usize, BitVecError> {
 
 #[test]
 fn equal_vectors_are_one_member_of_a_set(rt: HostRuntime) -> Result<(), Fail> {
-    assert_eq!(rt; members(rt.alloc())?, 1);
+    assert!(rt; members(rt.alloc())? == 1);
     Ok(())
 }

@@ -99,8 +99,8 @@ fn what_came_before_a_refusal_stands(rt: HostRuntime) {
 fn a_vector_stands_where_its_clone_is_refused(rt: HostRuntime) -> Result<(), Fail> {
     let memory = Refusing::from(rt.alloc(), 2);
     let bits = BitVec::ones(&memory, 65)?;
-    assert_eq!(rt; (bits.clone().is_ok(), memory.requests()), (false, 2));
-    assert_eq!(rt; bits.words(), [u64::MAX, 1].as_slice());
+    assert!(rt; (bits.clone().is_ok(), memory.requests()) == (false, 2));
+    assert!(rt; bits.words() == [u64::MAX, 1].as_slice());
     Ok(())
 }
 
@@ -109,7 +109,7 @@ fn one_word_stands_where_the_next_is_refused(rt: HostRuntime) -> Result<(), Fail
     let memory = Refusing::from(rt.alloc(), 1);
     let mut bits = BitVec::new(&memory);
     bits.push_word(7)?;
-    assert_eq!(rt; (bits.push_word(9).is_ok(), memory.requests()), (false, 1));
-    assert_eq!(rt; (bits.len(), bits.to_usize()), (64, 7));
+    assert!(rt; (bits.push_word(9).is_ok(), memory.requests()) == (false, 1));
+    assert!(rt; (bits.len(), bits.to_usize()) == (64, 7));
     Ok(())
 }

@@ -18,7 +18,7 @@ fn runs(
 
 #[test]
 fn a_run_skips_what_cannot_be_called(rt: HostRuntime) -> Result<(), Fail> {
-    let calls: [BitCall; 12] = [
+    let calls: &[BitCall] = &[
         BitCall::Push(true),
         BitCall::Bool,
         BitCall::GetBit(1),
@@ -32,7 +32,7 @@ fn a_run_skips_what_cannot_be_called(rt: HostRuntime) -> Result<(), Fail> {
         BitCall::IsZero,
         BitCall::Bool,
     ];
-    let replies = [
+    let replies = &[
         BitReply::Done,
         BitReply::Bit(true),
         BitReply::Skipped,
@@ -46,7 +46,7 @@ fn a_run_skips_what_cannot_be_called(rt: HostRuntime) -> Result<(), Fail> {
         BitReply::Bit(false),
         BitReply::Skipped,
     ];
-    assert!(rt; runs(rt.alloc(), &calls, &replies, "0x4")?);
+    assert!(rt; runs(rt.alloc(), calls, replies, "0x4")?);
     Ok(())
 }
 
@@ -80,7 +80,7 @@ fn logic_calls(operands: &Operands) -> [BitCall<'_>; 6] {
 #[test]
 fn a_run_of_logic(rt: HostRuntime) -> Result<(), Fail> {
     let operands = lent(rt.alloc())?;
-    let replies = [
+    let replies = &[
         BitReply::Done,
         BitReply::Done,
         BitReply::Done,
@@ -88,7 +88,7 @@ fn a_run_of_logic(rt: HostRuntime) -> Result<(), Fail> {
         BitReply::Skipped,
         BitReply::Number(26),
     ];
-    assert!(rt; runs(rt.alloc(), &logic_calls(&operands), &replies, "0x1a")?);
+    assert!(rt; runs(rt.alloc(), &logic_calls(&operands), replies, "0x1a")?);
     Ok(())
 }
 
@@ -112,7 +112,7 @@ fn set_calls(operands: &Operands) -> [BitCall<'_>; 12] {
 #[test]
 fn a_run_of_a_set(rt: HostRuntime) -> Result<(), Fail> {
     let operands = lent(rt.alloc())?;
-    let replies = [
+    let replies = &[
         BitReply::Done,
         BitReply::Bit(false),
         BitReply::Done,
@@ -126,24 +126,24 @@ fn a_run_of_a_set(rt: HostRuntime) -> Result<(), Fail> {
         BitReply::Done,
         BitReply::MaybeBit(Some(false)),
     ];
-    assert!(rt; runs(rt.alloc(), &set_calls(&operands), &replies, "0x8")?);
+    assert!(rt; runs(rt.alloc(), &set_calls(&operands), replies, "0x8")?);
     Ok(())
 }
 
 #[test]
 fn a_run_appends_a_word_anywhere(rt: HostRuntime) -> Result<(), Fail> {
-    let calls: [BitCall; 4] = [
+    let calls: &[BitCall] = &[
         BitCall::Push(true),
         BitCall::PushWord(5),
         BitCall::Len,
         BitCall::ToUsize,
     ];
-    let replies = [
+    let replies = &[
         BitReply::Done,
         BitReply::Done,
         BitReply::Number(65),
         BitReply::Number(11),
     ];
-    assert!(rt; runs(rt.alloc(), &calls, &replies, "0x0000000000000000b")?);
+    assert!(rt; runs(rt.alloc(), calls, replies, "0x0000000000000000b")?);
     Ok(())
 }

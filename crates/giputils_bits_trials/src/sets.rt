@@ -18,8 +18,8 @@ fn found(bits: &BitVec, start: usize, later: usize) -> [Option<usize>; 3] {
 #[test]
 fn true_places_are_counted_and_found(rt: HostRuntime) -> Result<(), Fail> {
     let bits = BitVec::from(rt.alloc(), [true, false, true, true, false])?;
-    assert_eq!(rt; counted(&bits), (3, [true, false, false]));
-    assert_eq!(rt; found(&bits, 1, 4), [Some(0), Some(2), None]);
+    assert!(rt; counted(&bits) == (3, [true, false, false]));
+    assert!(rt; found(&bits, 1, 4) == [Some(0), Some(2), None]);
     assert!(rt; bits.iter_ones().eq([0, 2, 3]));
     Ok(())
 }
@@ -29,8 +29,8 @@ fn words_without_a_true_place_are_stepped_over(rt: HostRuntime) -> Result<(), Fa
     let mut bits = BitVec::zero(rt.alloc(), 200)?;
     bits.set(64, true);
     bits.set(199, true);
-    assert_eq!(rt; found(&bits, 65, usize::MAX), [Some(64), Some(199), None]);
-    assert_eq!(rt; counted(&bits), (2, [true, false, false]));
+    assert!(rt; found(&bits, 65, usize::MAX) == [Some(64), Some(199), None]);
+    assert!(rt; counted(&bits) == (2, [true, false, false]));
     assert!(rt; bits.iter_ones().eq([64, 199]));
     Ok(())
 }
@@ -38,8 +38,8 @@ fn words_without_a_true_place_are_stepped_over(rt: HostRuntime) -> Result<(), Fa
 #[test]
 fn a_vector_without_a_place_has_none_and_all(rt: HostRuntime) {
     let bits = BitVec::new(rt.alloc());
-    assert_eq!(rt; counted(&bits), (0, [false, true, true]));
-    assert_eq!(rt; bits.first_one(), None);
+    assert!(rt; counted(&bits) == (0, [false, true, true]));
+    assert!(rt; bits.first_one().is_none());
 }
 
 // Two vectors of one length.
@@ -69,8 +69,8 @@ fn one_set_is_within_another(rt: HostRuntime) -> Result<(), Fail> {
     let before = relations(&bits, &mask);
     take_away(&mut bits, &mask);
     let after = relations(&bits, &mask);
-    assert_eq!(rt; (before, after), ((false, false), (false, true)));
-    assert_eq!(rt; bits.to_usize(), 0b01000);
+    assert!(rt; (before, after) == ((false, false), (false, true)));
+    assert!(rt; bits.to_usize() == 0b01000);
     Ok(())
 }
 
@@ -111,8 +111,8 @@ fn a_vector_is_written_in_place(rt: HostRuntime) -> Result<(), Fail> {
         Some((u64::MAX, 3)),
         Some((0, 0)),
     ];
-    assert_eq!(rt; written(&memory)?, wanted);
-    assert_eq!(rt; memory.requests(), 2);
+    assert!(rt; written(&memory)? == wanted);
+    assert!(rt; memory.requests() == 2);
     Ok(())
 }
 
@@ -141,8 +141,8 @@ fn shortened(memory: &Refusing) -> Result<Left, BitVecError> {
 fn the_last_bits_are_taken_away(rt: HostRuntime) -> Result<(), Fail> {
     let memory = Refusing::none(rt.alloc());
     let left = (Some((u64::MAX, 1)), Some(true), Some((u64::MAX, 0)), None);
-    assert_eq!(rt; shortened(&memory)?, left);
-    assert_eq!(rt; memory.requests(), 1);
+    assert!(rt; shortened(&memory)? == left);
+    assert!(rt; memory.requests() == 1);
     Ok(())
 }
 
@@ -159,6 +159,6 @@ fn a_vector_is_made_longer_and_shorter(rt: HostRuntime) -> Result<(), Fail> {
         is_resized(&mut bits, 130, false, &[u64::MAX - 2, 3, 0]),
         is_resized(&mut bits, 3, true, &[5]),
     ];
-    assert_eq!(rt; outcomes, [true; 3]);
+    assert!(rt; outcomes == [true; 3]);
     Ok(())
 }

@@ -34,21 +34,21 @@ fn texts(alloc: Global, bits: &BitVec) -> Result<String, AllocError> {
 fn each_trait_writes_its_text(rt: HostRuntime) -> Result<(), Fail> {
     let bits = BitVec::from_usize(rt.alloc(), 12, 0xabc)?;
     let text = format!(in rt.alloc(); "{}", ByTraits { bits: &bits })?;
-    assert_eq!(rt; text.as_str(), "101010111100 0xabc 0xABC");
+    assert!(rt; text.as_str() == "101010111100 0xabc 0xABC");
     Ok(())
 }
 
 #[test]
 fn texts_of_numbers(rt: HostRuntime) -> Result<(), Fail> {
     let alloc = rt.alloc();
-    for (len, number, wanted) in [
+    for &(len, number, wanted) in &[
         (0, 0, "[] [] [] []"),
         (3, 0, "000 000 0x0 0x0"),
         (10, 12345, "0000111001 0000111001 0x39 0x39"),
         (12, 0xabc, "101010111100 101010111100 0xabc 0xABC"),
     ] {
         let bits = BitVec::from_usize(alloc, len, number)?;
-        assert_eq!(rt; texts(alloc, &bits)?.as_str(), wanted);
+        assert!(rt; texts(alloc, &bits)?.as_str() == wanted);
     }
     Ok(())
 }
@@ -57,7 +57,7 @@ fn texts_of_numbers(rt: HostRuntime) -> Result<(), Fail> {
 fn a_number_has_no_digits_past_a_word(rt: HostRuntime) -> Result<(), Fail> {
     let bits = BitVec::from_usize(rt.alloc(), 70, usize::MAX)?;
     let text = format!(in rt.alloc(); "{}", bits.lower_hex())?;
-    assert_eq!(rt; text.as_str(), "0x0ffffffffffffffff");
+    assert!(rt; text.as_str() == "0x0ffffffffffffffff");
     Ok(())
 }
 
@@ -70,13 +70,9 @@ fn hex_texts(alloc: Global, len: usize, number: usize) -> Result<String, BitVecE
 
 #[test]
 fn all_words_but_the_last_have_each_digit(rt: HostRuntime) -> Result<(), Fail> {
-    assert_eq!(rt;
-        hex_texts(rt.alloc(), 6, 0)?.as_str(),
-        "0x0ffffffffffffffff 0x0FFFFFFFFFFFFFFFF"
-    );
-    assert_eq!(rt;
-        hex_texts(rt.alloc(), 64, 1)?.as_str(),
-        "0x1ffffffffffffffff 0x1FFFFFFFFFFFFFFFF"
+    assert!(rt; hex_texts(rt.alloc(), 6, 0)?.as_str() == "0x0ffffffffffffffff 0x0FFFFFFFFFFFFFFFF");
+    assert!(rt;
+        hex_texts(rt.alloc(), 64, 1)?.as_str() == "0x1ffffffffffffffff 0x1FFFFFFFFFFFFFFFF"
     );
     Ok(())
 }
@@ -134,9 +130,9 @@ fn both_ways(alloc: Global, len: usize) -> Result<(String, String), BitVecError>
 
 #[test]
 fn texts_are_those_of_the_bits(rt: HostRuntime) -> Result<(), Fail> {
-    for len in [0, 1, 63, 64, 65, 127, 128, 129, 200] {
+    for &len in &[0, 1, 63, 64, 65, 127, 128, 129, 200] {
         let (written, by_bits) = both_ways(rt.alloc(), len)?;
-        assert_eq!(rt; written, by_bits);
+        assert!(rt; written == by_bits);
     }
     Ok(())
 }
@@ -168,7 +164,7 @@ fn are_written(bits: &BitVec, left: usize) -> (bool, bool) {
 fn a_sink_that_fails_stops_the_text(rt: HostRuntime) -> Result<(), Fail> {
     let bits = BitVec::ones(rt.alloc(), 130)?;
     for left in 0..5 {
-        assert_eq!(rt; are_written(&bits, left), (left >= 3, left >= 4));
+        assert!(rt; are_written(&bits, left) == (left >= 3, left >= 4));
     }
     Ok(())
 }

@@ -105,7 +105,7 @@ fn a_bounded_heap_takes_no_memory_once_it_is_made(rt: HostRuntime) -> Result<(),
     let left = call_without(&mut heap);
     let built = build_of_two(&mut heap);
     heap.clear();
-    assert_eq!(rt; (left, built, heap.len(), memory.requests()), (60, 2, 0, 2));
+    assert!(rt; (left, built, heap.len(), memory.requests()) == (60, 2, 0, 2));
     Ok(())
 }
 
@@ -140,7 +140,7 @@ fn a_bounded_heap_holds_every_key_below_its_bound(rt: HostRuntime) -> Result<(),
         (Some(0), Some(0)),
         (None, None),
     ];
-    assert_eq!(rt; (held, answers), (3, wanted));
+    assert!(rt; (held, answers) == (3, wanted));
     Ok(())
 }
 
@@ -157,7 +157,7 @@ fn raised(alloc: Global) -> Result<(Vec<u8>, bool), AllocError> {
 #[test]
 fn a_raised_bound_leaves_the_keys(rt: HostRuntime) -> Result<(), Fail> {
     let (keys, is_empty) = raised(rt.alloc())?;
-    assert_eq!(rt; (keys.as_slice(), is_empty), ([4, 1, 0].as_slice(), true));
+    assert!(rt; (keys.as_slice(), is_empty) == ([4, 1, 0].as_slice(), true));
     Ok(())
 }
 
@@ -177,7 +177,7 @@ fn repaired(alloc: Global) -> Result<Vec<u8>, AllocError> {
 #[test]
 fn a_bounded_heap_repairs_changed_ranks(rt: HostRuntime) -> Result<(), Fail> {
     let keys = repaired(rt.alloc())?;
-    assert_eq!(rt; keys.as_slice(), [0, 1, 3, 2].as_slice());
+    assert!(rt; keys.as_slice() == [0, 1, 3, 2].as_slice());
     Ok(())
 }
 
@@ -194,6 +194,6 @@ fn rebuilt(alloc: Global) -> Result<Vec<u8>, AllocError> {
 #[test]
 fn any_state_of_a_bounded_heap_can_be_rebuilt(rt: HostRuntime) -> Result<(), Fail> {
     let keys = rebuilt(rt.alloc())?;
-    assert_eq!(rt; keys.as_slice(), [0, 1, 2, 3].as_slice());
+    assert!(rt; keys.as_slice() == [0, 1, 2, 3].as_slice());
     Ok(())
 }

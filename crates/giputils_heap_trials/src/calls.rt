@@ -189,8 +189,7 @@ impl Twins {
 
 #[test]
 fn pops_the_greatest_first_within_the_bounds(rt: HostRuntime) {
-    let mut heaps = Twins::new(rt.alloc());
-    let calls = [
+    let calls = &[
         (HeapCall::Push(0), HeapReply::Done, 0),
         (HeapCall::Push(1), HeapReply::Done, 1),
         (HeapCall::Push(2), HeapReply::Done, 1),
@@ -209,13 +208,14 @@ fn pops_the_greatest_first_within_the_bounds(rt: HostRuntime) {
         (HeapCall::Pop, HeapReply::Popped(Some(0)), 0),
         (HeapCall::Pop, HeapReply::Popped(None), 0),
     ];
-    assert_eq!(rt; heaps.first_wrong(&calls, &ByNumber), None);
+    let mut heaps = Twins::new(rt.alloc());
+    assert!(rt; heaps.first_wrong(calls, &ByNumber).is_none());
 }
 
 #[test]
 fn pops_the_smallest_first_under_a_reversed_comparer(rt: HostRuntime) {
     let mut heaps = Twins::new(rt.alloc());
-    let calls = [
+    let calls = &[
         (HeapCall::Push(3), HeapReply::Done, 0),
         (HeapCall::Push(2), HeapReply::Done, 1),
         (HeapCall::Push(4), HeapReply::Done, 1),
@@ -228,13 +228,13 @@ fn pops_the_smallest_first_under_a_reversed_comparer(rt: HostRuntime) {
         (HeapCall::Pop, HeapReply::Popped(Some(5)), 0),
         (HeapCall::Pop, HeapReply::Popped(None), 0),
     ];
-    assert_eq!(rt; heaps.first_wrong(&calls, &Reverse(ByNumber)), None);
+    assert!(rt; heaps.first_wrong(calls, &Reverse(ByNumber)).is_none());
 }
 
 #[test]
 fn a_key_pushed_after_clear_is_held(rt: HostRuntime) {
     let mut heaps = Twins::new(rt.alloc());
-    let calls = [
+    let calls = &[
         (HeapCall::Push(7), HeapReply::Done, 0),
         (HeapCall::Clear, HeapReply::Done, 0),
         (HeapCall::IsEmpty, HeapReply::Empty(true), 0),
@@ -242,13 +242,13 @@ fn a_key_pushed_after_clear_is_held(rt: HostRuntime) {
         (HeapCall::Pop, HeapReply::Popped(Some(7)), 0),
         (HeapCall::Pop, HeapReply::Popped(None), 0),
     ];
-    assert_eq!(rt; heaps.first_wrong(&calls, &ByNumber), None);
+    assert!(rt; heaps.first_wrong(calls, &ByNumber).is_none());
 }
 
 #[test]
 fn a_held_key_is_pushed_without_asking(rt: HostRuntime) {
     let mut heaps = Twins::new(rt.alloc());
-    let calls = [
+    let calls = &[
         (HeapCall::Push(3), HeapReply::Done, 0),
         (HeapCall::Push(9), HeapReply::Done, 1),
         (HeapCall::Push(6), HeapReply::Done, 1),
@@ -261,7 +261,7 @@ fn a_held_key_is_pushed_without_asking(rt: HostRuntime) {
         (HeapCall::Push(8), HeapReply::Done, 0),
         (HeapCall::Len, HeapReply::Length(5), 0),
     ];
-    assert_eq!(rt; heaps.first_wrong(&calls, &ByNumber), None);
+    assert!(rt; heaps.first_wrong(calls, &ByNumber).is_none());
 }
 
 // A heap of the keys below eight, twice.
@@ -284,11 +284,11 @@ fn repairs_ask_within_the_bounds_and_leave_order(rt: HostRuntime) -> Result<(), 
             (HeapCall::Update(key), HeapReply::Done, 2 * levels),
             (HeapCall::Rebuild, HeapReply::Done, 16),
         ];
-        assert_eq!(rt; heaps.first_wrong(&calls, &ByNumber), None, "key {key}");
+        assert!(rt; heaps.first_wrong(&calls, &ByNumber) == None, "key {key}");
     }
     let downward = [7, 6, 5, 4, 3, 2, 1].map(Some);
-    assert_eq!(rt; popped(&mut heaps.counted, &ByNumber), downward);
-    assert_eq!(rt; popped(&mut heaps.plain, &ByNumber), downward);
+    assert!(rt; popped(&mut heaps.counted, &ByNumber) == downward);
+    assert!(rt; popped(&mut heaps.plain, &ByNumber) == downward);
     Ok(())
 }
 
@@ -308,7 +308,7 @@ fn removed_twice(heaps: &mut Twins, key: u8) -> Option<(bool, u64)> {
 #[test]
 fn plain_removes_ask_as_often_as_counted_ones(rt: HostRuntime) -> Result<(), Fail> {
     let mut heaps = filled_twins(rt.alloc())?;
-    for (key, is_held) in [(7, true), (3, true), (0, true), (8, false), (1, true)] {
+    for &(key, is_held) in &[(7, true), (3, true), (0, true), (8, false), (1, true)] {
         let told = removed_twice(&mut heaps, key);
         assert!(rt;
             told.is_some_and(|(was_held, _)| was_held == is_held),
@@ -324,7 +324,7 @@ fn the_only_key_is_removed_without_asking(rt: HostRuntime) -> Result<(), Fail> {
     let first = removed(&mut heap, 7, &ByNumber);
     let left = heap.peek();
     let again = removed(&mut heap, 7, &ByNumber);
-    assert_eq!(rt; (first, left, again), ((true, 0), None, (false, 0)));
+    assert!(rt; (first, left, again) == ((true, 0), None, (false, 0)));
     Ok(())
 }
 
@@ -336,7 +336,7 @@ fn counted_answers() -> ([bool; 2], u64) {
 
 #[test]
 fn a_counter_counts_each_question(rt: HostRuntime) {
-    assert_eq!(rt; counted_answers(), ([true, false], 2));
+    assert!(rt; counted_answers() == ([true, false], 2));
 }
 
 #[test]
@@ -344,7 +344,7 @@ fn elements_has_each_held_key_once(rt: HostRuntime) -> Result<(), Fail> {
     let heap = filled(rt.alloc(), &[254, 0, 254, 200], &ByNumber)?;
     let mut elements = Vec::from_slice(rt.alloc(), heap.elements())?;
     elements.sort()?;
-    assert_eq!(rt; elements.as_slice(), [0, 200, 254].as_slice());
+    assert!(rt; elements.as_slice() == [0, 200, 254].as_slice());
     Ok(())
 }
 
@@ -352,7 +352,7 @@ fn elements_has_each_held_key_once(rt: HostRuntime) -> Result<(), Fail> {
 fn no_key_is_not_held(rt: HostRuntime) -> Result<(), Fail> {
     let mut heap: BinaryHeap<u32> = BinaryHeap::new(rt.alloc());
     heap.push(7, &ByNumber)?;
-    for key in [6, 8, u32::MAX] {
+    for &key in &[6, 8, u32::MAX] {
         assert!(rt; !heap.contains(key));
         assert!(rt; !heap.remove(key, &ByNumber));
     }
@@ -364,7 +364,7 @@ fn no_key_is_not_held(rt: HostRuntime) -> Result<(), Fail> {
 fn a_heap_shows_as_a_set(rt: HostRuntime) -> Result<(), Fail> {
     let heap = filled(rt.alloc(), &[9, 3, 8], &ByNumber)?;
     let text = format!(in rt.alloc(); "{heap:?}")?;
-    assert_eq!(rt; text.as_str(), "{9, 3, 8}");
+    assert!(rt; text.as_str() == "{9, 3, 8}");
     Ok(())
 }
 
@@ -382,7 +382,7 @@ fn a_key_goes_down_by_way_of_a_leaf(rt: HostRuntime) -> Result<(), Fail> {
     let mut heap = filled_downward(rt.alloc())?;
     let asked = repair_counted(&mut heap, HeapCall::Down(14), &ByNumber);
     let popped = pop_counted(&mut heap, &ByNumber);
-    assert_eq!(rt; (asked, popped), (6, (HeapReply::Popped(Some(14)), 4)));
+    assert!(rt; (asked, popped) == (6, (HeapReply::Popped(Some(14)), 4)));
     Ok(())
 }
 
@@ -399,25 +399,24 @@ fn popped_once_repaired(
 
 #[test]
 fn one_changed_rank_is_put_right(rt: HostRuntime) -> Result<(), Fail> {
-    let (risen, fallen) = ([5, 9, 4], [1, 3, 4]);
-    for (call, ranks, [first, second, third]) in [
-        (HeapCall::Up(1), risen, [1, 0, 2]),
-        (HeapCall::Down(0), fallen, [2, 1, 0]),
-        (HeapCall::Update(0), fallen, [2, 1, 0]),
-        (HeapCall::Update(1), risen, [1, 0, 2]),
+    for &(call, ranks, [first, second, third]) in &[
+        (HeapCall::Up(1), [5, 9, 4], [1, 0, 2]),
+        (HeapCall::Down(0), [1, 3, 4], [2, 1, 0]),
+        (HeapCall::Update(0), [1, 3, 4], [2, 1, 0]),
+        (HeapCall::Update(1), [5, 9, 4], [1, 0, 2]),
         (HeapCall::Rebuild, [4, 9, 5], [1, 2, 0]),
     ] {
-        assert_eq!(rt;
-            popped_once_repaired(rt.alloc(), call, &ranks)?,
-            [
-                Some(first),
-                Some(second),
-                Some(third),
-                None,
-                None,
-                None,
-                None
-            ]
+        assert!(rt;
+            popped_once_repaired(rt.alloc(), call, &ranks)?
+                == [
+                    Some(first),
+                    Some(second),
+                    Some(third),
+                    None,
+                    None,
+                    None,
+                    None
+                ]
         );
     }
     Ok(())
@@ -438,23 +437,20 @@ fn rebuilt(alloc: Global) -> Result<(u64, [Option<u8>; 7]), AllocError> {
 fn two_changed_ranks_are_put_right_by_a_rebuild(rt: HostRuntime) -> Result<(), Fail> {
     let (count, keys) = rebuilt(rt.alloc())?;
     assert!(rt; count <= 8);
-    assert_eq!(rt;
-        keys,
-        [Some(3), Some(2), Some(0), Some(1), None, None, None]
-    );
+    assert!(rt; keys == [Some(3), Some(2), Some(0), Some(1), None, None, None]);
     Ok(())
 }
 
 #[test]
 fn a_rebuild_of_few_keys_asks_little(rt: HostRuntime) {
     let mut heaps = Twins::new(rt.alloc());
-    let calls = [
+    let calls = &[
         (HeapCall::Rebuild, HeapReply::Done, 0),
         (HeapCall::Push(7), HeapReply::Done, 0),
         (HeapCall::Rebuild, HeapReply::Done, 2),
     ];
-    assert_eq!(rt; heaps.first_wrong(&calls, &ByNumber), None);
-    assert_eq!(rt; heaps.plain.peek(), Some(7));
+    assert!(rt; heaps.first_wrong(calls, &ByNumber).is_none());
+    assert!(rt; heaps.plain.peek() == Some(7));
 }
 
 // Takes a key out of a heap whose array is 9, 3, 8, 1, 2, 7, 6: whether it was held, and what seven pops answer then.
@@ -467,7 +463,7 @@ fn popped_once_removed(alloc: Global, key: u8) -> Result<(bool, [Option<u8>; 7])
 // The root, keys between, leaves (in the place of 1 the last key goes up), and the last key.
 #[test]
 fn a_removed_key_is_gone_and_the_others_come_in_order(rt: HostRuntime) -> Result<(), Fail> {
-    for (key, [first, second, third, fourth, fifth, sixth]) in [
+    for &(key, [first, second, third, fourth, fifth, sixth]) in &[
         (9, [8, 7, 6, 3, 2, 1]),
         (3, [9, 8, 7, 6, 2, 1]),
         (8, [9, 7, 6, 3, 2, 1]),
@@ -485,7 +481,7 @@ fn a_removed_key_is_gone_and_the_others_come_in_order(rt: HostRuntime) -> Result
             Some(sixth),
             None,
         ];
-        assert_eq!(rt; popped_once_removed(rt.alloc(), key)?, (true, want));
+        assert!(rt; popped_once_removed(rt.alloc(), key)? == (true, want));
     }
     let all = [
         Some(9),
@@ -496,7 +492,7 @@ fn a_removed_key_is_gone_and_the_others_come_in_order(rt: HostRuntime) -> Result
         Some(2),
         Some(1),
     ];
-    assert_eq!(rt; popped_once_removed(rt.alloc(), 5)?, (false, all));
+    assert!(rt; popped_once_removed(rt.alloc(), 5)? == (false, all));
     Ok(())
 }
 
@@ -504,14 +500,10 @@ fn a_removed_key_is_gone_and_the_others_come_in_order(rt: HostRuntime) -> Result
 fn a_popped_key_can_be_pushed_again(rt: HostRuntime) -> Result<(), Fail> {
     let mut heap = filled(rt.alloc(), &[254, 0, 254, 200], &ByNumber)?;
     let before = (heap.len(), heap.peek(), heap.pop(&ByNumber));
-    assert_eq!(rt;
-        (before, heap.contains(254)),
-        ((3, Some(254), Some(254)), false)
-    );
+    assert!(rt; (before, heap.contains(254)) == ((3, Some(254), Some(254)), false));
     heap.push(254, &ByNumber)?;
-    assert_eq!(rt;
-        popped(&mut heap, &ByNumber),
-        [Some(254), Some(200), Some(0), None, None, None, None]
+    assert!(rt;
+        popped(&mut heap, &ByNumber) == [Some(254), Some(200), Some(0), None, None, None, None]
     );
     Ok(())
 }
@@ -520,7 +512,7 @@ fn a_popped_key_can_be_pushed_again(rt: HostRuntime) -> Result<(), Fail> {
 fn the_greatest_number_of_a_short_type_is_a_key(rt: HostRuntime) -> Result<(), Fail> {
     let mut heap: BinaryHeap<u16> = BinaryHeap::new(rt.alloc());
     heap.push(65535, &ByNumber)?;
-    assert_eq!(rt; heap.pop(&ByNumber), Some(65535));
+    assert!(rt; heap.pop(&ByNumber) == Some(65535));
     Ok(())
 }
 
@@ -579,7 +571,7 @@ fn loses_no_key<C: BinaryHeapCmp<u8>>(
 ) -> Result<(), AllocError> {
     for calls in [UPDATED.as_slice(), REBUILT.as_slice()] {
         let (keys, wrong) = come_out(alloc, calls, cmp)?;
-        assert_eq!(rt; (keys.as_slice(), wrong), ([0, 1, 2].as_slice(), None));
+        assert!(rt; (keys.as_slice(), wrong) == ([0, 1, 2].as_slice(), None));
     }
     Ok(())
 }
@@ -613,7 +605,7 @@ fn ties_lose_no_key(rt: HostRuntime) -> Result<(), Fail> {
     for (count, most) in counts.iter().zip([4, 4, 2, 14]) {
         assert!(rt; *count <= most);
     }
-    assert_eq!(rt; (keys, left), ([0, 1, 2, 3, 4, 5, 6].map(Some), 0));
+    assert!(rt; (keys, left) == ([0, 1, 2, 3, 4, 5, 6].map(Some), 0));
     Ok(())
 }
 
@@ -622,7 +614,7 @@ fn draining_lists_all_keys_and_asks_little(rt: HostRuntime) -> Result<(), Fail> 
     let mut heap = filled(rt.alloc(), &[3, 1, 4, 1, 5, 9, 2, 6], &ByNumber)?;
     let mut counter = Counting::new(&ByNumber);
     let keys = heap.drain_sorted_counted(rt.alloc(), &mut counter)?;
-    assert_eq!(rt; keys.as_slice(), [9, 6, 5, 4, 3, 2, 1].as_slice());
+    assert!(rt; keys.as_slice() == [9, 6, 5, 4, 3, 2, 1].as_slice());
     assert!(rt; heap.is_empty() && counter.count() <= 28);
     Ok(())
 }
@@ -630,7 +622,7 @@ fn draining_lists_all_keys_and_asks_little(rt: HostRuntime) -> Result<(), Fail> 
 // Pushes three keys by their ranks, and then each again with the rank of one changed.
 fn pushed_again(alloc: Global) -> Result<Vec<u8>, AllocError> {
     let mut heap = filled(alloc, &[0, 1], &ByRank(&[5, 3, 4]))?;
-    for key in [0, 2, 1] {
+    for &key in &[0, 2, 1] {
         heap.push_or_update(key, &ByRank(&[1, 3, 4]))?;
     }
     heap.drain_sorted(alloc, &ByRank(&[1, 3, 4]))
@@ -639,7 +631,7 @@ fn pushed_again(alloc: Global) -> Result<Vec<u8>, AllocError> {
 #[test]
 fn a_key_is_pushed_or_moved(rt: HostRuntime) -> Result<(), Fail> {
     let keys = pushed_again(rt.alloc())?;
-    assert_eq!(rt; keys.as_slice(), [2, 1, 0].as_slice());
+    assert!(rt; keys.as_slice() == [2, 1, 0].as_slice());
     Ok(())
 }
 
@@ -654,7 +646,7 @@ fn built(alloc: Global) -> Result<(Vec<u8>, u64), AllocError> {
 #[test]
 fn build_holds_each_listed_key_once(rt: HostRuntime) -> Result<(), Fail> {
     let (keys, asked) = built(rt.alloc())?;
-    assert_eq!(rt; keys.as_slice(), [9, 4, 3].as_slice());
+    assert!(rt; keys.as_slice() == [9, 4, 3].as_slice());
     assert!(rt; asked <= 8);
     Ok(())
 }

@@ -6,9 +6,38 @@ use std::alloc::{AllocError, Global};
 use std::cmp::Reverse;
 use std::test::Fail;
 
-// Makes a list of calls on both heaps, drawn from `seed`: pushes of keys below 16 mostly, pops, and a `clear` now and
-// then. Tells whether all replies were equal.
+// The next number of a list that is drawn from a seed.
+fn after(seed: u32) -> u32 {
+    seed.wrapping_mul(1_664_525).wrapping_add(1_013_904_223)
+}
+
+// Makes a drawn call on both heaps: a push of a key below 16 mostly, a pop, or a `clear` now and then. Tells whether
+// both replied the same, and hold as many keys.
 fn reply_alike<C: BinaryHeapCmp<u32>>(
+    heap: &mut BinaryHeap<u32>,
+    plain: &mut ListHeap<u32>,
+    drawn: u32,
+    cmp: &C,
+) -> Result<bool, AllocError> {
+    let key = (drawn >> 28) % 16;
+    let alike = match (drawn >> 20) % 16 {
+        0 => {
+            heap.clear();
+            plain.clear();
+            true
+        }
+        1..=6 => heap.pop(cmp) == plain.pop(cmp),
+        _ => {
+            heap.push(key, cmp)?;
+            plain.push(key, cmp)?;
+            true
+        }
+    };
+    Ok(alike && heap.len() == plain.len())
+}
+
+// Makes a list of such calls, drawn from `seed`.
+fn all_reply_alike<C: BinaryHeapCmp<u32>>(
     alloc: Global,
     mut seed: u32,
     cmp: &C,
@@ -16,50 +45,47 @@ fn reply_alike<C: BinaryHeapCmp<u32>>(
     let mut heap = BinaryHeap::new(alloc);
     let mut plain = ListHeap::new(alloc);
     for _ in 0..40 {
-        seed = seed.wrapping_mul(1_664_525).wrapping_add(1_013_904_223);
-        let key = (seed >> 28) % 16;
-        let alike = match (seed >> 20) % 16 {
-            0 => {
-                heap.clear();
-                plain.clear();
-                true
-            }
-            1..=6 => heap.pop(cmp) == plain.pop(cmp),
-            _ => {
-                heap.push(key, cmp)?;
-                plain.push(key, cmp)?;
-                true
-            }
-        };
-        if !alike || heap.len() != plain.len() {
+        seed = after(seed);
+        if !reply_alike(&mut heap, &mut plain, seed, cmp)? {
             return Ok(false);
         }
     }
     Ok(true)
 }
 
-// The same under ranks that change for one key at a time, which is updated then, be it held or not.
-fn reply_alike_by_rank(alloc: Global, mut seed: u32) -> Result<bool, AllocError> {
+// Makes a drawn call on both heaps, by ranks that change for one key at a time, which is updated then, be it held or
+// not.
+fn reply_alike_by_rank(
+    heap: &mut BinaryHeap<u32>,
+    plain: &mut ListHeap<u32>,
+    drawn: u32,
+    ranks: &mut [u32; 16],
+) -> Result<bool, AllocError> {
+    let key = (drawn >> 28) % 16;
+    let alike = match (drawn >> 20) % 8 {
+        0 | 1 => heap.pop(&ByRank(ranks)) == plain.pop(&ByRank(ranks)),
+        2..=4 => {
+            ranks[key as usize] = (drawn >> 12) % 8;
+            heap.update(key, &ByRank(ranks));
+            true
+        }
+        _ => {
+            heap.push(key, &ByRank(ranks))?;
+            plain.push(key, &ByRank(ranks))?;
+            true
+        }
+    };
+    Ok(alike && heap.len() == plain.len())
+}
+
+// Makes a list of such calls, drawn from `seed`.
+fn all_reply_alike_by_rank(alloc: Global, mut seed: u32) -> Result<bool, AllocError> {
     let mut ranks = [0; 16];
     let mut heap = BinaryHeap::new(alloc);
     let mut plain = ListHeap::new(alloc);
     for _ in 0..40 {
-        seed = seed.wrapping_mul(1_664_525).wrapping_add(1_013_904_223);
-        let key = (seed >> 28) % 16;
-        let alike = match (seed >> 20) % 8 {
-            0 | 1 => heap.pop(&ByRank(&ranks)) == plain.pop(&ByRank(&ranks)),
-            2..=4 => {
-                ranks[key as usize] = (seed >> 12) % 8;
-                heap.update(key, &ByRank(&ranks));
-                true
-            }
-            _ => {
-                heap.push(key, &ByRank(&ranks))?;
-                plain.push(key, &ByRank(&ranks))?;
-                true
-            }
-        };
-        if !alike || heap.len() != plain.len() {
+        seed = after(seed);
+        if !reply_alike_by_rank(&mut heap, &mut plain, seed, &mut ranks)? {
             return Ok(false);
         }
     }
@@ -70,15 +96,15 @@ fn reply_alike_by_rank(alloc: Global, mut seed: u32) -> Result<bool, AllocError>
 fn replies_as_the_plain_heap_under_orders_without_ties(rt: HostRuntime) -> Result<(), Fail> {
     for seed in 0..500 {
         assert!(rt;
-            reply_alike(rt.alloc(), seed, &ByNumber)?,
+            all_reply_alike(rt.alloc(), seed, &ByNumber)?,
             "by number, seed {seed}"
         );
         assert!(rt;
-            reply_alike(rt.alloc(), seed, &Reverse(ByNumber))?,
+            all_reply_alike(rt.alloc(), seed, &Reverse(ByNumber))?,
             "reversed, seed {seed}"
         );
         assert!(rt;
-            reply_alike_by_rank(rt.alloc(), seed)?,
+            all_reply_alike_by_rank(rt.alloc(), seed)?,
             "by rank, seed {seed}"
         );
     }

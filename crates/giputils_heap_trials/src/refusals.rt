@@ -4,12 +4,12 @@ use giputils_heap::{
     BinaryHeap, ByNumber, Counting, HeapCall, HeapReply, HeapStep, RankTable, heap_run,
 };
 use giputils_refusing::{Refusing, refuse_each};
-use std::alloc::AllocError;
+use std::alloc::{AllocError, Global};
 use std::test::Fail;
 
 fn three_keys(memory: &Refusing) -> Result<BinaryHeap<u32, &Refusing>, AllocError> {
     let mut heap = BinaryHeap::new(memory);
-    for key in [3, 9, 6] {
+    for &key in &[3, 9, 6] {
         heap.push(key, &ByNumber)?;
     }
     Ok(heap)
@@ -85,7 +85,7 @@ fn pop_by_later_ranks(replies: &[HeapReply<u32>]) -> bool {
         return false;
     };
     let mut pops = [first, second, third, fourth, fifth].into_iter();
-    for key in [3, 2, 0, 1] {
+    for &key in &[3, 2, 0, 1] {
         let is_held = pushes.get(key as usize) == Some(&HeapReply::Done);
         if is_held && pops.next() != Some(&HeapReply::Popped(Some(key))) {
             return false;
@@ -126,16 +126,16 @@ fn each_request_of_a_heap_is_refused_in_turn(rt: HostRuntime) {
 #[test]
 fn a_run_asks_for_its_list_of_replies_first(rt: HostRuntime) {
     let memory = Refusing::nth(rt.alloc(), 1);
-    assert_eq!(rt; replies_of_a_run(&memory), None);
-    assert_eq!(rt; memory.requests(), 1);
+    assert!(rt; replies_of_a_run(&memory).is_none());
+    assert!(rt; memory.requests() == 1);
     let memory = Refusing::nth(rt.alloc(), 2);
-    let replies = [
+    let replies = &[
         HeapReply::Refused,
         HeapReply::Done,
         HeapReply::Popped(Some(9)),
         HeapReply::Popped(None),
     ];
-    assert_eq!(rt; replies_of_a_run(&memory), Some(replies));
+    assert!(rt; replies_of_a_run(&memory) == Some(*replies));
 }
 
 #[test]
@@ -148,8 +148,8 @@ fn a_key_that_was_refused_memory_is_not_held(rt: HostRuntime) -> Result<(), Fail
         HeapStep::new(HeapCall::Len, &ByNumber),
     ];
     let replies = heap_run(&memory, &mut steps)?;
-    let wanted = [HeapReply::Refused, HeapReply::Done, HeapReply::Length(0)];
-    assert_eq!(rt; replies.as_slice(), wanted.as_slice());
+    let wanted = &[HeapReply::Refused, HeapReply::Done, HeapReply::Length(0)];
+    assert!(rt; replies.as_slice() == wanted.as_slice());
     Ok(())
 }
 
@@ -188,22 +188,44 @@ fn removed(heap: &mut BinaryHeap<u32, &Refusing>) -> [bool; 2] {
     [first, heap.remove_counted(3, &mut Counting::new(&ByNumber))]
 }
 
-#[test]
-fn a_heap_pops_repairs_and_pushes_held_keys_in_place(rt: HostRuntime) -> Result<(), Fail> {
-    let counted = Refusing::none(rt.alloc());
-    drop(three_keys(&counted)?);
-    let memory = Refusing::from(rt.alloc(), counted.requests().saturating_add(1));
-    let mut heap = three_keys(&memory)?;
+// Makes these calls on a heap of three keys, and clears it.
+fn called_in_place(
+    memory: &Refusing,
+) -> Result<
+    (
+        ([bool; 3], Option<u32>, [usize; 2]),
+        [Option<u32>; 2],
+        [bool; 2],
+    ),
+    AllocError,
+> {
+    let mut heap = three_keys(memory)?;
     push_held(&mut heap)?;
-    for key in [3, 6, 9, 10, 4_000_000_000, u32::MAX] {
+    for &key in &[3, 6, 9, 10, 4_000_000_000, u32::MAX] {
         repair(&mut heap, key);
     }
     rebuild(&mut heap);
-    assert_eq!(rt; found(&heap), ([true, false, false], Some(9), [3, 3]));
-    assert_eq!(rt; popped(&mut heap), [Some(9), Some(6)]);
-    assert_eq!(rt; removed(&mut heap), [false, true]);
+    let seen = (found(&heap), popped(&mut heap), removed(&mut heap));
     heap.clear();
-    assert_eq!(rt; BinaryHeap::<u32, &Refusing>::new(&memory).len(), 0);
-    assert_eq!(rt; memory.requests(), counted.requests());
+    Ok(seen)
+}
+
+// How many requests a heap of three keys makes.
+fn requests_of_three_keys(alloc: Global) -> Result<u64, AllocError> {
+    let memory = Refusing::none(alloc);
+    drop(three_keys(&memory)?);
+    Ok(memory.requests())
+}
+
+#[test]
+fn a_heap_pops_repairs_and_pushes_held_keys_in_place(rt: HostRuntime) -> Result<(), Fail> {
+    let requests = requests_of_three_keys(rt.alloc())?;
+    let memory = Refusing::from(rt.alloc(), requests.saturating_add(1));
+    let (found, popped, removed) = called_in_place(&memory)?;
+    assert!(rt; found == ([true, false, false], Some(9), [3, 3]));
+    assert!(rt; popped == [Some(9), Some(6)]);
+    assert!(rt; removed == [false, true]);
+    assert!(rt; BinaryHeap::<u32, &Refusing>::new(&memory).is_empty());
+    assert!(rt; memory.requests() == requests);
     Ok(())
 }

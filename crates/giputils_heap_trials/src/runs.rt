@@ -8,7 +8,7 @@ use std::test::Fail;
 #[test]
 fn a_run_of_no_steps_has_no_replies(rt: HostRuntime) -> Result<(), Fail> {
     let mut steps: [HeapStep<u32, ByNumber>; 0] = [];
-    assert_eq!(rt; heap_run(rt.alloc(), &mut steps)?.len(), 0);
+    assert!(rt; heap_run(rt.alloc(), &mut steps)?.len() == 0);
     Ok(())
 }
 
@@ -22,11 +22,8 @@ fn a_key_pushed_twice_is_held_once(rt: HostRuntime) -> Result<(), Fail> {
     ];
     let replies = heap_run(rt.alloc(), &mut steps)?;
     let done = HeapReply::Done;
-    assert_eq!(rt;
-        replies.as_slice(),
-        [done, done, done, HeapReply::Length(2)].as_slice()
-    );
-    assert_eq!(rt; steps[2].cmp.count(), 0);
+    assert!(rt; replies.as_slice() == [done, done, done, HeapReply::Length(2)].as_slice());
+    assert!(rt; steps[2].cmp.count() == 0);
     Ok(())
 }
 
@@ -42,7 +39,7 @@ fn a_run_skips_what_is_no_key(rt: HostRuntime) -> Result<(), Fail> {
         HeapStep::new(HeapCall::Clear, &ByNumber),
     ];
     let replies = heap_run(rt.alloc(), &mut steps)?;
-    let wanted = [
+    let wanted = &[
         HeapReply::Skipped,
         HeapReply::Length(0),
         HeapReply::Empty(true),
@@ -51,7 +48,7 @@ fn a_run_skips_what_is_no_key(rt: HostRuntime) -> Result<(), Fail> {
         HeapReply::Popped(Some(7)),
         HeapReply::Done,
     ];
-    assert_eq!(rt; replies.as_slice(), wanted.as_slice());
+    assert!(rt; replies.as_slice() == wanted.as_slice());
     Ok(())
 }
 
@@ -78,13 +75,12 @@ fn repaired(
 
 #[test]
 fn a_run_repairs_a_changed_rank(rt: HostRuntime) -> Result<(), Fail> {
-    let (risen, fallen) = ([5, 9, 4], [1, 3, 4]);
     let done = HeapReply::Done;
-    for (call, ranks, most, [first, second, third]) in [
-        (HeapCall::Up(1), risen, 1, [1, 0, 2]),
-        (HeapCall::Down(0), fallen, 2, [2, 1, 0]),
-        (HeapCall::Update(1), risen, 2, [1, 0, 2]),
-        (HeapCall::Update(0), fallen, 2, [2, 1, 0]),
+    for &(call, ranks, most, [first, second, third]) in &[
+        (HeapCall::Up(1), [5, 9, 4], 1, [1, 0, 2]),
+        (HeapCall::Down(0), [1, 3, 4], 2, [2, 1, 0]),
+        (HeapCall::Update(1), [5, 9, 4], 2, [1, 0, 2]),
+        (HeapCall::Update(0), [1, 3, 4], 2, [2, 1, 0]),
     ] {
         let (replies, count) = repaired(rt.alloc(), call, ranks)?;
         let wanted = [
@@ -96,7 +92,7 @@ fn a_run_repairs_a_changed_rank(rt: HostRuntime) -> Result<(), Fail> {
             HeapReply::Popped(Some(second)),
             HeapReply::Popped(Some(third)),
         ];
-        assert_eq!(rt; replies.as_slice(), wanted.as_slice());
+        assert!(rt; replies.as_slice() == wanted.as_slice());
         assert!(rt; count <= most);
     }
     Ok(())
@@ -120,22 +116,21 @@ fn a_run_puts_two_changed_ranks_right_by_a_rebuild(rt: HostRuntime) -> Result<()
         HeapStep::new(HeapCall::Pop, &after),
     ];
     let replies = heap_run(rt.alloc(), &mut steps)?;
-    let done = HeapReply::Done;
-    let wanted = [
-        done,
-        done,
-        done,
-        done,
-        done,
-        done,
-        done,
+    let wanted = &[
+        HeapReply::Done,
+        HeapReply::Done,
+        HeapReply::Done,
+        HeapReply::Done,
+        HeapReply::Done,
+        HeapReply::Done,
+        HeapReply::Done,
         HeapReply::Popped(Some(3)),
         HeapReply::Popped(Some(2)),
         HeapReply::Popped(Some(0)),
         HeapReply::Popped(Some(1)),
         HeapReply::Popped(None),
     ];
-    assert_eq!(rt; replies.as_slice(), wanted.as_slice());
+    assert!(rt; replies.as_slice() == wanted.as_slice());
     assert!(rt; steps[6].cmp.count() <= 8);
     Ok(())
 }
@@ -167,16 +162,15 @@ fn a_comparer_without_laws_is_forgotten_once_nothing_is_held(rt: HostRuntime) ->
         HeapStep::new(HeapCall::Pop, &on),
     ];
     let replies = heap_run(rt.alloc(), &mut steps)?;
-    let done = HeapReply::Done;
-    let wanted = [
-        done,
-        done,
-        done,
-        done,
-        done,
-        done,
+    let wanted = &[
+        HeapReply::Done,
+        HeapReply::Done,
+        HeapReply::Done,
+        HeapReply::Done,
+        HeapReply::Done,
+        HeapReply::Done,
         HeapReply::Popped(Some(2)),
     ];
-    assert_eq!(rt; replies.as_slice(), wanted.as_slice());
+    assert!(rt; replies.as_slice() == wanted.as_slice());
     Ok(())
 }

@@ -24,11 +24,11 @@ fn a_heap(rt: HostRuntime) -> Result<(), Fail> {
     }
     ranks[0] = 1;
     heap.update(0, &ByRank(&ranks));
-    assert_eq!(rt; heap.pop(&ByRank(&ranks)), Some(2));
+    assert!(rt; heap.pop(&ByRank(&ranks)) == Some(2));
     heap.push(2, &ByRank(&ranks))?;
     ranks = [7, 9, 2];
     heap.rebuild(&ByRank(&ranks));
-    assert_eq!(rt; heap.peek(), Some(1));
+    assert!(rt; heap.peek() == Some(1));
     assert!(rt; heap.remove(1, &ByRank(&ranks)));
     assert!(rt; !heap.contains(1));
     Ok(())
@@ -40,7 +40,7 @@ fn a_vector(rt: HostRuntime) -> Result<(), Fail> {
     g.swap(0, 3);
     g.swap_remove(1);
     g.reserve(5)?;
-    assert_eq!(rt; g.as_slice(), [4, 1, 3, 0, 0].as_slice());
+    assert!(rt; g.as_slice() == [4, 1, 3, 0, 0].as_slice());
     Ok(())
 }
 
@@ -48,8 +48,8 @@ fn a_vector(rt: HostRuntime) -> Result<(), Fail> {
 fn a_vector_of_bits(rt: HostRuntime) -> Result<(), Fail> {
     let mut bits = BitVec::from(rt.alloc(), [true, false, true])?;
     bits.push_word(u64::MAX)?;
-    assert_eq!(rt; bits.words(), [18446744073709551613, 7].as_slice());
-    assert_eq!(rt; bits.len(), 67);
+    assert!(rt; bits.words() == [18446744073709551613, 7].as_slice());
+    assert!(rt; bits.len() == 67);
     Ok(())
 }
 
@@ -57,14 +57,11 @@ fn a_vector_of_bits(rt: HostRuntime) -> Result<(), Fail> {
 fn logic_of_bits(rt: HostRuntime) -> Result<(), Fail> {
     let mut bits = BitVec::from(rt.alloc(), [true, false, true, true, false])?;
     let mask = BitVec::from(rt.alloc(), [true, true, true, false, false])?;
-    assert_eq!(rt; bits.len(), mask.len());
+    assert!(rt; bits.len() == mask.len());
     bits &= &mask;
-    assert_eq!(rt; format!(in rt.alloc(); "{bits}")?.as_str(), "00101");
+    assert!(rt; format!(in rt.alloc(); "{bits}")?.as_str() == "00101");
     let inverted = bits.not()?;
-    assert_eq!(rt;
-        format!(in rt.alloc(); "{}", inverted.lower_hex())?.as_str(),
-        "0x1a"
-    );
+    assert!(rt; format!(in rt.alloc(); "{}", inverted.lower_hex())?.as_str() == "0x1a");
     Ok(())
 }
 
@@ -78,8 +75,8 @@ fn option_numbers(rt: HostRuntime) {
 #[test]
 fn a_hashed_map(rt: HostRuntime) -> Result<(), Fail> {
     let map: GHashMap<u8, u8> = [(1, 5), (2, 6), (1, 7)].into_iter().collect(rt.alloc())?;
-    assert_eq!(rt; map.get(&1).copied(), Some(7));
-    assert_eq!(rt; map.get(&2).copied(), Some(6));
+    assert!(rt; map.get(&1).copied() == Some(7));
+    assert!(rt; map.get(&2).copied() == Some(6));
     Ok(())
 }
 
@@ -87,19 +84,19 @@ fn a_hashed_map(rt: HostRuntime) -> Result<(), Fail> {
 fn a_shared_value(rt: HostRuntime) -> Result<(), Fail> {
     let eight = Grc::new(rt.alloc(), 8u8)?;
     let other = eight.clone()?;
-    assert_eq!(rt; *other, *eight);
+    assert!(rt; *other == *eight);
     Ok(())
 }
 
 #[test]
 fn an_allocator_of_indexes(rt: HostRuntime) -> Result<(), Fail> {
     let mut values = Gallocator::new(rt.alloc());
-    assert_eq!(rt; values.alloc('a'), Ok(0));
-    assert_eq!(rt; values.alloc('b'), Ok(1));
+    assert!(rt; values.alloc('a') == Ok(0));
+    assert!(rt; values.alloc('b') == Ok(1));
     values.dealloc(0);
     let moved = values.gc()?;
-    assert_eq!(rt; moved.get(&1).copied(), Some(0));
-    assert_eq!(rt; values.len(), 1);
+    assert!(rt; moved.get(&1).copied() == Some(0));
+    assert!(rt; values.len() == 1);
     Ok(())
 }
 
@@ -109,7 +106,7 @@ fn an_average(rt: HostRuntime) -> Result<(), Fail> {
     average += 1;
     average += 1;
     average += 0;
-    assert_eq!(rt; format!(in rt.alloc(); "{average:?}")?.as_str(), "0.666667");
+    assert!(rt; format!(in rt.alloc(); "{average:?}")?.as_str() == "0.666667");
     Ok(())
 }
 
@@ -120,7 +117,7 @@ fn an_interval_logger(rt: HostRuntime) {
     assert!(rt; !logger.log(&sink, Duration::from_secs(9), Level::Info, &"at work"));
     assert!(rt; logger.log(&sink, Duration::from_secs(10), Level::Info, &"at work"));
     assert!(rt; !logger.log(&sink, Duration::from_secs(19), Level::Info, &"at work"));
-    assert_eq!(rt; sink.into_lines().len(), 1);
+    assert!(rt; sink.into_lines().len() == 1);
 }
 
 #[test]
@@ -130,7 +127,7 @@ fn a_decimal(rt: HostRuntime) -> Result<(), Fail> {
         denominator: 3,
         places: 2,
     };
-    assert_eq!(rt; format!(in rt.alloc(); "{third}")?.as_str(), "0.33");
-    assert_eq!(rt; rounded(5, 2), 2);
+    assert!(rt; format!(in rt.alloc(); "{third}")?.as_str() == "0.33");
+    assert!(rt; rounded(5, 2) == 2);
     Ok(())
 }

@@ -35,9 +35,9 @@ fn refuses_what_it_was_told_to(rt: HostRuntime) {
         (Refusing::from(rt.alloc(), 1), [true; 5]),
     ];
     for (memory, want) in &cases {
-        assert_eq!(rt; five_requests(memory), *want, "{:?}", memory.refused());
-        assert_eq!(rt; memory.requests(), 5);
-        assert_eq!(rt; memory.largest(), 8);
+        assert!(rt; five_requests(memory) == *want, "{:?}", memory.refused());
+        assert!(rt; memory.requests() == 5);
+        assert!(rt; memory.largest() == 8);
     }
 }
 
@@ -45,15 +45,15 @@ fn refuses_what_it_was_told_to(rt: HostRuntime) {
 fn passes_requests_on_to_a_budget(rt: HostRuntime) -> Result<(), Fail> {
     let budget = LocalHeap::new(rt.alloc(), 1024)?;
     let memory = Refusing::nth(&budget, 2);
-    assert_eq!(rt; five_requests(&memory), [false, true, false, false, false]);
+    assert!(rt; five_requests(&memory) == [false, true, false, false, false]);
     let held = Box::new(&memory, [0u8; 100])?;
     assert!(rt; budget.used() >= 100);
     let over_budget: Result<Vec<u8, _>, _> = Vec::with_capacity(&memory, 2000);
     assert!(rt; over_budget.is_err());
-    assert_eq!(rt; memory.requests(), 7);
-    assert_eq!(rt; memory.largest(), 2000);
+    assert!(rt; memory.requests() == 7);
+    assert!(rt; memory.largest() == 2000);
     drop(held);
-    assert_eq!(rt; budget.used(), 0);
+    assert!(rt; budget.used() == 0);
     Ok(())
 }
 
@@ -61,17 +61,17 @@ fn passes_requests_on_to_a_budget(rt: HostRuntime) -> Result<(), Fail> {
 fn counts_the_requests_of_a_vector(rt: HostRuntime) -> Result<(), Fail> {
     let memory = Refusing::nth(rt.alloc(), 2);
     let mut v = Vec::<u32, &Refusing>::new(&memory);
-    assert_eq!(rt; memory.requests(), 0);
-    assert_eq!(rt; memory.largest(), 0);
+    assert!(rt; memory.requests() == 0);
+    assert!(rt; memory.largest() == 0);
     v.reserve(4)?;
-    assert_eq!(rt; memory.requests(), 1);
-    assert_eq!(rt; memory.largest(), 16);
+    assert!(rt; memory.requests() == 1);
+    assert!(rt; memory.largest() == 16);
     v.extend_from_slice(&[5, 6, 7, 8])?;
     assert!(rt; v.push(9).is_err());
-    assert_eq!(rt; memory.requests(), 2);
+    assert!(rt; memory.requests() == 2);
     v.push(9)?;
-    assert_eq!(rt; memory.requests(), 3);
-    assert_eq!(rt; v.as_slice(), [5, 6, 7, 8, 9].as_slice());
+    assert!(rt; memory.requests() == 3);
+    assert!(rt; v.as_slice() == [5, 6, 7, 8, 9].as_slice());
     Ok(())
 }
 
@@ -80,7 +80,7 @@ fn tells_the_size_of_a_refused_request(rt: HostRuntime) {
     let memory = Refusing::from(rt.alloc(), 1);
     let all: Result<Vec<u64, _>, _> = Vec::with_capacity(&memory, 1 << 58);
     assert!(rt; all.is_err());
-    assert_eq!(rt; memory.largest(), 1 << 61);
+    assert!(rt; memory.largest() == 1 << 61);
 }
 
 // What a test that refuses one request after another relies on.
@@ -88,9 +88,9 @@ fn tells_the_size_of_a_refused_request(rt: HostRuntime) {
 fn a_map_grows_in_four_requests(rt: HostRuntime) -> Result<(), Fail> {
     let memory = Refusing::none(rt.alloc());
     let mut map = HashMap::new(&memory);
-    assert_eq!(rt; memory.requests(), 0);
+    assert!(rt; memory.requests() == 0);
     map.insert(1u32, 2u32)?;
-    assert_eq!(rt; memory.requests(), 4);
+    assert!(rt; memory.requests() == 4);
     Ok(())
 }
 
@@ -109,20 +109,20 @@ fn refuses_each_request_in_turn_until_a_run_is_served(rt: HostRuntime) {
     let alloc = rt.alloc();
     for requests in [0, 1, 5, MOST_RUNS - 1] {
         let outcome = refuse_each(alloc, |memory| are_served(memory, requests));
-        assert_eq!(rt; outcome, Ok(requests));
+        assert!(rt; outcome == Ok(requests));
         let outcome = refuse_from_each(alloc, |memory| are_served(memory, requests));
-        assert_eq!(rt; outcome, Ok(requests));
+        assert!(rt; outcome == Ok(requests));
     }
     let endless = refuse_each(alloc, |memory| are_served(memory, MOST_RUNS));
-    assert_eq!(rt; endless, Err(TurnFault::Endless));
+    assert!(rt; endless == Err(TurnFault::Endless));
     let hidden = refuse_each(alloc, |memory| {
         are_served(memory, 3);
         true
     });
-    assert_eq!(rt; hidden, Err(TurnFault::Hidden(1)));
+    assert!(rt; hidden == Err(TurnFault::Hidden(1)));
     let unrefused = refuse_each(alloc, |memory| {
         are_served(memory, 3);
         false
     });
-    assert_eq!(rt; unrefused, Err(TurnFault::Unrefused(4)));
+    assert!(rt; unrefused == Err(TurnFault::Unrefused(4)));
 }

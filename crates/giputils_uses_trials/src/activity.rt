@@ -13,9 +13,9 @@ fn picks_the_most_active(rt: HostRuntime) -> Result<(), Fail> {
     activity.bump(1);
     activity.bump(2);
     activity.bump(1);
-    assert_eq!(rt; activity.pick(), Some(1));
-    assert_eq!(rt; activity.pick(), Some(2));
+    assert!(rt; activity.pick() == Some(1));
+    assert!(rt; activity.pick() == Some(2));
     activity.put_back(1)?;
-    assert_eq!(rt; activity.pick(), Some(1));
+    assert!(rt; activity.pick() == Some(1));
     Ok(())
 }

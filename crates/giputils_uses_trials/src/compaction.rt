@@ -15,7 +15,7 @@ fn renames_what_is_left(rt: HostRuntime) -> Result<(), Fail> {
     clauses.dealloc(1);
     let mut watched = Vec::from_array(rt.alloc(), [3, 1, 0, 3])?;
     compact(&mut clauses, &mut watched)?;
-    assert_eq!(rt; watched.as_slice(), [2, 0, 2].as_slice());
-    assert_eq!(rt; clauses.len(), 3);
+    assert!(rt; watched.as_slice() == [2, 0, 2].as_slice());
+    assert!(rt; clauses.len() == 3);
     Ok(())
 }

@@ -6,8 +6,8 @@ use std::test::Fail;
 #[test]
 fn the_last_of_two_values_stands(rt: HostRuntime) -> Result<(), Fail> {
     let pairs = [(1, 5), (2, 6), (1, 7)];
-    for (key, value) in [(1, Some(7)), (2, Some(6)), (3, None)] {
-        assert_eq!(rt; last_of(rt.alloc(), pairs.as_slice(), key)?, value);
+    for &(key, value) in &[(1, Some(7)), (2, Some(6)), (3, None)] {
+        assert!(rt; last_of(rt.alloc(), pairs.as_slice(), key)? == value);
     }
     Ok(())
 }

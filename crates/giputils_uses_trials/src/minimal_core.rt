@@ -45,6 +45,6 @@ fn what_is_not_needed_is_left_out(rt: HostRuntime) -> Result<(), Fail> {
 #[test]
 fn none_is_found_where_all_can_be_true(rt: HostRuntime) -> Result<(), Fail> {
     let some = [Literal::new(0, true), Literal::new(1, true)];
-    assert_eq!(rt; core_of(rt.alloc(), &some, 1000)?, 0);
+    assert!(rt; core_of(rt.alloc(), &some, 1000)? == 0);
     Ok(())
 }

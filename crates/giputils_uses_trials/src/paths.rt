@@ -13,7 +13,7 @@ fn the_way_round_is_shorter(rt: HostRuntime) -> Result<(), Fail> {
     graph.push(Gvec::from_array(rt.alloc(), [(0, 1)])?)?;
     graph.push(Gvec::from_array(rt.alloc(), [(0, 1)])?)?;
     let far = distances(rt.alloc(), &graph, 0)?;
-    assert_eq!(rt; far.as_slice(), [0, 7, 3, 9, u32::MAX].as_slice());
+    assert!(rt; far.as_slice() == [0, 7, 3, 9, u32::MAX].as_slice());
     Ok(())
 }
 

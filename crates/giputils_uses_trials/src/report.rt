@@ -11,22 +11,19 @@ use std::time::Duration;
 #[test]
 fn reports_when_due(rt: HostRuntime) -> Result<(), Fail> {
     let mut average = Average::default();
-    for number in [1, 1, 0] {
+    for &number in &[1, 1, 0] {
         assert!(rt; observe(&mut average, number));
     }
     let labelled = Labelled {
         label: "depth",
         average,
     };
-    assert_eq!(rt;
-        format!(in rt.alloc(); "{labelled}")?.as_str(),
-        "depth: 0.666667"
-    );
+    assert!(rt; format!(in rt.alloc(); "{labelled}")?.as_str() == "depth: 0.666667");
     let sink = Memory::new(rt.alloc());
     let mut logger = IntervalLogger::with_default(Duration::ZERO);
-    for (seconds, due) in [(9, false), (10, true), (19, false), (20, true)] {
+    for &(seconds, due) in &[(9, false), (10, true), (19, false), (20, true)] {
         let now = Duration::from_secs(seconds);
-        assert_eq!(rt; report(&mut logger, &sink, now, &labelled), due);
+        assert!(rt; report(&mut logger, &sink, now, &labelled) == due);
     }
     Ok(())
 }

@@ -22,11 +22,8 @@ fn sets_of_small_numbers(rt: HostRuntime) -> Result<(), Fail> {
     let other = set_of(rt.alloc(), [5, 64].as_slice())?;
     assert!(rt; set.bound() == other.bound());
     set.union_with(&other);
-    assert_eq!(rt;
-        set.members(rt.alloc())?.as_slice(),
-        [3, 5, 64, 70].as_slice()
-    );
-    assert_eq!(rt; set.len(), 4);
+    assert!(rt; set.members(rt.alloc())?.as_slice() == [3, 5, 64, 70].as_slice());
+    assert!(rt; set.len() == 4);
     Ok(())
 }
 
@@ -36,7 +33,7 @@ fn what_two_sets_share(rt: HostRuntime) -> Result<(), Fail> {
     let other = set_of(rt.alloc(), [5, 64, 70].as_slice())?;
     assert!(rt; set.bound() == other.bound());
     set.intersect_with(&other);
-    assert_eq!(rt; (set.least(), set.len()), (Some(5), 2));
+    assert!(rt; (set.least(), set.len()) == (Some(5), 2));
     Ok(())
 }
 
@@ -46,7 +43,7 @@ fn what_one_set_has_alone(rt: HostRuntime) -> Result<(), Fail> {
     let other = set_of(rt.alloc(), [5, 64, 70].as_slice())?;
     assert!(rt; set.bound() == other.bound());
     set.subtract(&other);
-    assert_eq!(rt; (set.least(), set.len()), (Some(3), 1));
+    assert!(rt; (set.least(), set.len()) == (Some(3), 1));
     Ok(())
 }
 
@@ -55,10 +52,10 @@ fn members_that_are_taken_out(rt: HostRuntime) -> Result<(), Fail> {
     let mut set = set_of(rt.alloc(), [3, 70, 5].as_slice())?;
     assert!(rt; set.bound() > 4);
     let was_member = (set.remove(3), set.remove(4));
-    assert_eq!(rt; was_member, (true, false));
-    assert_eq!(rt; set.least(), Some(5));
-    assert_eq!(rt; set.drain(rt.alloc())?.as_slice(), [5, 70].as_slice());
+    assert!(rt; was_member == (true, false));
+    assert!(rt; set.least() == Some(5));
+    assert!(rt; set.drain(rt.alloc())?.as_slice() == [5, 70].as_slice());
     set.clear();
-    assert_eq!(rt; set.least(), None);
+    assert!(rt; set.least().is_none());
     Ok(())
 }

@@ -10,6 +10,6 @@ fn a_state_that_comes_again_counts_once(rt: HostRuntime) -> Result<(), Fail> {
     for state in [5, 2, 5] {
         states.push(BitVec::from_usize(rt.alloc(), 3, state)?)?;
     }
-    assert_eq!(rt; visited(rt.alloc(), states)?.len(), 2);
+    assert!(rt; visited(rt.alloc(), states)?.len() == 2);
     Ok(())
 }
