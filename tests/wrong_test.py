@@ -1,6 +1,7 @@
 #!/usr/bin/env python3
 """Tests tests/wrong.py in a repository of four small crates: what it tells of wrong bodies of each kind but those at a
-search's limit, and which changes make a crate's line not current. The last line is 'N passed, M failed'."""
+search's limit, and which changes make a crate's line not current; and tests/turn.py. The last line is 'N passed, M
+failed'."""
 
 import pathlib
 import re
@@ -211,13 +212,19 @@ class Repository:
         for name, (first, old, new, _) in BODIES.items():
             write(folder / "crates" / f"{name}.edit", f"{first}\nfile: src/lib.rt\nold: {old}\nnew: {new}\n")
         (folder / "tests").mkdir()
-        shutil.copy(HERE / "wrong.py", folder / "tests")
+        for script in ("wrong.py", "turn.py"):
+            shutil.copy(HERE / script, folder / "tests")
         subprocess.run(["git", "init", "--quiet"], cwd=folder, check=True)
 
-    def run(self, *words):
-        """What the script says, and its status."""
-        ran = subprocess.run([self.folder / "tests" / "wrong.py", *words], stdout=subprocess.PIPE, stderr=subprocess.STDOUT, text=True)
+    def run(self, *words, script="wrong.py"):
+        """What a script says, and its status."""
+        ran = subprocess.run([self.folder / "tests" / script, *words], stdout=subprocess.PIPE, stderr=subprocess.STDOUT, text=True)
         return ran.stdout, ran.returncode
+
+    def turn(self):
+        """The last line of the turn of the first crate, and its status."""
+        said, status = self.run(40 * "0", script="turn.py")
+        return said.splitlines()[-1], status
 
     def stale(self):
         """The crates whose lines are not current."""
@@ -274,6 +281,8 @@ def cases(repository):
     right = ("low/wrong/quadruple_is_triple.edit", "twice + u16::from(n)", "twice + twice")
     repository.with_text(*right, lambda: repository.run("low"))
     yield "a crate loses its line where one is not refused", repository.stale(), ["low", "odd"]
+    yield "the turn tries those of a crate", repository.turn(), ("2 passed, 0 failed", 0)
+    yield "and fails where one is not refused", repository.with_text(*right, repository.turn), ("1 passed, 1 failed", 1)
 
 
 def main():
