@@ -92,8 +92,7 @@ impl<A: Allocator + Copy> Heuristics<A> {
     }
 
     // The same with room for so many variables, for a search that guesses or not, among all variables or in a domain.
-    // Eliminated variables that are assumed, in the domain or in a new clause are restored. The search may be stable only
-    // if nothing is assumed and there is no domain.
+    // Eliminated variables that are assumed, in the domain or in a new clause are restored.
     pub(crate) fn begun(
         self,
         alloc: A,
@@ -106,69 +105,50 @@ impl<A: Allocator + Copy> Heuristics<A> {
         requires { variables < 2 ^ 40 }
     {
         let mut heuristics = self.grown(alloc, variables)?;
-        heuristics.restore(database, assumptions, domain.unwrap_or(&[]))?;
-        let is_plain = assumptions.is_empty() && domain.is_none();
-        heuristics.restart_policy.modes.allow(is_plain);
-        heuristics.begin(is_guess, domain)?;
+        heuristics.begin(database, is_guess, assumptions, domain)?;
         Ok(heuristics)
     }
 
     // The same with room for so many variables.
-    fn grown(self, alloc: A, variables: usize) -> Result<Self, AllocError>
+    fn grown(mut self, alloc: A, variables: usize) -> Result<Self, AllocError>
         requires { variables < 2 ^ 40 }
     {
-        let Heuristics {
-            activity,
-            mut watches,
-            mut glue,
-            restart_policy,
-            mut phases,
-            mut eliminated,
-            units,
-            is_guess,
-            has_guessed,
-            stats,
-        } = self;
-        watches.grow(alloc, variables)?;
-        glue.grow(variables)?;
-        phases.grow(variables)?;
-        eliminated.grow(variables)?;
-        Ok(Heuristics {
-            activity: activity.grown(variables)?,
-            watches,
-            glue,
-            restart_policy,
-            phases,
-            eliminated,
-            units,
-            is_guess,
-            has_guessed,
-            stats,
-        })
+        self.grow_tables(alloc, variables)?;
+        let activity = self.activity.grown(variables)?;
+        Ok(Heuristics { activity, ..self })
     }
 
-    // A search begins: whether it guesses, and which variables it may decide, all where there is no domain.
-    fn begin(&mut self, is_guess: bool, domain: Option<&[u32]>) -> Result<(), AllocError> {
-        self.is_guess = is_guess;
-        self.has_guessed = false;
-        self.eliminated.rewind();
-        self.activity.limit_to(domain)
+    // Makes room for so many variables, but for their scores.
+    fn grow_tables(&mut self, alloc: A, variables: usize) -> Result<(), AllocError>
+        requires { variables < 2 ^ 40 }
+    {
+        self.watches.grow(alloc, variables)?;
+        self.glue.grow(variables)?;
+        self.phases.grow(variables)?;
+        self.eliminated.grow(variables)
     }
 
-    // Restores the eliminated ones among the variables of these literals, of a domain, and of the new clauses.
-    fn restore(
+    // A search begins. It may be stable only if nothing is assumed and there is no domain.
+    fn begin(
         &mut self,
         database: &Database<A>,
-        literals: &[Literal],
-        domain: &[u32],
+        is_guess: bool,
+        assumptions: &[Literal],
+        domain: Option<&[u32]>,
     ) -> Result<(), AllocError> {
         self.eliminated.restore(
             database,
             &mut self.watches,
             &mut self.activity,
-            literals,
-            domain,
-        )
+            assumptions,
+            domain.unwrap_or(&[]),
+        )?;
+        let is_plain = assumptions.is_empty() && domain.is_none();
+        self.restart_policy.modes.allow(is_plain);
+        self.is_guess = is_guess;
+        self.has_guessed = false;
+        self.eliminated.rewind();
+        self.activity.limit_to(domain)
     }
 
     // A conflict was met.

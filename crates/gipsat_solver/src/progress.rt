@@ -17,7 +17,7 @@ const PROPAGATIONS: u64 = 4_000_000;
 // About how many literals an elimination of variables looks at.
 const STEPS: u64 = 100_000_000;
 
-// For each literal that is shortening clauses propagates, the search propagates so many.
+// The search propagates so many literals for each one that the shortening of clauses may propagate.
 const SHARE: u64 = 5;
 
 // The database is compacted once one clause of so many was deleted.

@@ -91,6 +91,14 @@ pub struct Solver<A: Allocator = Global> {
     ghost clear: { NoneSeen seen },
 }
 
+// What a call works on beside the clauses.
+#[derive(Drop)]
+struct SearchState<A: Allocator> {
+    trail: Trail<A>,
+    seen: Seen<A>,
+    heuristics: Heuristics<A>,
+}
+
 impl<A: Allocator> Model for Solver<A> {
     ghost use Rattle.gipsat_solver.specs.Database.{SolverState};
     ghost use Rattle.gipsat_solver.specs.Trail.{IsBelow};
@@ -326,6 +334,39 @@ impl<A: Allocator + Copy> Solver<A> {
         })
     }
 
+    // Takes out what a call works on, at the root and with room for all variables, for a search that guesses or not,
+    // among all variables or in a domain. Where memory is refused, the next call begins with new heuristics.
+    fn begin(
+        &mut self,
+        is_guess: bool,
+        assumptions: &[Literal],
+        domain: Option<&[u32]>,
+    ) -> Result<SearchState<A>, AllocError>
+        ensures same { self.new ≡ self.old }
+        ensures ready { IfOk result (λ s. IsReady self.new s.trail s.seen) }
+    {
+        let alloc = self.alloc;
+        let variables = self.database.variables();
+        let heuristics = Heuristics::kept_or_new(self.heuristics.take(), alloc, self.stats)?;
+        let trail = mem::replace(&mut self.trail, Trail::new(alloc));
+        let heuristics = heuristics.begun(
+            alloc,
+            &self.database,
+            variables,
+            is_guess,
+            assumptions,
+            domain,
+        )?;
+        let seen = mem::replace(&mut self.seen, Seen::new(alloc));
+        let mut state = SearchState {
+            trail: trail.grown(variables)?,
+            seen: seen.grown(variables)?,
+            heuristics,
+        };
+        state.trail.backtrack(0, &mut state.heuristics.activity);
+        Ok(state)
+    }
+
     // Solves under assumptions, up to a limit of learned clauses and a budget of propagations. Where there is no limit,
     // nothing may be assumed. A guess with a budget doesn't read the formula at the end.
     fn solve_up_to(
@@ -340,40 +381,26 @@ impl<A: Allocator + Copy> Solver<A> {
         ensures right { IfOk result (IsRightWithin assumptions.now self.old self.new limit budget) }
         ensures learns { Learns self.old self.new }
     {
-        let alloc = self.alloc;
         self.database.raise_variables(assumptions);
-        let variables = self.database.variables();
-        // Where memory is refused, the next call begins with new heuristics.
-        let trail = mem::replace(&mut self.trail, Trail::new(alloc));
-        let seen = mem::replace(&mut self.seen, Seen::new(alloc));
-        let heuristics = Heuristics::kept_or_new(self.heuristics.take(), alloc, self.stats)?;
-        let mut trail = trail.grown(variables)?;
-        let mut seen = seen.grown(variables)?;
-        let mut heuristics = heuristics.begun(
-            alloc,
-            &self.database,
-            variables,
-            is_guess,
-            assumptions,
-            domain,
-        )?;
-        trail.backtrack(0, &mut heuristics.activity);
-        let until = budget_from(heuristics.stats.propagations, budget);
+        let mut state = self.begin(is_guess, assumptions, domain)?;
+        // An empty trail, to which new clauses are no matter.
+        self.trail = Trail::new(self.alloc);
+        let until = budget_from(state.heuristics.stats.propagations, budget);
         let answer = run(
-            alloc,
+            self.alloc,
             &mut self.database,
-            &mut trail,
-            &mut heuristics,
-            &mut seen,
+            &mut state.trail,
+            &mut state.heuristics,
+            &mut state.seen,
             assumptions,
             limit,
             until,
         )?;
-        rewind_if_refuted(&mut trail, &answer);
-        self.trail = trail;
-        self.seen = seen;
-        self.stats = heuristics.stats;
-        self.heuristics = Some(heuristics);
+        rewind_if_refuted(&mut state.trail, &answer);
+        self.trail = state.trail;
+        self.seen = state.seen;
+        self.stats = state.heuristics.stats;
+        self.heuristics = Some(state.heuristics);
         Ok(answer)
     }
 
@@ -459,8 +486,8 @@ impl<A: Allocator + Copy> Solver<A> {
         self.inprocess(Inprocessing::Eliminate { frozen, steps })
     }
 
-    /// Shortens learned clauses, those of low glue from the place `from` on, the latest first. It makes the literals of a
-    /// clause false, one after another; where propagation shows that some of them can't all be false, the clause of
+    /// Shortens learned clauses of more than two literals, those of low glue from the place `from` on, the latest first. It
+    /// makes the literals of a clause false, one after another; where propagation shows that some of them can't all be false, the clause of
     /// these becomes a clause of the solver, and the longer one is deleted. It ends once it has propagated about as many
     /// literals as `propagations`. [`Solver::stats`] does not count what it does, but for the clauses that it deletes.
     ///
@@ -480,28 +507,21 @@ impl<A: Allocator + Copy> Solver<A> {
         ensures learned { self.new.learned ≡ self.old.learned }
         ensures kept { KeepsClauses self.old self.new }
     {
-        let alloc = self.alloc;
-        let variables = self.database.variables();
-        // Where memory is refused, the next call begins with new heuristics.
-        let trail = mem::replace(&mut self.trail, Trail::new(alloc));
-        let seen = mem::replace(&mut self.seen, Seen::new(alloc));
-        let heuristics = Heuristics::kept_or_new(self.heuristics.take(), alloc, self.stats)?;
-        let mut trail = trail.grown(variables)?;
-        let mut seen = seen.grown(variables)?;
-        let mut heuristics = heuristics.begun(alloc, &self.database, variables, false, &[], None)?;
-        trail.backtrack(0, &mut heuristics.activity);
+        let mut state = self.begin(false, &[], None)?;
+        // An empty trail, to which new clauses are no matter.
+        self.trail = Trail::new(self.alloc);
         inprocess(
-            alloc,
+            self.alloc,
             &mut self.database,
-            &mut trail,
-            &mut heuristics,
-            &mut seen,
+            &mut state.trail,
+            &mut state.heuristics,
+            &mut state.seen,
             inprocessing,
         )?;
-        self.trail = trail;
-        self.seen = seen;
-        self.stats = heuristics.stats;
-        self.heuristics = Some(heuristics);
+        self.trail = state.trail;
+        self.seen = state.seen;
+        self.stats = state.heuristics.stats;
+        self.heuristics = Some(state.heuristics);
         Ok(())
     }
 
@@ -523,18 +543,19 @@ impl<A: Allocator + Copy> Solver<A> {
         ensures original { OnOk result (AreAmong self.new.clauses self.new.formula) }
         ensures refused { OnErr result (self.new ≡ self.old) }
     {
-        let alloc = self.alloc;
-        let variables = self.database.variables();
-        // Where memory is refused, the next call begins with new heuristics.
-        let trail = mem::replace(&mut self.trail, Trail::new(alloc));
-        let heuristics = Heuristics::kept_or_new(self.heuristics.take(), alloc, self.stats)?;
-        let mut trail = trail.grown(variables)?;
-        let mut heuristics = heuristics.begun(alloc, &self.database, variables, false, &[], None)?;
-        trail.backtrack(0, &mut heuristics.activity);
-        simplify(alloc, &mut self.database, &mut trail, &mut heuristics)?;
-        self.trail = trail;
-        self.stats = heuristics.stats;
-        self.heuristics = Some(heuristics);
+        let mut state = self.begin(false, &[], None)?;
+        // An empty trail, to which new clauses are no matter.
+        self.trail = Trail::new(self.alloc);
+        simplify(
+            self.alloc,
+            &mut self.database,
+            &mut state.trail,
+            &mut state.heuristics,
+        )?;
+        self.trail = state.trail;
+        self.seen = state.seen;
+        self.stats = state.heuristics.stats;
+        self.heuristics = Some(state.heuristics);
         self.database.all_original();
         Ok(())
     }

@@ -14,7 +14,7 @@ use crate::resolve::resolve_with;
 use crate::search::propagate;
 use crate::seen::Seen;
 use crate::trail::{Step, Trail};
-use crate::watches::{ClauseStatus, Watches};
+use crate::watches::Watches;
 use std::alloc::{AllocError, Allocator};
 
 // Clauses of a greater glue are not tried.
@@ -42,6 +42,7 @@ pub(crate) fn vivify<A: Allocator + Copy>(
     }
     if let Some(_) = propagate(alloc, database, trail, heuristics)? {
         trail.rewind();
+        heuristics.keep_stats(before);
         return Ok(());
     }
     let end = before.propagations.saturating_add(propagations);
