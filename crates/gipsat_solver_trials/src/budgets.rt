@@ -2,7 +2,7 @@
 
 use crate::formulas::add_all;
 use gipsat_solver::{AnswerUnder, Budget, Literal, Solver};
-use std::alloc::{AllocError, Allocator};
+use std::alloc::{AllocError, Allocator, Global};
 
 // All clauses of three literals of three variables: no assignment satisfies them.
 const ALL_SIGNS: [i32; 32] = [
@@ -35,13 +35,13 @@ fn is_unsat<A: Allocator>(answer: &AnswerUnder<A>) -> bool {
 }
 
 // Two calls: one with this budget, and one with a large one.
-fn two_calls<A: Allocator + Copy>(
-    alloc: A,
+fn two_calls(
+    alloc: Global,
+    solver: &mut Solver,
     assumptions: &[Literal],
     budget: Budget,
 ) -> Result<Calls, AllocError> {
-    let mut solver = Solver::new(alloc);
-    add_all(alloc, &mut solver, &ALL_SIGNS)?;
+    add_all(alloc, solver, &ALL_SIGNS)?;
     let gave_up = is_unknown(&solver.solve_limited(assumptions, budget)?);
     let decisions = solver.stats().decisions;
     let learned = solver.learned();
@@ -70,7 +70,8 @@ fn a_budget_of_no_propagations_decides_nothing(rt: HostRuntime) {
         learned: 0,
         refuted: true,
     };
-    assert!(rt; two_calls(rt.alloc(), &[], budget) == Ok(wanted));
+    let calls = two_calls(rt.alloc(), &mut Solver::new(rt.alloc()), &[], budget);
+    assert!(rt; calls == Ok(wanted));
 }
 
 #[test]
@@ -85,7 +86,8 @@ fn a_budget_of_one_propagation_ends_at_the_next_decision(rt: HostRuntime) {
         learned: 0,
         refuted: true,
     };
-    assert!(rt; two_calls(rt.alloc(), &[], budget) == Ok(wanted));
+    let calls = two_calls(rt.alloc(), &mut Solver::new(rt.alloc()), &[], budget);
+    assert!(rt; calls == Ok(wanted));
 }
 
 #[test]
@@ -100,5 +102,6 @@ fn a_budget_of_one_clause_learns_one(rt: HostRuntime) {
         learned: 1,
         refuted: true,
     };
-    assert!(rt; two_calls(rt.alloc(), &[], budget) == Ok(wanted));
+    let calls = two_calls(rt.alloc(), &mut Solver::new(rt.alloc()), &[], budget);
+    assert!(rt; calls == Ok(wanted));
 }

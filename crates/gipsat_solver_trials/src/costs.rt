@@ -46,27 +46,28 @@ fn cost_of_a_call(
     })
 }
 
-// A solver of a clause, with a chain of 1000 variables beside it.
-fn beside_a_chain(memory: &Refusing) -> Result<Solver<&Refusing>, AllocError> {
-    let mut solver = Solver::new(memory);
-    add_chain(&mut solver, 1000)?;
-    solver.add_clause(&[literal(-2001), literal(2002)])?;
-    Ok(solver)
+// Adds a clause, with a chain of 1000 variables beside it.
+fn add_beside_a_chain(solver: &mut Solver<&Refusing>) -> Result<(), AllocError> {
+    add_chain(solver, 1000)?;
+    solver.add_clause(&[literal(-2001), literal(2002)])
 }
 
 // The first call and the second under assumptions that contradict the clause.
-fn costs_of_two_calls(memory: &Refusing) -> Result<(Cost, Cost), AllocError> {
-    let mut solver = beside_a_chain(memory)?;
+fn costs_of_two_calls(
+    memory: &Refusing,
+    solver: &mut Solver<&Refusing>,
+) -> Result<(Cost, Cost), AllocError> {
+    add_beside_a_chain(solver)?;
     let assumptions = [literal(2001), literal(-2002)];
-    let first = cost_of_a_call(memory, &mut solver, &assumptions)?;
-    let second = cost_of_a_call(memory, &mut solver, &assumptions)?;
+    let first = cost_of_a_call(memory, solver, &assumptions)?;
+    let second = cost_of_a_call(memory, solver, &assumptions)?;
     Ok((first, second))
 }
 
 #[test]
 fn a_second_call_costs_its_search_alone(rt: HostRuntime) {
     let memory = Refusing::none(rt.alloc());
-    let costs = costs_of_two_calls(&memory);
+    let costs = costs_of_two_calls(&memory, &mut Solver::new(&memory));
     assert!(rt;
         costs.is_ok_and(|(first, second)| {
             first.core == 2
@@ -80,18 +81,21 @@ fn a_second_call_costs_its_search_alone(rt: HostRuntime) {
 }
 
 // What a call did after a clause was added.
-fn cost_after_a_clause(memory: &Refusing) -> Result<Cost, AllocError> {
-    let mut solver = beside_a_chain(memory)?;
+fn cost_after_a_clause(
+    memory: &Refusing,
+    solver: &mut Solver<&Refusing>,
+) -> Result<Cost, AllocError> {
+    add_beside_a_chain(solver)?;
     let assumptions = [literal(2001), literal(-2002)];
-    let _ = cost_of_a_call(memory, &mut solver, &assumptions)?;
+    let _ = cost_of_a_call(memory, solver, &assumptions)?;
     solver.add_clause(&[literal(2001), literal(2003)])?;
-    cost_of_a_call(memory, &mut solver, &assumptions)
+    cost_of_a_call(memory, solver, &assumptions)
 }
 
 #[test]
 fn a_clause_more_costs_itself_alone(rt: HostRuntime) {
     let memory = Refusing::none(rt.alloc());
-    let cost = cost_after_a_clause(&memory);
+    let cost = cost_after_a_clause(&memory, &mut Solver::new(&memory));
     assert!(rt;
         cost.is_ok_and(|cost| cost.core == 2 && cost.propagations <= 4 && cost.requests <= 20),
         "{cost:?}"
@@ -100,17 +104,17 @@ fn a_clause_more_costs_itself_alone(rt: HostRuntime) {
 
 // How many clauses are known after a conflict, and when the database was compacted then; and whether one of them that
 // was learned has a variable.
-fn known_after_a_conflict<A: Allocator + Copy>(
-    alloc: A,
+fn known_after_a_conflict(
+    alloc: Global,
+    solver: &mut Solver,
     formula: &[i32],
     variable: u32,
 ) -> Result<(usize, usize, bool), AllocError> {
-    let mut solver = Solver::new(alloc);
-    add_all(alloc, &mut solver, formula)?;
+    add_all(alloc, solver, formula)?;
     let given = solver.len();
     solver.solve(1)?;
     let known = solver.len();
-    let has = has_variable(&solver, given, variable);
+    let has = has_variable(solver, given, variable);
     solver.compact()?;
     Ok((known, solver.len(), has))
 }
@@ -138,7 +142,8 @@ fn guarded() -> [i32; 42] {
 #[test]
 fn a_learned_clause_is_kept_and_has_no_literal_of_the_root(rt: HostRuntime) {
     let formula = guarded();
-    assert!(rt; known_after_a_conflict(rt.alloc(), &formula, 1) == Ok((10, 10, false)));
+    let known = known_after_a_conflict(rt.alloc(), &mut Solver::new(rt.alloc()), &formula, 1);
+    assert!(rt; known == Ok((10, 10, false)));
 }
 
 // Literals of the root that contradict each other, beside eight clauses over three other variables.
@@ -150,18 +155,22 @@ fn contradicted() -> [i32; 40] {
 }
 
 // What is said twice, each time within one conflict. The eight clauses would take more than one.
-fn said_twice<A: Allocator + Copy>(alloc: A, formula: &[i32]) -> Result<(Said, Said), AllocError> {
-    let mut solver = Solver::new(alloc);
-    add_all(alloc, &mut solver, formula)?;
-    let first = say(&mut solver, formula, 1)?;
-    let second = say(&mut solver, formula, 1)?;
+fn said_twice(
+    alloc: Global,
+    solver: &mut Solver,
+    formula: &[i32],
+) -> Result<(Said, Said), AllocError> {
+    add_all(alloc, solver, formula)?;
+    let first = say(solver, formula, 1)?;
+    let second = say(solver, formula, 1)?;
     Ok((first, second))
 }
 
 #[test]
 fn a_conflict_at_the_root_is_met_again(rt: HostRuntime) {
     let formula = contradicted();
-    assert!(rt; said_twice(rt.alloc(), &formula) == Ok((Said::Unsat, Said::Unsat)));
+    let said = said_twice(rt.alloc(), &mut Solver::new(rt.alloc()), &formula);
+    assert!(rt; said == Ok((Said::Unsat, Said::Unsat)));
 }
 
 // Adds clauses that hold while a variable is true, takes them back, and simplifies: how many clauses are known then.
@@ -184,26 +193,27 @@ fn known_after_taking_back<A: Allocator + Copy>(
 }
 
 // How many clauses are known after each of three such rounds.
-fn known_after_rounds<A: Allocator + Copy>(alloc: A) -> Result<[usize; 3], AllocError> {
-    let mut solver = Solver::new(alloc);
+fn known_after_rounds(solver: &mut Solver) -> Result<[usize; 3], AllocError> {
     Ok([
-        known_after_taking_back(&mut solver, 60)?,
-        known_after_taking_back(&mut solver, 61)?,
-        known_after_taking_back(&mut solver, 62)?,
+        known_after_taking_back(solver, 60)?,
+        known_after_taking_back(solver, 61)?,
+        known_after_taking_back(solver, 62)?,
     ])
 }
 
 #[test]
 fn clauses_that_are_taken_back_are_dropped(rt: HostRuntime) {
-    assert!(rt; known_after_rounds(rt.alloc()) == Ok([1, 2, 3]));
+    assert!(rt; known_after_rounds(&mut Solver::new(rt.alloc())) == Ok([1, 2, 3]));
 }
 
 // Rounds of such clauses, each with a variable of its own.
-fn take_back_in_rounds<A: Allocator + Copy>(alloc: A, rounds: u16) -> Result<usize, AllocError> {
-    let mut solver = Solver::new(alloc);
+fn take_back_in_rounds<A: Allocator + Copy>(
+    solver: &mut Solver<A>,
+    rounds: u16,
+) -> Result<usize, AllocError> {
     let mut known = 0;
     for round in 0..rounds {
-        known = known_after_taking_back(&mut solver, round.saturating_add(60))?;
+        known = known_after_taking_back(solver, round.saturating_add(60))?;
     }
     Ok(known)
 }
@@ -211,7 +221,7 @@ fn take_back_in_rounds<A: Allocator + Copy>(alloc: A, rounds: u16) -> Result<usi
 // The same where all memory is so many bytes.
 fn take_back_within(alloc: Global, bytes: usize, rounds: u16) -> Result<usize, AllocError> {
     let memory = LocalHeap::new(alloc, bytes)?;
-    take_back_in_rounds(&memory, rounds)
+    take_back_in_rounds(&mut Solver::new(&memory), rounds)
 }
 
 // 100 rounds add 5000 clauses, which take 60000 bytes for their literals alone.

@@ -2,19 +2,24 @@
 
 use crate::formulas::add_all;
 use gipsat_solver::{AnswerUnder, Guess, Literal, Solver};
-use std::alloc::{AllocError, Allocator};
+use std::alloc::{AllocError, Allocator, Global};
 
 // Each of the variables 1, 2 and 3 implies the next one.
 const CHAIN: [i32; 6] = [-1, 2, 0, -2, 3, 0];
 
 // How many clauses the chain has after an elimination.
-fn clauses_after<A: Allocator + Copy>(
-    alloc: A,
+fn clauses_after(alloc: Global, frozen: &[u32], steps: u64) -> Result<usize, AllocError> {
+    eliminate_chain(alloc, &mut Solver::new(alloc), frozen, steps)
+}
+
+// Eliminates variables of the chain, and answers how many clauses there are then.
+fn eliminate_chain(
+    alloc: Global,
+    solver: &mut Solver,
     frozen: &[u32],
     steps: u64,
 ) -> Result<usize, AllocError> {
-    let mut solver = Solver::new(alloc);
-    add_all(alloc, &mut solver, &CHAIN)?;
+    add_all(alloc, solver, &CHAIN)?;
     solver.eliminate(frozen, steps)?;
     Ok(solver.len())
 }
@@ -51,15 +56,23 @@ fn told<A: Allocator>(answer: &AnswerUnder<A>) -> Said {
 }
 
 // What is said after some clauses were added, under assumptions, and how many clauses were left open then.
-fn asked_after<A: Allocator + Copy>(
-    alloc: A,
+fn asked_after(
+    alloc: Global,
     added: &[i32],
     assumptions: &[Literal],
 ) -> Result<(Said, u64), AllocError> {
-    let mut solver = Solver::new(alloc);
-    add_all(alloc, &mut solver, &CHAIN)?;
-    solver.eliminate(&[], 1000)?;
-    add_all(alloc, &mut solver, added)?;
+    ask_chain(alloc, &mut Solver::new(alloc), added, assumptions)
+}
+
+// Eliminates the chain, adds the clauses and asks.
+fn ask_chain(
+    alloc: Global,
+    solver: &mut Solver,
+    added: &[i32],
+    assumptions: &[Literal],
+) -> Result<(Said, u64), AllocError> {
+    eliminate_chain(alloc, solver, &[], 1000)?;
+    add_all(alloc, solver, added)?;
     let answer = solver.solve_under(assumptions, 100)?;
     Ok((told(&answer), solver.stats().left_open))
 }
@@ -77,14 +90,22 @@ fn eliminated_variables_may_be_assumed(rt: HostRuntime) {
 
 // What is guessed after an elimination of all variables, under assumptions, among all variables or in a domain; and the
 // value of the last variable then.
-fn guessed_after<A: Allocator + Copy>(
-    alloc: A,
+fn guessed_after(
+    alloc: Global,
     assumptions: &[Literal],
     domain: Option<&[u32]>,
 ) -> Result<(Said, Option<bool>), AllocError> {
-    let mut solver = Solver::new(alloc);
-    add_all(alloc, &mut solver, &CHAIN)?;
-    solver.eliminate(&[], 1000)?;
+    guess_chain(alloc, &mut Solver::new(alloc), assumptions, domain)
+}
+
+// Eliminates the chain, and guesses.
+fn guess_chain(
+    alloc: Global,
+    solver: &mut Solver,
+    assumptions: &[Literal],
+    domain: Option<&[u32]>,
+) -> Result<(Said, Option<bool>), AllocError> {
+    eliminate_chain(alloc, solver, &[], 1000)?;
     let guess = match domain {
         Some(domain) => solver.guess_within(domain, assumptions, 100)?,
         None => solver.guess_under(assumptions, 100)?,

@@ -40,19 +40,21 @@ fn guess_within<A: Allocator + Copy>(
 }
 
 // A guess among the first two variables, one among all, and one under assumptions that contradict a clause.
-fn three_guesses<A: Allocator + Copy>(alloc: A) -> Result<[Guessed; 3], AllocError> {
-    let mut solver = Solver::new(alloc);
-    add_all(alloc, &mut solver, &[1, 2, 0, 3, 4, 0, 3, -4, 0, -3, -4, 0])?;
-    let within = guess_within(&mut solver, &[1, 2], &[literal(-1)])?;
-    let under = guess_under(&mut solver, &[literal(-1)])?;
-    let refuted = guess_under(&mut solver, &[literal(-1), literal(5), literal(-2)])?;
+fn three_guesses<A: Allocator + Copy>(
+    alloc: A,
+    solver: &mut Solver<A>,
+) -> Result<[Guessed; 3], AllocError> {
+    add_all(alloc, solver, &[1, 2, 0, 3, 4, 0, 3, -4, 0, -3, -4, 0])?;
+    let within = guess_within(solver, &[1, 2], &[literal(-1)])?;
+    let under = guess_under(solver, &[literal(-1)])?;
+    let refuted = guess_under(solver, &[literal(-1), literal(5), literal(-2)])?;
     Ok([within, under, refuted])
 }
 
 #[test]
 fn a_guess_decides_its_domain_alone(rt: HostRuntime) {
     assert!(rt;
-        three_guesses(rt.alloc())
+        three_guesses(rt.alloc(), &mut Solver::new(rt.alloc()))
             == Ok([
                 Guessed::Sat(Some(true), None),
                 Guessed::Sat(Some(true), Some(false)),

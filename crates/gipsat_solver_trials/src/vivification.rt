@@ -1,7 +1,7 @@
 //! Vivification: learned clauses are shortened, those that are asked for, and within the budget.
 
 use gipsat_solver::{AnswerUnder, Budget, Literal, Solver};
-use std::alloc::{AllocError, Allocator};
+use std::alloc::{AllocError, Allocator, Global};
 
 const HOLES: u32 = 6;
 
@@ -33,13 +33,17 @@ struct Change {
 }
 
 // Learns 100 clauses of pigeons, and shortens those from a place on. Whether it refutes the formula after that.
-fn vivified<A: Allocator + Copy>(
-    alloc: A,
+fn vivified(alloc: Global, from: usize, propagations: u64) -> Result<(Change, bool), AllocError> {
+    vivify_pigeons(alloc, &mut Solver::new(alloc), from, propagations)
+}
+
+fn vivify_pigeons(
+    alloc: Global,
+    solver: &mut Solver,
     from: usize,
     propagations: u64,
 ) -> Result<(Change, bool), AllocError> {
-    let mut solver = Solver::new(alloc);
-    add_pigeons(alloc, &mut solver)?;
+    add_pigeons(alloc, solver)?;
     let budget = Budget {
         clauses: 100,
         propagations: u64::MAX,

@@ -31,48 +31,56 @@ fn say(solver: &mut Solver<Global>, assumptions: &[Literal]) -> Result<Said, Fai
     })
 }
 
+fn of_exactly_one(solver: &mut Solver<Global>) -> Result<[Said; 4], Fail> {
+    let positive = literals(true);
+    let [_, b, c, _] = positive;
+    add_exactly_one(solver, &positive)?;
+    Ok([
+        say(solver, &[])?,
+        say(solver, &[c])?,
+        say(solver, &[b, c])?,
+        say(solver, &literals(false))?,
+    ])
+}
+
 #[test]
 fn exactly_one_is_true(rt: HostRuntime) -> Result<(), Fail> {
-    let (positive, negative) = (literals(true), literals(false));
-    let [_, b, c, _] = positive;
-    let mut solver = Solver::new(rt.alloc());
-    add_exactly_one(&mut solver, &positive)?;
-    let said = [
-        say(&mut solver, &[])?,
-        say(&mut solver, &[c])?,
-        say(&mut solver, &[b, c])?,
-        say(&mut solver, &negative)?,
-    ];
-    let wanted = [Said::True(1), Said::True(1), Said::Unsat, Said::Unsat];
-    assert!(rt; said == wanted);
+    let said = of_exactly_one(&mut Solver::new(rt.alloc()))?;
+    assert!(rt; said == [Said::True(1), Said::True(1), Said::Unsat, Said::Unsat]);
     Ok(())
+}
+
+fn of_at_most_one(solver: &mut Solver<Global>) -> Result<[Said; 3], Fail> {
+    let positive = literals(true);
+    add_at_most_one(solver, &positive)?;
+    Ok([
+        say(solver, &literals(false))?,
+        say(solver, &positive[..1])?,
+        say(solver, &positive[..2])?,
+    ])
 }
 
 #[test]
 fn at_most_one_is_true(rt: HostRuntime) -> Result<(), Fail> {
-    let (positive, negative) = (literals(true), literals(false));
-    let mut solver = Solver::new(rt.alloc());
-    add_at_most_one(&mut solver, &positive)?;
-    let said = [
-        say(&mut solver, &negative)?,
-        say(&mut solver, &positive[..1])?,
-        say(&mut solver, &positive[..2])?,
-    ];
+    let said = of_at_most_one(&mut Solver::new(rt.alloc()))?;
     assert!(rt; said == [Said::True(0), Said::True(1), Said::Unsat]);
     Ok(())
 }
 
-#[test]
-fn at_least_one_is_true(rt: HostRuntime) -> Result<(), Fail> {
+fn of_at_least_one(solver: &mut Solver<Global>) -> Result<[Said; 3], Fail> {
     let (positive, negative) = (literals(true), literals(false));
     let [_, b, c, d] = negative;
-    let mut solver = Solver::new(rt.alloc());
-    add_at_least_one(&mut solver, &positive)?;
-    let said = [
-        say(&mut solver, &positive)?,
-        say(&mut solver, &[b, c, d])?,
-        say(&mut solver, &negative)?,
-    ];
+    add_at_least_one(solver, &positive)?;
+    Ok([
+        say(solver, &positive)?,
+        say(solver, &[b, c, d])?,
+        say(solver, &negative)?,
+    ])
+}
+
+#[test]
+fn at_least_one_is_true(rt: HostRuntime) -> Result<(), Fail> {
+    let said = of_at_least_one(&mut Solver::new(rt.alloc()))?;
     assert!(rt; said == [Said::True(4), Said::True(1), Said::Unsat]);
     Ok(())
 }
