@@ -16,13 +16,18 @@ fn variables() -> [Literal; 4] {
 
 // Of a, b, c, d each is true where the one before it is, and a or d is.
 fn chain(alloc: Global) -> Result<Solver<Global>, Fail> {
-    let [a, b, c, d] = variables();
     let mut solver = Solver::new(alloc);
+    add_chain(&mut solver)?;
+    Ok(solver)
+}
+
+fn add_chain(solver: &mut Solver<Global>) -> Result<(), Fail> {
+    let [a, b, c, d] = variables();
     solver.add_clause(&[a.negated(), b])?;
     solver.add_clause(&[b.negated(), c])?;
     solver.add_clause(&[c.negated(), d])?;
     solver.add_clause(&[a, d])?;
-    Ok(solver)
+    Ok(())
 }
 
 #[test]
@@ -65,10 +70,15 @@ fn facts_are_taken_until_one_cannot_be_true(rt: HostRuntime) -> Result<(), Fail>
     Ok(())
 }
 
+// How many facts are taken once nothing satisfies the formula.
+fn taken_without_a_model(solver: &mut Solver<Global>) -> Result<Option<usize>, Fail> {
+    solver.add_clause(&[])?;
+    Ok(longest_start(solver, &variables())?)
+}
+
 #[test]
 fn a_formula_without_a_model_takes_no_facts(rt: HostRuntime) -> Result<(), Fail> {
-    let mut solver = Solver::new(rt.alloc());
-    solver.add_clause(&[])?;
-    assert!(rt; longest_start(&mut solver, &variables())?.is_none());
+    let taken = taken_without_a_model(&mut Solver::new(rt.alloc()))?;
+    assert!(rt; taken.is_none());
     Ok(())
 }
