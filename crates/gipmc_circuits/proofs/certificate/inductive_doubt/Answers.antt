@@ -2,7 +2,7 @@
 use Rattle.std.proofs.lemmas.Result.{IfOk-weaker}
 use Rattle.gipsat_solver.proofs.Places.{IfNone-more}
 use Rattle.gipmc_circuits.proofs.Certified.{inductive}
-use Rattle.gipmc_circuits.proofs.certificate.consecution.Goals as goal
+use Rattle.gipmc_circuits.proofs.certificate.inductive_doubt.Goals as goal
 
 pub returns : goal.returns
 returns g c =
@@ -10,6 +10,6 @@ returns g c =
     let rows = c.stride_of-stride.ensures.rows in
     IfOk-weaker c.first_doubt.result _ _
     (λ doubt. IfNone-more doubt (inductive c.stride_of-stride.result c.args.circuit.now c.args.invariant.now _ _ _ _ _
-    c.new-solver.ensures.formula within rows c.in_ok-add_moment.ensures.adds c.in_ok-add_invariant.ensures
+    c.requires within rows c.in_ok-add_moment.ensures.adds c.in_ok-add_invariant.ensures
     c.in_ok-add_transition.ensures.adds c.in_ok-add_moment-2.ensures.adds))
     c.first_doubt.ensures
