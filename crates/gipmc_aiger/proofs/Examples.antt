@@ -1,7 +1,11 @@
 -- Worked examples of texts.
-use Rattle.std.proofs.Common.{◌≡◌, ℕ, [], ◌∷◌, ◌++◌, refl, codes, Some, None, true, false}
+use Rattle.std.proofs.Common.{◌≡◌, ℕ, [], ◌∷◌, ◌++◌, refl, ap, codes, Some, None, true, false}
+use Rattle.std.specs.Fmt.{digits}
 use Rattle.gipsat_solver.specs.Literals.{Lit}
-use Rattle.gipmc_aiger.specs.Circuits.{Netlist, body_at, circuit_of, gate_at, header_at, latch_at, packed_operands_at, properties_at, sizes_at, written_operands_at}
+use Rattle.gipmc_circuits.specs.declared.circuit.And.{And}
+use Rattle.gipmc_circuits.specs.declared.circuit.Circuit.{Circuit}
+use Rattle.gipmc_aiger.specs.Circuits.{Netlist, body_at, circuit_of, gate_at, header_at, latch_at, netlist_of, packed_operands_at, properties_at, sizes_at, written_operands_at}
+use Rattle.gipmc_aiger.specs.CircuitTexts.{aig_text, greater_first}
 use Rattle.gipmc_aiger.specs.Witnesses.{stimulus_of, witness_of}
 
 -- a variable and its negation
@@ -63,6 +67,38 @@ gates_in_ascii = refl
 gates_in_binary : circuit_of (codes "aig 3 1 0 1 2\n6\n" ++ 1 ∷ 1 ∷ 1 ∷ 3 ∷ []) ≡ Some two_gates
 unfolding circuit_of body_at header_at sizes_at properties_at gate_at packed_operands_at
 gates_in_binary = refl
+
+-- the same gates with the lesser operand first
+abbrev turned_gates : Netlist
+turned_gates = record {
+  inputs = 1 ∷ [];
+  latches = [];
+  gates =
+      record { output = 2; left = yes_of 1; right = no_of 1 } ∷ record { output = 3; left = yes_of 1; right = no_of 2 } ∷ [];
+  bads = yes_of 3 ∷ [];
+  constraints = [];
+}
+
+-- the binary form turns them again
+turned_gates_in_binary : {A : Type 0} (c : Circuit A) → netlist_of c ≡ turned_gates
+    → circuit_of (aig_text c) ≡ Some two_gates
+unfolding circuit_of body_at header_at sizes_at properties_at gate_at packed_operands_at digits
+turned_gates_in_binary c same =
+    rw (
+      ap (λ n. n.inputs) same,
+      ap (λ n. n.latches) same,
+      ap (λ n. n.gates) same,
+      ap (λ n. n.bads) same,
+      ap (λ n. n.constraints) same,
+    )
+    refl
+
+-- a gate whose greater operand is first stays as it is
+abbrev gate_in_order : And
+gate_in_order = record { output = 3; left = no_of 2; right = yes_of 1 }
+
+order_is_kept : greater_first gate_in_order ≡ gate_in_order
+order_is_kept = refl
 
 refused-justice : circuit_of (codes "aag 0 0 0 0 0 0 0 1\n") ≡ None
 unfolding circuit_of body_at header_at sizes_at properties_at

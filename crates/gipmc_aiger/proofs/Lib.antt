@@ -1,6 +1,7 @@
 mod Examples
 mod FrameLoops
 mod Fronts
+pub mod PackedRereads
 mod Refusals
 pub mod Rereads
 mod RowLoops

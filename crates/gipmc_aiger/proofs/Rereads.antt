@@ -8,18 +8,20 @@ use Rattle.std.specs.Str.Parse.{AllDigits, digits_value_after}
 use Rattle.std.proofs.lemmas.Str.{digit_value_digit}
 use Rattle.std.proofs.lemmas.Str.Parse.{digit_from_value}
 use Rattle.std.proofs.lemmas.Fmt.{decimal_is_IsNumeral}
+use Rattle.giputils_text.specs.Lines.{space}
 use Rattle.gipsat_solver.specs.Literals.{Lit}
 use Rattle.gipmc_circuits.specs.declared.circuit.And.{And}
 use Rattle.gipmc_circuits.specs.declared.circuit.Latch.{Latch}
 use Rattle.gipmc_circuits.specs.declared.circuit.Circuit.{Circuit}
 use Rattle.gipmc_aiger.specs.Lists.{Every}
+use Rattle.gipmc_aiger.specs.declared.header.Form.{Form}
 use Rattle.gipmc_aiger.specs.declared.header.Form.TheVariants.{Ascii}
 use Rattle.gipmc_aiger.specs.declared.header.Header.{Header}
 use Rattle.gipmc_aiger.specs.Reading.{◌>>=◌, digits_at, number_at}
-use Rattle.gipmc_aiger.specs.Circuits.{bads_of, body_at, circuit_of, count_at, form_at, gate_at, greatest_literal}
-use Rattle.gipmc_aiger.specs.Circuits.{header_at, input_at, latch_at, leading_at, literal_at, literal_of, netlist_of}
-use Rattle.gipmc_aiger.specs.Circuits.{optional_count_at, properties_at, reset_of, rows_at, sizes_at, variable_of}
-use Rattle.gipmc_aiger.specs.Circuits.{written_operands_at}
+use Rattle.gipmc_aiger.specs.Circuits.{bads_of, body_at, circuit_of, count_at, defined_at, form_at, gate_at}
+use Rattle.gipmc_aiger.specs.Circuits.{greatest_literal, has_counts, header_at, input_at, latch_at, leading_at}
+use Rattle.gipmc_aiger.specs.Circuits.{literal_at, literal_of, netlist_of, optional_count_at, properties_at, reset_of}
+use Rattle.gipmc_aiger.specs.Circuits.{rows_at, separated_at, sizes_at, variable_of, written_operands_at}
 use Rattle.gipmc_aiger.specs.CircuitTexts.{aag_text, and_line, and_lines, greatest_variable, header_line, input_lines}
 use Rattle.gipmc_aiger.specs.CircuitTexts.{latch_line, latch_lines, literal_lines, literal_number, number_text}
 use Rattle.gipmc_aiger.specs.CircuitTexts.{reset_number}
@@ -114,9 +116,8 @@ rows-reread row line lines Fits none more one (x ∷ xs) (suc n) place rest same
 of_three : (a b c rest : List ℕ) → (a ++ b ++ c) ++ rest ≡ a ++ (b ++ (c ++ rest))
 of_three a b c rest = append_assoc (a ++ b) c rest ∙ append_assoc a b (c ++ rest)
 
-module _ (h : Header) (m : ℕ) (ascii : h.form ≡ Ascii) (limit : greatest_literal h ≡ 2 * m + 1)
-    (small : m < 2 ^ 31) where
-  pub leading-reread : (v end : ℕ) (rest : List ℕ) → FitsVariable m v → is_ascii_digit end ≡ false
+module _ (h : Header) (m : ℕ) (limit : greatest_literal h ≡ 2 * m + 1) (small : m < 2 ^ 31) where
+  leading-reread : (v end : ℕ) (rest : List ℕ) → FitsVariable m v → is_ascii_digit end ≡ false
       → leading_at h (number_text (2 * v) end ++ rest) ≡ Some (v, end ∷ rest)
   leading-reread v end rest (some, within) ends =
       rw (
@@ -125,7 +126,7 @@ module _ (h : Header) (m : ℕ) (ascii : h.form ≡ Ascii) (limit : greatest_lit
         variable-reread v some,
       ) refl
 
-  pub literal_number-reread : (l : Lit) (end : ℕ) (rest : List ℕ) → l.variable ≤ m → is_ascii_digit end ≡ false
+  literal_number-reread : (l : Lit) (end : ℕ) (rest : List ℕ) → l.variable ≤ m → is_ascii_digit end ≡ false
       → number_at (greatest_literal h) (number_text (literal_number l) end ++ rest) ≡ Some
       (literal_number l, end ∷ rest)
   literal_number-reread l end rest within ends =
@@ -137,31 +138,30 @@ module _ (h : Header) (m : ℕ) (ascii : h.form ≡ Ascii) (limit : greatest_lit
       by_sign v true = omega arith
       by_sign v false = omega arith
 
-  pub input-reread : (place v : ℕ) (rest : List ℕ) → FitsVariable m v → input_at h place (number_text
-      (2 * v) 10 ++ rest) ≡ Some (v, rest)
-  input-reread place v rest fits = rw (ascii, leading-reread v 10 rest fits refl) refl
-
-  pub row_literal-reread : (place : ℕ) (l : Lit) (rest : List ℕ) → l.variable ≤ m
+  row_literal-reread : (place : ℕ) (l : Lit) (rest : List ℕ) → l.variable ≤ m
       → literal_at h place (number_text (literal_number l) 10 ++ rest) ≡ Some (l, rest)
   row_literal-reread place l rest within =
       rw (literal_number-reread l 10 rest within refl) (ap (λ x. Some (x, rest)) (literal-reread l))
 
-  pub latch-reread : (place : ℕ) (l : Latch) (rest : List ℕ) → FitsLatch m l
-      → latch_at h place (latch_line l ++ rest) ≡ Some (l, rest)
+  pub literals-reread : (ls : List Lit) (n : ℕ) (rest : List ℕ) → n ≡ length ls → Every (FitsLiteral m) ls
+      → rows_at (literal_at h) 0 n (literal_lines ls ++ rest) ≡ Some (ls, rest)
+  literals-reread ls n rest same fits =
+      rows-reread (literal_at h) (λ l. number_text (literal_number l) 10) literal_lines (FitsLiteral m) refl
+      (λ l ls. refl) row_literal-reread ls n 0 rest same fits
+
+  -- a latch is read again if its variable is
+  pub latch-behind : (place : ℕ) (l : Latch) (bytes behind rest : List ℕ) → FitsLatch m l
+      → defined_at h (h.sizes.inputs + 1 + place) bytes ≡ Some (l.variable, behind)
+      → separated_at h.form space behind ≡ Some (number_text (literal_number l.next) 32 ++ (number_text
+      (reset_number l.variable l.reset) 10 ++ rest)) → latch_at h place bytes ≡ Some (l, rest)
   unfolding latch_at
-  latch-reread place l rest (defined, next) =
-      let tail = number_text (reset_number l.variable l.reset) 10 ++ rest in
-      let text : latch_line l ++ rest ≡ number_text (2 * l.variable) 32 ++ (number_text
-      (literal_number l.next) 32 ++ tail) =
-      of_three (number_text (2 * l.variable) 32) (number_text (literal_number l.next) 32) (number_text
-      (reset_number l.variable l.reset) 10) rest
-      in
+  latch-behind place l bytes behind rest (defined, next) leads separated =
       let code = reset_number l.variable l.reset in
+      let tail = number_text code 10 ++ rest in
       let top : code ≤ 2 * m + 1 = reset_top l.variable l.reset defined in
       rw (
-        text,
-        ascii,
-        leading-reread l.variable 32 (number_text (literal_number l.next) 32 ++ tail) defined refl,
+        leads,
+        separated,
         literal_number-reread l.next 32 tail next refl,
         number-reread (greatest_literal h) code 10 rest (omega (arith, top, small)) (omega (arith, limit, top)) refl,
         reset-reread l.variable l.reset defined.0,
@@ -182,6 +182,27 @@ module _ (h : Header) (m : ℕ) (ascii : h.form ≡ Ascii) (limit : greatest_lit
       reset-reread v (Some true) some = refl
       reset-reread v (Some false) some = refl
 
+module _ (h : Header) (m : ℕ) (ascii : h.form ≡ Ascii) (limit : greatest_literal h ≡ 2 * m + 1)
+    (small : m < 2 ^ 31) where
+  pub input-reread : (place v : ℕ) (rest : List ℕ) → FitsVariable m v → input_at h place (number_text
+      (2 * v) 10 ++ rest) ≡ Some (v, rest)
+  input-reread place v rest fits = rw (ascii, leading-reread h m limit small v 10 rest fits refl) refl
+
+  pub latch-reread : (place : ℕ) (l : Latch) (rest : List ℕ) → FitsLatch m l
+      → latch_at h place (latch_line l ++ rest) ≡ Some (l, rest)
+  latch-reread place l rest fits =
+      let next = number_text (literal_number l.next) 32 in
+      let reset = number_text (reset_number l.variable l.reset) 10 in
+      let behind = next ++ (reset ++ rest) in
+      let leads : defined_at h (h.sizes.inputs + 1 + place) (number_text (2 * l.variable) 32 ++ behind)
+      ≡ Some (l.variable, 32 ∷ behind) =
+      rw ascii (leading-reread h m limit small l.variable 32 behind fits.0 refl)
+      in
+      let separated : separated_at h.form space (32 ∷ behind) ≡ Some behind = rw ascii refl in
+      ap (latch_at h place) (of_three (number_text (2 * l.variable) 32) next reset rest)
+      ∙ latch-behind h m limit small place l (number_text (2 * l.variable) 32 ++ behind) (32 ∷ behind) rest fits leads
+      separated
+
   pub gate-reread : (place : ℕ) (g : And) (rest : List ℕ) → FitsGate m g → gate_at h place (and_line g ++ rest) ≡ Some
       (g, rest)
   unfolding gate_at written_operands_at
@@ -195,9 +216,9 @@ module _ (h : Header) (m : ℕ) (ascii : h.form ≡ Ascii) (limit : greatest_lit
       rw (
         text,
         ascii,
-        leading-reread g.output 32 (number_text (literal_number g.left) 32 ++ tail) defined refl,
-        literal_number-reread g.left 32 tail left refl,
-        literal_number-reread g.right 10 rest right refl,
+        leading-reread h m limit small g.output 32 (number_text (literal_number g.left) 32 ++ tail) defined refl,
+        literal_number-reread h m limit small g.left 32 tail left refl,
+        literal_number-reread h m limit small g.right 10 rest right refl,
         literal-reread g.left,
         literal-reread g.right,
       )
@@ -213,18 +234,15 @@ optional_count-reread : (n end : ℕ) (rest : List ℕ) → n < 2 ^ 31 → is_as
 optional_count-reread n end rest small ends =
     rw (number-reread 2147483647 n end rest (omega (arith, small)) (omega (arith, small)) ends) refl
 
-form-reread : (rest : List ℕ) → form_at (codes "aag " ++ rest) ≡ Some (Ascii, 32 ∷ rest)
-form-reread rest = refl
-
-of_eight : (o a b c d e f g rest : List ℕ) → (o ++ a ++ b ++ c ++ d ++ e ++ f ++ g) ++ rest ≡ o ++ (a ++ (b ++ (c ++
+pub of_eight : (o a b c d e f g rest : List ℕ) → (o ++ a ++ b ++ c ++ d ++ e ++ f ++ g) ++ rest ≡ o ++ (a ++ (b ++ (c ++
     (d ++ (e ++ (f ++ (g ++ rest)))))))
 of_eight o a b c d e f g rest = simp append_assoc
 
--- the header of an ascii text
-abbrev pub ascii_header : ℕ → ℕ → ℕ → ℕ → ℕ → ℕ → Header
-ascii_header m i l a b k =
+-- a header without outputs
+abbrev pub header_in : Form → ℕ → ℕ → ℕ → ℕ → ℕ → ℕ → Header
+header_in form m i l a b k =
     record {
-      form = Ascii;
+      form = form;
       sizes = record { maximum = m; inputs = i; latches = l; outputs = 0; gates = a };
       bads = b;
       constraints = k;
@@ -258,30 +276,37 @@ properties-reread b k rest bads constraints =
           refl,
     ) refl
 
-header-reread : (m i l a b k : ℕ) (rest : List ℕ) → m < 2 ^ 31 → i + l + a ≤ m → b < 2 ^ 31 → k < 2 ^ 31
-    → header_at (codes "aag " ++ (number_text m 32 ++ (number_text i 32 ++ (number_text l 32 ++ (number_text 0 32 ++
+-- a header is read again behind a mark that names its form
+pub header-reread : (mark : List ℕ) (form : Form) (m i l a b k : ℕ) (rest : List ℕ)
+    → ((bytes : List ℕ) → form_at (mark ++ bytes) ≡ Some (form, 32 ∷ bytes)) → m < 2 ^ 31 → i + l + a ≤ m
+    → has_counts form (record { maximum = m; inputs = i; latches = l; outputs = 0; gates = a }) ≡ true → b < 2 ^ 31
+    → k < 2 ^ 31
+    → header_at (mark ++ (number_text m 32 ++ (number_text i 32 ++ (number_text l 32 ++ (number_text 0 32 ++
     (number_text a 32 ++ (number_text b 32 ++ (number_text k 10 ++ rest))))))))
-    ≡ Some (ascii_header m i l a b k, rest)
+    ≡ Some (header_in form m i l a b k, rest)
 unfolding header_at
-header-reread m i l a b k rest small counts bads constraints =
+header-reread mark form m i l a b k rest marked small counts enough bads constraints =
+    let properties = number_text b 32 ++ (number_text k 10 ++ rest) in
+    let sizes = number_text m 32 ++ (number_text i 32 ++ (number_text l 32 ++ (number_text 0 32 ++
+    (number_text a 32 ++ properties)))) in
     rw (
-      sizes-reread m i l a (number_text b 32 ++ (number_text k 10 ++ rest)) small counts,
-      properties-reread b k rest
-          bads constraints,
-      below (i + l + a) m counts,
+      marked sizes,
+      sizes-reread m i l a properties small counts,
+      properties-reread b k rest bads constraints,
+      enough,
     )
     refl
 
-bads_are : (h : Header) (bads : List Lit) → h.bads ≡ length bads → bads_of h [] bads ≡ bads
+pub bads_are : (h : Header) (bads : List Lit) → h.bads ≡ length bads → bads_of h [] bads ≡ bads
 bads_are h [] same = rw same refl
 bads_are h (l ∷ bads) same =
     let some : (h.bads == 0) ≡ false = grind (arith, same) in
     rw some refl
 
-limit_is : (m : ℕ) → m < 2 ^ 31 → min (2 * m + 1) 4294967295 ≡ 2 * m + 1
+pub limit_is : (m : ℕ) → m < 2 ^ 31 → min (2 * m + 1) 4294967295 ≡ 2 * m + 1
 limit_is m small = omega (arith, small)
 
-no_rows : {X : Type 0} (one_at : ℕ → List ℕ → Option (X × List ℕ)) (n : ℕ) (bytes : List ℕ) → n ≡ 0
+pub no_rows : {X : Type 0} (one_at : ℕ → List ℕ → Option (X × List ℕ)) (n : ℕ) (bytes : List ℕ) → n ≡ 0
     → rows_at one_at 0 n bytes ≡ Some ([], bytes)
 no_rows one_at zero bytes same = refl
 no_rows one_at (suc n) bytes same = absurd (omega (arith, same))
@@ -291,7 +316,7 @@ of_six o a b c d e = simp (append_assoc, append-nil)
 
 -- the rows of a circuit behind such a header write it
 body-reread : {A : Type 0} (c : Circuit A) (h : Header) (m : ℕ) → m ≡ greatest_variable c → IsWritable c
-    → h ≡ ascii_header m (length c.inputs.items) (length c.latches.items) (length c.gates.items)
+    → h ≡ header_in Ascii m (length c.inputs.items) (length c.latches.items) (length c.gates.items)
     (length c.bads.items) (length c.constraints.items)
     → body_at h (input_lines c.inputs.items ++ (latch_lines c.latches.items ++ (literal_lines c.bads.items ++
     (literal_lines c.constraints.items ++ (and_lines c.gates.items ++ [])))))
@@ -314,13 +339,10 @@ body-reread c h m greatest is header =
           (λ place l rest fits. latch-reread h m ascii limit small place l rest fits) c.latches.items h.sizes.latches 0 bads
           (ap (λ x. x.sizes.latches) header) (subst (λ x. Every (FitsLatch x) c.latches.items) (sym greatest) is.latches),
       no_rows (literal_at h) h.sizes.outputs bads no_outputs,
-      rows-reread (literal_at h) (λ l. number_text (literal_number l) 10) literal_lines (FitsLiteral m) refl (λ l ls. refl)
-          (λ place l rest fits. row_literal-reread h m ascii limit small place l rest fits) c.bads.items h.bads 0 constraints
-          (ap (λ x. x.bads) header) (subst (λ x. Every (FitsLiteral x) c.bads.items) (sym greatest) is.bads),
-      rows-reread (literal_at h) (λ l. number_text (literal_number l) 10) literal_lines (FitsLiteral m) refl (λ l ls. refl)
-          (λ place l rest fits. row_literal-reread h m ascii limit small place l rest fits) c.constraints.items h.constraints
-          0 gates
-          (ap (λ x. x.constraints) header) (subst (λ x. Every (FitsLiteral x) c.constraints.items) (sym greatest) is.constraints),
+      literals-reread h m limit small c.bads.items h.bads constraints (ap (λ x. x.bads) header) (subst
+          (λ x. Every (FitsLiteral x) c.bads.items) (sym greatest) is.bads),
+      literals-reread h m limit small c.constraints.items h.constraints gates (ap (λ x. x.constraints) header) (subst
+          (λ x. Every (FitsLiteral x) c.constraints.items) (sym greatest) is.constraints),
       rows-reread (gate_at h) and_line and_lines (FitsGate m) refl (λ g gs. refl)
           (λ place g rest fits. gate-reread h m ascii limit small place g rest fits) c.gates.items h.sizes.gates 0 []
           (ap (λ x. x.sizes.gates) header) (subst (λ x. Every (FitsGate x) c.gates.items) (sym greatest) is.gates),
@@ -346,7 +368,9 @@ aag_rereads c is =
     in
     ap circuit_of text
     ∙ ap (λ header. header >>= λ h. body_at h.0 h.1)
-    (header-reread m (length c.inputs.items) (length c.latches.items) (length c.gates.items) (length c.bads.items)
-    (length c.constraints.items) rows is.small is.counts is.bad_count is.constraint_count)
-    ∙ body-reread c (ascii_header m (length c.inputs.items) (length c.latches.items) (length c.gates.items)
+    (header-reread (codes "aag ") Ascii m (length c.inputs.items) (length c.latches.items) (length c.gates.items)
+    (length c.bads.items) (length c.constraints.items) rows (λ bytes. refl) is.small is.counts (below
+    (length c.inputs.items + length c.latches.items + length c.gates.items) m is.counts) is.bad_count
+    is.constraint_count)
+    ∙ body-reread c (header_in Ascii m (length c.inputs.items) (length c.latches.items) (length c.gates.items)
     (length c.bads.items) (length c.constraints.items)) m refl is refl

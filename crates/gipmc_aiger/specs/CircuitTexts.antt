@@ -6,6 +6,7 @@ use Rattle.gipmc_circuits.specs.declared.circuit.And.{And}
 use Rattle.gipmc_circuits.specs.declared.circuit.Latch.{Latch}
 use Rattle.gipmc_circuits.specs.declared.circuit.Circuit.{Circuit}
 use Rattle.gipmc_aiger.specs.Reading.{◌>>=◌}
+use Rattle.gipmc_aiger.specs.Circuits.{Netlist}
 use Rattle.giputils_text.specs.Groups.{groups}
 
 -- the number of a literal: twice its variable, and 1 more for the negation
@@ -138,3 +139,19 @@ abbrev pub aig_text : {A : Type 0} → Circuit A → List ℕ
 aig_text c =
     packed_header_line c ++ packed_latch_lines c.latches.items ++ literal_lines c.bads.items
     ++ literal_lines c.constraints.items ++ packed_ands c.gates.items
+
+-- a gate with its greater operand first
+abbrev pub greater_first : And → And
+greater_first g =
+    if nat_lt (literal_number g.left) (literal_number g.right)
+    then record { output = g.output; left = g.right; right = g.left } else g
+
+-- the parts of a circuit as the binary form has them: the greater operand of each gate comes first
+abbrev pub packed_netlist_of : {A : Type 0} → Circuit A → Netlist
+packed_netlist_of c = record {
+  inputs = c.inputs.items;
+  latches = c.latches.items;
+  gates = map greater_first c.gates.items;
+  bads = c.bads.items;
+  constraints = c.constraints.items;
+}

@@ -1,4 +1,4 @@
--- Which circuits the ascii form has room for.
+-- Which circuits the two forms have room for.
 use Rattle.std.specs.Prelude.{ℕ, ◌+◌, ◌^◌, ◌<◌, ◌≤◌, length}
 use Rattle.gipmc_aiger.specs.Lists.{Every}
 use Rattle.gipsat_solver.specs.Literals.{Lit}
@@ -23,7 +23,7 @@ FitsLatch m l = FitsVariable m l.variable × FitsLiteral m l.next
 abbrev pub FitsGate : ℕ → And → Type 0
 FitsGate m g = FitsVariable m g.output × FitsLiteral m g.left × FitsLiteral m g.right
 
--- the ascii form has room for the circuit: its greatest variable is below 2^31, no row defines 0 or uses a greater one,
+-- the forms have room for the circuit: its greatest variable is below 2^31, no row defines 0 or uses a greater one,
 -- there are no more rows than variables, and fewer than 2^31 bad literals and constraints
 pub record IsWritable {A : Type 0} (c : Circuit A) : Type 0 where
   pub small : greatest_variable c < 2 ^ 31

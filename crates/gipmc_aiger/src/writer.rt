@@ -63,7 +63,8 @@ impl<T: Drop> From<AllocFailed<T>> for WriteError {
 }
 
 /// Writes a circuit in the binary form, its bad literals as such. Its variables have to be numbered as this form wants
-/// it: inputs, latches and gates from 1 on, and each gate behind its operands.
+/// it: inputs, latches and gates from 1 on, and each gate behind its operands. Of a gate's operands the one with the
+/// greater number is written first, so that it is the left one of the gate that is read.
 ///
 /// # Errors
 /// - [`WriteError::Numbering`] with a variable that has another number.
