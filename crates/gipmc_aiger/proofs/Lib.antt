@@ -7,4 +7,5 @@ pub mod Rereads
 mod RowLoops
 mod Stacks
 mod Tables
+pub mod WitnessRereads
 mod Words

@@ -25,6 +25,7 @@ use Rattle.gipmc_aiger.specs.Circuits.{rows_at, separated_at, sizes_at, variable
 use Rattle.gipmc_aiger.specs.CircuitTexts.{aag_text, and_line, and_lines, greatest_variable, header_line, input_lines}
 use Rattle.gipmc_aiger.specs.CircuitTexts.{latch_line, latch_lines, literal_lines, literal_number, number_text}
 use Rattle.gipmc_aiger.specs.CircuitTexts.{reset_number}
+use Rattle.gipmc_aiger.specs.Tails.{begins_number}
 use Rattle.gipmc_aiger.specs.Writable.{FitsGate, FitsLatch, FitsLiteral, FitsVariable, IsWritable}
 
 digit_is : (d : ℕ) → digit_value d < 10 → is_ascii_digit d ≡ true
@@ -41,35 +42,45 @@ value_grows n (d ∷ ds) = let more = value_grows (n * 10 + digit_value d) ds in
 below : (n limit : ℕ) → n ≤ limit → nat_le n limit ≡ true
 below n limit within = grind (arith, within)
 
-digits-reread : (limit n : ℕ) (ds : List ℕ) (end : ℕ) (rest : List ℕ) → AllDigits 10 ds → is_ascii_digit end ≡ false
-    → digits_value_after 10 n ds ≤ limit → digits_at limit n (ds ++ end ∷ rest) ≡ Some
-    (digits_value_after 10 n ds, end ∷ rest)
-digits-reread limit n [] end rest all ends within = rw ends refl
-digits-reread limit n (d ∷ ds) end rest (digit, all) ends within =
+-- digits, and behind them no more of them
+digits-reread : (limit n : ℕ) (ds rest : List ℕ) → AllDigits 10 ds → begins_number rest ≡ false
+    → digits_value_after 10 n ds ≤ limit → digits_at limit n (ds ++ rest) ≡ Some (digits_value_after 10 n ds, rest)
+digits-reread limit n [] [] all ends within = refl
+digits-reread limit n [] (end ∷ rest) all ends within = rw ends refl
+digits-reread limit n (d ∷ ds) rest (digit, all) ends within =
     let same : 10 * n + (d - 48) ≡ n * 10 + digit_value d = let e = digit_less d digit in omega (arith, e) in
     let small : nat_le (n * 10 + digit_value d) limit ≡ true =
     below (n * 10 + digit_value d) limit (let g = value_grows (n * 10 + digit_value d) ds in omega (arith, g, within))
     in
-    rw (digit_is d digit, same, small) (digits-reread limit (n * 10 + digit_value d) ds end rest all ends within)
+    rw (digit_is d digit, same, small) (digits-reread limit (n * 10 + digit_value d) ds rest all ends within)
 
-number_from : (limit : ℕ) (ds : List ℕ) (end : ℕ) (rest : List ℕ) → 0 < length ds → AllDigits 10 ds
-    → is_ascii_digit end ≡ false
-    → digits_value_after 10 0 ds ≤ limit → number_at limit (ds ++ end ∷ rest) ≡ Some
-    (digits_value_after 10 0 ds, end ∷ rest)
-number_from limit [] end rest some all ends within = absurd (omega (arith, some))
-number_from limit (d ∷ ds) end rest some (digit, all) ends within =
-    ap (λ b. if b then digits_at limit 0 (d ∷ (ds ++ end ∷ rest)) else None) (digit_is d digit)
-    ∙ digits-reread limit 0 (d ∷ ds) end rest (digit, all) ends within
+number_from : (limit : ℕ) (ds rest : List ℕ) → 0 < length ds → AllDigits 10 ds → begins_number rest ≡ false
+    → digits_value_after 10 0 ds ≤ limit → number_at limit (ds ++ rest) ≡ Some (digits_value_after 10 0 ds, rest)
+number_from limit [] rest some all ends within = absurd (omega (arith, some))
+number_from limit (d ∷ ds) rest some (digit, all) ends within =
+    ap (λ b. if b then digits_at limit 0 (d ∷ (ds ++ rest)) else None) (digit_is d digit)
+    ∙ digits-reread limit 0 (d ∷ ds) rest (digit, all) ends within
+
+-- a number with no digit behind it
+decimal-reread : (limit n : ℕ) (rest : List ℕ) → n < 2 ^ 64 → n ≤ limit → begins_number rest ≡ false
+    → number_at limit (decimal n ++ rest) ≡ Some (n, rest)
+decimal-reread limit n rest fits within ends =
+    let numeral = decimal_is_IsNumeral n fits in
+    let value : digits_value_after 10 0 (decimal n) ≡ n = numeral.1 in
+    number_from limit (decimal n) rest numeral.0.0 numeral.0.1 ends (omega (arith, value, within))
+    ∙ ap (λ v. Some (v, rest)) value
 
 -- a number with a byte behind it that is no digit
 pub number-reread : (limit n end : ℕ) (rest : List ℕ) → n < 2 ^ 64 → n ≤ limit → is_ascii_digit end ≡ false
     → number_at limit (number_text n end ++ rest) ≡ Some (n, end ∷ rest)
 number-reread limit n end rest fits within ends =
-    let numeral = decimal_is_IsNumeral n fits in
-    let value : digits_value_after 10 0 (decimal n) ≡ n = numeral.1 in
     ap (number_at limit) (append_assoc (decimal n) (end ∷ []) rest)
-    ∙ number_from limit (decimal n) end rest numeral.0.0 numeral.0.1 ends (omega (arith, value, within))
-    ∙ ap (λ v. Some (v, end ∷ rest)) value
+    ∙ decimal-reread limit n (end ∷ rest) fits within ends
+
+-- a number with nothing behind it
+pub number-reread_alone : (limit n : ℕ) → n < 2 ^ 64 → n ≤ limit → number_at limit (decimal n) ≡ Some (n, [])
+number-reread_alone limit n fits within =
+    ap (number_at limit) (sym (append-nil (decimal n))) ∙ decimal-reread limit n [] fits within refl
 
 half : (v : ℕ) → (2 * v) / 2 ≡ v
 half v = omega arith
