@@ -1,5 +1,5 @@
 //! A first question to the solver.
-ghost use Rattle.std.specs.Prelude.{IfOk, IfSome, IsTrue};
+ghost use Rattle.std.specs.Prelude.{◌≡◌, [], IfOk, IfSome, IsTrue};
 ghost use Rattle.gipsat_solver.specs.Values.{assignment_in};
 
 use gipsat_solver::{AnswerUnder, Literal, Solver};
@@ -9,9 +9,16 @@ use std::alloc::{AllocError, Allocator};
 pub fn values_with_c<A: Allocator + Copy>(alloc: A) -> Result<Option<Vec<bool, A>>, AllocError>
     ensures b_is_true { IfOk result (λ values. IfSome values (λ model. IsTrue (assignment_in model.items 1))) }
 {
+    ask(&mut Solver::new(alloc))
+}
+
+// The same, of a solver that has no clause yet. It is lent: to own one and end early takes minutes to prove.
+fn ask<A: Allocator + Copy>(solver: &mut Solver<A>) -> Result<Option<Vec<bool, A>>, AllocError>
+    requires empty { solver.old.formula ≡ [] }
+    ensures b_is_true { IfOk result (λ values. IfSome values (λ model. IsTrue (assignment_in model.items 1))) }
+{
     let (a, b) = (Literal::new(0, true), Literal::new(1, true));
     let c = Literal::new(2, true);
-    let mut solver = Solver::new(alloc);
     solver.add_clause(&[a, b])?;
     solver.add_clause(&[a.negated(), c.negated()])?;
     match solver.solve_under(&[c], 1000)? {
