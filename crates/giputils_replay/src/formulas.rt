@@ -24,13 +24,17 @@ pub(crate) fn replay<W: Write>(alloc: Global, out: &mut W, lines: &[String]) -> 
 // The answer to the formula of a line.
 fn answer(alloc: Global, line: &str) -> Result<&'static str> {
     let formula = parse(alloc, line)?;
-    let mut solver = Solver::new(alloc);
-    for clause in &formula {
+    solve(&mut Solver::new(alloc), &formula)
+}
+
+// The answer of a solver that has no clause yet.
+fn solve(solver: &mut Solver, formula: &[Vec<Literal>]) -> Result<&'static str> {
+    for clause in formula {
         solver.add_clause(clause)?;
     }
     Ok(match solver.solve(LIMIT)? {
         Answer::Sat(model) => {
-            if satisfies(&model, &formula) {
+            if satisfies(&model, formula) {
                 "sat"
             } else {
                 "wrong"

@@ -56,9 +56,18 @@ enum Reply {
 
 /// Makes the calls, and writes a line for each reply.
 pub(crate) fn replay<W: Write>(alloc: Global, out: &mut W, lines: &[String]) -> Result<()> {
-    let mut given = Given::new(alloc);
+    answer_each(alloc, &mut Given::new(alloc), out, lines)
+}
+
+// Makes the calls on a solver, and writes a line for each reply.
+fn answer_each<W: Write>(
+    alloc: Global,
+    given: &mut Given,
+    out: &mut W,
+    lines: &[String],
+) -> Result<()> {
     for (i, line) in lines.iter().enumerate() {
-        let reply = answer(alloc, &mut given, line).context(format_args!("call {}", i + 1))?;
+        let reply = answer(alloc, given, line).context(format_args!("call {}", i + 1))?;
         write_reply(out, &reply)?;
     }
     Ok(())
