@@ -23,6 +23,10 @@ fn a_sum_of_durations_ends_at_the_longest(rt: HostRuntime) {
     average += Duration::MAX;
     assert!(rt; average.can_add(Duration::ZERO));
     assert!(rt; !average.can_add(Duration::from_nanos(1)));
+}
+
+#[test]
+fn a_counted_sum_of_durations_ends_at_the_longest(rt: HostRuntime) {
     let mut counted = CountedDuration::default();
     counted += Duration::MAX;
     assert!(rt; counted.can_add(Duration::ZERO));

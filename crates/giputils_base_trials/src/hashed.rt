@@ -2,8 +2,8 @@
 
 use giputils_base::hash::{GHashMap, GHashSet};
 use giputils_refusing::{Refusing, refuse_each, refuse_from_each};
+use std::alloc::AllocError;
 use std::ops::{Deref, DerefMut};
-use std::test::Fail;
 
 // The requests of one growth of a hashed collection.
 const GROWTH: u64 = 4;
@@ -24,22 +24,24 @@ fn is_value_put(memory: &Refusing) -> bool {
     GHashMap::new(memory).insert(4u32, 16u32).is_ok()
 }
 
+fn is_set_copied(set: &GHashSet<u32, &Refusing>) -> bool {
+    let copy: Result<_, _> = set.clone();
+    copy.is_ok()
+}
+
 fn is_set_cloned(memory: &Refusing) -> bool {
     let mut set = GHashSet::new(memory);
-    if set.insert(3u32).is_err() {
-        return false;
-    }
-    let copy: Result<_, _> = set.clone();
+    set.insert(3).is_ok() && is_set_copied(&set)
+}
+
+fn is_map_copied(map: &GHashMap<u32, u32, &Refusing>) -> bool {
+    let copy: Result<_, _> = map.clone();
     copy.is_ok()
 }
 
 fn is_map_cloned(memory: &Refusing) -> bool {
     let mut map = GHashMap::new(memory);
-    if map.insert(4u32, 16u32).is_err() {
-        return false;
-    }
-    let copy: Result<_, _> = map.clone();
-    copy.is_ok()
+    map.insert(4, 16).is_ok() && is_map_copied(&map)
 }
 
 // Collecting asks again where the room for all items is refused, so that one refusal alone can pass.
@@ -78,35 +80,45 @@ fn each_request_of_a_hashed_collection_is_refused_in_turn(rt: HostRuntime) {
 #[test]
 fn collections_of_no_items_take_no_memory(rt: HostRuntime) {
     let memory = Refusing::from(rt.alloc(), 1);
-    let set: Result<_, _> = GHashSet::<u32, _>::new(&memory).clone();
-    let map: Result<_, _> = GHashMap::<u32, u32, _>::new(&memory).clone();
     let is_made = [
-        set.is_ok(),
-        map.is_ok(),
+        is_set_copied(&GHashSet::new(&memory)),
+        is_map_copied(&GHashMap::new(&memory)),
         GHashSet::<u32, _>::from_iter(&memory, []).is_ok(),
         GHashMap::<u32, u32, _>::from_iter(&memory, []).is_ok(),
     ];
     assert!(rt; (is_made, memory.requests()) == ([true; 4], 0));
 }
 
-#[test]
-fn a_set_is_lent_in_place(rt: HostRuntime) -> Result<(), Fail> {
-    let memory = Refusing::from(rt.alloc(), GROWTH + 1);
-    let mut set = GHashSet::<u32, &Refusing>::new(&memory);
-    assert!(rt; memory.requests() == 0);
+// Puts a member into a set and takes it out of what the set lends. Tells whether it was there, and how many are left.
+fn taken_from_set(set: &mut GHashSet<u32, &Refusing>) -> Result<(bool, usize), AllocError> {
     set.insert(3)?;
     let is_taken = set.deref_mut().remove(&3);
-    assert!(rt; (is_taken, set.deref().len(), memory.requests()) == (true, 0, GROWTH));
-    Ok(())
+    Ok((is_taken, set.deref().len()))
 }
 
 #[test]
-fn a_map_is_lent_in_place(rt: HostRuntime) -> Result<(), Fail> {
+fn a_set_is_lent_in_place(rt: HostRuntime) {
     let memory = Refusing::from(rt.alloc(), GROWTH + 1);
-    let mut map = GHashMap::<u32, u32, &Refusing>::new(&memory);
-    assert!(rt; memory.requests() == 0);
+    let mut set = GHashSet::new(&memory);
+    let before = memory.requests();
+    let taken = taken_from_set(&mut set);
+    assert!(rt; (before, taken, memory.requests()) == (0, Ok((true, 0)), GROWTH));
+}
+
+// Puts a pair into a map and takes it out of what the map lends. Tells its value, and how many are left.
+fn taken_from_map(
+    map: &mut GHashMap<u32, u32, &Refusing>,
+) -> Result<(Option<u32>, usize), AllocError> {
     map.insert(4, 16)?;
     let taken = map.deref_mut().remove(&4);
-    assert!(rt; (taken, map.deref().len(), memory.requests()) == (Some(16), 0, GROWTH));
-    Ok(())
+    Ok((taken, map.deref().len()))
+}
+
+#[test]
+fn a_map_is_lent_in_place(rt: HostRuntime) {
+    let memory = Refusing::from(rt.alloc(), GROWTH + 1);
+    let mut map = GHashMap::new(&memory);
+    let before = memory.requests();
+    let taken = taken_from_map(&mut map);
+    assert!(rt; (before, taken, memory.requests()) == (0, Ok((Some(16), 0)), GROWTH));
 }

@@ -5,41 +5,60 @@ use giputils_base::allocator::{
 };
 use giputils_base::gvec::Gvec;
 use giputils_refusing::{Refusing, refuse_each};
-use std::alloc::Allocator;
+use std::alloc::{AllocError, Allocator, Global};
 use std::ops::{Deref, DerefMut};
+use std::process::Abort;
 use std::test::Fail;
 
 type Slots<'a> = Gallocator<u32, &'a Refusing>;
 
-fn three_slots(memory: &Refusing) -> Result<Slots<'_>, u32> {
-    let mut slots = Gallocator::new(memory);
+// Puts three values into slots that are lent: so a value that is refused drops nothing here.
+fn put_three(slots: &mut Slots<'_>) -> Result<(), u32> {
     slots.alloc(10)?;
     slots.alloc(20)?;
     slots.alloc(30)?;
+    Ok(())
+}
+
+fn three_slots(memory: &Refusing) -> Result<Slots<'_>, u32> {
+    let mut slots = Slots::new(memory);
+    put_three(&mut slots)?;
     Ok(slots)
 }
 
 // Collects three slots, of which the first is marked.
-fn are_collected(memory: &Refusing) -> bool {
-    let Ok(mut slots) = three_slots(memory) else {
+fn is_collected(slots: &mut Slots<'_>) -> bool {
+    if put_three(slots).is_err() {
         return false;
-    };
+    }
     if slots.len() == 3 {
         slots.dealloc(0);
     }
     slots.gc().is_ok()
 }
 
+fn are_collected(memory: &Refusing) -> bool {
+    is_collected(&mut Slots::new(memory))
+}
+
+fn is_tabled(slots: &mut Slots<'_>) -> bool {
+    put_three(slots).is_ok() && slots.gc_table().is_ok()
+}
+
 fn are_tabled(memory: &Refusing) -> bool {
-    let Ok(mut slots) = three_slots(memory) else {
-        return false;
-    };
-    slots.gc_table().is_ok()
+    is_tabled(&mut Slots::new(memory))
+}
+
+fn is_more_room_made(slots: Slots<'_>) -> bool {
+    slots.into_reserved().reserve(9).is_ok()
 }
 
 fn is_room_made(memory: &Refusing) -> bool {
     let mut slots = Slots::new(memory);
-    slots.reserve(3).is_ok() && slots.into_reserved().reserve(9).is_ok()
+    if slots.reserve(3).is_err() {
+        return false;
+    }
+    is_more_room_made(slots)
 }
 
 fn are_allocated(memory: &Refusing) -> bool {
@@ -74,11 +93,35 @@ fn text<A: Allocator>(reply: &GallocReply<u32, A>) -> (&'static str, usize) {
     }
 }
 
-// The new index that the reply gives an old one.
-fn moved<A: Allocator>(reply: &GallocReply<u32, A>, old: usize) -> Option<usize> {
-    match reply {
-        GallocReply::Map(indexes) => indexes.get(&old).copied(),
-        _ => None,
+// Whether these are the replies, each by its text.
+fn are_texts<A: Allocator>(
+    replies: &[GallocReply<u32, A>],
+    answers: &[(&'static str, usize)],
+) -> bool {
+    replies.iter().map(text).eq(answers.iter().copied())
+}
+
+// Whether a run of the calls is answered so.
+fn is_answered<A: Allocator + Copy>(
+    alloc: A,
+    calls: &[GallocCall<u32>],
+    answers: &[(&'static str, usize)],
+) -> bool {
+    match galloc_run(alloc, calls) {
+        Ok((_, replies)) => are_texts(replies.as_slice(), answers),
+        Err(_) => false,
+    }
+}
+
+// The new indexes that the reply at this place gives the first three old ones.
+fn moved<A: Allocator>(replies: &[GallocReply<u32, A>], place: usize) -> [Option<usize>; 3] {
+    match replies.get(place) {
+        Some(GallocReply::Map(indexes)) => [
+            indexes.get(&0).copied(),
+            indexes.get(&1).copied(),
+            indexes.get(&2).copied(),
+        ],
+        _ => [None; 3],
     }
 }
 
@@ -92,14 +135,17 @@ fn is_run(memory: &Refusing) -> bool {
 }
 
 fn refused_calls<A: Allocator>(replies: &[GallocReply<u32, A>]) -> usize {
-    replies
-        .iter()
-        .filter(|reply| matches!(reply, GallocReply::Refused))
-        .count()
+    let mut refused = 0usize;
+    for reply in replies {
+        if matches!(reply, GallocReply::Refused) {
+            refused = refused.saturating_add(1);
+        }
+    }
+    refused
 }
 
 #[test]
-fn a_run_answers_each_call(rt: HostRuntime) -> Result<(), Fail> {
+fn a_run_answers_each_call(rt: HostRuntime) {
     let answers = &[
         ("index", 0usize),
         ("index", 1),
@@ -113,20 +159,26 @@ fn a_run_answers_each_call(rt: HostRuntime) -> Result<(), Fail> {
         ("length", 2),
         ("map", 2),
     ];
-    let (allocator, replies) = galloc_run(rt.alloc(), &CALLS)?;
-    assert!(rt; replies.len() == 11);
-    for (reply, answer) in replies.iter().zip(answers) {
-        assert!(rt; text(reply) == *answer);
-    }
-    let (first, second) = (&replies[4], &replies[10]);
-    assert!(rt; (moved(first, 0), moved(first, 1), moved(first, 2)) == (None, Some(0), Some(1)));
-    assert!(rt; (moved(second, 0), moved(second, 1), moved(second, 2)) == (Some(0), Some(1), None));
-    assert!(rt; allocator.len() == 2);
+    assert!(rt; is_answered(rt.alloc(), &CALLS, answers));
+}
+
+// The new indexes that the two collections of the run give, and how many slots it leaves.
+fn collected_twice(alloc: Global) -> Result<([[Option<usize>; 3]; 2], usize), AllocError> {
+    let (allocator, replies) = galloc_run(alloc, &CALLS)?;
+    let indexes = [moved(&replies, 4), moved(&replies, 10)];
+    Ok((indexes, allocator.len()))
+}
+
+#[test]
+fn a_run_tells_where_its_collections_move_values(rt: HostRuntime) -> Result<(), Fail> {
+    let (indexes, len) = collected_twice(rt.alloc())?;
+    assert!(rt; indexes == [[None, Some(0), Some(1)], [Some(0), Some(1), None]]);
+    assert!(rt; len == 2);
     Ok(())
 }
 
 #[test]
-fn a_marked_value_can_be_written_and_read(rt: HostRuntime) -> Result<(), Fail> {
+fn a_marked_value_can_be_written_and_read(rt: HostRuntime) {
     let calls = &[
         GallocCall::Alloc(1u32),
         GallocCall::Dealloc(0),
@@ -143,12 +195,7 @@ fn a_marked_value_can_be_written_and_read(rt: HostRuntime) -> Result<(), Fail> {
         ("value", 2),
         ("skipped", 0),
     ];
-    let (_, replies) = galloc_run(rt.alloc(), calls)?;
-    assert!(rt; replies.len() == 6);
-    for (reply, answer) in replies.iter().zip(answers) {
-        assert!(rt; text(reply) == *answer);
-    }
-    Ok(())
+    assert!(rt; is_answered(rt.alloc(), calls, answers));
 }
 
 // How many requests a collection and a run make is open: the map of a collection may grow more than once.
@@ -183,18 +230,10 @@ const TWO_COLLECTIONS: [GallocCall<u32>; 6] = [
     GallocCall::Len,
 ];
 
-// Whether a run that is refused this request alone is answered so.
-fn is_answered(memory: &Refusing, answers: [(&'static str, usize); 6]) -> bool {
-    match galloc_run(memory, &TWO_COLLECTIONS) {
-        Ok((_, replies)) => replies.iter().map(text).eq(answers),
-        Err(_) => false,
-    }
-}
-
 // The first call asks for room for both values, and the first collection asks next.
 #[test]
 fn a_run_goes_on_after_a_refused_call(rt: HostRuntime) {
-    let first_value = [
+    let first_value = &[
         ("refused", 0usize),
         ("index", 0),
         ("done", 0),
@@ -202,8 +241,9 @@ fn a_run_goes_on_after_a_refused_call(rt: HostRuntime) {
         ("map", 0),
         ("length", 0),
     ];
-    assert!(rt; is_answered(&Refusing::nth(rt.alloc(), 2), first_value));
-    let first_collection = [
+    let memory = Refusing::nth(rt.alloc(), 2);
+    assert!(rt; is_answered(&memory, &TWO_COLLECTIONS, first_value));
+    let first_collection = &[
         ("index", 0usize),
         ("index", 1),
         ("done", 0),
@@ -211,56 +251,77 @@ fn a_run_goes_on_after_a_refused_call(rt: HostRuntime) {
         ("map", 1),
         ("length", 1),
     ];
-    assert!(rt; is_answered(&Refusing::nth(rt.alloc(), 3), first_collection));
+    let memory = Refusing::nth(rt.alloc(), 3);
+    assert!(rt; is_answered(&memory, &TWO_COLLECTIONS, first_collection));
 }
 
 #[test]
-fn an_allocator_of_no_slots_is_collected_in_place(rt: HostRuntime) -> Result<(), Fail> {
+fn an_allocator_of_no_slots_is_collected_in_place(rt: HostRuntime) {
     let memory = Refusing::from(rt.alloc(), 2);
-    let (_, replies) = galloc_run(&memory, &[GallocCall::<u32>::Gc])?;
-    assert!(rt; replies.iter().map(text).eq([("map", 0usize)]));
-    assert!(rt; galloc_run(&memory, [GallocCall::<u32>::Gc; 0].as_slice()).is_ok());
+    assert!(rt; is_answered(&memory, &[GallocCall::Gc], &[("map", 0)]));
+    assert!(rt; is_answered(&memory, &[], &[]));
     assert!(rt; memory.requests() == 1);
-    Ok(())
 }
 
-#[test]
-fn a_refused_collection_can_be_made_again(rt: HostRuntime) -> Result<(), Fail> {
-    let counted = Refusing::none(rt.alloc());
-    drop(three_slots(&counted)?);
-    let memory = Refusing::nth(rt.alloc(), counted.requests().saturating_add(1));
-    let mut slots = three_slots(&memory)?;
+// How many requests three slots make.
+fn requests_of_three_slots(alloc: Global) -> Result<u64, u32> {
+    let memory = Refusing::none(alloc);
+    drop(three_slots(&memory)?);
+    Ok(memory.requests())
+}
+
+// Marks the second of three slots, whose collection is refused.
+fn refuse_collection(rt: &impl Abort, slots: &mut Slots<'_>) {
     assert!(rt; slots.len() == 3);
     slots.dealloc(1);
     assert!(rt; slots.gc().is_err());
     assert!(rt; slots.len() == 3);
     assert!(rt; (slots.is_removed(1), slots[1usize]) == (true, 20));
+}
+
+// Collects slots. Tells how many are left, and the new indexes of the first and the last of three.
+fn collected(slots: &mut Slots<'_>) -> Result<(usize, [Option<usize>; 2]), AllocError> {
     let indexes = slots.gc()?;
-    let moved = (
-        indexes.len(),
-        indexes.get(&0).copied(),
-        indexes.get(&2).copied(),
-    );
-    assert!(rt; moved == (2, Some(0), Some(1)));
+    let moved = [indexes.get(&0).copied(), indexes.get(&2).copied()];
+    Ok((indexes.len(), moved))
+}
+
+// Collects three slots, once refused and then served.
+fn collected_again(
+    rt: &impl Abort,
+    memory: &Refusing,
+) -> Result<(usize, [Option<usize>; 2]), Fail> {
+    let mut slots = three_slots(memory)?;
+    refuse_collection(rt, &mut slots);
+    Ok(collected(&mut slots)?)
+}
+
+#[test]
+fn a_refused_collection_can_be_made_again(rt: HostRuntime) -> Result<(), Fail> {
+    let requests = requests_of_three_slots(rt.alloc())?;
+    let memory = Refusing::nth(rt.alloc(), requests.saturating_add(1));
+    assert!(rt; collected_again(&rt, &memory)? == (2, [Some(0), Some(1)]));
     Ok(())
+}
+
+// How many entries the table of three slots has, and how many requests it makes.
+fn tabled(memory: &Refusing, slots: &mut Slots<'_>) -> Result<(usize, u64), Fail> {
+    put_three(slots)?;
+    let before = memory.requests();
+    let entries = slots.gc_table()?.len();
+    Ok((entries, memory.requests().saturating_sub(before)))
 }
 
 #[test]
 fn a_table_is_asked_for_once(rt: HostRuntime) -> Result<(), Fail> {
     let memory = Refusing::none(rt.alloc());
-    let mut slots = three_slots(&memory)?;
-    let before = memory.requests();
-    let entries = slots.gc_table()?.len();
-    assert!(rt; (entries, memory.requests()) == (3, before.saturating_add(1)));
+    let table = tabled(&memory, &mut Slots::new(&memory))?;
+    assert!(rt; table == (3, 1));
     Ok(())
 }
 
-#[test]
-fn slots_are_marked_read_and_written_in_place(rt: HostRuntime) -> Result<(), Fail> {
-    let counted = Refusing::none(rt.alloc());
-    drop(three_slots(&counted)?);
-    let memory = Refusing::from(rt.alloc(), counted.requests().saturating_add(1));
-    let mut slots = three_slots(&memory)?;
+// Writes two of three slots, marks one of them, and reads them.
+fn write_two(rt: &impl Abort, slots: &mut Slots<'_>) {
     assert!(rt; slots.len() == 3);
     slots[0usize] = 5;
     assert!(rt; slots.len() == 3);
@@ -269,7 +330,20 @@ fn slots_are_marked_read_and_written_in_place(rt: HostRuntime) -> Result<(), Fai
     slots.dealloc(1);
     assert!(rt; slots.len() == 3);
     assert!(rt; (slots[0usize], slots[1u32], slots.is_removed(1)) == (5, 6, true));
-    assert!(rt; memory.requests() == counted.requests());
+}
+
+fn write_two_of_three(rt: &impl Abort, memory: &Refusing) -> Result<(), u32> {
+    let mut slots = three_slots(memory)?;
+    write_two(rt, &mut slots);
+    Ok(())
+}
+
+#[test]
+fn slots_are_marked_read_and_written_in_place(rt: HostRuntime) -> Result<(), Fail> {
+    let requests = requests_of_three_slots(rt.alloc())?;
+    let memory = Refusing::from(rt.alloc(), requests.saturating_add(1));
+    write_two_of_three(&rt, &memory)?;
+    assert!(rt; memory.requests() == requests);
     assert!(rt; Slots::new(&memory).len() == 0);
     Ok(())
 }
@@ -287,45 +361,71 @@ fn last_live(slots: &Slots<'_>) -> Option<(usize, u32)> {
     Some((index, *value))
 }
 
+// Takes out the second of three values. Tells it, how many others are left, whether it is gone, and the last of them.
+fn seen_once_taken(slots: &mut Slots<'_>) -> ((Option<u32>, usize, bool), Option<(usize, u32)>) {
+    let value = taken(slots);
+    let seen = (value, slots.live_len(), slots.get(1).is_none());
+    (seen, last_live(slots))
+}
+
 #[test]
-fn slots_are_taken_walked_and_renamed_in_place(rt: HostRuntime) -> Result<(), Fail> {
+fn slots_are_taken_and_walked_in_place(rt: HostRuntime) -> Result<(), Fail> {
     let memory = Refusing::none(rt.alloc());
     let mut slots = three_slots(&memory)?;
+    let before = memory.requests();
+    let seen = seen_once_taken(&mut slots);
+    assert!(rt; (seen, memory.requests()) == (((Some(20), 2, true), Some((2, 30))), before));
+    Ok(())
+}
+
+#[test]
+fn a_list_of_indexes_is_renamed_in_place(rt: HostRuntime) -> Result<(), Fail> {
+    let memory = Refusing::none(rt.alloc());
     let mut watched = Vec::from_array(&memory, [2usize, 1])?;
     let before = memory.requests();
-    let value = taken(&mut slots);
     rename(&[Some(0), None, Some(1)], &mut watched);
-    let seen = (value, slots.live_len(), slots.get(1).is_none());
-    assert!(rt; (seen, last_live(&slots)) == ((Some(20), 2, true), Some((2, 30))));
     assert!(rt; (watched.pop(), watched.len(), memory.requests()) == (Some(1), 0, before));
     Ok(())
+}
+
+// Puts two values into slots, and asks for room for three first.
+fn put_two_with_room(slots: &mut Slots<'_>) -> Result<(), Fail> {
+    slots.reserve(3)?;
+    slots.alloc(10)?;
+    slots.alloc(20)?;
+    Ok(())
+}
+
+// Puts a value into slots with room ahead. Tells its index, and how many slots there are then.
+fn put_ahead(slots: Slots<'_>) -> Result<(usize, usize), AllocError> {
+    let mut room = slots.into_reserved();
+    room.reserve(1)?;
+    let index = room.alloc_reserved(30);
+    Ok((index, room.finish().len()))
 }
 
 #[test]
 fn values_with_room_ahead_take_no_memory(rt: HostRuntime) -> Result<(), Fail> {
     let memory = Refusing::from(rt.alloc(), 2);
     let mut slots = Slots::new(&memory);
-    slots.reserve(3)?;
-    slots.alloc(10)?;
-    slots.alloc(20)?;
-    let mut room = slots.into_reserved();
-    room.reserve(1)?;
-    let index = room.alloc_reserved(30);
-    assert!(rt; (index, room.finish().len(), memory.requests()) == (2, 3, 1));
+    put_two_with_room(&mut slots)?;
+    let ahead = put_ahead(slots)?;
+    assert!(rt; (ahead, memory.requests()) == ((2, 3), 1));
     Ok(())
+}
+
+// Takes one of two numbers out of an element. Tells whether it is removed, and how many numbers it has, lent and taken.
+fn seen_of_an_element(memory: &Refusing) -> Result<(bool, usize, usize), AllocError> {
+    let mut element = GallocElem::new(Gvec::from_array(memory, [1u32, 2])?);
+    element.deref_mut().swap_remove(0);
+    let lent = (element.is_removed(), element.deref().len());
+    Ok((lent.0, lent.1, element.take().len()))
 }
 
 #[test]
 fn an_element_keeps_its_value_in_place(rt: HostRuntime) -> Result<(), Fail> {
     let memory = Refusing::from(rt.alloc(), 2);
-    let mut element = GallocElem::new(Gvec::from_array(&memory, [1u32, 2])?);
-    element.deref_mut().swap_remove(0);
-    let seen = (
-        element.is_removed(),
-        element.deref().len(),
-        element.take().len(),
-    );
-    assert!(rt; seen == (false, 1, 1));
+    assert!(rt; seen_of_an_element(&memory)? == (false, 1, 1));
     assert!(rt; memory.requests() == 1);
     Ok(())
 }

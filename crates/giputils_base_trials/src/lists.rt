@@ -3,6 +3,7 @@
 use giputils_base::grc::Grc;
 use giputils_base::gvec::Gvec;
 use giputils_refusing::{Refusing, refuse_each, refuse_from_each};
+use std::alloc::AllocError;
 use std::ops::{Deref, DerefMut};
 use std::test::Fail;
 
@@ -21,12 +22,16 @@ fn is_filled_up(memory: &Refusing) -> bool {
     list.reserve(5).is_ok()
 }
 
-fn is_cloned(memory: &Refusing) -> bool {
-    let Ok(list) = Gvec::from_array(memory, [1u32, 2]) else {
-        return false;
-    };
+fn is_copied(list: &Gvec<u32, &Refusing>) -> bool {
     let copy: Result<_, _> = list.clone();
     copy.is_ok()
+}
+
+fn is_cloned(memory: &Refusing) -> bool {
+    match Gvec::from_array(memory, [1u32, 2]) {
+        Ok(list) => is_copied(&list),
+        Err(_) => false,
+    }
 }
 
 fn is_drawn(memory: &Refusing) -> bool {
@@ -59,35 +64,53 @@ fn each_request_of_a_vector_is_refused_in_turn(rt: HostRuntime) {
     }
 }
 
-#[test]
-fn a_vector_is_used_in_place(rt: HostRuntime) -> Result<(), Fail> {
-    let memory = Refusing::from(rt.alloc(), 2);
-    let empty = Gvec::<u32, &Refusing>::new(&memory);
-    let mut list = Gvec::from(Vec::from_array(&memory, [7u32, 8, 9])?);
+// Moves and writes the items of a list of three, and takes one out.
+fn rewrite(list: &mut Gvec<u32, &Refusing>) {
+    if list.len() != 3 {
+        return;
+    }
     list.swap(0, 2);
     list[0u32] = 1;
     list[1i32] = 2;
     list[2usize] = 3;
     list.swap_remove(0);
     list.deref_mut().reverse();
-    let lengths = (empty.len(), list.deref().len());
-    let first = list.into_iter().next();
-    assert!(rt; (lengths, first, memory.requests()) == ((0, 2), Some(2), 1));
+}
+
+// How many items are left of a list of three that is rewritten, and the first of them.
+fn rewritten(memory: &Refusing) -> Result<(usize, Option<u32>), AllocError> {
+    let mut list = Gvec::from(Vec::from_array(memory, [7u32, 8, 9])?);
+    rewrite(&mut list);
+    let len = list.deref().len();
+    Ok((len, list.into_iter().next()))
+}
+
+#[test]
+fn a_vector_is_used_in_place(rt: HostRuntime) -> Result<(), Fail> {
+    let memory = Refusing::from(rt.alloc(), 2);
+    assert!(rt; Gvec::<u32, &Refusing>::new(&memory).len() == 0);
+    let left = rewritten(&memory)?;
+    assert!(rt; (left, memory.requests()) == ((2, Some(2)), 1));
     Ok(())
+}
+
+fn is_filled_up_by_none(memory: &Refusing) -> bool {
+    Gvec::<u32, &Refusing>::new(memory).reserve(0).is_ok()
+}
+
+fn are_none_drawn(memory: &Refusing) -> bool {
+    let mut drawn = 0u32;
+    Gvec::new_rand(memory, 0, &mut drawn, |drawn| *drawn).is_ok()
 }
 
 #[test]
 fn lists_of_no_items_take_no_memory(rt: HostRuntime) {
     let memory = Refusing::from(rt.alloc(), 1);
-    let mut empty = Gvec::<u32, &Refusing>::new(&memory);
-    let is_filled_up = empty.reserve(0).is_ok();
-    let copy: Result<_, _> = empty.clone();
-    let mut drawn = 0u32;
     let is_made = [
-        is_filled_up,
-        copy.is_ok(),
+        is_filled_up_by_none(&memory),
+        is_copied(&Gvec::new(&memory)),
         Gvec::<u32, _>::from_iter(&memory, []).is_ok(),
-        Gvec::new_rand(&memory, 0, &mut drawn, |drawn| *drawn).is_ok(),
+        are_none_drawn(&memory),
     ];
     assert!(rt; (is_made, memory.requests()) == ([true; 4], 0));
     // std's array of no items is asked for as well, as a block of no bytes.

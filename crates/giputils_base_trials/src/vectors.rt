@@ -6,6 +6,7 @@ use rand_core::Rng;
 use rand_pcg::Pcg32;
 use std::alloc::{AllocError, AllocFailed, Allocator, Global};
 use std::ops::DerefMut;
+use std::process::Abort;
 use std::test::Fail;
 
 fn push_through<T, A: Allocator>(g: &mut Gvec<T, A>, x: T) -> Result<(), AllocFailed<T>>
@@ -96,15 +97,20 @@ fn drawn(alloc: Global, seed: u64) -> Result<Gvec<u32>, AllocError>
     Gvec::new_rand(alloc, 5, &mut rng, |rng| rng.next_u32())
 }
 
+fn push_and_read<A: Allocator>(rt: &impl Abort, g: &mut Gvec<u32, A>) -> Result<(), AllocError> {
+    push_two(g)?;
+    assert!(rt; g.len() == 2);
+    assert!(rt; exchange(g, 1, 5) == 2);
+    bump(g, 0);
+    assert!(rt; total(g) == 7);
+    assert!(rt; holds(g, 5));
+    Ok(())
+}
+
 #[test]
 fn pushes_reads_and_clears(rt: HostRuntime) -> Result<(), Fail> {
     let mut g = Gvec::new(rt.alloc());
-    push_two(&mut g)?;
-    assert!(rt; g.len() == 2);
-    assert!(rt; exchange(&mut g, 1, 5) == 2);
-    bump(&mut g, 0);
-    assert!(rt; total(&g) == 7);
-    assert!(rt; holds(&g, 5));
+    push_and_read(&rt, &mut g)?;
     assert!(rt; format!(in rt.alloc(); "{g:?}")?.as_str() == "Gvec { items: [2, 5] }");
     clear_through(&mut g);
     assert!(rt; g.len() == 0);
@@ -119,7 +125,8 @@ fn indexes_by_three_types(rt: HostRuntime) -> Result<(), Fail> {
     g[1u32] += 2;
     g[2i32] += 3;
     assert!(rt; (g[0i32], g[1usize], g[2u32]) == (8, 10, 12));
-    assert!(rt; into_vec(rt.alloc(), g)?.as_slice() == [8, 10, 12].as_slice());
+    let vec = into_vec(rt.alloc(), g)?;
+    assert!(rt; vec.as_slice() == [8, 10, 12].as_slice());
     Ok(())
 }
 
@@ -148,15 +155,25 @@ fn swapping_with_itself_and_removing_the_last_item(rt: HostRuntime) -> Result<()
 }
 
 #[test]
-fn made_from_an_array_an_iterator_a_vec_and_a_clone(rt: HostRuntime) -> Result<(), Fail> {
+fn made_from_an_array_and_a_vec(rt: HostRuntime) -> Result<(), Fail> {
     let array = Gvec::from_array(rt.alloc(), [1u32, 2])?;
-    let copied = copied(rt.alloc(), [1, 2].as_slice())?;
-    let iterator = Gvec::from_iter(rt.alloc(), 1u32..3)?;
     let vec = Gvec::from(vec![in rt.alloc(); 1u32, 2]?);
-    let clone = cloned(&copied)?;
     assert!(rt; array.as_slice() == vec.as_slice());
-    assert!(rt; copied.as_slice() == [1, 2].as_slice());
+    Ok(())
+}
+
+#[test]
+fn made_from_an_iterator(rt: HostRuntime) -> Result<(), Fail> {
+    let iterator = Gvec::from_iter(rt.alloc(), 1u32..3)?;
     assert!(rt; iterator.as_slice() == [1, 2].as_slice());
+    Ok(())
+}
+
+#[test]
+fn made_from_a_slice_and_a_clone(rt: HostRuntime) -> Result<(), Fail> {
+    let copied = copied(rt.alloc(), [1, 2].as_slice())?;
+    assert!(rt; copied.as_slice() == [1, 2].as_slice());
+    let clone = cloned(&copied)?;
     assert!(rt; clone.as_slice() == copied.as_slice());
     Ok(())
 }
