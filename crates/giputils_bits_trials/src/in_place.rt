@@ -6,12 +6,20 @@ use rand_pcg::Pcg32;
 use std::hash::{DefaultHasher, Hash};
 use std::test::Fail;
 
+fn is_copied(bits: &BitVec<&Refusing>) -> bool {
+    bits.clone().is_ok() && bits.not().is_ok()
+}
+
+fn is_filled_and_copied(memory: &Refusing, len: usize) -> bool {
+    match BitVec::from_elem(memory, len, true) {
+        Ok(bits) => is_copied(&bits),
+        Err(_) => false,
+    }
+}
+
 // Makes vectors of this length in each way that takes one, and a copy.
 fn are_made(memory: &Refusing, len: usize) -> bool {
-    let Ok(bits) = BitVec::from_elem(memory, len, true) else {
-        return false;
-    };
-    bits.clone().is_ok() && bits.not().is_ok() && BitVec::from_usize(memory, len, 5).is_ok()
+    is_filled_and_copied(memory, len) && BitVec::from_usize(memory, len, 5).is_ok()
 }
 
 #[test]
@@ -25,15 +33,20 @@ fn up_to_64_bits_are_made_without_memory(rt: HostRuntime) {
     assert!(rt; memory.requests() == 0);
 }
 
-// How many bits there are where some are pushed, by a word or one by one, up to 64.
-fn pushed(memory: &Refusing) -> Result<usize, BitVecError> {
-    let mut bits = BitVec::new(memory);
+// Pushes up to 64 bits, by a word or one by one.
+fn push_up_to_64(bits: &mut BitVec<&Refusing>) -> Result<(), BitVecError> {
     bits.push_word(7)?;
     bits.clear();
     for _ in 0..63 {
         bits.push(true)?;
     }
-    bits.extend([false])?;
+    bits.extend([false])
+}
+
+// How many bits there are where some are pushed.
+fn pushed(memory: &Refusing) -> Result<usize, BitVecError> {
+    let mut bits = BitVec::new(memory);
+    push_up_to_64(&mut bits)?;
     Ok(bits.len())
 }
 
@@ -70,17 +83,25 @@ fn is_set(bits: &mut BitVec<&Refusing>) -> bool {
     right && !bits.get(len - 1)
 }
 
+fn is_word_pushed(bits: &mut BitVec<&Refusing>) -> bool {
+    bits.clear();
+    bits.push_word(7).is_ok() && bits.to_usize() == 7
+}
+
 // Clears a vector and pushes a word. Tells whether the answers were right.
 fn is_refilled(mut bits: BitVec<&Refusing>) -> bool {
-    bits.clear();
-    bits.push_word(7).is_ok() && bits.to_usize() == 7 && bits.into_iter().next() == Some(true)
+    let is_pushed = is_word_pushed(&mut bits);
+    bits.into_iter().next() == Some(true) && is_pushed
 }
 
 // Makes a vector of `len` times true, and then each call on it that takes no memory. Tells whether the answers were
 // right.
 fn is_used(memory: &Refusing, len: usize) -> bool {
     match BitVec::from_elem(memory, len, true) {
-        Ok(mut bits) => is_read(&bits, len) && is_set(&mut bits) && is_refilled(bits),
+        Ok(mut bits) => {
+            let is_right = is_read(&bits, len) && is_set(&mut bits);
+            is_refilled(bits) && is_right
+        }
         Err(_) => false,
     }
 }
@@ -118,15 +139,32 @@ fn is_xored<'m>(bits: &mut BitVec<&'m Refusing>, other: &BitVec<&'m Refusing>) -
     bits.none()
 }
 
-// Joins a vector of `len` times true with another in each way. Tells whether the answers were right.
+// Two vectors of `len` places, each the same everywhere.
+fn two_filled(
+    memory: &Refusing,
+    len: usize,
+    first: bool,
+    second: bool,
+) -> Result<(BitVec<&Refusing>, BitVec<&Refusing>), BitVecError> {
+    let bits = BitVec::from_elem(memory, len, first)?;
+    let other = BitVec::from_elem(memory, len, second)?;
+    Ok((bits, other))
+}
+
+// Joins a vector with another in each way. Tells whether the answers were right.
+fn is_joined_in_each_way<'m>(
+    bits: &mut BitVec<&'m Refusing>,
+    other: &BitVec<&'m Refusing>,
+) -> bool {
+    is_anded(bits, other) && is_ored(bits, other) && is_xored(bits, other)
+}
+
+// Joins two vectors of `len` times true.
 fn is_joined(memory: &Refusing, len: usize) -> bool {
-    let (Ok(mut bits), Ok(other)) = (
-        BitVec::from_elem(memory, len, true),
-        BitVec::from_elem(memory, len, true),
-    ) else {
-        return false;
-    };
-    is_anded(&mut bits, &other) && is_ored(&mut bits, &other) && is_xored(&mut bits, &other)
+    match two_filled(memory, len, true, true) {
+        Ok((mut bits, other)) => is_joined_in_each_way(&mut bits, &other),
+        Err(_) => false,
+    }
 }
 
 #[test]
@@ -138,13 +176,17 @@ fn vectors_are_joined_in_place(rt: HostRuntime) {
     }
 }
 
+// Clears a vector, and pushes 65 bits.
+fn is_grown_once_cleared(bits: &mut BitVec<&Refusing>) -> bool {
+    bits.clear();
+    bits.push_word(7).is_ok() && bits.push(true).is_ok()
+}
+
 #[test]
 fn a_cleared_vector_keeps_its_memory(rt: HostRuntime) -> Result<(), Fail> {
     let memory = Refusing::from(rt.alloc(), 2);
     let mut bits = BitVec::ones(&memory, 65)?;
-    bits.clear();
-    bits.push_word(7)?;
-    let is_grown = bits.push(true).is_ok();
+    let is_grown = is_grown_once_cleared(&mut bits);
     assert!(rt; (is_grown, memory.requests()) == (true, 1));
     Ok(())
 }
@@ -159,6 +201,7 @@ fn xored<'m>(
     Some(bits ^ other)
 }
 
+// Either of the two, which is to be true everywhere.
 fn ored<'m>(
     bits: BitVec<&'m Refusing>,
     other: &BitVec<&'m Refusing>,
@@ -166,9 +209,11 @@ fn ored<'m>(
     if bits.len() != other.len() {
         return None;
     }
-    Some(bits | other)
+    let either = bits | other;
+    if either.all() { Some(either) } else { None }
 }
 
+// Both of the two, which is to be false everywhere.
 fn anded<'m>(
     bits: BitVec<&'m Refusing>,
     other: &BitVec<&'m Refusing>,
@@ -176,7 +221,8 @@ fn anded<'m>(
     if bits.len() != other.len() {
         return None;
     }
-    Some(bits & other)
+    let both = bits & other;
+    if both.none() { Some(both) } else { None }
 }
 
 // Neither of the two, and negated again in place.
@@ -192,33 +238,30 @@ fn ored_twice_negated<'m>(
     Some(bits)
 }
 
-// Joins a vector that is true everywhere with one that is false everywhere: by value, and three times lent.
-fn joined_by_value<'m>(
+// Joins a vector that is true everywhere with one that is false everywhere, which is lent three times.
+fn joined_with_lent<'m>(
     bits: BitVec<&'m Refusing>,
-    other: BitVec<&'m Refusing>,
+    other: &BitVec<&'m Refusing>,
 ) -> Option<BitVec<&'m Refusing>> {
-    let either = ored(xored(bits, &other)?, &other)?;
-    if !either.all() {
-        return None;
-    }
-    let both = anded(either, &other)?;
-    if !both.none() {
-        return None;
-    }
-    ored_twice_negated(both, other)
+    anded(ored(xored(bits, other)?, other)?, other)
 }
 
-// Joins by value, the right side false everywhere, and lent three times. Tells whether the answer was right.
-fn is_joined_by_value(memory: &Refusing, len: usize) -> bool {
-    let (Ok(bits), Ok(other)) = (
-        BitVec::from_elem(memory, len, true),
-        BitVec::from_elem(memory, len, false),
-    ) else {
+// Joins the two, the right side lent three times, and then by value. Tells whether the answer was right.
+fn is_none_of_two<'m>(bits: BitVec<&'m Refusing>, other: BitVec<&'m Refusing>, len: usize) -> bool {
+    let Some(both) = joined_with_lent(bits, &other) else {
         return false;
     };
-    match joined_by_value(bits, other) {
+    match ored_twice_negated(both, other) {
         Some(bits) => bits.none() && bits.len() == len,
         None => false,
+    }
+}
+
+// Joins two vectors of `len` places by value, the right side false everywhere.
+fn is_joined_by_value(memory: &Refusing, len: usize) -> bool {
+    match two_filled(memory, len, true, false) {
+        Ok((bits, other)) => is_none_of_two(bits, other, len),
+        Err(_) => false,
     }
 }
 

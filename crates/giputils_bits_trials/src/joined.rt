@@ -15,16 +15,31 @@ fn part(memory: &Refusing, start: usize, end: usize) -> Result<BitVec<&Refusing>
     Ok(bits)
 }
 
+// Appends the bits from one place to another.
+fn append_part<'m>(
+    bits: &mut BitVec<&'m Refusing>,
+    memory: &'m Refusing,
+    start: usize,
+    end: usize,
+) -> Result<(), BitVecError> {
+    bits.append(&part(memory, start, end)?)
+}
+
+// The bits before `end`, of which those from `middle` on are appended.
+fn appended(
+    memory: &Refusing,
+    middle: usize,
+    end: usize,
+) -> Result<BitVec<&Refusing>, BitVecError> {
+    let mut bits = part(memory, 0, middle)?;
+    append_part(&mut bits, memory, middle, end)?;
+    Ok(bits)
+}
+
 // Appends the bits from `middle` to `end` to those before. Tells whether all up to `end` are there then.
-fn is_appended(memory: &Refusing, middle: usize, end: usize) -> bool {
-    let (Ok(mut bits), Ok(more), Ok(all)) = (
-        part(memory, 0, middle),
-        part(memory, middle, end),
-        part(memory, 0, end),
-    ) else {
-        return false;
-    };
-    bits.append(&more).is_ok() && bits == all
+fn is_appended(memory: &Refusing, middle: usize, end: usize) -> Result<bool, BitVecError> {
+    let bits = appended(memory, middle, end)?;
+    Ok(bits == part(memory, 0, end)?)
 }
 
 #[test]
@@ -39,7 +54,10 @@ fn a_vector_is_appended_wherever_the_other_ends(rt: HostRuntime) {
         (70, 200),
         (127, 128),
     ] {
-        assert!(rt; is_appended(&memory, middle, end), "{middle} of {end}");
+        assert!(rt;
+            is_appended(&memory, middle, end) == Ok(true),
+            "{middle} of {end}"
+        );
     }
 }
 

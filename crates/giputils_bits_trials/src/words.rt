@@ -59,23 +59,19 @@ fn words_are_appended_wherever_the_vector_ends(rt: HostRuntime) -> Result<(), Fa
 }
 
 // Whether each pattern of this length is known.
-fn are_known(alloc: Global, len: usize) -> bool
+fn are_known(alloc: Global, len: usize) -> Result<bool, BitVecError>
     requires { 0 < len }
 {
-    let (Ok(one), Ok(ones), Ok(zero)) = (
-        BitVec::one(alloc, len),
-        BitVec::ones(alloc, len),
-        BitVec::zero(alloc, len),
-    ) else {
-        return false;
-    };
-    one.is_one() && ones.is_ones() && zero.is_zero()
+    let is_one = BitVec::one(alloc, len)?.is_one();
+    let are_ones = BitVec::ones(alloc, len)?.is_ones();
+    let is_zero = BitVec::zero(alloc, len)?.is_zero();
+    Ok(is_one && are_ones && is_zero)
 }
 
 #[test]
 fn patterns_are_known_at_each_length(rt: HostRuntime) {
     for len in 1..200 {
-        assert!(rt; are_known(rt.alloc(), len), "{len} bits");
+        assert!(rt; are_known(rt.alloc(), len) == Ok(true), "{len} bits");
     }
 }
 
@@ -96,12 +92,24 @@ fn a_bit_of_the_second_word_tells_patterns_apart(rt: HostRuntime) -> Result<(), 
     Ok(())
 }
 
+// Whether a vector is equal to the zero of this length, and whether it is not.
+fn compared_with_zero(
+    alloc: Global,
+    bits: &BitVec,
+    len: usize,
+) -> Result<(bool, bool), BitVecError> {
+    let zero = BitVec::zero(alloc, len)?;
+    Ok((*bits == zero, *bits != zero))
+}
+
 // Whether one, its only true place made false, has the words of one and is zero of its own length alone.
 fn is_made_zero(alloc: Global) -> Result<bool, BitVecError> {
     let mut bits = BitVec::one(alloc, 65)?;
     let is_one = has_words(&bits, 65, &[1, 0]);
     bits.set(0, false);
-    Ok(is_one && bits == BitVec::zero(alloc, 65)? && bits != BitVec::zero(alloc, 64)?)
+    let own = compared_with_zero(alloc, &bits, 65)?;
+    let other = compared_with_zero(alloc, &bits, 64)?;
+    Ok(is_one && own == (true, false) && other == (false, true))
 }
 
 #[test]
