@@ -23,16 +23,17 @@ enum Making {
 }
 
 fn is_made(memory: &Refusing, making: Making) -> bool {
-    match making {
-        Making::FromElem => BitVec::from_elem(memory, 129, true).is_ok(),
-        Making::Zero => BitVec::zero(memory, 65).is_ok(),
-        Making::Ones => BitVec::ones(memory, 65).is_ok(),
-        Making::One => BitVec::one(memory, 65).is_ok(),
-        Making::FromUsize => BitVec::from_usize(memory, 70, 5).is_ok(),
-        Making::NewRand => is_drawn(memory),
-        Making::From => BitVec::from(memory, [true; 300]).is_ok(),
-        Making::FromBinaryText => BitVec::from_binary_text(memory, &[b'1'; 300]).is_ok(),
-    }
+    let made = match making {
+        Making::FromElem => BitVec::from_elem(memory, 129, true),
+        Making::Zero => BitVec::zero(memory, 65),
+        Making::Ones => BitVec::ones(memory, 65),
+        Making::One => BitVec::one(memory, 65),
+        Making::FromUsize => BitVec::from_usize(memory, 70, 5),
+        Making::From => BitVec::from(memory, [true; 300]),
+        Making::NewRand => return is_drawn(memory),
+        Making::FromBinaryText => return BitVec::from_binary_text(memory, &[b'1'; 300]).is_ok(),
+    };
+    made.is_ok()
 }
 
 // Where memory is refused, tells so only if nothing was drawn.
@@ -89,13 +90,16 @@ fn is_resized(memory: &Refusing) -> bool {
         && bits.resize(65, true).is_ok()
 }
 
+fn is_appended_twice<'m>(bits: &mut BitVec<&'m Refusing>, more: &BitVec<&'m Refusing>) -> bool {
+    bits.append(more).is_ok() && bits.append(more).is_ok()
+}
+
 // A vector that is not aligned is appended to one of a full word.
 fn is_appended(memory: &Refusing) -> bool {
-    let mut bits = BitVec::new(memory);
-    let Ok(more) = BitVec::ones(memory, 63) else {
-        return false;
-    };
-    bits.append(&more).is_ok() && bits.append(&more).is_ok()
+    match BitVec::ones(memory, 63) {
+        Ok(more) => is_appended_twice(&mut BitVec::new(memory), &more),
+        Err(_) => false,
+    }
 }
 
 // There is room for 200 bits at once.

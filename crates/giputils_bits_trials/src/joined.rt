@@ -86,7 +86,7 @@ fn a_node_negates_its_inputs_as_told(rt: HostRuntime) -> Result<(), Fail> {
 }
 
 // Two vectors of one length.
-fn five_places(alloc: Global) -> Result<(BitVec, BitVec), BitVecError> {
+pub(crate) fn five_places(alloc: Global) -> Result<(BitVec, BitVec), BitVecError> {
     let bits = BitVec::from(alloc, [true, false, true, true, false])?;
     let mask = BitVec::from(alloc, [true, true, true, false, false])?;
     Ok((bits, mask))

@@ -18,7 +18,7 @@ const TIMES: usize = 9;
 // The vector that has the first three bits alone.
 fn first(memory: &Refusing) -> BitVec<&Refusing> {
     let mut bits = BitVec::new(memory);
-    for bit in [true, false, true] {
+    for &bit in &[true, false, true] {
         if bits.push(bit).is_err() {
             break;
         }
@@ -65,17 +65,20 @@ fn is_word_pushed(memory: &Refusing) -> bool {
 }
 
 // Where the items of an `extend` are refused, tells so only if those stand that fill the last word.
-fn is_extended(memory: &Refusing) -> bool {
-    let Ok(items) = BitVec::from_usize(memory, 64, ITEMS) else {
-        return false;
-    };
-    let mut bits = first(memory);
+fn is_extended_by<'m>(bits: &mut BitVec<&'m Refusing>, items: &BitVec<&'m Refusing>) -> bool {
     for time in 0..TIMES {
-        if bits.extend(&items).is_err() {
-            return !stands(&bits, 64 * time + 64);
+        if bits.extend(items).is_err() {
+            return !stands(bits, 64 * time + 64);
         }
     }
-    stands(&bits, 64 * TIMES + 3)
+    stands(bits, 64 * TIMES + 3)
+}
+
+fn is_extended(memory: &Refusing) -> bool {
+    match BitVec::from_usize(memory, 64, ITEMS) {
+        Ok(items) => is_extended_by(&mut first(memory), &items),
+        Err(_) => false,
+    }
 }
 
 // How often a growing vector asks is open, but it is oftener than once.

@@ -1,8 +1,8 @@
 //! Bit vectors as sets of small numbers.
 
+use crate::joined::five_places;
 use giputils_bits::bitvec::{BitVec, BitVecError};
 use giputils_refusing::Refusing;
-use std::alloc::Global;
 use std::test::Fail;
 
 // How many places are true; and whether one is, each is, and none is.
@@ -40,13 +40,6 @@ fn a_vector_without_a_place_has_none_and_all(rt: HostRuntime) {
     let bits = BitVec::new(rt.alloc());
     assert!(rt; counted(&bits) == (0, [false, true, true]));
     assert!(rt; bits.first_one().is_none());
-}
-
-// Two vectors of one length.
-fn five_places(alloc: Global) -> Result<(BitVec, BitVec), BitVecError> {
-    let bits = BitVec::from(alloc, [true, false, true, true, false])?;
-    let mask = BitVec::from(alloc, [true, true, true, false, false])?;
-    Ok((bits, mask))
 }
 
 // Whether the first is within the second, and whether they have nothing in common.

@@ -119,13 +119,18 @@ fn pattern(alloc: Global, len: usize) -> Result<BitVec, BitVecError> {
     Ok(bits)
 }
 
+// Both texts of a vector, bit by bit.
+fn texts_by_bits(alloc: Global, bits: &BitVec) -> Result<String, AllocError> {
+    let binary = binary_by_bits(alloc, bits)?;
+    let hex = hex_by_bits(alloc, bits)?;
+    format!(in alloc; "{binary} {hex}")
+}
+
 // Both texts of so many bits, as they are written and bit by bit.
 fn both_ways(alloc: Global, len: usize) -> Result<(String, String), BitVecError> {
     let bits = pattern(alloc, len)?;
-    let binary = binary_by_bits(alloc, &bits)?;
-    let hex = hex_by_bits(alloc, &bits)?;
     let written = format!(in alloc; "{bits} {}", bits.lower_hex())?;
-    Ok((written, format!(in alloc; "{binary} {hex}")?))
+    Ok((written, texts_by_bits(alloc, &bits)?))
 }
 
 #[test]
