@@ -3,10 +3,18 @@
 use crate::tasks::{README_REPLIES, README_SCRIPT};
 use gip_lines::watched::Watched;
 use gip_lines::{GipFault, script};
-use std::test::Fail;
+use std::alloc::Global;
+
+// How a script ends, and whether it is answered so.
+fn ending(alloc: Global, input: &[u8], replies: &[u8]) -> (Result<(), GipFault>, bool) {
+    let mut reader = Watched::new(input);
+    let mut writer = Watched::new(Vec::new(alloc));
+    let outcome = script(alloc, &mut reader, &mut writer);
+    (outcome, writer.device().as_slice() == replies)
+}
 
 #[test]
-fn answers_scripts(rt: HostRuntime) -> Result<(), Fail> {
+fn answers_scripts(rt: HostRuntime) {
     let table: &[(&[u8], &[u8])] = &[
         (README_SCRIPT, README_REPLIES),
         (b"", b""),
@@ -42,12 +50,8 @@ fn answers_scripts(rt: HostRuntime) -> Result<(), Fail> {
         ),
     ];
     for &(input, replies) in table {
-        let mut reader = Watched::new(input);
-        let mut writer = Watched::new(Vec::new(rt.alloc()));
-        assert!(rt; script(rt.alloc(), &mut reader, &mut writer) == Ok(()));
-        assert!(rt; writer.device().as_slice() == replies);
+        assert!(rt; ending(rt.alloc(), input, replies) == (Ok(()), true));
     }
-    Ok(())
 }
 
 #[test]
@@ -82,10 +86,8 @@ fn refuses_the_first_line_of_another_form(rt: HostRuntime) {
         ),
     ];
     for &(input, number) in table {
-        let mut reader = Watched::new(input);
-        let mut writer = Watched::new(Vec::new(rt.alloc()));
-        let outcome = script(rt.alloc(), &mut reader, &mut writer);
+        let (outcome, is_unanswered) = ending(rt.alloc(), input, b"");
         assert!(rt; outcome == Err(GipFault::Line(number)), "at {input:?}");
-        assert!(rt; writer.device().is_empty());
+        assert!(rt; is_unanswered);
     }
 }

@@ -3,10 +3,18 @@
 use crate::tasks::{BITS, BITS_TEXTS};
 use gip_lines::watched::Watched;
 use gip_lines::{GipFault, bits};
-use std::test::Fail;
+use std::alloc::Global;
+
+// How lines of bits end, and whether their texts are these.
+fn ending(alloc: Global, input: &[u8], texts: &[u8]) -> (Result<(), GipFault>, bool) {
+    let mut reader = Watched::new(input);
+    let mut writer = Watched::new(Vec::new(alloc));
+    let outcome = bits(alloc, &mut reader, &mut writer);
+    (outcome, writer.device().as_slice() == texts)
+}
 
 #[test]
-fn shows_each_line_of_bits(rt: HostRuntime) -> Result<(), Fail> {
+fn shows_each_line_of_bits(rt: HostRuntime) {
     let table: &[(&[u8], &[u8])] = &[
         (BITS, BITS_TEXTS),
         (b"", b""),
@@ -21,12 +29,8 @@ fn shows_each_line_of_bits(rt: HostRuntime) -> Result<(), Fail> {
         ),
     ];
     for &(input, texts) in table {
-        let mut reader = Watched::new(input);
-        let mut writer = Watched::new(Vec::new(rt.alloc()));
-        assert!(rt; bits(rt.alloc(), &mut reader, &mut writer) == Ok(()));
-        assert!(rt; writer.device().as_slice() == texts);
+        assert!(rt; ending(rt.alloc(), input, texts) == (Ok(()), true));
     }
-    Ok(())
 }
 
 #[test]
@@ -46,10 +50,8 @@ fn refuses_the_first_line_without_bits(rt: HostRuntime) {
         (b"0\n1\n\xff\n2\n", 3),
     ];
     for &(input, number) in table {
-        let mut reader = Watched::new(input);
-        let mut writer = Watched::new(Vec::new(rt.alloc()));
-        let outcome = bits(rt.alloc(), &mut reader, &mut writer);
+        let (outcome, is_unwritten) = ending(rt.alloc(), input, b"");
         assert!(rt; outcome == Err(GipFault::Line(number)), "at {input:?}");
-        assert!(rt; writer.device().is_empty());
+        assert!(rt; is_unwritten);
     }
 }
