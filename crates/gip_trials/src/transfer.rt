@@ -38,8 +38,8 @@ fn moves_one_byte_at_a_time(rt: HostRuntime) {
     }
 }
 
-// Does a task whose read of this number fails. Tells how it ends, whether a read has failed, how many were made, and
-// whether nothing was written.
+// Does a task whose read of this number fails; with 0 none does. Tells how it ends, whether a read has failed, how many
+// were made, and whether nothing was written.
 fn stopped_at_read(
     alloc: Global,
     task: Task,

@@ -27,7 +27,7 @@ fn remembers_a_failed_read(rt: HostRuntime) {
     assert!(rt; reader.failed());
 }
 
-// A write of no bytes may take none.
+// A write of no bytes may take none, which is no failure.
 fn write_none_twice(rt: &impl Abort, writer: &mut Watched<Sink<Global>>) {
     assert!(rt; write(writer, b"") == Ok(0));
     assert!(rt; !writer.failed());

@@ -379,7 +379,7 @@ fn slots_are_taken_and_walked_in_place(rt: HostRuntime) -> Result<(), Fail> {
 }
 
 #[test]
-fn a_list_of_indexes_is_renamed_in_place(rt: HostRuntime) -> Result<(), Fail> {
+fn a_list_of_indexes_is_renamed_without_memory(rt: HostRuntime) -> Result<(), Fail> {
     let memory = Refusing::none(rt.alloc());
     let mut watched = Vec::from_array(&memory, [2usize, 1])?;
     let before = memory.requests();

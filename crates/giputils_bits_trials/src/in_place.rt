@@ -201,7 +201,7 @@ fn xored<'m>(
     Some(bits ^ other)
 }
 
-// Either of the two, which is to be true everywhere.
+// Either of the two. None unless it is true everywhere.
 fn ored<'m>(
     bits: BitVec<&'m Refusing>,
     other: &BitVec<&'m Refusing>,
@@ -213,7 +213,7 @@ fn ored<'m>(
     if either.all() { Some(either) } else { None }
 }
 
-// Both of the two, which is to be false everywhere.
+// Both of the two. None unless it is false everywhere.
 fn anded<'m>(
     bits: BitVec<&'m Refusing>,
     other: &BitVec<&'m Refusing>,
