@@ -2,7 +2,7 @@
 use Rattle.std.proofs.lemmas.Result.{IfOk-weaker}
 use Rattle.gipsat_solver.proofs.Places.{IfNone-more}
 use Rattle.gipmc_circuits.proofs.Certified.{initiated}
-use Rattle.gipmc_circuits.proofs.certificate.initial_doubt.Goals as goal
+use Rattle.gipmc_circuits.proofs.certificate.initiation_by.Goals as goal
 
 pub returns : goal.returns
 returns g c =
