@@ -12,7 +12,7 @@ pub fn values_with_c<A: Allocator + Copy>(alloc: A) -> Result<Option<Vec<bool, A
     ask(&mut Solver::new(alloc))
 }
 
-// The same, of a solver that has no clause yet. It is lent: to own one and end early takes minutes to prove.
+// The same, by a solver without clauses. A function that owns a solver and can end early takes minutes to prove.
 fn ask<A: Allocator + Copy>(solver: &mut Solver<A>) -> Result<Option<Vec<bool, A>>, AllocError>
     requires empty { solver.old.formula ≡ [] }
     ensures b_is_true { IfOk result (λ values. IfSome values (λ model. IsTrue (assignment_in model.items 1))) }
