@@ -24,9 +24,19 @@ fn answer_of<A: Allocator + Copy>(
     bad: Literal,
     calls: u64,
 ) -> Result<Answer, AllocError> {
-    let mut search = Search::new(alloc, circuit, bad)?;
-    let found = search.run(calls)?;
+    let found = found_in_a_slice(alloc, circuit, bad, calls)?;
     checked(alloc, circuit, bad, &found)
+}
+
+// What a search of one slice finds.
+fn found_in_a_slice<A: Allocator + Copy>(
+    alloc: A,
+    circuit: &Circuit<A>,
+    bad: Literal,
+    calls: u64,
+) -> Result<Found<A>, AllocError> {
+    let mut search = Search::new(alloc, circuit, bad)?;
+    search.run(calls)
 }
 
 // What is believed where this was found: a trace is replayed, and an invariant is certified.

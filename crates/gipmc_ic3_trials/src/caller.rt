@@ -17,6 +17,15 @@ pub fn found_in_slices<A: Allocator + Copy>(
     calls: u64,
 ) -> Result<Found<A>, AllocError> {
     let mut search = Search::new(alloc, circuit, bad)?;
+    run_slices(&mut search, slices, calls)
+}
+
+// The same, by a search that was begun.
+fn run_slices<A: Allocator + Copy>(
+    search: &mut Search<'_, A>,
+    slices: u32,
+    calls: u64,
+) -> Result<Found<A>, AllocError> {
     for _ in 0..slices {
         match search.run(calls)? {
             Found::Open => {}

@@ -3,7 +3,7 @@
 use crate::answers::{Answer, checked};
 use crate::circuits::{counter, ring};
 use gipmc_circuits::Circuit;
-use gipmc_ic3::Search;
+use gipmc_ic3::{Found, Search};
 use gipsat_solver::Literal;
 use giputils_refusing::Refusing;
 use std::alloc::{AllocError, Global};
@@ -22,12 +22,21 @@ fn answer_at_last<'a>(
     circuit: &Circuit<&'a Refusing>,
 ) -> Result<Answer, AllocError> {
     let bad = Literal::new(6, true);
-    let mut search = Search::new(memory, circuit, bad)?;
-    let found = match search.run(1000) {
-        Ok(found) => found,
-        Err(_) => search.run(1000)?,
-    };
+    let found = found_at_last(memory, circuit, bad)?;
     checked(memory, circuit, bad, &found)
+}
+
+// What a search finds that goes on where it is refused memory.
+fn found_at_last<'a>(
+    memory: &'a Refusing,
+    circuit: &Circuit<&'a Refusing>,
+    bad: Literal,
+) -> Result<Found<&'a Refusing>, AllocError> {
+    let mut search = Search::new(memory, circuit, bad)?;
+    match search.run(1000) {
+        Ok(found) => Ok(found),
+        Err(_) => search.run(1000),
+    }
 }
 
 fn answer_of_counter(memory: &Refusing) -> Result<Answer, AllocError> {

@@ -4,7 +4,7 @@ use crate::answers::{Answer, checked};
 use crate::caller::found_in_slices;
 use crate::circuits::{counter, ring};
 use gipmc_circuits::Circuit;
-use gipmc_ic3::{Search, Statistics};
+use gipmc_ic3::{Found, Search, Statistics};
 use gipsat_solver::Literal;
 use std::alloc::{AllocError, Allocator};
 
@@ -38,10 +38,27 @@ fn answer_without_calls<A: Allocator + Copy>(
     calls: u64,
 ) -> Result<Answer, AllocError> {
     let bad = Literal::new(6, true);
-    let mut search = Search::new(alloc, circuit, bad)?;
-    search.run(calls)?;
-    let found = search.run(0)?;
+    let found = found_without_calls(alloc, circuit, bad, calls)?;
     checked(alloc, circuit, bad, &found)
+}
+
+// What is found without calls behind so many.
+fn found_without_calls<A: Allocator + Copy>(
+    alloc: A,
+    circuit: &Circuit<A>,
+    bad: Literal,
+    calls: u64,
+) -> Result<Found<A>, AllocError> {
+    let mut search = Search::new(alloc, circuit, bad)?;
+    run_and_run_without_calls(&mut search, calls)
+}
+
+fn run_and_run_without_calls<A: Allocator + Copy>(
+    search: &mut Search<'_, A>,
+    calls: u64,
+) -> Result<Found<A>, AllocError> {
+    search.run(calls)?;
+    search.run(0)
 }
 
 #[test]
@@ -61,6 +78,13 @@ fn calls_of_two_slices<A: Allocator + Copy>(
     calls: u64,
 ) -> Result<u64, AllocError> {
     let mut search = Search::new(alloc, circuit, Literal::new(6, true))?;
+    count_two_slices(&mut search, calls)
+}
+
+fn count_two_slices<A: Allocator + Copy>(
+    search: &mut Search<'_, A>,
+    calls: u64,
+) -> Result<u64, AllocError> {
     search.run(calls)?;
     search.run(calls)?;
     Ok(search.statistics().calls)
@@ -77,7 +101,15 @@ fn asks_no_more_than_it_may(rt: HostRuntime) -> Result<(), AllocError> {
 // The last frame where a search for a trace of the counter ends.
 fn last_frame<A: Allocator + Copy>(alloc: A) -> Result<usize, AllocError> {
     let circuit = counter(alloc)?;
-    let mut search = Search::new(alloc, &circuit, Literal::new(6, true))?;
+    last_frame_of(alloc, &circuit)
+}
+
+fn last_frame_of<A: Allocator + Copy>(alloc: A, circuit: &Circuit<A>) -> Result<usize, AllocError> {
+    let mut search = Search::new(alloc, circuit, Literal::new(6, true))?;
+    run_to_frame(&mut search)
+}
+
+fn run_to_frame<A: Allocator + Copy>(search: &mut Search<'_, A>) -> Result<usize, AllocError> {
     search.run(1000)?;
     Ok(search.frame())
 }
@@ -85,7 +117,20 @@ fn last_frame<A: Allocator + Copy>(alloc: A) -> Result<usize, AllocError> {
 // How many lemmas a search for an invariant of the ring learned, and whether they are short.
 fn lemmas<A: Allocator + Copy>(alloc: A) -> Result<(usize, bool), AllocError> {
     let circuit = ring(alloc)?;
-    let mut search = Search::new(alloc, &circuit, Literal::new(6, true))?;
+    lemmas_of(alloc, &circuit)
+}
+
+fn lemmas_of<A: Allocator + Copy>(
+    alloc: A,
+    circuit: &Circuit<A>,
+) -> Result<(usize, bool), AllocError> {
+    let mut search = Search::new(alloc, circuit, Literal::new(6, true))?;
+    run_to_lemmas(&mut search)
+}
+
+fn run_to_lemmas<A: Allocator + Copy>(
+    search: &mut Search<'_, A>,
+) -> Result<(usize, bool), AllocError> {
     search.run(1000)?;
     Ok(of_lemmas(search.statistics()))
 }

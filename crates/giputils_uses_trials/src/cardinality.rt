@@ -43,9 +43,13 @@ fn of_exactly_one(solver: &mut Solver<Global>) -> Result<[Said; 4], Fail> {
     ])
 }
 
+fn said_of_exactly_one(alloc: Global) -> Result<[Said; 4], Fail> {
+    of_exactly_one(&mut Solver::new(alloc))
+}
+
 #[test]
 fn exactly_one_is_true(rt: HostRuntime) -> Result<(), Fail> {
-    let said = of_exactly_one(&mut Solver::new(rt.alloc()))?;
+    let said = said_of_exactly_one(rt.alloc())?;
     assert!(rt; said == [Said::True(1), Said::True(1), Said::Unsat, Said::Unsat]);
     Ok(())
 }
@@ -60,9 +64,13 @@ fn of_at_most_one(solver: &mut Solver<Global>) -> Result<[Said; 3], Fail> {
     ])
 }
 
+fn said_of_at_most_one(alloc: Global) -> Result<[Said; 3], Fail> {
+    of_at_most_one(&mut Solver::new(alloc))
+}
+
 #[test]
 fn at_most_one_is_true(rt: HostRuntime) -> Result<(), Fail> {
-    let said = of_at_most_one(&mut Solver::new(rt.alloc()))?;
+    let said = said_of_at_most_one(rt.alloc())?;
     assert!(rt; said == [Said::True(0), Said::True(1), Said::Unsat]);
     Ok(())
 }
@@ -78,9 +86,13 @@ fn of_at_least_one(solver: &mut Solver<Global>) -> Result<[Said; 3], Fail> {
     ])
 }
 
+fn said_of_at_least_one(alloc: Global) -> Result<[Said; 3], Fail> {
+    of_at_least_one(&mut Solver::new(alloc))
+}
+
 #[test]
 fn at_least_one_is_true(rt: HostRuntime) -> Result<(), Fail> {
-    let said = of_at_least_one(&mut Solver::new(rt.alloc()))?;
+    let said = said_of_at_least_one(rt.alloc())?;
     assert!(rt; said == [Said::True(4), Said::True(1), Said::Unsat]);
     Ok(())
 }

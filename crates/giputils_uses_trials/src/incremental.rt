@@ -3,6 +3,7 @@
 use gipsat_solver::{Literal, Solver};
 use giputils_uses::incremental::{cover, longest_start, model_with};
 use std::alloc::Global;
+use std::process::Abort;
 use std::test::Fail;
 
 fn variables() -> [Literal; 4] {
@@ -49,31 +50,54 @@ fn no_values_cover_both_signs(rt: HostRuntime) -> Result<(), Fail> {
     Ok(())
 }
 
+// Whether these are four values, and each is true.
+fn are_all_true(values: Option<Vec<bool>>) -> bool {
+    match values {
+        Some(values) => values.as_slice() == [true, true, true, true].as_slice(),
+        None => false,
+    }
+}
+
+// Adds a, then c and d, then not d, then nothing, and looks each time for a model.
+fn add_facts(rt: &impl Abort, solver: &mut Solver<Global>) -> Result<(), Fail> {
+    let [a, _, c, d] = variables();
+    assert!(rt; are_all_true(model_with(solver, &[a])?));
+    assert!(rt; model_with(solver, &[c, d])?.is_some());
+    assert!(rt; model_with(solver, &[d.negated()])?.is_none());
+    assert!(rt; model_with(solver, &[])?.is_none());
+    Ok(())
+}
+
 #[test]
 fn facts_stay(rt: HostRuntime) -> Result<(), Fail> {
-    let [a, _, c, d] = variables();
     let mut solver = chain(rt.alloc())?;
-    let values = model_with(&mut solver, &[a])?.unwrap_or(Vec::new(rt.alloc()));
-    assert!(rt; values.as_slice() == [true, true, true, true].as_slice());
-    assert!(rt; model_with(&mut solver, &[c, d])?.is_some());
-    assert!(rt; model_with(&mut solver, &[d.negated()])?.is_none());
-    assert!(rt; model_with(&mut solver, &[])?.is_none());
-    Ok(())
+    add_facts(&rt, &mut solver)
+}
+
+// How many facts are taken.
+fn taken(solver: &mut Solver<Global>, facts: &[Literal]) -> Result<Option<usize>, Fail> {
+    Ok(longest_start(solver, facts)?)
+}
+
+// How many facts the chain takes.
+fn taken_by_chain(alloc: Global, facts: &[Literal]) -> Result<Option<usize>, Fail> {
+    let mut solver = chain(alloc)?;
+    taken(&mut solver, facts)
 }
 
 #[test]
 fn facts_are_taken_until_one_cannot_be_true(rt: HostRuntime) -> Result<(), Fail> {
     let [a, b, c, d] = variables();
     let facts = [b, a.negated(), c, d.negated(), a];
-    assert!(rt; longest_start(&mut chain(rt.alloc())?, &facts)? == Some(3));
-    assert!(rt; longest_start(&mut chain(rt.alloc())?, &facts[..2])? == Some(2));
+    assert!(rt; taken_by_chain(rt.alloc(), &facts)? == Some(3));
+    assert!(rt; taken_by_chain(rt.alloc(), &facts[..2])? == Some(2));
     Ok(())
 }
 
 // How many facts are taken once nothing satisfies the formula.
 fn taken_without_a_model(solver: &mut Solver<Global>) -> Result<Option<usize>, Fail> {
     solver.add_clause(&[])?;
-    Ok(longest_start(solver, &variables())?)
+    taken(solver, &variables())
 }
 
 #[test]

@@ -8,18 +8,33 @@ use std::test::Fail;
 // Under assumption v clause v holds: a or b, not a or b, not b, b or c.
 fn guarded(alloc: Global) -> Result<Solver<Global>, Fail> {
     let mut solver = Solver::new(alloc);
+    add_guarded(&mut solver)?;
+    Ok(solver)
+}
+
+fn add_guarded(solver: &mut Solver<Global>) -> Result<(), Fail> {
     let (a, b) = (Literal::new(4, true), Literal::new(5, true));
     solver.add_clause(&[Literal::new(0, false), a, b])?;
     solver.add_clause(&[Literal::new(1, false), a.negated(), b])?;
     solver.add_clause(&[Literal::new(2, false), b.negated()])?;
     solver.add_clause(&[Literal::new(3, false), b, Literal::new(6, true)])?;
-    Ok(solver)
+    Ok(())
 }
 
 // The variables of a minimal core of these assumptions, as the bits of a number. 0 where none is found.
 fn core_of(alloc: Global, assumptions: &[Literal], limit: usize) -> Result<u32, Fail> {
     let mut solver = guarded(alloc)?;
-    let core = minimal_core(alloc, &mut solver, assumptions, limit)?;
+    core_in(alloc, &mut solver, assumptions, limit)
+}
+
+// The same, of the formula in a solver.
+fn core_in(
+    alloc: Global,
+    solver: &mut Solver<Global>,
+    assumptions: &[Literal],
+    limit: usize,
+) -> Result<u32, Fail> {
+    let core = minimal_core(alloc, solver, assumptions, limit)?;
     let core = core.unwrap_or(Vec::new(alloc));
     Ok(
         core.iter()
