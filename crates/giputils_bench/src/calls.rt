@@ -71,23 +71,59 @@ fn ask(
     checksum: &mut Checksum,
 ) -> Result<(), AllocError> {
     let circuit = drawn_circuit(alloc, rng)?;
-    let mut solver = Solver::new(alloc);
-    for moment in 0..MOMENTS {
-        add_moment(&mut solver, &circuit, moment)?;
-    }
     let mut cones = Cones::new(alloc)?;
+    let mut solver = Solver::new(alloc);
+    ask_solver(
+        alloc,
+        &mut solver,
+        &circuit,
+        &mut cones,
+        size,
+        deciding,
+        rng,
+        checksum,
+    )
+}
+
+// The same, of a solver without clauses.
+fn ask_solver(
+    alloc: Global,
+    solver: &mut Solver,
+    circuit: &[Gate],
+    cones: &mut Cones,
+    size: u32,
+    deciding: Deciding,
+    rng: &mut Generator,
+    checksum: &mut Checksum,
+) -> Result<(), AllocError> {
+    for moment in 0..MOMENTS {
+        add_moment(solver, circuit, moment)?;
+    }
     for _ in 0..size {
         let cube = drawn_cube(alloc, rng)?;
-        let guess = match deciding {
-            Deciding::All => solver.guess_under(&cube, usize::MAX)?,
-            Deciding::Cone => {
-                let domain = cones.cone(alloc, &circuit, &cube)?;
-                solver.guess_within(&domain, &cube, usize::MAX)?
-            }
-        };
-        checksum.mix(u64::from(matches!(guess, Guess::Sat)));
+        let has_model = has_model(alloc, solver, circuit, cones, &cube, deciding)?;
+        checksum.mix(u64::from(has_model));
     }
     Ok(())
+}
+
+// Whether the literals of a cube can be true together.
+fn has_model(
+    alloc: Global,
+    solver: &mut Solver,
+    circuit: &[Gate],
+    cones: &mut Cones,
+    cube: &[Literal],
+    deciding: Deciding,
+) -> Result<bool, AllocError> {
+    let guess = match deciding {
+        Deciding::All => solver.guess_under(cube, usize::MAX)?,
+        Deciding::Cone => {
+            let domain = cones.cone(alloc, circuit, cube)?;
+            solver.guess_within(&domain, cube, usize::MAX)?
+        }
+    };
+    Ok(matches!(guess, Guess::Sat))
 }
 
 // A drawn circuit.
