@@ -1,7 +1,7 @@
 //! Calls that have a budget.
 
 use crate::formulas::add_all;
-use gipsat_solver::{AnswerUnder, Budget, Literal, Solver};
+use gipsat_solver::{AnswerUnder, Budget, Solver};
 use std::alloc::{AllocError, Allocator, Global};
 
 // All clauses of three literals of three variables: no assignment satisfies them.
@@ -35,27 +35,26 @@ fn is_unsat<A: Allocator>(answer: &AnswerUnder<A>) -> bool {
 }
 
 // Two calls: one with this budget, and one with a large one.
-fn two_calls(
-    alloc: Global,
-    solver: &mut Solver,
-    assumptions: &[Literal],
-    budget: Budget,
-) -> Result<Calls, AllocError> {
+fn two_calls(alloc: Global, solver: &mut Solver, budget: Budget) -> Result<Calls, AllocError> {
     add_all(alloc, solver, &ALL_SIGNS)?;
-    let gave_up = is_unknown(&solver.solve_limited(assumptions, budget)?);
+    let gave_up = is_unknown(&solver.solve_limited(&[], budget)?);
     let decisions = solver.stats().decisions;
     let learned = solver.learned();
     let large = Budget {
         clauses: 1000,
         propagations: 1000,
     };
-    let refuted = is_unsat(&solver.solve_limited(assumptions, large)?);
+    let refuted = is_unsat(&solver.solve_limited(&[], large)?);
     Ok(Calls {
         gave_up,
         decisions,
         learned,
         refuted,
     })
+}
+
+fn calls_with(alloc: Global, budget: Budget) -> Result<Calls, AllocError> {
+    two_calls(alloc, &mut Solver::new(alloc), budget)
 }
 
 #[test]
@@ -70,8 +69,7 @@ fn a_budget_of_no_propagations_decides_nothing(rt: HostRuntime) {
         learned: 0,
         refuted: true,
     };
-    let calls = two_calls(rt.alloc(), &mut Solver::new(rt.alloc()), &[], budget);
-    assert!(rt; calls == Ok(wanted));
+    assert!(rt; calls_with(rt.alloc(), budget) == Ok(wanted));
 }
 
 #[test]
@@ -86,8 +84,7 @@ fn a_budget_of_one_propagation_ends_at_the_next_decision(rt: HostRuntime) {
         learned: 0,
         refuted: true,
     };
-    let calls = two_calls(rt.alloc(), &mut Solver::new(rt.alloc()), &[], budget);
-    assert!(rt; calls == Ok(wanted));
+    assert!(rt; calls_with(rt.alloc(), budget) == Ok(wanted));
 }
 
 #[test]
@@ -102,6 +99,5 @@ fn a_budget_of_one_clause_learns_one(rt: HostRuntime) {
         learned: 1,
         refuted: true,
     };
-    let calls = two_calls(rt.alloc(), &mut Solver::new(rt.alloc()), &[], budget);
-    assert!(rt; calls == Ok(wanted));
+    assert!(rt; calls_with(rt.alloc(), budget) == Ok(wanted));
 }

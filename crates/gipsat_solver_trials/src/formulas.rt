@@ -80,9 +80,17 @@ pub(crate) fn said_of<A: Allocator + Copy>(
     formula: &[i32],
     limit: usize,
 ) -> Result<Said, AllocError> {
-    let mut solver = Solver::new(alloc);
-    add_all(alloc, &mut solver, formula)?;
-    say(&mut solver, formula, limit)
+    add_and_say(alloc, &mut Solver::new(alloc), formula, limit)
+}
+
+fn add_and_say<A: Allocator + Copy>(
+    alloc: A,
+    solver: &mut Solver<A>,
+    formula: &[i32],
+    limit: usize,
+) -> Result<Said, AllocError> {
+    add_all(alloc, solver, formula)?;
+    say(solver, formula, limit)
 }
 
 // What is found by the solver, whose clauses are those of the formula, with no limit.
@@ -103,7 +111,14 @@ pub(crate) fn find<A: Allocator + Copy>(
 
 // What is found of a formula.
 pub(crate) fn found_of<A: Allocator + Copy>(alloc: A, formula: &[i32]) -> Result<Said, AllocError> {
-    let mut solver = Solver::new(alloc);
-    add_all(alloc, &mut solver, formula)?;
-    find(&mut solver, formula)
+    add_and_find(alloc, &mut Solver::new(alloc), formula)
+}
+
+fn add_and_find<A: Allocator + Copy>(
+    alloc: A,
+    solver: &mut Solver<A>,
+    formula: &[i32],
+) -> Result<Said, AllocError> {
+    add_all(alloc, solver, formula)?;
+    find(solver, formula)
 }

@@ -35,13 +35,16 @@ fn says_unsat(solver: &mut Solver<&Refusing>) -> bool {
 
 // Asks once more where memory is refused. That it was is told only if all clauses are there, and the answer is right.
 fn is_answered_at_last(memory: &Refusing) -> bool {
-    let mut solver = Solver::new(memory);
-    let refused = add_again(&mut solver);
+    answers_at_last(&mut Solver::new(memory))
+}
+
+fn answers_at_last(solver: &mut Solver<&Refusing>) -> bool {
+    let refused = add_again(solver);
     let right = solver.len() == 4;
-    if refused == 0 && says_unsat(&mut solver) {
+    if refused == 0 && says_unsat(solver) {
         return right;
     }
-    !(right && says_unsat(&mut solver))
+    !(right && says_unsat(solver))
 }
 
 // Two variables, which are both true.
@@ -60,11 +63,18 @@ fn is_found_with_no_limit(memory: &Refusing) -> bool {
 // What is said of no model where the database is compacted after the first conflict.
 fn said_when_compacted(memory: &Refusing) -> Result<Said, AllocError> {
     let formula = [1, 2, 3, 0, 1, 2, -3, 0, -1, 2, 0, 1, -2, 0, -1, -2, 0];
-    let mut solver = Solver::new(memory);
-    add_all(memory, &mut solver, &formula)?;
-    say(&mut solver, &formula, 1)?;
+    compact_amid(memory, &mut Solver::new(memory), &formula)
+}
+
+fn compact_amid<'a>(
+    memory: &'a Refusing,
+    solver: &mut Solver<&'a Refusing>,
+    formula: &[i32],
+) -> Result<Said, AllocError> {
+    add_all(memory, solver, formula)?;
+    say(solver, formula, 1)?;
     solver.compact()?;
-    say(&mut solver, &formula, 100)
+    say(solver, formula, 100)
 }
 
 fn is_answered_when_compacted(memory: &Refusing) -> bool {
@@ -76,11 +86,18 @@ fn said_when_simplified(memory: &Refusing) -> Result<Said, AllocError> {
     let formula = [
         1, 2, 3, 0, 1, 2, -3, 0, -1, 2, 0, 1, -2, 0, -1, -2, 0, 4, 0, 4, 1, 0,
     ];
-    let mut solver = Solver::new(memory);
-    add_all(memory, &mut solver, &formula)?;
-    say(&mut solver, &formula, 1)?;
+    simplify_amid(memory, &mut Solver::new(memory), &formula)
+}
+
+fn simplify_amid<'a>(
+    memory: &'a Refusing,
+    solver: &mut Solver<&'a Refusing>,
+    formula: &[i32],
+) -> Result<Said, AllocError> {
+    add_all(memory, solver, formula)?;
+    say(solver, formula, 1)?;
     solver.simplify()?;
-    say(&mut solver, &formula, 100)
+    say(solver, formula, 100)
 }
 
 fn is_answered_when_simplified(memory: &Refusing) -> bool {

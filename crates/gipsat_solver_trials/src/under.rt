@@ -71,7 +71,15 @@ pub(crate) fn said_under<A: Allocator + Copy>(
     formula: &[i32],
     assumptions: &[i32],
 ) -> Result<SaidUnder, AllocError> {
-    let mut solver = Solver::new(alloc);
-    add_all(alloc, &mut solver, formula)?;
-    say_under(alloc, &mut solver, formula, assumptions, 100)
+    add_and_say_under(alloc, &mut Solver::new(alloc), formula, assumptions)
+}
+
+fn add_and_say_under<A: Allocator + Copy>(
+    alloc: A,
+    solver: &mut Solver<A>,
+    formula: &[i32],
+    assumptions: &[i32],
+) -> Result<SaidUnder, AllocError> {
+    add_all(alloc, solver, formula)?;
+    say_under(alloc, solver, formula, assumptions, 100)
 }
