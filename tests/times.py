@@ -41,6 +41,10 @@ def yardstick():
     with tempfile.TemporaryDirectory(prefix="giputils-times-") as room:
         shutil.copytree(ROOT / "crates" / YARDSTICK, f"{room}/crates/{YARDSTICK}", ignore=shutil.ignore_patterns("out"))
         pathlib.Path(room, "crates.txt").write_text(line + "\n")
+        # A check begins with what another one on this machine kept of the same text, or with what its own folder has.
+        with open(f"{room}/crates/{YARDSTICK}/src/lib.rt", "a") as text:
+            text.write(f"// {time.time()}\n")
+        pathlib.Path(room, "crates", YARDSTICK, "out", "incremental").mkdir(parents=True)
         before = children_seconds()
         subprocess.run(["rt", "check", "--jobs", "1"], cwd=f"{room}/crates/{YARDSTICK}", stdout=subprocess.DEVNULL, check=True)
         return children_seconds() - before
