@@ -41,7 +41,7 @@ def yardstick():
     with tempfile.TemporaryDirectory(prefix="giputils-times-") as room:
         shutil.copytree(ROOT / "crates" / YARDSTICK, f"{room}/crates/{YARDSTICK}", ignore=shutil.ignore_patterns("out"))
         pathlib.Path(room, "crates.txt").write_text(line + "\n")
-        # A check begins with what another one on this machine kept of the same text, or with what its own folder has.
+        # From nothing: a text of which no check on this machine has kept anything, and an empty folder to keep it in.
         with open(f"{room}/crates/{YARDSTICK}/src/lib.rt", "a") as text:
             text.write(f"// {time.time()}\n")
         pathlib.Path(room, "crates", YARDSTICK, "out", "incremental").mkdir(parents=True)
