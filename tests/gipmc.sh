@@ -9,7 +9,8 @@ if [ ! -x "$gipmc" ]; then
     echo "0 passed, 1 failed"
     exit 1
 fi
-rows=$(cd "$(dirname "$0")" && pwd)/circuits.txt || exit 2
+top=$(cd "$(dirname "$0")/.." && pwd) || exit 2
+rows=$top/tests/circuits.txt
 gipmc=$(realpath "$gipmc") || exit 2
 work=$(mktemp -d) || exit 2
 trap 'rm -rf "$work"' EXIT
@@ -271,7 +272,7 @@ printf '%b' "$kept" > kept.aag
 summary "a summary" 0 "c b0: $bmc$took" --engine bmc --depth 5 kept.aag
 summary "a summary of simulation" 0 "c b0: round [0-9]*; $took" --engine sim kept.aag
 summary "a summary of IC3 where its first calls decide" 20 "c b0: $ic3$took" --engine ic3 kept.aag
-"${rows%/*}/pdr.py" --family queue_length 4 > queue.aag
+"$top/tools/pdr.py" --family queue_length 4 > queue.aag
 summary "a summary of IC3" 20 "c b0: $ic3$took" --engine ic3 queue.aag
 summary "a summary of two literals" 10 "c b0: $bmc${took}c b1: $bmc$took" --engine bmc --depth 3 two.aag
 summary "a summary of the second literal" 10 "c b1: $bmc$took" --engine bmc --bad 1 two.aag

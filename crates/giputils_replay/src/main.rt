@@ -1,12 +1,12 @@
 //! Runs lists of calls on the containers, and answers each line with a line.
 //!
-//! A line `new NAME ..` begins a list and names the container that its calls are made on, which is
-//! empty at first. It is answered by itself. A container has a module of its own, which parses its
-//! calls and writes its replies. `new texts` begins a list of questions on statistics, `new solver`
-//! one of calls of a solver, `new tables` one of small formulas, and `new formulas` one of formulas.
+//! A line `new NAME TITLE` begins a list, names the container that its calls are made on, which is empty at first, and
+//! may say what the list shows. It is answered by itself. A container has a module of its own, which parses its calls and
+//! writes its replies. `new texts` begins a list of questions on statistics, `new solver` one of calls of a solver, `new
+//! tables` one of small formulas, and `new formulas` one of formulas.
 //!
 //! The lists of the file `stdin` and the answers of the file `stdout` are made by
-//! `tests/make_lists.py` and `tests/formulas.py`: the texts are python's, the answers of a solver are
+//! `tools/make_lists.py` and `tools/formulas.py`: the texts are python's, the answers of a solver are
 //! those of tables of truth and of a search by cases, those to formulas are minisat's, and all others
 //! those of the Rust crate.
 #![tactic(auto)]
@@ -66,14 +66,14 @@ fn read_lists<R: BufRead + Drop>(alloc: Global, input: R) -> anyhow::Result<Vec<
 // Runs a list, and writes its answers.
 fn replay<W: Write>(alloc: Global, out: &mut W, list: &List) -> anyhow::Result<()> {
     writeln!(out, "{}", list.header)?;
-    let outcome = match list.header.as_str() {
-        "new bits" => bits::replay(alloc, out, &list.calls),
-        "new formulas" => formulas::replay(alloc, out, &list.calls),
-        "new galloc" => galloc::replay(alloc, out, &list.calls),
-        "new heap" => heap::replay(alloc, out, &list.calls),
-        "new texts" => texts::replay(alloc, out, &list.calls),
-        header if header.starts_with("new solver ") => solver::replay(alloc, out, &list.calls),
-        header if header.starts_with("new tables ") => tables::replay(alloc, out, &list.calls),
+    let outcome = match list.header.split(' ').nth(1) {
+        Some("bits") => bits::replay(alloc, out, &list.calls),
+        Some("formulas") => formulas::replay(alloc, out, &list.calls),
+        Some("galloc") => galloc::replay(alloc, out, &list.calls),
+        Some("heap") => heap::replay(alloc, out, &list.calls),
+        Some("solver") => solver::replay(alloc, out, &list.calls),
+        Some("tables") => tables::replay(alloc, out, &list.calls),
+        Some("texts") => texts::replay(alloc, out, &list.calls),
         _ => bail!("line {}: no container has this name", list.first),
     };
     outcome.context(format_args!("the list at line {}", list.first))

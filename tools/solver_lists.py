@@ -1,4 +1,4 @@
-"""Lists of calls of the solver and their answers, for tests/make_lists.py: rows by plain names, and all small formulas.
+"""Lists of calls of the solver and their answers, for tools/make_lists.py: rows by plain names, and all small formulas.
 
 A formula is a list of clauses, which are lists of literals; variable 1 is 1, and its negation is -1. What is wanted
 stands in the rows by hand, and is compared here with a search by cases; the tables come from tables of truth.

@@ -1,8 +1,8 @@
 #!/usr/bin/env python3
 """Times gipmc beside abc's pdr, on families of circuits.
 
-tests/pdr.py SECONDS GIPMC [OPTION]..  GIPMC is the built program; `--engine ic3` times IC3 alone
-tests/pdr.py --family NAME SIZE        prints a circuit
+tools/pdr.py SECONDS GIPMC [OPTION]..  GIPMC is the built program; `--engine ic3` times IC3 alone
+tools/pdr.py --family NAME SIZE        prints a circuit
 
 The program gets the name of a file in AIGER's binary form as its last word, and writes a first line `0` where the
 circuit is safe, and `1` where it fails.

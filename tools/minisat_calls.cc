@@ -1,7 +1,7 @@
-// The workload `calls` of giputils_bench over MiniSat's library, for tests/speed.py to compare with. With Debian's
+// The workload `calls` of giputils_bench over MiniSat's library, for tools/speed.py to compare with. With Debian's
 // package minisat:
 //
-//     g++ -O3 -DNDEBUG -o DIR/bench-minisat-library tests/minisat_calls.cc -lminisat
+//     g++ -O3 -DNDEBUG -o DIR/bench-minisat-library tools/minisat_calls.cc -lminisat
 #include <cinttypes>
 #include <cstdint>
 #include <cstdio>

@@ -1,12 +1,12 @@
 #!/usr/bin/env python3
 """Makes formulas in conjunctive form by stated seeds: a list with minisat's answers, and files to time solvers with.
 
-    tests/formulas.py --list                      puts the list `new formulas` at the end of giputils_replay's stdin and
+    tools/formulas.py --list                      puts the list `new formulas` at the end of giputils_replay's stdin and
                                                   stdout, in the place of the one that stands there; it needs minisat
-    tests/formulas.py --write FOLDER FORMULAS     a DIMACS file for each of the formulas
-    tests/formulas.py --time FORMULAS PROGRAM..   runs the programs by turns on each formula, and prints tables
-    tests/formulas.py --table FILE..              prints the tables of runs that were kept
-    tests/formulas.py --check FORMULAS GIPSAT [CADICAL]    has each formula that GIPSAT refutes checked with the proof
+    tools/formulas.py --write FOLDER FORMULAS     a DIMACS file for each of the formulas
+    tools/formulas.py --time FORMULAS PROGRAM..   runs the programs by turns on each formula, and prints tables
+    tools/formulas.py --table FILE..              prints the tables of runs that were kept
+    tools/formulas.py --check FORMULAS GIPSAT [CADICAL]    has each formula that GIPSAT refutes checked with the proof
                                                   that it writes; GIPSAT checks the proofs of CADICAL, if that is given
 
 FORMULAS is a folder of DIMACS files, or the name of a list: `tuning`, on which the settings of gipsat were chosen, or

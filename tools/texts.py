@@ -1,4 +1,4 @@
-"""Questions on statistics, and their answers, for tests/make_lists.py.
+"""Questions on statistics, and their answers, for tools/make_lists.py.
 
 The answers come from python alone, and the texts from its module `decimal`: a quotient of 200 digits is rounded by its
 ROUND_HALF_EVEN. A fraction whose denominator is below 2 ** 64 is a tie or farther from one than those digits tell, so

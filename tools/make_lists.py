@@ -1,14 +1,18 @@
 #!/usr/bin/env python3
 """Makes the lists of calls that giputils_replay runs, and asks another program for the answers.
 
-    tests/make_lists.py PROGRAM       writes crates/giputils_replay/stdin and crates/giputils_replay/stdout
+    tools/make_lists.py PROGRAM       writes crates/giputils_replay/stdin and crates/giputils_replay/stdout
+    tools/make_lists.py --rows        writes anew the lists of tools/rows alone, which come first in both
+
+A file of tools/rows has lists that were written by hand, each with what it shows: a line `new NAME TITLE`, and then
+lines `CALL -> ANSWER`. Lines that begin with `#` and empty lines are left out.
 
 Each list begins with a line `new NAME ..` and is for a container of its own, which is empty at first. PROGRAM is run
 once for each list, with the words after `new` as its arguments. It reads the list's other lines and answers each with
 one line. The answer to `new NAME ..` is that line itself, so that line n of stdout is the answer to line n of stdin.
 
 The kept answers come from a program over the Rust crate giputils 0.3.6 that makes each call of a list on the crate's
-own container (command: `tests/make_lists.py giputils-oracle`). A call whose condition doesn't hold it answers by
+own container (command: `tools/make_lists.py giputils-oracle`). A call whose condition doesn't hold it answers by
 `skipped`, without making it. What it answers of a heap is compared with what a set of keys with ranks would.
 
 The list `new texts` is of questions on statistics. PROGRAM isn't asked: texts.py beside this answers. Nor
@@ -356,9 +360,40 @@ def answers_of(program, header, calls):
     return answers
 
 
+def hand_written():
+    """The lists of tools/rows, as lines with their answers. The answer to the first line of a list is that line."""
+    for path in sorted((Path(__file__).resolve().parent / "rows").glob("*.txt")):
+        for number, line in enumerate(path.read_text(encoding="utf-8").splitlines(), 1):
+            call, arrow, answer = line.partition(" -> ")
+            if line.startswith("new ") and len(line.split()) > 2:
+                yield line, line
+            elif arrow:
+                yield call, answer
+            elif line and not line.startswith("#"):
+                sys.exit(f"{path}:{number}: neither 'new NAME TITLE' nor 'CALL -> ANSWER'")
+
+
+def generated(lines):
+    """The stored lines behind those that were written by hand: from the first list without a title on."""
+    first = next(i for i, (line, _) in enumerate(lines) if line.startswith("new ") and len(line.split()) == 2)
+    return lines[first:]
+
+
+def write(lines):
+    for place, name in enumerate(("stdin", "stdout")):
+        (REPLAY / name).write_text("".join(f"{line[place]}\n" for line in lines), encoding="utf-8")
+
+
+def write_rows():
+    stored = ((REPLAY / name).read_text(encoding="utf-8").splitlines() for name in ("stdin", "stdout"))
+    write([*hand_written(), *generated(list(zip(*stored)))])
+
+
 def main():
     if len(sys.argv) != 2:
         sys.exit(__doc__)
+    if sys.argv[1] == "--rows":
+        return write_rows()
     questions = []
     answers = []
     for header, *calls in all_lists():
@@ -367,8 +402,8 @@ def main():
     for header, calls, wanted in solver_lists.lists():
         questions += [header, *calls]
         answers += [header, *wanted]
-    for name, lines in (("stdin", questions), ("stdout", answers)):
-        (REPLAY / name).write_text("".join(f"{line}\n" for line in lines))
+    write([*hand_written(), *zip(questions, answers)])
 
 
-main()
+if __name__ == "__main__":
+    main()

@@ -1,7 +1,7 @@
 #!/usr/bin/env python3
 """Runs ./test, and prints where its processor time went, by crate and part, beside the time of a yardstick.
 
-    tests/times.py            runs ./test, shows what it prints, and then a table in Markdown
+    tools/times.py            runs ./test, shows what it prints, and then a table in Markdown
 
 The yardstick is the check of one small crate from nothing, before ./test and after it. By it the figures of two machines
 compare, and of one whose processors are lent out to others.

@@ -1,7 +1,7 @@
 #!/usr/bin/env python3
 """Times the workloads of giputils_bench beside those of other programs, and names the ratios that got worse.
 
-    tests/speed.py [--program FILE] [--peers DIR] [--turns N] [--processor N] [--write] [WORKLOAD..]
+    tools/speed.py [--program FILE] [--peers DIR] [--turns N] [--processor N] [--write] [WORKLOAD..]
 
 Run it by hand, where a change touches a container or its workloads. FILE is the program, by default
 crates/giputils_bench/out/giputils_bench, which `rt run` makes in crates/giputils_bench. DIR holds the programs to
@@ -10,7 +10,7 @@ and others with names bench-*. Each takes WORKLOAD SIZE SEED REPS, runs the work
 generator PCG32 of giputils_bench and the next seed, and writes the same checksum as giputils_bench. Status 3 tells
 that it lacks the workload. Without DIR only the ratios of two workloads of giputils_bench are measured.
 
-A line of tests/speed.txt is a ratio of user times: WORKLOAD SIZE REPS OTHER RATIO NOISE, the time of giputils_bench by
+A line of tools/speed.txt is a ratio of user times: WORKLOAD SIZE REPS OTHER RATIO NOISE, the time of giputils_bench by
 the time of OTHER, a program, or a workload of giputils_bench. The programs of a workload run by turns, N times (7) on
 one processor. A time is the least of a program's, since other work on the machine only adds to it. In each turn
 giputils_bench runs twice. The noise is how far the least of its first runs is from that of its second runs, or the
@@ -28,7 +28,7 @@ import subprocess
 import sys
 
 TOP = pathlib.Path(__file__).resolve().parent.parent
-STORED = TOP / "tests/speed.txt"
+STORED = TOP / "tools/speed.txt"
 PAGE = TOP / "crates/giputils_bench/README.md"
 BEGIN, END = "<!-- speed -->\n", "<!-- end -->\n"
 CRATE = "giputils"
