@@ -7,7 +7,7 @@ use crate::hash::GHashMap;
 use std::alloc::{AllocError, Allocator, Global};
 
 /// A call on an allocator, with its arguments.
-#[derive(Clone, Copy, Debug, PartialEq)]
+#[derive(Clone, Copy, Debug)]
 pub enum GallocCall<T> {
     /// [`Gallocator::alloc`] of this value.
     Alloc(T),
