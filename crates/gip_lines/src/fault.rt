@@ -8,7 +8,7 @@ use std::error::Error;
 use std::fmt;
 
 /// Why a run of the program ended early. Its text is what the program writes on standard error.
-#[derive(Clone, Copy, Debug, PartialEq, Eq, Hash)]
+#[derive(Clone, Copy, Debug, PartialEq, Eq)]
 pub enum GipFault {
     /// The input could not be read, or it is too long.
     Input,

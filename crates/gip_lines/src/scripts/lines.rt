@@ -13,7 +13,7 @@ use std::alloc::{AllocError, Allocator};
 pub const KEYS: usize = Line::GREATEST_KEY as usize + 1;
 
 /// One line of a script.
-#[derive(Clone, Copy, Debug, PartialEq, Eq)]
+#[derive(Clone, Copy)]
 pub enum Line {
     /// `push K`: holds the key K.
     Push(u8),
