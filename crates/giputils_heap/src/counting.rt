@@ -8,7 +8,7 @@ use std::marker::Model;
 ///
 /// The comparer can be asked through [`Counting::gte`] alone, which counts, and a counter can be neither cloned nor
 /// copied. So what a piece of code that is lent a counter has added to it is how often that code asked the comparer.
-#[derive(Drop, Debug)]
+#[derive(Drop)]
 pub struct Counting<'a, C> {
     comparer: &'a C,
     count: u64,

@@ -1,5 +1,5 @@
 //! Lists of calls of one heap.
-ghost use Rattle.std.specs.Prelude.{◌≡◌, ◌+◌, ◌^◌, ◌≤◌, IsTrue, IsFalse, IfOk, OnErr, length};
+ghost use Rattle.std.specs.Prelude.{◌≡◌, ◌+◌, ◌^◌, ◌≤◌, IsTrue, IsFalse, IfOk, OnErr, length, ⊤};
 ghost use Rattle.giputils_heap.specs.Record.{Progress, may_compare, comparison_bound, may_answer, after_call, record_of, Answers, KeepsCounts, KeepsSteps, CanCount};
 ghost use Rattle.giputils_heap.specs.Bounds.{count_limit};
 ghost use Rattle.giputils_heap.specs.Laws.{AnswersAtEachStep, KeepsCountsAtEachStep, PopsListDownward, OneOrderIsSteady};
@@ -11,7 +11,7 @@ use crate::key::{BinaryHeapCmp, HeapKey};
 use std::alloc::{AllocError, Allocator};
 
 /// A call of a heap.
-#[derive(Clone, Copy, PartialEq, Eq, Debug)]
+#[derive(Copy)]
 pub enum HeapCall<T> {
     /// Holds the key as well.
     Push(T),
@@ -33,8 +33,18 @@ pub enum HeapCall<T> {
     IsEmpty,
 }
 
+impl<T: Copy> Clone for HeapCall<T> {
+    ghost is_clone = { λ call copy. copy ≡ call };
+
+    ghost is_infallible = { λ _. ⊤ };
+
+    fn clone(&self) -> Result<Self, AllocError> {
+        Ok(*self)
+    }
+}
+
 /// The answer to a [`HeapCall`].
-#[derive(Clone, Copy, PartialEq, Eq, Debug)]
+#[derive(Copy, PartialEq, Eq)]
 pub enum HeapReply<T> {
     /// The key is held, or was held already; the order was repaired; or nothing is held after a `Clear`.
     Done,
@@ -50,8 +60,18 @@ pub enum HeapReply<T> {
     Empty(bool),
 }
 
+impl<T: Copy> Clone for HeapReply<T> {
+    ghost is_clone = { λ reply copy. copy ≡ reply };
+
+    ghost is_infallible = { λ _. ⊤ };
+
+    fn clone(&self) -> Result<Self, AllocError> {
+        Ok(*self)
+    }
+}
+
 /// A step of a run: a call, and the comparer that it is lent.
-#[derive(Drop, Debug)]
+#[derive(Drop)]
 pub struct HeapStep<'a, T, C> {
     /// The call.
     pub call: HeapCall<T>,
