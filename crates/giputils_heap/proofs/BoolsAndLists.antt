@@ -1,7 +1,6 @@
 -- Small facts on tests and lists that std does not have.
 use Rattle.std.proofs.Common.{◌≡◌, ℕ, ◌<◌, Bool, true, false, ◌&&◌, ◌||◌, not, List, [], ◌∷◌, ◌++◌, length, map, take, drop, refl, ap, sym, ◌∙◌, ⊎_elim, arith}
 use Rattle.std.specs.Prelude.{◌==◌, filter}
-use Rattle.std.specs.Bool.{beq}
 use Rattle.std.specs.List.{list_all, AllByRecursion}
 use Rattle.std.proofs.Math.Bool.{and-true}
 use Rattle.std.proofs.Math.Seq.{take-append_seam}
@@ -44,13 +43,6 @@ and_not-or false b fails = sym (and-true b)
 pub and_not-itself : (a b : Bool) → (a ≡ true → b ≡ false) → b ≡ (b && not a)
 and_not-itself true b fails = rw (fails refl) refl
 and_not-itself false b fails = sym (and-true b)
-
--- tests that agree are equal
-pub beq-true : (a b : Bool) → beq a b ≡ true → a ≡ b
-beq-true true true e = refl
-beq-true true false e = absurd (false≢true e)
-beq-true false true e = absurd (false≢true e)
-beq-true false false e = refl
 
 -- ---- lists
 

@@ -3,6 +3,7 @@ use Rattle.std.proofs.Common.{◌≡◌, ◌≢◌, ℕ, zero, suc, ◌<◌, ◌
 use Rattle.std.specs.Prelude.{filter, slice_set}
 use Rattle.std.proofs.Math.ListN.{set}
 use Rattle.std.specs.Bool.{beq}
+use Rattle.std.specs.Cmp.{bool_eq_equiv}
 use Rattle.std.specs.List.{list_all}
 use Rattle.std.proofs.lemmas.Bool.{cases_Bool, false≢true, eqb-true, eq-eqb}
 use Rattle.std.proofs.lemmas.Bool.Decides.{nat_tests}
@@ -13,7 +14,7 @@ use Rattle.giputils_heap.specs.Comparers.{reverse_of, rank_of, by_number, by_ran
 use Rattle.giputils_heap.specs.Laws.{IsTotalPreorder}
 use Rattle.giputils_heap.proofs.BoolsAndLists.{list_all-filter}
 use Rattle.giputils_heap.proofs.Greatest.{HasNoTies-everywhere}
-use Rattle.giputils_heap.proofs.Preorders.{beq-refl, list_all-always}
+use Rattle.giputils_heap.proofs.Preorders.{list_all-always}
 
 -- a pair of a rank and a number is at least another still where its rank rises, or where the other's falls
 at_least_risen : (q q' n r m : ℕ) → q ≤ q' → (not (ltb r q || (eqb q r && leb m n)) || (ltb r q' || (eqb q' r && leb m n))) ≡ true
@@ -78,14 +79,14 @@ module _ {T : Type 0} where
           let kept : T → Bool = λ k. not (same_key number v k) in
           list_all-filter kept (λ x. list_all (λ y. beq (by_rank number ranks x y) (by_rank number now x y)) (filter kept keys))
           (λ x x_kept. list_all-filter kept (λ y. beq (by_rank number ranks x y) (by_rank number now x y))
-          (λ y y_kept. rw (alike (number x) (apart_from v x x_kept), alike (number y) (apart_from v y y_kept)) (beq-refl (by_rank number ranks x y))) keys) keys
+          (λ y y_kept. rw (alike (number x) (apart_from v x x_kept), alike (number y) (apart_from v y y_kept)) (bool_eq_equiv.refl (by_rank number ranks x y))) keys) keys
 
       AgreesExcept-by_least_ranks : AgreesExcept number v (reverse_of (by_rank number ranks)) (reverse_of (by_rank number now)) keys
       AgreesExcept-by_least_ranks =
           let kept : T → Bool = λ k. not (same_key number v k) in
           list_all-filter kept (λ x. list_all (λ y. beq (by_rank number ranks y x) (by_rank number now y x)) (filter kept keys))
           (λ x x_kept. list_all-filter kept (λ y. beq (by_rank number ranks y x) (by_rank number now y x))
-          (λ y y_kept. rw (alike (number x) (apart_from v x x_kept), alike (number y) (apart_from v y y_kept)) (beq-refl (by_rank number ranks y x))) keys) keys
+          (λ y y_kept. rw (alike (number x) (apart_from v x x_kept), alike (number y) (apart_from v y y_kept)) (bool_eq_equiv.refl (by_rank number ranks y x))) keys) keys
 
     module _ (v : T) (ranks : List ℕ) (r : ℕ) (keys : List T) where
       -- a changed rank changes the comparisons of its key alone

@@ -1,15 +1,15 @@
 -- Keys by ranks of any kind: where `cmp` is a total order, so is what compares the keys by it.
-use Rattle.std.proofs.Common.{◌≡◌, ◌≢◌, ℕ, zero, suc, ◌≤◌, Bool, true, false, ◌||◌, not, List, [], ◌∷◌, ◌++◌, length, Option, Some, Ordering, IsTrue, refl, sym, ap, ◌∙◌, ⊎_elim, arith}
+use Rattle.std.proofs.Common.{◌≡◌, ◌≢◌, ℕ, zero, suc, ◌≤◌, Bool, true, ◌||◌, not, List, [], ◌∷◌, ◌++◌, length, Option, Some, Ordering, IsTrue, refl, sym, ap, ◌∙◌, ⊎_elim, arith}
 use Rattle.std.specs.Prelude.{slice_get, slice_set, filter, is_some}
 use Rattle.std.proofs.Math.ListN.{set}
 use Rattle.std.specs.Bool.{beq}
 use Rattle.std.specs.List.{list_all}
-use Rattle.std.specs.Cmp.{IsTotalOrder, nat_cmp_is}
+use Rattle.std.specs.Cmp.{IsTotalOrder, bool_eq_equiv, nat_cmp_is}
 use Rattle.std.specs.Cmp.Lexicographic.{options_total}
 use Rattle.std.specs.Option.{option_cmp}
 use Rattle.std.specs.Ordering.{is_ge, is_gt, is_le, nat_cmp, ordering_reverse, ordering_then}
 use Rattle.std.specs.declared.cmp.Ordering.TheVariants.{Less, Equal, Greater}
-use Rattle.std.proofs.lemmas.Bool.{and_parts, cases_Bool, cases_lt, false≢true, eqb-true, or_cases}
+use Rattle.std.proofs.lemmas.Bool.{and_parts, cases_Bool, cases_lt, false≢true, eqb-true, not-true, or_cases}
 use Rattle.std.proofs.lemmas.Cmp.{upto, nat_cmp_total, on_total, then_total}
 use Rattle.giputils_heap.specs.Comparers.{by_ord, compared, reverse_of}
 use Rattle.giputils_heap.specs.Keys.{same_key, is_held}
@@ -20,7 +20,7 @@ use Rattle.giputils_heap.proofs.BoolsAndLists.{implied_from, list_all-filter}
 use Rattle.giputils_heap.proofs.ComparerOrders.{apart_from, IsTotalPreorder-reverse_of}
 use Rattle.giputils_heap.proofs.KeySets.{pass_at_held}
 use Rattle.giputils_heap.proofs.Lent.{kept-lent, pushed-lent, greatest-lent, CanRepair-lent, repaired-lent, renewed-lent, risen-lent, fallen-lent}
-use Rattle.giputils_heap.proofs.Preorders.{beq-refl, list_all-always, IsLawful-everywhere}
+use Rattle.giputils_heap.proofs.Preorders.{list_all-always, IsLawful-everywhere}
 
 -- at least is not less, and less the other way round is greater
 ge_turned : (r : Ordering) → is_ge r ≡ not (is_gt (ordering_reverse r))
@@ -40,10 +40,6 @@ slice_get-set_other (y ∷ xs) zero zero x apart = absurd (apart refl)
 slice_get-set_other (y ∷ xs) zero (suc j) x apart = refl
 slice_get-set_other (y ∷ xs) (suc i) zero x apart = refl
 slice_get-set_other (y ∷ xs) (suc i) (suc j) x apart = slice_get-set_other xs i j x (λ same. apart (ap suc same))
-
-not_gt : (b : Bool) → not b ≡ true → b ≡ false
-not_gt true e = absurd (false≢true e)
-not_gt false e = refl
 
 -- of numbers one is at most the other as `≤` says
 pub is_le-nat : (a b : ℕ) → a ≤ b → IsTrue (is_le (nat_cmp a b))
@@ -96,7 +92,7 @@ module _ {K : Type 0} (by : K → K → Ordering) (order : IsTotalOrder by) wher
         let turned : (a b : K) → is_ge (by a b) ≡ not (is_gt (by b a)) =
         λ a b. ge_turned (by a b) ∙ ap (λ r. not (is_gt r)) (sym (order.antisymm b a))
         in
-        turned x z ∙ ap not (upto order z y x (not_gt (is_gt (by z y)) (sym (turned y z) ∙ yz)) (not_gt (is_gt (by y x)) (sym (turned x y) ∙ xy)));
+        turned x z ∙ ap not (upto order z y x (not-true (is_gt (by z y)) (sym (turned y z) ∙ yz)) (not-true (is_gt (by y x)) (sym (turned x y) ∙ xy)));
   }
 
   -- and at least itself
@@ -137,7 +133,7 @@ module _ {T R : Type 0} (number : T → ℕ) (cmp : R → R → Ordering) (order
         let by_now = by_ord number cmp now in
         list_all-filter kept (λ x. list_all (λ y. beq (by x y) (by_now x y)) (filter kept keys))
         (λ x x_kept. list_all-filter kept (λ y. beq (by x y) (by_now x y))
-        (λ y y_kept. rw (compared-alike x y x_kept y_kept) (beq-refl (by x y))) keys) keys
+        (λ y y_kept. rw (compared-alike x y x_kept y_kept) (bool_eq_equiv.refl (by x y))) keys) keys
 
     AgreesExcept-by_least_ords : AgreesExcept number v (reverse_of (by_ord number cmp ranks)) (reverse_of (by_ord number cmp now)) keys
     AgreesExcept-by_least_ords =
@@ -145,7 +141,7 @@ module _ {T R : Type 0} (number : T → ℕ) (cmp : R → R → Ordering) (order
         let by_now = by_ord number cmp now in
         list_all-filter kept (λ x. list_all (λ y. beq (by y x) (by_now y x)) (filter kept keys))
         (λ x x_kept. list_all-filter kept (λ y. beq (by y x) (by_now y x))
-        (λ y y_kept. rw (compared-alike y x y_kept x_kept) (beq-refl (by y x))) keys) keys
+        (λ y y_kept. rw (compared-alike y x y_kept x_kept) (bool_eq_equiv.refl (by y x))) keys) keys
 
   module _ (v : T) (ranks : List R) (r : R) (keys : List T) where
     -- a changed rank changes the comparisons of its key alone

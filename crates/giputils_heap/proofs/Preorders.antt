@@ -1,15 +1,11 @@
 -- Relations that order all keys, ties allowed.
 use Rattle.std.proofs.Common.{◌≡◌, Bool, true, false, ◌&&◌, ◌||◌, not, List, [], ◌∷◌, refl}
 use Rattle.std.specs.Bool.{beq}
+use Rattle.std.specs.Cmp.{bool_eq_equiv}
 use Rattle.std.specs.List.{list_all}
 use Rattle.std.proofs.lemmas.Bool.{and_from}
 use Rattle.giputils_heap.specs.Relations.{all_pairs, is_total, is_transitive, IsLawful, agree_on}
 use Rattle.giputils_heap.specs.Laws.{IsTotalPreorder}
-
--- a test agrees with itself
-pub beq-refl : (b : Bool) → beq b b ≡ true
-beq-refl true = refl
-beq-refl false = refl
 
 -- what two facts give
 pub chain_of : (a b c : Bool) → (a ≡ true → b ≡ true → c ≡ true) → (not (a && b) || c) ≡ true
@@ -28,7 +24,7 @@ module _ {T : Type 0} where
 
   -- a relation agrees with itself
   pub agree_on-refl : (R : T → T → Bool) (keys : List T) → agree_on R R keys ≡ true
-  agree_on-refl R keys = all_pairs-always (λ x y. beq (R x y) (R x y)) (λ x y. beq-refl (R x y)) keys
+  agree_on-refl R keys = all_pairs-always (λ x y. beq (R x y) (R x y)) (λ x y. bool_eq_equiv.refl (R x y)) keys
 
   -- a relation that orders all keys is lawful on any of them
   pub IsLawful-everywhere : (R : T → T → Bool) → IsTotalPreorder R → (keys : List T) → IsLawful R keys

@@ -1,8 +1,8 @@
 use Rattle.std.proofs.Common.{◌∙◌, rules}
+use Rattle.std.specs.Cmp.{bool_eq_equiv}
 use Rattle.std.proofs.lemmas.Bool.{eq-eqb}
 use Rattle.giputils_heap.specs.Bounds.{up_bound, down_bound, update_bound}
 use Rattle.giputils_heap.proofs.Steps.{stands_where_push_fails, stands_pushed, stands_after_pop, may_pop_so, stands_at_up, stands_at_down, stands_updated, stands_rebuilt, stands_cleared, stands_unchanged, length_of_held, is_nil_of_held, is_nil-iff, push_within, pop_within, rebuild_within, key_within}
-use Rattle.giputils_heap.proofs.Preorders.{beq-refl}
 use Rattle.giputils_heap.proofs.run.make_call.Goals as goal
 
 pub returns-in-Push-clause-stands : goal.returns-in-Push-clause-stands
@@ -117,7 +117,7 @@ returns-in-IsEmpty-clause-reply g c p stands =
       is_nil-iff c.is_empty.result c.args.heap.now c.is_empty.ensures,
       is_nil_of_held g.met.T.HeapKey.one_value stands c.args.cmp.now.comparer,
     )
-    (beq-refl _)
+    (bool_eq_equiv.refl _)
 
 pub returns-in-IsEmpty-clause-stands : goal.returns-in-IsEmpty-clause-stands
 returns-in-IsEmpty-clause-stands g c p stands = rw c.in-IsEmpty.is (stands_unchanged g.met.T.HeapKey.one_value stands c.args.cmp.now.comparer)

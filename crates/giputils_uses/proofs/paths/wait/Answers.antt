@@ -1,6 +1,6 @@
 -- What push_or_update leaves held.
 use Rattle.std.proofs.lemmas.Result.{on_ok_weaker}
-use Rattle.giputils_uses.proofs.Held.{HoldAlike-pushes_or_updates, length-pushes_or_updates}
+use Rattle.giputils.proofs.Pushes.{HoldAlike-pushes_or_updates, length-pushes_or_updates}
 use Rattle.giputils_uses.proofs.paths.wait.Goals as goal
 
 pub returns : goal.returns

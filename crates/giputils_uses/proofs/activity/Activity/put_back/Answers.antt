@@ -2,7 +2,7 @@
 use Rattle.std.proofs.Common.{sym}
 use Rattle.std.proofs.lemmas.Result.{on_ok_weaker}
 use Rattle.giputils.proofs.Ranks.{pushed-by_rank}
-use Rattle.giputils_uses.proofs.Held.{HoldAlike-pushes}
+use Rattle.giputils.proofs.Pushes.{HoldAlike-pushes}
 use Rattle.giputils_uses.proofs.activity.Activity.put_back.Goals as goal
 
 pub invariant_of-self : goal.invariant_of-self

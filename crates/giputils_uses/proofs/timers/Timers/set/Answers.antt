@@ -4,7 +4,7 @@ use Rattle.std.proofs.lemmas.Cmp.{nat_cmp_total}
 use Rattle.std.proofs.lemmas.Grind.{common_steps}
 use Rattle.std.specs.Ordering.{nat_cmp}
 use Rattle.giputils.proofs.Orders.{renewed-by_least_ord}
-use Rattle.giputils_uses.proofs.Held.{HoldAlike-pushes_or_updates}
+use Rattle.giputils.proofs.Pushes.{HoldAlike-pushes_or_updates}
 use Rattle.giputils_uses.proofs.timers.Timers.set.Goals as goal
 
 pub invariant_of-self : goal.invariant_of-self
