@@ -2,18 +2,9 @@
 use Rattle.std.proofs.Common.{◌≡◌, [], ◌∷◌, refl, codes, Some, None, Ok, Err, true}
 use Rattle.gipmc_engines.specs.declared.engines.Engine.TheVariants.{Simulation, Bounded, Ic3}
 use Rattle.gipmc.specs.Misuses.{UnknownOption, NoValue, NoNumber, NoEngine, ExtraFile, TwoTasks, NoSearch, InputTwice, OutputTwice}
-use Rattle.gipmc.specs.Options.{no_request, number_of}
+use Rattle.gipmc.specs.Options.{no_request}
 use Rattle.gipmc.specs.Words.{work_asked, Help, Version, Search, Replay, Certify}
 use Rattle.gipmc.specs.declared.options.Setting.TheVariants as setting
-
-number-plus : number_of (codes "+07") ≡ Some 7
-number-plus = refl
-
-number-greatest : number_of (codes "18446744073709551615") ≡ Some 18446744073709551615
-number-greatest = refl
-
-refused-minus : number_of (codes "-7") ≡ None
-refused-minus = refl
 
 nothing : work_asked [] ≡ Ok (Search no_request)
 nothing = refl

@@ -1,4 +1,3 @@
 mod Examples
-mod Numbers
 mod Shown
 mod Told

@@ -1,8 +1,7 @@
 -- What the options ask for.
-use Rattle.std.specs.Prelude.{ℕ, ◌^◌, ◌-◌, ◌&&◌, Bool, true, false, List, length, nat_lt, if◌then◌else◌, codes, Option, Some, None}
+use Rattle.std.specs.Prelude.{ℕ, ◌^◌, ◌-◌, Bool, true, false, List, if◌then◌else◌, codes, Option, Some, None}
 use Rattle.std.specs.Option.{option_map}
-use Rattle.std.specs.Str.{all_ascii_digits, bytes_eq}
-use Rattle.std.specs.Str.Parse.{digits_value, without_leading_plus}
+use Rattle.std.specs.Str.{bytes_eq}
 use Rattle.gipmc_engines.specs.declared.engines.Engine.{Engine}
 use Rattle.gipmc_engines.specs.declared.engines.Engine.TheVariants.{Simulation, Bounded, Ic3, All}
 use Rattle.gipmc.specs.declared.options.Options.{Options}
@@ -36,13 +35,6 @@ no_request = record {
   stats = false;
   certificate = None;
 }
-
--- the number below 2^64 that a word writes in decimal digits; a plus may stand before them
-abbrev pub number_of : List ℕ → Option ℕ
-number_of word =
-    let digits = without_leading_plus word in
-    if nat_lt 0 (length digits) && all_ascii_digits digits && nat_lt (digits_value 10 digits) (2 ^ 64)
-    then Some (digits_value 10 digits) else None
 
 -- the engine of this name
 abbrev pub engine_of : List ℕ → Option Engine

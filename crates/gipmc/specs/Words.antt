@@ -5,7 +5,8 @@ use Rattle.std.specs.Option.{ok_or, option_map, option_or, option_and_then}
 use Rattle.std.specs.Result.{result_map_both}
 use Rattle.std.specs.Str.{byte, bytes_eq}
 use Rattle.gipmc.specs.Misuses.{Misuse, UnknownOption, NoValue, NoNumber, NoEngine, ExtraFile, TwoTasks, NoSearch, InputTwice, OutputTwice}
-use Rattle.gipmc.specs.Options.{Request, engine_of, no_request, number_of, request_of, switched}
+use Rattle.giputils_text.specs.Numbers.{number_of}
+use Rattle.gipmc.specs.Options.{Request, engine_of, no_request, request_of, switched}
 use Rattle.gipmc.specs.declared.options.Awaits.{Awaits}
 use Rattle.gipmc.specs.declared.options.Awaits.TheVariants.{Any, Value, File, Nothing}
 use Rattle.gipmc.specs.declared.options.Info.TheVariants as info

@@ -2,8 +2,9 @@
 ghost use Rattle.std.specs.Prelude.{◌≡◌, map, string_bytes};
 ghost use Rattle.std.specs.Option.{ok_or, option_map};
 ghost use Rattle.std.specs.Result.{result_map_both};
+ghost use Rattle.giputils_text.specs.Numbers.{number_of};
 ghost use Rattle.gipmc.specs.Misuses.{misuse_of, NoEngine, NoNumber};
-ghost use Rattle.gipmc.specs.Options.{engine_of, no_request, number_of, request_of, switched};
+ghost use Rattle.gipmc.specs.Options.{engine_of, no_request, request_of, switched};
 ghost use Rattle.gipmc.specs.Words.{after_file, after_named, after_option, after_word, after_words, answer_of};
 ghost use Rattle.gipmc.specs.Words.{asked_for, input_of, joined_of, no_words, option_of, output_of, setting_of};
 ghost use Rattle.gipmc.specs.Words.{state_of, switch_of, task_asked, with_value, work_asked, work_of};

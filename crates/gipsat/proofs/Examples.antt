@@ -7,21 +7,12 @@ use Rattle.gipsat_drat.specs.declared.error.Flaw.TheVariants.{NotShown}
 use Rattle.gipsat_drat.specs.declared.error.Outcome.TheVariants.{Verified, Refused}
 use Rattle.gipsat_drat.specs.declared.error.Place.TheVariants.{Line}
 use Rattle.gipsat.specs.Misuses.{UnknownOption, NoValue, NoNumber, ExtraFile, MissingFile, NotForCheck, InputTwice}
-use Rattle.gipsat.specs.Options.{no_request, number_of}
+use Rattle.gipsat.specs.Options.{no_request}
 use Rattle.gipsat.specs.Words.{work_asked, Help, Version, Solve, Check}
 use Rattle.gipsat.specs.declared.options.Setting.TheVariants.{Conflicts, Time, Proof}
 use Rattle.gipsat_dimacs.specs.Inputs.{HasForm, WritesNone, HasClauses, IsRefusedAt}
 use Rattle.gipsat_dimacs.specs.declared.rule.HeaderRule.TheVariants as rule
 use Rattle.gipsat.specs.Statuses.{checking_status, solving_status}
-
-number-plus : number_of (codes "+07") ≡ Some 7
-number-plus = refl
-
-number-greatest : number_of (codes "18446744073709551615") ≡ Some 18446744073709551615
-number-greatest = refl
-
-refused-minus : number_of (codes "-7") ≡ None
-refused-minus = refl
 
 nothing : work_asked [] ≡ Ok (Solve no_request)
 nothing = refl

@@ -1,8 +1,8 @@
 -- What the options of a search ask for.
-use Rattle.std.specs.Prelude.{ℕ, ◌^◌, ◌-◌, ◌&&◌, Bool, true, false, List, length, nat_lt, if◌then◌else◌, Option, Some, None, Result, Ok}
+use Rattle.std.specs.Prelude.{ℕ, ◌^◌, ◌-◌, Bool, true, false, List, if◌then◌else◌, Option, Some, None, Result, Ok}
 use Rattle.std.specs.Option.{ok_or, option_map, option_map_or}
-use Rattle.std.specs.Str.{all_ascii_digits, bytes_eq}
-use Rattle.std.specs.Str.Parse.{digits_value, without_leading_plus}
+use Rattle.std.specs.Str.{bytes_eq}
+use Rattle.giputils_text.specs.Numbers.{number_of}
 use Rattle.gipsat_dimacs.specs.declared.rule.HeaderRule.{HeaderRule}
 use Rattle.gipsat_dimacs.specs.declared.rule.HeaderRule.TheVariants as rule
 use Rattle.gipsat.specs.Misuses.{Misuse, NoNumber}
@@ -43,13 +43,6 @@ no_request = record {
   rule = rule.Strict;
   file = None;
 }
-
--- the number below 2^64 that a word writes in decimal digits; a plus may stand before them
-abbrev pub number_of : List ℕ → Option ℕ
-number_of word =
-    let digits = without_leading_plus word in
-    if nat_lt 0 (length digits) && all_ascii_digits digits && nat_lt (digits_value 10 digits) (2 ^ 64)
-    then Some (digits_value 10 digits) else None
 
 -- with this value of a setting: a number, or the name of a file
 abbrev pub with_value : Setting → Request → List ℕ → Result Request Misuse

@@ -2,8 +2,9 @@
 ghost use Rattle.std.specs.Prelude.{◌≡◌, map, string_bytes};
 ghost use Rattle.std.specs.Option.{ok_or, option_map};
 ghost use Rattle.std.specs.Result.{result_map_both};
+ghost use Rattle.giputils_text.specs.Numbers.{number_of};
 ghost use Rattle.gipsat.specs.Misuses.{misuse_of, NoNumber};
-ghost use Rattle.gipsat.specs.Options.{no_request, number_of, request_of, switched, with_value};
+ghost use Rattle.gipsat.specs.Options.{no_request, request_of, switched, with_value};
 ghost use Rattle.gipsat.specs.Words.{after_file, after_joined, after_named, after_option, after_word, after_words};
 ghost use Rattle.gipsat.specs.Words.{asked_for, check_asked, input_of, joined_of, long_setting_of, no_words, option_of};
 ghost use Rattle.gipsat.specs.Words.{search_asked, setting_of, state_of, switch_of, work_asked, work_of};

@@ -1,3 +1,4 @@
+mod Examples
 mod GroupLemmas
 pub mod NumberLemmas
 pub mod Pieces

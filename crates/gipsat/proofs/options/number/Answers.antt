@@ -1,8 +1,8 @@
 -- The number that was read, or none.
 use Rattle.std.proofs.Common.{ℕ, ap, Ok, Err}
 use Rattle.std.specs.Option.{ok_or}
+use Rattle.giputils_text.proofs.NumberLemmas.{number_of-read}
 use Rattle.gipsat.specs.Misuses.{NoNumber}
-use Rattle.gipsat.proofs.Numbers.{number_of-read}
 use Rattle.gipsat.proofs.options.number.Goals as goal
 
 pub returns-in-Ok : goal.returns-in-Ok
