@@ -1,26 +1,15 @@
 -- A well-formed circuit has one valuation for each choice of the values of its inputs and latches.
 use Rattle.std.proofs.Common.{◌≡◌, ⊎_elim, ℕ, ◌&&◌, eqb, Bool, true, false, not, cond, List, [], ◌∷◌, map, IsTrue, refl, sym, ap, subst, ◌∙◌}
 use Rattle.std.specs.Bool.{beq}
+use Rattle.std.specs.Cmp.{booleans_Decides}
 use Rattle.std.specs.List.{list_all}
-use Rattle.std.proofs.lemmas.Bool.{and_from, and_parts, both_ways, cases_Bool, cond-true, cond-false, eqb-true, eq-eqb, false≢true, not-true, or_cases, or_left, or_right}
+use Rattle.std.proofs.lemmas.Bool.{and_from, and_parts, both_ways, cases_Bool, cond-true, cond-false, eqb-true, eq-eqb, false≢true, not-true, or_cases, or_left, or_right, same_from_beq}
 use Rattle.gipsat_solver.specs.Formulas.{Assignment, is_true}
 use Rattle.gipmc_circuits.specs.declared.circuit.And.{And}
 use Rattle.gipmc_circuits.specs.declared.circuit.Circuit.{Circuit}
 use Rattle.gipmc_circuits.specs.Circuit.{has_value, is_valuation}
 use Rattle.gipmc_circuits.specs.WellFormed.{are_in_order, are_new, is_constant, is_source, is_variable, is_well_formed, latch_variables, uses_defined, with_variable, with_variables}
 use Rattle.gipmc_circuits.proofs.Agreeing.{both_alike}
-
-same_of_beq : (x y : Bool) → beq x y ≡ true → x ≡ y
-same_of_beq true true e = refl
-same_of_beq false false e = refl
-same_of_beq true false e = absurd (false≢true e)
-same_of_beq false true e = absurd (false≢true e)
-
-beq_of_same : (x y : Bool) → x ≡ y → beq x y ≡ true
-beq_of_same true true e = refl
-beq_of_same false false e = refl
-beq_of_same true false e = absurd (false≢true (sym e))
-beq_of_same false true e = absurd (false≢true e)
 
 -- the values are the same at each of these variables
 abbrev pub AgreeAt : (ℕ → Bool) → Assignment → Assignment → Type 0
@@ -55,9 +44,9 @@ same_from (g ∷ gates) defined a b order in_a in_b agree =
     let (here_a, rest_a) = and_parts (has_value a g) (list_all (has_value a) gates) in_a in
     let (here_b, rest_b) = and_parts (has_value b g) (list_all (has_value b) gates) in_b in
     let output : a g.output ≡ b g.output =
-    same_of_beq (a g.output) (is_true a g.left && is_true a g.right) here_a
+    same_from_beq (a g.output) (is_true a g.left && is_true a g.right) here_a
     ∙ operands_alike g defined a b parts.operands agree
-    ∙ sym (same_of_beq (b g.output) (is_true b g.left && is_true b g.right) here_b)
+    ∙ sym (same_from_beq (b g.output) (is_true b g.left && is_true b g.right) here_b)
     in
     same_from gates (with_variable g.output defined) a b parts.rest rest_a rest_b
     (λ v is. ⊎_elim (λ same. let here : v ≡ g.output = eqb-true v g.output same in subst (λ w. a w ≡ b w) (sym here)
@@ -85,7 +74,7 @@ values_from (g ∷ gates) defined a order =
       b,
       old,
       and_from (has_value b g) (list_all (has_value b) gates)
-          (beq_of_same (b g.output) (is_true b g.left && is_true b g.right) (output ∙ sym (operands_alike g defined b a parts.operands old))) all,
+          ((booleans_Decides (b g.output) (is_true b g.left && is_true b g.right)).1 (output ∙ sym (operands_alike g defined b a parts.operands old))) all,
     )
 
 order-part : {A : Type 0} (c : Circuit A) → IsTrue (is_well_formed c) → IsTrue (are_in_order c.gates.items (is_source c))
