@@ -1,8 +1,9 @@
 -- Tables of what defines variables, and lists that are read one after the other.
 use Rattle.std.proofs.Common.{◌≡◌, ⊎_elim, ℕ, zero, suc, ◌<◌, ◌++◌, ◌||◌, ◌&&◌, not, IsTrue, eqb, Bool, true, false, List, [], ◌∷◌, length, set, get_or, take, drop, Option, Some, None, refl, sym, ap, subst, ◌∙◌, ◌+◌, arith}
 use Rattle.std.proofs.Math.Path.{fun_ext}
-use Rattle.std.proofs.lemmas.Bool.{cases_Bool, eqb-true, eq-eqb, false≢true}
+use Rattle.std.proofs.lemmas.Bool.{cases_Bool, eqb-true, eq-eqb, false≢true, or_left, or_right}
 use Rattle.std.proofs.lemmas.List.{get_or-set_other, get_or-set_same, get_or_default, take-append-drop, take_more}
+use Rattle.std.proofs.lemmas.List.Folds.{or_assoc}
 use Rattle.std.proofs.Math.Seq.{drop-cons}
 use Rattle.std.specs.Prelude.{is_some}
 use Rattle.gipsat_solver.specs.Literals.{Lit}
@@ -50,27 +51,12 @@ pub with_variables-append : (xs ys : List ℕ) (d : ℕ → Bool)
 with_variables-append [] ys d = refl
 with_variables-append (x ∷ xs) ys d = with_variables-append xs ys (with_variable x d)
 
-or_assoc : (a b c : Bool) → (a || (b || c)) ≡ ((a || b) || c)
-or_assoc true b c = refl
-or_assoc false b c = refl
-
 pub comes_twice-append : (xs ys : List ℕ) (d : ℕ → Bool) (v : ℕ)
     → comes_twice (xs ++ ys) d v ≡ (comes_twice xs d v || comes_twice ys (with_variables xs d) v)
 comes_twice-append [] ys d v = refl
 comes_twice-append (x ∷ xs) ys d v =
     ap (λ b. (eqb x v && d x) || b) (comes_twice-append xs ys (with_variable x d) v)
     ∙ or_assoc (eqb x v && d x) (comes_twice xs (with_variable x d) v) (comes_twice ys (with_variables xs (with_variable x d)) v)
-
-or_left : (a b : Bool) → a ≡ true → (a || b) ≡ true
-or_left a b is = rw is refl
-
-or_right : (a b : Bool) → b ≡ true → (a || b) ≡ true
-or_right true b is = refl
-or_right false b is = is
-
-and_false : (a b : Bool) → b ≡ false → (a && b) ≡ false
-and_false true b is = is
-and_false false b is = refl
 
 -- a defect of a part is one of the whole
 pub twice_front : (xs ys : List ℕ) (d : ℕ → Bool) (e : Defect) → IsTwiceIn xs d e → IsTwiceIn (xs ++ ys) d e
