@@ -3,7 +3,7 @@ use Rattle.std.proofs.Common.{◌≡◌, ◌<◌, ◌∷◌, [], ◌++◌, lengt
 use Rattle.std.specs.Prelude.{⊤, ◌&&◌, ◌||◌, not}
 use Rattle.std.specs.Option.{option_map, option_and_then}
 use Rattle.std.specs.Str.{bytes_eq}
-use Rattle.std.proofs.lemmas.Bool.{and_parts, or_parts, cond_both}
+use Rattle.std.proofs.lemmas.Bool.{and_parts, cond_both, not-true, or_parts, or_right}
 use Rattle.std.proofs.lemmas.List.Folds.{list_any-append}
 use Rattle.std.specs.List.{AllPass}
 use Rattle.std.proofs.lemmas.List.Elements.{All-push}
@@ -143,14 +143,8 @@ first_refused Relaxed before begun word words lines plain header other =
 not_zero : (n : ℕ) → (suc n == 0) ≡ false
 not_zero n = grind arith
 
-not_true : (b : Bool) → not b ≡ true → b ≡ false
-not_true b e = grind arith
-
 first_false : (a b : Bool) → b ≡ true → (a && b) ≡ false → a ≡ false
 first_false a b e f = grind arith
-
-or_right : (a b : Bool) → b ≡ true → (a || b) ≡ true
-or_right a b e = grind arith
 
 -- a word with no comment in it stands before the comment
 uncommented-word : (word : Word) (words : List Word) → has_comment word ≡ false
@@ -176,7 +170,7 @@ uncommented-comment word end words none = rw (has_comment-c word end, before_com
 clause_begun : (rule : HeaderRule) (b : ℕ) (word : Word) → takes_comment rule stage.Start (b ∷ word) ≡ true
     → is_header rule ((b ∷ word) ∷ []) ≡ false
 clause_begun Strict b word takes = absurd (let e = rw (not_zero (length word)) at takes in cc)
-clause_begun Relaxed b word takes = let e = rw (not_zero (length word)) at takes in not_true (b == 112) e
+clause_begun Relaxed b word takes = let e = rw (not_zero (length word)) at takes in not-true (b == 112) e
 
 no_bytes : AllPass is_word_byte []
 no_bytes k d within = absurd (omega arith)
