@@ -2,6 +2,7 @@
 use Rattle.std.proofs.Common.{◌≡◌, ◌≢◌, ◌∙◌, ℕ, Bool, true, false, not, cond, [], ◌∷◌, Some, suc, refl, sym, ap, ⊎_elim}
 use Rattle.std.specs.Prelude.{filter, ◌==◌, if◌then◌else◌}
 use Rattle.std.specs.Bool.{beq}
+use Rattle.std.specs.Cmp.{bool_eq_equiv}
 use Rattle.std.proofs.lemmas.Bool.{false≢true, cases_Bool, or_cases}
 use Rattle.std.proofs.lemmas.Bool.Decides.{eqb_tells}
 use Rattle.std.proofs.lemmas.List.Folds.{list_any-append}
@@ -17,13 +18,9 @@ use Rattle.gipsat_drat.proofs.ModelLemmas.{entailed}
 abbrev flip : Lit → Assignment → Assignment
 flip l a = λ v. if v == l.variable then l.positive else a v
 
-beq_same : (b : Bool) → beq b b ≡ true
-beq_same true = refl
-beq_same false = refl
-
 flip_makes_true : (l : Lit) (a : Assignment) → is_true (flip l a) l ≡ true
 flip_makes_true l a =
-    ⊎_elim (λ same. ap (λ t. beq (if t then l.positive else a l.variable) l.positive) same.0 ∙ beq_same l.positive)
+    ⊎_elim (λ same. ap (λ t. beq (if t then l.positive else a l.variable) l.positive) same.0 ∙ bool_eq_equiv.refl l.positive)
     (λ other. absurd (other.1 refl)) (eqb_tells l.variable l.variable)
 
 same_sign : (v w : ℕ) (b c : Bool) → v ≡ w

@@ -3,22 +3,11 @@ use Rattle.std.proofs.Common.{◌≡◌, ◌∙◌, ℕ, ◌+◌, ◌≤◌, Boo
 use Rattle.std.proofs.lemmas.List.{append-nil, drop_all, drop_more}
 use Rattle.std.proofs.lemmas.Option.{slice_get_within, get_or_from_slice_get}
 use Rattle.std.specs.Io.KnownBytes.{Appends}
+use Rattle.std.proofs.KnownBytes.{Appends-nil, Appends-trans}
 use Rattle.std.specs.Prelude.{slice_get}
 use Rattle.gipsat_solver.specs.Formulas.{Clause}
 use Rattle.gipsat_drat.specs.declared.writer.Format.{Format}
 use Rattle.gipsat_drat.specs.Steps.{step_bytes, steps_bytes}
-
--- nothing is written
-Appends-nothing : (o : Option (List ℕ)) → Appends o o []
-Appends-nothing None = tt
-Appends-nothing (Some xs) = sym (append-nil xs)
-
--- one text, and then another
-Appends-both : (a b c : Option (List ℕ)) (xs ys : List ℕ) → Appends a b xs → Appends b c ys → Appends a c (xs ++ ys)
-Appends-both None b c xs ys first second = tt
-Appends-both (Some us) None c xs ys first second = absurd first
-Appends-both (Some us) (Some vs) None xs ys first second = absurd second
-Appends-both (Some us) (Some vs) (Some ws) xs ys first second = second ∙ ap (λ front. front ++ ys) first ∙ append_assoc us xs ys
 
 steps-push : (f : Format) (d : Bool) (cs : List Clause) (c : Clause)
     → steps_bytes f d (cs ++ c ∷ []) ≡ steps_bytes f d cs ++ step_bytes f d c
@@ -35,7 +24,7 @@ pub record AreWritten (f : Format) (d : Bool) (clauses : List Clause) (first pla
 
 pub AreWritten-none : (f : Format) (d : Bool) (clauses : List Clause) (first : ℕ) (o : Option (List ℕ))
     → AreWritten f d clauses first first o o
-AreWritten-none f d clauses first o = record { done = []; split = refl; written = Appends-nothing o }
+AreWritten-none f d clauses first o = record { done = []; split = refl; written = Appends-nil o }
 
 -- the clause at the place is written
 pub AreWritten-more : (f g : Format) (d : Bool) (clauses : List Clause) (first place : ℕ) (c : Clause)
@@ -53,7 +42,7 @@ AreWritten-more f g d clauses first place c old mid new same at so_far written =
           ∙ sym (append_assoc so_far.done (c ∷ []) (drop (place + 1) clauses));
       written =
           subst (Appends old new) (sym (steps-push f d so_far.done c))
-          (Appends-both old mid new (steps_bytes f d so_far.done) (step_bytes f d c) so_far.written
+          (Appends-trans old mid new (steps_bytes f d so_far.done) (step_bytes f d c) so_far.written
           (subst (λ h. Appends mid new (step_bytes h d c)) same written));
     }
 
