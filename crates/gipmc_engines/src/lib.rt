@@ -12,5 +12,5 @@ pub use bounded::{Bounds, search};
 pub use engines::{Engine, Plan, check};
 pub use simulation::{RUNS, Tries, simulate};
 pub use turns::{decide, decide_by_turns};
-pub use verdict::{Verdict, fails_by, safe_by};
+pub use verdict::Verdict;
 pub use watch::Watch;
