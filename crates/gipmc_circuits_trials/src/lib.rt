@@ -3,6 +3,7 @@
 
 #[cfg(test)]
 mod certificates;
+pub mod example;
 pub mod latched;
 #[cfg(test)]
 mod moments;

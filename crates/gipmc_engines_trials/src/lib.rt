@@ -3,6 +3,7 @@
 
 #[cfg(test)]
 mod bounded;
+pub mod example;
 pub mod shifter;
 #[cfg(test)]
 mod simulation;
