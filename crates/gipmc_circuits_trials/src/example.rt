@@ -8,9 +8,6 @@ use gipsat_solver::Literal;
 use std::alloc::{AllocError, Allocator};
 
 /// Both latches begin at 0. Latch 2 holds next what input 1 is, and latch 3 keeps its value.
-///
-/// # Errors
-/// `AllocError` where memory is refused.
 pub fn two_latches<A: Allocator + Copy>(alloc: A) -> Result<Circuit<A>, AllocError> {
     let mut circuit = Circuit::new(alloc);
     circuit.inputs.push(1)?;
@@ -25,9 +22,6 @@ pub fn two_latches<A: Allocator + Copy>(alloc: A) -> Result<Circuit<A>, AllocErr
 }
 
 /// A trace at whose end the bad literal is true, if this one is: the input is 1, and then 0.
-///
-/// # Errors
-/// `AllocError` where memory is refused.
 pub fn counterexample<A: Allocator + Copy>(
     alloc: A,
     circuit: &Circuit<A>,
@@ -47,9 +41,6 @@ pub fn counterexample<A: Allocator + Copy>(
 }
 
 /// Whether the invariant that the bad literal is false, a list of one clause, shows that it never becomes true.
-///
-/// # Errors
-/// `AllocError` where memory is refused.
 pub fn is_safe<A: Allocator + Copy>(
     alloc: A,
     circuit: &Circuit<A>,

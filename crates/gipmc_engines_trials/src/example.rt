@@ -7,10 +7,7 @@ use gipmc_engines::{Bounds, Engine, Plan, Tries, Verdict, check};
 use gipsat_solver::Literal;
 use std::alloc::{AllocError, Allocator};
 
-/// What is found out about the bad literal by 512 runs, and then by at most 10,000 calls of IC3.
-///
-/// # Errors
-/// `AllocError` where memory is refused.
+/// What is found out about the bad literal by 2048 random runs, and then by at most 10,000 calls of IC3.
 pub fn verdict<A: Allocator + Copy>(
     alloc: A,
     circuit: &Circuit<A>,
