@@ -8,8 +8,9 @@ pub const HELP: &str = "usage: gipmc [OPTION]... [FILE]
 
 Reads a circuit in the ascii or the binary form of AIGER 1.9 from FILE, or from standard input where none is named or
 its name is -, and searches for each bad literal in turn. At the end it writes for each what it found: the lines `1`,
-`b` with the literal's place (from 0 on), a witness and `.`; or `0` in place of `1` where the circuit is safe, and `2`
-where that is open. A line `u` with a number before a `2` says that no trace of at most so many transitions fails.
+`b` with the literal's place (from 0 on), a witness and `.`; or `0` in place of `1` where no bad state is reachable, and
+`2` where that is open. A line `u` with a number before a `2` says that no counterexample has so many transitions or
+fewer.
 Where the circuit has no bad literals, its outputs are taken for them.
 
 Input:
@@ -24,16 +25,16 @@ Search:
       --seed N          the seed of random simulation (0)
 
 Answers of other programs:
-      --replay WITNESS  write `s VERIFIED` if the circuit fails by the trace in the file WITNESS, or `s NOT VERIFIED`
-      --certify FILE    write `s VERIFIED` if the certificate in FILE shows that the circuit is safe as to all that are
-                        asked about, or `s NOT VERIFIED`, also where a question is left open by --limit. A certificate
-                        is clauses over latches in the DIMACS form, or a circuit in a form of AIGER with as many inputs
-                        and latches, whose bad literals are false, and constraints true, where an invariant holds
+      --replay WITNESS  write `s VERIFIED` if the trace in the file WITNESS is a counterexample, or `s NOT VERIFIED`
+      --certify FILE    write `s VERIFIED` if the certificate in FILE shows that no bad state is reachable, or `s NOT
+                        VERIFIED`, also where a question is left open by --limit. A certificate is clauses over latches
+                        in the DIMACS form, or a circuit in a form of AIGER with as many inputs and latches, whose bad
+                        literals are false, and constraints true, where an invariant holds
 
 Output:
       --certificate F   make the file F, which must not be there, before the search, and write a certificate to it if
-                        the circuit is safe as to all that are asked about: clauses, which `--certify F` checks. If no
-                        certificate is found, F is removed. A minus is refused, since standard output has the answer
+                        no bad state is reachable: clauses, which `--certify F` checks. If no certificate is found, F is
+                        removed. A minus is refused, since standard output has the answer
   -q, --quiet           write no progress; without this it is written where standard error is a terminal
       --stats           write a summary for each bad literal on standard error (lines that begin with c): how far each
                         engine that ran came, and the time
@@ -45,6 +46,6 @@ Other:
 
 The value of an option may also stand behind `=`: --depth=20.
 
-Exit status: 10 the circuit fails by a bad literal, 20 it is safe as to all that are asked about, 0 open, verified, or
-help; 1 an error, or not verified; 2 arguments that have no meaning.
+Exit status: 10 unsafe, a bad state is reachable; 20 safe, none is; 0 open, verified, or help; 1 an error, or not
+verified; 2 arguments that have no meaning.
 ";

@@ -1,4 +1,4 @@
-//! `gipmc [OPTION]... [FILE]` reads a circuit in a form of AIGER, and writes whether it fails by its bad literals.
+//! `gipmc [OPTION]... [FILE]` reads a circuit in a form of AIGER, and writes whether its bad states are reachable.
 //! `gipmc --help` tells what each option does.
 //!
 //! Answers go to standard output; errors, and lines that begin with `c` and tell how far the search is, to standard
