@@ -1,5 +1,5 @@
-//! Which clauses to look at when a literal becomes false, and where a clause stands. Nothing rests on what it says but
-//! where a clause was looked at.
+//! Hints: which clauses to look at when a literal becomes false, and where a clause may stand. Contracts use only the
+//! places that `find` has compared.
 ghost use Rattle.std.specs.Prelude.{IfSome};
 ghost use Rattle.gipsat_drat.specs.Clauses.{IsSameAt};
 
