@@ -1,7 +1,7 @@
 -- What a choice comes to.
 use Rattle.std.specs.Prelude.{◌≡◌, ℕ, ◌+◌, Option, IsTrue, is_some}
-use Rattle.gipsat_solver.specs.declared.search.Choice.{Choice}
-use Rattle.gipsat_solver.specs.declared.search.Choice.TheVariants.{Decided, Model, Conflict, Guessed}
+use Rattle.gipsat_solver.specs.declared.decide.Choice.{Choice}
+use Rattle.gipsat_solver.specs.declared.decide.Choice.TheVariants.{Decided, Model, Conflict, Guessed}
 use Rattle.gipsat_solver.specs.declared.trail.Trail.{Trail}
 use Rattle.gipsat_solver.specs.Database.{SolverState}
 use Rattle.gipsat_solver.specs.Trail.{IsConflictOf}

@@ -98,11 +98,6 @@ fn staying<A: Allocator + Copy>(
     Ok(stays)
 }
 
-// Whether a root literal satisfies a clause.
-pub(crate) fn is_satisfied<A: Allocator + Copy>(trail: &Trail<A>, clause: &[Literal]) -> bool {
-    clause.iter().any(|l| is_fixed(trail, *l))
-}
-
 // Whether a clause is learned, and deleted or satisfied by a root literal. A unit clause never is.
 pub(crate) fn is_deleted<A: Allocator + Copy>(
     database: &Database<A>,
@@ -116,10 +111,5 @@ pub(crate) fn is_deleted<A: Allocator + Copy>(
     if database.is_original(place) || clause.len() == 1 {
         return false;
     }
-    watches.is_deleted(place) || is_satisfied(trail, clause)
-}
-
-// Whether a literal is true at the root.
-fn is_fixed<A: Allocator + Copy>(trail: &Trail<A>, l: Literal) -> bool {
-    trail.level_of(l) == 0 && matches!(trail.value(l), Some(true))
+    watches.is_deleted(place) || trail.is_satisfied(clause)
 }

@@ -3,14 +3,13 @@ ghost use Rattle.std.specs.Prelude.{◌≡◌, length, OnOk};
 ghost use Rattle.gipsat_solver.specs.Database.{Derives};
 ghost use Rattle.gipsat_solver.specs.Trail.{IsReady};
 
-use crate::compact::is_satisfied;
+use crate::attach::attach_all;
 use crate::database::Database;
 use crate::heuristics::Heuristics;
-use crate::learn::attach_all;
 use crate::literal::Literal;
 use crate::occurrences::Occurrences;
+use crate::propagate::propagate;
 use crate::resolve::{Resolution, add_resolvents};
-use crate::search::propagate;
 use crate::seen::Seen;
 use crate::subsume::{Marks, subsumed_by};
 use crate::trail::Trail;
@@ -70,7 +69,7 @@ impl<A: Allocator + Copy> Elimination<A> {
     ) -> Result<(), AllocError> {
         for place in self.known..database.len() {
             let clause = database.clause(place);
-            if !watches.is_kept(place) || is_satisfied(trail, clause) {
+            if !watches.is_kept(place) || trail.is_satisfied(clause) {
                 continue;
             }
             let has_twice = self.marks.has_twice(clause);

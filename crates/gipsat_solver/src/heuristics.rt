@@ -8,10 +8,9 @@ use crate::eliminated::Eliminated;
 use crate::glue::Glue;
 use crate::literal::Literal;
 use crate::phases::Phases;
-use crate::reduce::SAFE_GLUE;
 use crate::restart_policy::RestartPolicy;
 use crate::trail::Trail;
-use crate::watches::{ClauseStatus, Watches};
+use crate::watches::{ClauseStatus, SAFE_GLUE, Watches};
 use std::alloc::{AllocError, Allocator, Global};
 
 /// How much a solver did since it was made. After a call that was refused memory the counts are those of before it.

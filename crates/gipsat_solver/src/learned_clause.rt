@@ -5,10 +5,10 @@ ghost use Rattle.gipsat_solver.specs.Backjump.{IsLearnedClause, RestsOn};
 ghost use Rattle.gipsat_solver.specs.Seen.{IsResolvent, NoneSeen};
 ghost use Rattle.gipsat_solver.specs.Trail.{IsConflictOf, IsReady};
 
+use crate::analyze::{analyze, mark_all, resolve_with_reason};
 use crate::backjump::is_asserting;
 use crate::database::Database;
 use crate::heuristics::Heuristics;
-use crate::learn::{analyze, mark_all, resolve_with_reason};
 use crate::literal::Literal;
 use crate::seen::Seen;
 use crate::trail::Trail;

@@ -2,11 +2,14 @@
 #![tactic(auto)]
 
 mod activity;
+mod analyze;
 mod assumptions;
+mod attach;
 mod backjump;
 mod clauses;
 mod compact;
 mod database;
+mod decide;
 mod domain;
 mod eliminate;
 mod eliminated;
@@ -19,6 +22,7 @@ mod modes;
 mod occurrences;
 mod phases;
 pub mod progress;
+mod propagate;
 mod reduce;
 mod resolve;
 mod restart_policy;

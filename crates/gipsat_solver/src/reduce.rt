@@ -1,15 +1,11 @@
 //! Deletion of learned clauses.
 
-use crate::compact::is_satisfied;
 use crate::database::Database;
 use crate::heuristics::Heuristics;
 use crate::literal::Literal;
 use crate::trail::Trail;
-use crate::watches::{ClauseStatus, Rating, Watches};
+use crate::watches::{ClauseStatus, Rating, SAFE_GLUE, Watches};
 use std::alloc::{AllocError, Allocator};
-
-// Clauses of at most this glue stay for good.
-pub(crate) const SAFE_GLUE: u32 = 2;
 
 // Deletes three quarters of the learned clauses that were not used of late, once the policy says so.
 pub(crate) fn reduce<A: Allocator + Copy>(
@@ -89,7 +85,7 @@ fn keep<A: Allocator + Copy>(
         ClauseStatus::Deleted => false,
         ClauseStatus::Eliminated => return Ok(false),
     };
-    if !stays || is_satisfied(trail, clause) {
+    if !stays || trail.is_satisfied(clause) {
         watches.set_status(place, ClauseStatus::Deleted);
         return Ok(false);
     }

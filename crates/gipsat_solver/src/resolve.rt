@@ -6,8 +6,8 @@ ghost use Rattle.gipsat_solver.specs.Seen.{AreSeen, AreSeenBut, Grows, HaveFlags
 ghost use Rattle.gipsat_solver.specs.Database.{Derives};
 ghost use Rattle.gipsat_solver.specs.Trail.{IsReady};
 
+use crate::analyze::drop_root;
 use crate::database::Database;
-use crate::learn::drop_root;
 use crate::literal::Literal;
 use crate::seen::Seen;
 use crate::trail::{Step, Trail};

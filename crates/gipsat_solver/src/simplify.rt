@@ -3,11 +3,10 @@ ghost use Rattle.std.specs.Prelude.{◌≡◌, [], OnErr, OnOk};
 ghost use Rattle.gipsat_solver.specs.Simplifying.{Simplifies};
 ghost use Rattle.gipsat_solver.specs.Trail.{IsBelow, IsTrailFor};
 
-use crate::compact::is_satisfied;
+use crate::attach::attach_all;
 use crate::database::Database;
 use crate::heuristics::Heuristics;
-use crate::learn::attach_all;
-use crate::search::propagate;
+use crate::propagate::propagate;
 use crate::trail::Trail;
 use crate::watches::Watches;
 use std::alloc::{AllocError, Allocator};
@@ -77,7 +76,7 @@ fn unsatisfied<A: Allocator + Copy>(
     let mut stays = Vec::with_capacity(alloc, database.len())?;
     for place in 0..database.len() {
         let goes = watches.is_deleted(place) && !database.is_original(place);
-        stays.push(!goes && !is_satisfied(trail, database.clause(place)))?;
+        stays.push(!goes && !trail.is_satisfied(database.clause(place)))?;
     }
     Ok(stays)
 }

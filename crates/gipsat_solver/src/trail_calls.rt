@@ -108,6 +108,16 @@ impl<A: Allocator + Copy> Trail<A> {
         }
     }
 
+    // Whether a literal is true at the root.
+    fn is_fixed(&self, l: Literal) -> bool {
+        self.level_of(l) == 0 && matches!(self.value(l), Some(true))
+    }
+
+    // Whether a root literal satisfies a clause.
+    pub(crate) fn is_satisfied(&self, clause: &[Literal]) -> bool {
+        clause.iter().any(|l| self.is_fixed(*l))
+    }
+
     // The place of the trail at which the literal's variable was assigned.
     pub(crate) fn place_of(&self, l: Literal) -> usize {
         match self.var_data.get(l.variable() as usize) {

@@ -5,13 +5,14 @@ ghost use Rattle.gipsat_solver.specs.Formulas.{AreBelow, Implies};
 ghost use Rattle.gipsat_solver.specs.Seen.{IsResolvent};
 ghost use Rattle.gipsat_solver.specs.Trail.{IsReady, IsTrailFor};
 
+use crate::analyze::drop_root;
 use crate::assumptions::{Obstacle, assume_one};
+use crate::attach::attach_all;
 use crate::database::Database;
 use crate::heuristics::Heuristics;
-use crate::learn::{attach_all, drop_root};
 use crate::literal::Literal;
+use crate::propagate::propagate;
 use crate::resolve::resolve_with;
-use crate::search::propagate;
 use crate::seen::Seen;
 use crate::trail::{Step, Trail};
 use crate::watches::Watches;

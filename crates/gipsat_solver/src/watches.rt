@@ -93,6 +93,9 @@ const FIRST_INCREMENT: u64 = 0x10_0000;
 // By how many binary digits all activities are shifted down once the increment has grown by as many.
 const SHIFT: u32 = 24;
 
+// Clauses of at most this glue stay for good.
+pub(crate) const SAFE_GLUE: u32 = 2;
+
 // Clauses of at most this glue stay for two reductions after each use, and others for one.
 const LOW_GLUE: u32 = 6;
 

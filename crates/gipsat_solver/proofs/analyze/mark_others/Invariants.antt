@@ -1,0 +1,14 @@
+use Rattle.std.proofs.Common.{◌≡◌, ◌⊎◌, ◌≢◌, ◌<◌, ℕ, length, true, Some}
+use Rattle.gipsat_solver.specs.Literals.{Lit}
+use Rattle.std.specs.Prelude.{slice_get}
+use Rattle.gipsat_solver.specs.Formulas.{Has}
+use Rattle.gipsat_solver.specs.Seen.{is_seen, Grows}
+use Rattle.gipsat_solver.proofs.analyze.mark_others.Given as goal
+
+abbrev pub invariant-loop-l : goal.invariant-loop-l
+invariant-loop-l g l = record {
+  len : length l.seen ≡ length l.initial.seen;
+  grows : Grows l.initial.seen l.seen;
+  only : (m : Lit) → is_seen l.seen m ≡ true → (is_seen l.initial.seen m ≡ true) ⊎ (Has l.clause m × (m ≢ l.but));
+  marked : (k : ℕ) (m : Lit) → k < l.l-index → slice_get l.clause k ≡ Some m → m ≢ l.but → is_seen l.seen m ≡ true;
+}
