@@ -3,7 +3,7 @@
 use giputils_heap::{BoundedHeap, ByRank};
 use std::alloc::{AllocError, Allocator, Global};
 
-// The variables of a domain, and which of them wait to be decided. It is a heuristic: no contract speaks of it.
+// The variables of a domain, and which of them wait to be decided.
 #[derive(Drop)]
 pub(crate) struct Domain<A: Allocator = Global> {
     is_set: bool,

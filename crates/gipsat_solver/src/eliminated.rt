@@ -21,7 +21,7 @@ struct Record {
     is_over: bool,
 }
 
-// The eliminated variables, in the order in which they were eliminated. It is a heuristic: no contract speaks of it.
+// The eliminated variables, in the order in which they were eliminated.
 #[derive(Drop)]
 pub(crate) struct Eliminated<A: Allocator = Global> {
     records: Vec<Record, A>,

@@ -5,7 +5,7 @@ use crate::literal::Literal;
 use crate::trail::Trail;
 use std::alloc::{AllocError, Allocator, Global};
 
-// Counts decision levels. It is a heuristic: no contract speaks of it.
+// Counts decision levels.
 #[derive(Drop)]
 pub(crate) struct Glue<A: Allocator = Global> {
     // For each level the stamp of the last count that met it.

@@ -1,4 +1,4 @@
-//! The heuristics of a search. No contract speaks of them.
+//! The heuristics of a search. No contract speaks of them, of their parts, or of `occurrences` and `subsume`.
 ghost use Rattle.std.specs.Prelude.{◌≡◌, ◌^◌, ◌<◌};
 ghost use Rattle.gipsat_solver.specs.Trail.{KeepsTrail};
 

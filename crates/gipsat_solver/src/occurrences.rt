@@ -44,7 +44,7 @@ impl Outline {
 }
 
 // For each literal the clauses that have it, and the queue of the variables that may be eliminated, those of the fewest
-// clauses first. It is a heuristic: no contract speaks of it.
+// clauses first.
 #[derive(Drop)]
 pub(crate) struct Occurrences<A: Allocator = Global> {
     // Also those that were taken out since.

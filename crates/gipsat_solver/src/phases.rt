@@ -9,7 +9,7 @@ const INTERVAL: u64 = 1_000;
 // Where the pseudo-random numbers begin.
 const SEED: u64 = 0x9e37_79b9_7f4a_7c15;
 
-// The values of the longest trails without a conflict. A heuristic: no contract speaks of it.
+// The values of the longest trails without a conflict.
 #[derive(Drop)]
 pub(crate) struct Phases<A: Allocator = Global> {
     // The values of the longest trail of this turn since the last reset, and its length.

@@ -383,7 +383,7 @@ impl<A: Allocator + Copy> Solver<A> {
     {
         self.database.raise_variables(assumptions);
         let mut state = self.begin(is_guess, assumptions, domain)?;
-        // An empty trail, to which new clauses are no matter.
+        // Keeps the invariant while `state.trail` is in use: an empty trail is one over any clauses.
         self.trail = Trail::new(self.alloc);
         let until = budget_from(state.heuristics.stats.propagations, budget);
         let answer = run(
@@ -486,10 +486,11 @@ impl<A: Allocator + Copy> Solver<A> {
         self.inprocess(Inprocessing::Eliminate { frozen, steps })
     }
 
-    /// Shortens learned clauses of more than two literals, those of low glue from the place `from` on, the latest first. It
-    /// makes the literals of a clause false, one after another; where propagation shows that some of them can't all be false, the clause of
-    /// these becomes a clause of the solver, and the longer one is deleted. It ends once it has propagated about as many
-    /// literals as `propagations`. [`Solver::stats`] does not count what it does, but for the clauses that it deletes.
+    /// Shortens learned clauses of more than two literals, those of low glue from the place `from` on, the latest
+    /// first. It makes the literals of a clause false, one after another; where propagation shows that some of them
+    /// can't all be false, the clause of these becomes a clause of the solver, and the longer one is deleted. It ends
+    /// once it has propagated about as many literals as `propagations`. [`Solver::stats`] does not count what it does,
+    /// but for the clauses that it deletes.
     ///
     /// # Errors
     /// `AllocError` where memory is refused. Some clauses may have been added.
@@ -508,7 +509,7 @@ impl<A: Allocator + Copy> Solver<A> {
         ensures kept { KeepsClauses self.old self.new }
     {
         let mut state = self.begin(false, &[], None)?;
-        // An empty trail, to which new clauses are no matter.
+        // Keeps the invariant while `state.trail` is in use: an empty trail is one over any clauses.
         self.trail = Trail::new(self.alloc);
         inprocess(
             self.alloc,
@@ -544,7 +545,7 @@ impl<A: Allocator + Copy> Solver<A> {
         ensures refused { OnErr result (self.new ≡ self.old) }
     {
         let mut state = self.begin(false, &[], None)?;
-        // An empty trail, to which new clauses are no matter.
+        // Keeps the invariant while `state.trail` is in use: an empty trail is one over any clauses.
         self.trail = Trail::new(self.alloc);
         simplify(
             self.alloc,

@@ -8,7 +8,7 @@ use crate::resolve::Resolution;
 use crate::trail::Trail;
 use std::alloc::{AllocError, Allocator, Global};
 
-// A set of literals: a flag for each code. It is a heuristic: no contract speaks of it.
+// A set of literals: a flag for each code.
 #[derive(Drop)]
 pub(crate) struct Marks<A: Allocator = Global> {
     flags: Vec<bool, A>,

@@ -73,7 +73,7 @@ pub(crate) enum ClauseStatus {
     Eliminated,
 }
 
-// For each literal the clauses that watch it. A heuristic: no contract speaks of it.
+// For each literal the clauses that watch it.
 #[derive(Drop)]
 pub(crate) struct Watches<A: Allocator = Global> {
     lists: Vec<Vec<Watch, A>, A>,
