@@ -1,31 +1,14 @@
--- Cores: what they refute, and cores of cores.
+-- Cores: what they refute.
 use Rattle.std.proofs.Common.{List, IsTrue}
 use Rattle.gipsat_solver.specs.Literals.{Lit}
 use Rattle.gipsat_solver.specs.Formulas.{Assignment, Formula, Has, satisfies}
-use Rattle.gipsat_solver.specs.Database.{AreAmong}
 use Rattle.gipsat_solver.specs.Assumptions.{makes_true, IsCore, IsSatisfiableUnder}
 use Rattle.gipsat_solver.proofs.MakesTrue.{makes_true-among, unsatisfied-under}
-use Rattle.gipsat_solver.proofs.Formulas.{satisfies-among}
 
 -- where there is a core, no model of the formula makes all assumptions true
 pub core-refutes : (f : Formula) (assumed core : List Lit) → IsCore f assumed core
     → (a : Assignment) → IsTrue (satisfies a f) → ¬ (IsTrue (makes_true a assumed))
 core-refutes f assumed core is a sat all = unsatisfied-under f assumed core is (a, sat, all)
-
--- a core of a core is a core
-pub IsCore-of_core : (f : Formula) (assumed core smaller : List Lit) → IsCore f assumed core → IsCore f core smaller
-    → IsCore f assumed smaller
-IsCore-of_core f assumed core smaller is less = record {
-  among = λ l has. is.among l (less.among l has);
-  refuted = less.refuted;
-}
-
--- a core stays one where clauses are added
-pub IsCore-more : (f more : Formula) (assumed core : List Lit) → AreAmong more f → IsCore f assumed core → IsCore more assumed core
-IsCore-more f more assumed core among is = record {
-  among = is.among;
-  refuted = λ (a, sat, all). is.refuted (a, satisfies-among a more f among sat, all);
-}
 
 -- a formula that has a model under assumptions has one under some of them
 pub IsSatisfiableUnder-among : (f : Formula) (assumed some : List Lit) → ((l : Lit) → Has some l → Has assumed l)

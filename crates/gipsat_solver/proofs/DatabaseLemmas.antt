@@ -18,13 +18,14 @@ range_last xs ys =
     let n : length xs + length ys - length xs ≡ length ys = omega arith in
     ap (λ m. take m (drop (length xs) (xs ++ ys))) n ∙ ap (take (length ys)) (drop_at xs ys (length xs) refl) ∙ take_all (length ys) ys (omega arith)
 
-clauses_before : (xs ys : List Lit) (spans : List Span) → AreSpans (length xs) spans
+-- more literals change no clause
+pub clauses-same : (xs ys : List Lit) (spans : List Span) → AreSpans (length xs) spans
     → clauses_of (xs ++ ys) spans ≡ clauses_of xs spans
-clauses_before xs ys [] are = refl
-clauses_before xs ys (s ∷ spans) are =
+clauses-same xs ys [] are = refl
+clauses-same xs ys (s ∷ spans) are =
     let here = are zero s refl in
     ap (λ c. c ∷ clauses_of (xs ++ ys) spans) (range_before xs ys s.start s.end here.0 here.1)
-    ∙ ap (λ cs. slice_range xs s.start s.end ∷ cs) (clauses_before xs ys spans (λ k t at. are (suc k) t at))
+    ∙ ap (λ cs. slice_range xs s.start s.end ∷ cs) (clauses-same xs ys spans (λ k t at. are (suc k) t at))
 
 clauses_push : (xs : List Lit) (spans : List Span) (s : Span)
     → clauses_of xs (spans ++ s ∷ []) ≡ clauses_of xs spans ++ slice_range xs s.start s.end ∷ []
@@ -38,12 +39,7 @@ pub clauses-append : (xs ys : List Lit) (spans : List Span) (start end : ℕ) �
 clauses-append xs ys spans start end from to are =
     let s : Span = record { start = start; end = end } in
     let last : slice_range (xs ++ ys) start end ≡ ys = ap (λ i. slice_range (xs ++ ys) i end) from ∙ ap (slice_range (xs ++ ys) (length xs)) to ∙ range_last xs ys in
-    clauses_push (xs ++ ys) spans s ∙ ap (λ cs. cs ++ slice_range (xs ++ ys) start end ∷ []) (clauses_before xs ys spans are) ∙ ap (λ c. clauses_of xs spans ++ c ∷ []) last
-
--- more literals change no clause
-pub clauses-same : (xs ys : List Lit) (spans : List Span) → AreSpans (length xs) spans
-    → clauses_of (xs ++ ys) spans ≡ clauses_of xs spans
-clauses-same = clauses_before
+    clauses_push (xs ++ ys) spans s ∙ ap (λ cs. cs ++ slice_range (xs ++ ys) start end ∷ []) (clauses-same xs ys spans are) ∙ ap (λ c. clauses_of xs spans ++ c ∷ []) last
 
 pub AreSpans-push : (xs ys : List Lit) (spans : List Span) (start end : ℕ) → start ≡ length xs
     → end ≡ length xs + length ys → AreSpans (length xs) spans

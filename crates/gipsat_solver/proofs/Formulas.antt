@@ -5,7 +5,6 @@ use Rattle.std.specs.List.{list_all}
 use Rattle.std.proofs.lemmas.Bool.{and_from, and_parts}
 use Rattle.std.proofs.lemmas.List.Folds.{list_all-append}
 use Rattle.gipsat_solver.specs.Formulas.{Assignment, Clause, Formula, satisfies, satisfies_clause, IsSatisfiable}
-use Rattle.gipsat_solver.specs.Database.{AreAmong}
 use Rattle.gipsat_solver.proofs.Places.{none_some, same_some}
 
 pub all-at : {A : Type 0} (p : A → Bool) (xs : List A) (k : ℕ) (x : A) → list_all p xs ≡ true → slice_get xs k ≡ Some x → p x ≡ true
@@ -26,11 +25,6 @@ satisfies-at a f k c sat at = all-at (satisfies_clause a) f k c sat at
 pub satisfies-each : (a : Assignment) (f : Formula) → ((k : ℕ) (c : Clause) → slice_get f k ≡ Some c → IsTrue (satisfies_clause a c))
     → IsTrue (satisfies a f)
 satisfies-each a f each = all-each (satisfies_clause a) f each
-
--- a model of a formula is one of any formula of some of its clauses: more clauses have no more models
-pub satisfies-among : (a : Assignment) (more f : Formula) → AreAmong more f → IsTrue (satisfies a more) → IsTrue (satisfies a f)
-satisfies-among a more f among sat =
-    satisfies-each a f (λ k c at. let there = among k c at in satisfies-at a more there.0 c sat there.1)
 
 -- a formula to which clauses are added has no more models
 pub satisfies-first : (a : Assignment) (f more : Formula) → IsTrue (satisfies a (f ++ more)) → IsTrue (satisfies a f)

@@ -1,8 +1,8 @@
 -- Formulas that say the same: what holds of the one holds of the other.
 use Rattle.std.proofs.Common.{◌≡◌, ◌↔◌, List, IsTrue}
-use Rattle.gipsat_solver.specs.Assumptions.{IsCore, IsModelUnder, IsSatisfiableUnder, makes_true}
+use Rattle.gipsat_solver.specs.Assumptions.{IsCore}
 use Rattle.gipsat_solver.specs.Encodings.{Adds}
-use Rattle.gipsat_solver.specs.Formulas.{Assignment, Clause, Formula, Implies, IsSatisfiable, satisfies}
+use Rattle.gipsat_solver.specs.Formulas.{Assignment, Formula}
 use Rattle.gipsat_solver.specs.Literals.{Lit}
 use Rattle.gipsat_solver.specs.Simplifying.{SaysSame}
 
@@ -10,25 +10,9 @@ use Rattle.gipsat_solver.specs.Simplifying.{SaysSame}
 pub SaysSame-refl : (f : Formula) → SaysSame f f
 SaysSame-refl f a = (λ sat. sat, λ sat. sat)
 
--- it does so both ways
-pub SaysSame-back : (f g : Formula) → SaysSame f g → SaysSame g f
-SaysSame-back f g same a = ((same a).1, (same a).0)
-
--- and step by step
+-- it does so step by step
 pub SaysSame-both : (f g h : Formula) → SaysSame f g → SaysSame g h → SaysSame f h
 SaysSame-both f g h first then a = (λ sat. (first a).0 ((then a).0 sat), λ sat. (then a).1 ((first a).1 sat))
-
--- both are satisfiable, or neither is
-pub SaysSame-satisfiable : (f g : Formula) → SaysSame f g → IsSatisfiable f ↔ IsSatisfiable g
-SaysSame-satisfiable f g same =
-    (λ found. (found.0, (same found.0).1 found.1), λ found. (found.0, (same found.0).0 found.1))
-
--- the same clauses follow from both
-pub SaysSame-implies : (f g : Formula) (c : Clause) → SaysSame f g → Implies f c ↔ Implies g c
-SaysSame-implies f g c same = (
-  λ follows. record { follows = λ a sat. follows.follows a ((same a).0 sat) },
-  λ follows. record { follows = λ a sat. follows.follows a ((same a).1 sat) },
-)
 
 -- a core under the one formula is one under the other
 pub SaysSame-core : (f g : Formula) (assumed core : List Lit) → SaysSame f g → IsCore f assumed core ↔ IsCore g assumed core

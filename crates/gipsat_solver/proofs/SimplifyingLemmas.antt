@@ -31,14 +31,6 @@ among_last : (flags : List Bool) (cs : List Clause) (c : Clause) → length flag
 among_last flags cs c same =
     (length (original_among flags cs), rw (original_among-original flags cs c same) (stands_last (original_among flags cs) c))
 
--- no literal is a clause yet
-pub AreUnits-none : (steps : List Step) (flags : List Bool) (cs : List Clause) → flags ≡ [] → cs ≡ [] → AreUnits steps 0 flags cs
-AreUnits-none steps flags cs no_flag no_clause = rw (no_flag, no_clause) record {
-  as_many = refl;
-  only = λ k c at. none_some c at;
-  all = λ k s less at. absurd (omega (arith, less));
-}
-
 -- the next literal is a clause
 pub AreUnits-more : (steps : List Step) (place : ℕ) (s : Step) (flags : List Bool) (cs : List Clause) → slice_get steps place ≡ Some s
     → AreUnits steps place flags cs → AreUnits steps (place + 1) (flags ++ true ∷ []) (cs ++ (s.literal ∷ []) ∷ [])

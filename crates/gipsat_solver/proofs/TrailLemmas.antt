@@ -5,24 +5,15 @@ use Rattle.std.specs.Prelude.{slice_get, option_map}
 use Rattle.std.specs.Bool.{beq}
 use Rattle.std.proofs.lemmas.List.{get_or-set_same, get_or-set_other, length-set, length_push, get_or_past}
 use Rattle.std.proofs.lemmas.Option.{slice_get_within}
-use Rattle.std.proofs.lemmas.Bool.{false≢true, cases_eq, cases_lt}
+use Rattle.std.proofs.lemmas.Bool.{false≢true, cases_eq, cases_lt, same_from_beq}
 use Rattle.gipsat_solver.specs.declared.trail.Step.{Step}
 use Rattle.gipsat_solver.specs.Formulas.{Clause, Has}
 use Rattle.gipsat_solver.specs.Values.{value_of}
 use Rattle.gipsat_solver.specs.TrailLists.{IsTrueBefore, HasReason, IsTrail, IsConflict, Extends, AreFalsifiedBefore, DecidesAmong}
 use Rattle.gipsat_solver.specs.Seen.{is_seen}
 use Rattle.gipsat_solver.proofs.LiteralLemmas.{beq_not}
+use Rattle.gipsat_solver.proofs.ValueLemmas.{no_value}
 use Rattle.gipsat_solver.proofs.Places.{none_some, same_some, stays_before, stands_last, before_or_last, same_at, each_push}
-
-pub beq_same : (p : Bool) → beq p p ≡ true
-beq_same true = refl
-beq_same false = refl
-
-beq_equal : (p q : Bool) → beq p q ≡ true → q ≡ p
-beq_equal true true e = refl
-beq_equal false false e = refl
-beq_equal true false e = absurd (false≢true e)
-beq_equal false true e = absurd (false≢true e)
 
 -- a false literal's negation is true
 negated_value : (o : Option Bool) (p : Bool) → option_map (λ v. beq v p) o ≡ Some false
@@ -36,10 +27,6 @@ true_negation values m is = negated_value (get_or values m.variable None) m.posi
 
 pub some_value : (o : Option Bool) (p b : Bool) → option_map (λ v. beq v p) o ≡ Some b → o ≡ None → ⊥
 some_value o p b is none = none_some b (ap (option_map (λ v. beq v p)) (sym none) ∙ is)
-
-pub no_value : (o : Option Bool) (p : Bool) → option_map (λ v. beq v p) o ≡ None → o ≡ None
-no_value None p e = refl
-no_value (Some v) p e = none_some (beq v p) (sym e)
 
 literal_equal : (m l : Lit) → m.variable ≡ l.variable → m.positive ≡ l.positive → m ≡ l
 literal_equal m l v p = ap (λ u. record { variable = u; positive = m.positive }) v ∙ ap (λ q. record { variable = l.variable; positive = q }) p
@@ -57,7 +44,7 @@ true_after : (values : List (Option Bool)) (l m : Lit) → l.variable < length v
     → value_of (set values l.variable (Some l.positive)) m ≡ Some true
     → (m ≡ l) ⊎ (value_of values m ≡ Some true)
 true_after values l m within is =
-    ⊎_elim (λ same. inl (literal_equal m l same (beq_equal l.positive m.positive (same_some _ _ (sym (value_at values m l.variable (Some l.positive) same within) ∙ is)))))
+    ⊎_elim (λ same. inl (literal_equal m l same (sym (same_from_beq l.positive m.positive (same_some _ _ (sym (value_at values m l.variable (Some l.positive) same within) ∙ is))))))
     (λ other. inr (sym (value_other values m l.variable (Some l.positive) other) ∙ is)) (cases_eq m.variable l.variable)
 
 pub Extends-set : (values : List (Option Bool)) (l : Lit) → value_of values l ≡ None

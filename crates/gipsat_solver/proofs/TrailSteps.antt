@@ -2,6 +2,7 @@
 use Rattle.std.proofs.Common.{◌≡◌, ◌≢◌, ℕ, ◌+◌, ◌<◌, ◌≤◌, List, [], ◌∷◌, ◌++◌, length, get_or, set, take, replicate, Option, Some, None, suc, zero, refl, sym, ap, subst, ◌∙◌, arith, ⊎_elim, Bool, true}
 use Rattle.std.specs.Prelude.{slice_get, option_map}
 use Rattle.std.specs.Bool.{beq}
+use Rattle.std.specs.Cmp.{bool_eq_equiv}
 use Rattle.std.proofs.lemmas.List.{length-set, length_push, get_or_past}
 use Rattle.std.proofs.lemmas.Option.{slice_get_within}
 use Rattle.std.proofs.lemmas.Bool.{cases_lt}
@@ -11,8 +12,8 @@ use Rattle.gipsat_solver.specs.Formulas.{Clause}
 use Rattle.gipsat_solver.specs.Values.{value_of, unset}
 use Rattle.gipsat_solver.specs.TrailLists.{AreValued, AreOnce, DecidesAmong, IsRooted, NoneDecided, decision, decisions}
 use Rattle.gipsat_solver.proofs.Places.{none_some, same_some, stays_before, stands_last, before_or_last}
-use Rattle.gipsat_solver.proofs.ValueLemmas.{unset-assigned}
-use Rattle.gipsat_solver.proofs.TrailLemmas.{Extends-set, some_value, no_value, beq_same, value_at, value_other}
+use Rattle.gipsat_solver.proofs.ValueLemmas.{no_value, unset-assigned}
+use Rattle.gipsat_solver.proofs.TrailLemmas.{Extends-set, some_value, value_at, value_other}
 
 -- a literal more
 pub decisions-pushed : (steps : List Step) (s : Step) → decisions (steps ++ s ∷ []) ≡ decisions steps + decision s.reason
@@ -99,7 +100,7 @@ module _ (values : List (Option Bool)) (steps : List Step) (s : Step) where
       ⊎_elim (λ before. Extends-set values s.literal none t.literal true (are k t before))
       (λ last.
       let here : value_of (set values s.literal.variable (Some s.literal.positive)) s.literal ≡ Some true =
-      value_at values s.literal s.literal.variable (Some s.literal.positive) refl within ∙ ap Some (beq_same s.literal.positive)
+      value_at values s.literal s.literal.variable (Some s.literal.positive) refl within ∙ ap Some (bool_eq_equiv.refl s.literal.positive)
       in
       subst (λ (x : Step). value_of (set values s.literal.variable (Some s.literal.positive)) x.literal ≡ Some true) last.1 here)
       (before_or_last steps s k t at)

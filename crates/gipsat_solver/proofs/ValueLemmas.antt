@@ -8,7 +8,8 @@ use Rattle.gipsat_solver.specs.Formulas.{is_true}
 use Rattle.gipsat_solver.specs.Values.{value_of, assignment_of, unset}
 use Rattle.gipsat_solver.proofs.Places.{none_some}
 
-no_value : (o : Option Bool) (p : Bool) → option_map (λ v. beq v p) o ≡ None → o ≡ None
+-- a literal with no value is of a variable with none
+pub no_value : (o : Option Bool) (p : Bool) → option_map (λ v. beq v p) o ≡ None → o ≡ None
 no_value None p e = refl
 no_value (Some v) p e = absurd (false≢true (sym (ap is_some e)))
 
