@@ -1,11 +1,9 @@
 #!/usr/bin/env python3
 """Compares the pages with the sources, and ends with 'N passed, M failed'.
 
-`tests/pages.py --write` writes the quotes and docs/DEFINITIONS.md anew.
-
 Each crate that PARTS names, and each one with a page for callers, has a page crates/NAME/README.md, with the parts that
-PARTS lists. A page for callers, crates/NAME/CALLING.md, quotes the sources. These and the README of the root may quote,
-between a line `<!-- quote ... -->` and the next line `<!-- end -->`; all else is written by hand.
+PARTS lists. A page for callers, crates/NAME/CALLING.md, quotes the sources. Pages may quote, between a line
+`<!-- quote ... -->` and the next line `<!-- end -->`; all else is written by hand.
 
     <!-- quote file giputils_uses/src/drain.rt -->   a file below crates/
     <!-- quote file giputils_uses/src/activity.rt: bump pick -->
@@ -21,19 +19,21 @@ between a line `<!-- quote ... -->` and the next line `<!-- end -->`; all else i
 
 In a contract `S` is what `self` points to at the call, and `S'` at the return. An item is public if it is `pub` in a
 public module, or if a public module names it by `pub use`. A public function that is not quoted on a page for callers
-stands there, or in the README beside it, by name.
+stands there, or in the README beside it, by name. Below a quote stand its words, each with a link to its definition in
+specs/. Each word of specs/ that a public contract uses has a comment there, and the crate `giputils` hands out the files
+of specs/ that have these words, and all public lemmas.
 
 Each line of an example in Rust on a README that is not quoted stands in giputils_trials/src/examples.rt, its imports
 under the names that `giputils` gives them. The page of `gip` has the script that `gip` is run on, with its replies. The
-README of the root links to that of each crate. The folders that docs/ELSEWHERE.md names for a part are, with those of the rows that it names, all that crates.txt asks
-for.
-docs/DEFINITIONS.md is written by `--write` alone: each word of specs/ that a public contract uses, with its arguments
-and the comment above its definition; and the crate `giputils` hands out the files that have these words, and all public
-lemmas. On the map, docs/DESIGN.md, the entry of each crate names all its modules, and no module that is not there. Each
-file that a page names is there, and each part of a page that a link names; no line has more than 120 columns, but for
-imports that are quoted, and no page is longer than LENGTHS allows.
+README of the root links to that of each crate. The folders that docs/ELSEWHERE.md names for a part are, with those of
+the rows that it names, all that crates.txt asks for. docs/DESIGN.md has an entry for each crate, and each module begins
+with a line `//!`. Each file that a page names is there, and each part of a page that a link names; no line has more than
+120 columns, but for imports that are quoted, and the README of the root has at most 90 lines.
 """
 
+import argparse
+import functools
+import os
 import pathlib
 import re
 import sys
@@ -43,7 +43,7 @@ ROOT = pathlib.Path(__file__).resolve().parent.parent
 CRATES = ROOT / "crates"
 GATHERED = ("giputils_base", "giputils_bits", "giputils_heap", "giputils_stat")
 WIDTH = 120
-LENGTHS = {"README.md": 80, "crates/README.md": 120, "crates/CALLING.md": 150}
+LINES = 90
 PEER, PROVED, TESTED = "## What differs from ", "## What is proved", "## What is only tested"
 EXAMPLE, DIFFERS, CHOICES, COST = "## Example", PEER + "the Rust crate", "## Choices", "## Cost"
 ALL = (EXAMPLE, DIFFERS, PROVED, TESTED, CHOICES, COST)
@@ -81,11 +81,7 @@ USE = re.compile(r"^ *pub use ((?:\w+::)*)(\w+|\*|\{[^}]*\});", re.MULTILINE)
 METHOD = re.compile(r"(?:^    (?://|#)[^\n]*\n)*^    (?:pub )?fn (\w+).*?^    \}\n\n?", re.DOTALL | re.MULTILINE)
 FREE = re.compile(r"(?:^(?://|#)[^\n]*\n)*^(?:pub )?fn (\w+).*?^\}$", re.DOTALL | re.MULTILINE)
 DEFINED = re.compile(r"^(?:  )?(?:(?:abbrev|unfoldable|pub|record|data) +)+(?!use |mod )([^\s:(){}]+)(?=[ :({]|$)")
-PREFACE = """# Definitions
-
-What the words of public contracts mean, crate by crate. `tests/pages.py --write` makes this page from the comments in
-`specs/`, where the definitions stand. Parameters that a whole module has, as the numbers of keys, are left out. A
-relation `R s o` on keys says that s is at least o."""
+IMPORTS = re.compile(r"\buse Rattle\.(\w+\.specs\.(?!contracts|declared)[\w.]+)\.\{([^}]*)\}")
 RECORD = re.compile(r"^( *)pub record ([^\s:(){}]+)([^\n]*?) : Type 0 where\n((?:\1 +[^\n]*\n)+)", re.MULTILINE)
 LEMMA = re.compile(r"^( *)(pub )?(?:unfoldable )?([^\s:(){}]+) :(?= |$)(.*(?:\n(?:\1 +.*)?)*)", re.MULTILINE)
 
@@ -249,6 +245,60 @@ def marker(line):
     return textwrap.wrap(words, WIDTH, subsequent_indent="     ", break_long_words=False, break_on_hyphens=False)
 
 
+@functools.cache
+def file_of(module):
+    """The file of specs/ that has the name of a module, also by way of `giputils`, or None if it is one of the kit."""
+    if module.startswith("giputils."):
+        lists = (CRATES / "giputils/specs/Lib.antt").read_text(encoding="utf-8")
+        own = re.search(rf"^pub use Rattle\.(\w+\.specs\.{module.rpartition('.')[2]})$", lists, re.MULTILINE)
+        module = own[1] if own else module
+    path = CRATES / f"{module.replace('.', '/')}.antt"
+    return path if path.is_file() else None
+
+
+def words(text, lines):
+    """The words of specs/ that some lines of a text use, each with the module that the text imports it from."""
+    said = "\n".join(line for line in lines if "use Rattle." not in line)
+    names = {name: module for module, group in IMPORTS.findall(text) for name in re.split(r",\s*", group.strip())}
+    return {name: names[name] for name in names if re.search(rf"(?<![\w-]){re.escape(name)}(?![\w-])", said)}
+
+
+@functools.cache
+def defined_in(path):
+    """The definitions of a file of specs/: the line of each name, and the comment above it, or above those before it."""
+    found, comment, section, open_comment = {}, "", "", False
+    for number, line in enumerate(path.read_text(encoding="utf-8").split("\n"), 1):
+        said = re.match(r" *--( -{3,})? ?(.*)", line)
+        name = DEFINED.match(line)
+        if said and said[1]:
+            section = f"{said[2]}: "
+        elif said:
+            comment = f"{comment} {said[2]}" if open_comment else section + said[2]
+        elif line.startswith("use "):
+            comment = ""
+        elif name:
+            found.setdefault(name[1], (number, comment))
+        open_comment = bool(said)
+    return found
+
+
+def links(page, used):
+    """The lines below a quote that lead from its words to their definitions."""
+    found = []
+    for name, module in sorted(used.items(), key=lambda pair: pair[0].lower()):
+        path = file_of(module)
+        if path and name in defined_in(path):
+            way = os.path.relpath(path, page.parent)
+            found.append(f"[`{name}`]({way}#L{defined_in(path)[name][0]})")
+    text = f"Words: {', '.join(found)}."
+    return ["", *textwrap.wrap(text, WIDTH, break_long_words=False, break_on_hyphens=False)] if found else []
+
+
+def fenced(page, kind, lines, used):
+    """A block of lines, and below it the links of its words."""
+    return [f"```{kind}", *lines, "```", *links(page, used)]
+
+
 def quote(page, what, complaints):
     """The lines that a quote on the page should have."""
     kind, _, names = what.partition(":")
@@ -262,29 +312,32 @@ def quote(page, what, complaints):
         if kind.startswith("functions "):
             lines, lost = functions_of(text, chosen)
             complaints += [f"{file.name} has no function {name}" for name in lost]
-            return ["```rust", *lines, "```"]
-        return ["```rust", *(with_functions(text, chosen) if chosen else text).rstrip().split("\n"), "```"]
+        else:
+            lines = (with_functions(text, chosen) if chosen else text).rstrip().split("\n")
+        return fenced(page, "rust", lines, words(text, lines))
     if kind.startswith("lemmas "):
         file = page.parent / "proofs" / f"{kind.removeprefix('lemmas ')}.antt"
         lines, lost = lemmas(file, chosen) if file.is_file() else ([], chosen)
         complaints += [f"{file.stem} has no lemma {name}" for name in lost]
-        return ["```text", *lines, "```"]
+        return fenced(page, "text", lines, words(file.read_text(encoding="utf-8"), lines) if lines else {})
     if kind.startswith("records "):
         file = page.parent / "specs" / f"{kind.removeprefix('records ')}.antt"
         lines, lost = records(file, chosen) if file.is_file() else ([], chosen)
         complaints += [f"{file.stem} has no record {name}" for name in lost]
-        return ["```text", *lines, "```"]
-    crate, named, met = Crate(page.parent), set(), set()
-    lines = ["```text"]
+        return fenced(page, "text", lines, words(file.read_text(encoding="utf-8"), lines) if lines else {})
+    crate, named, met, used = Crate(page.parent), set(), set(), {}
+    lines = []
     for file, text in crate.texts.items():
         found = contracts(crate, text, set(chosen), named, met)
         lines += [f"// {file.relative_to(page.parent)}", *found, ""] if found else []
+        used |= words(text, found)
     beside = [each for each in (page, page.with_name("README.md")) if each.is_file()]
-    words = re.findall(r"`([^`]+)`", "".join(QUOTE.sub("", each.read_text(encoding="utf-8")) for each in beside))
-    told = {each for name in chosen for each in name.split("::")} | set(re.findall(r"\w+", " ".join(words)))
+    told = "".join(QUOTE.sub("", each.read_text(encoding="utf-8")) for each in beside)
+    told = set(re.findall(r"\w+", " ".join(re.findall(r"`([^`]+)`", told))))
+    told |= {each for name in chosen for each in name.split("::")}
     complaints += [f"{name} is neither quoted nor named" for name in sorted(named - told) if chosen]
     complaints += [f"there is no public {name}" for name in chosen if name not in met]
-    return [*lines[:-1], "```"]
+    return fenced(page, "text", lines[:-1], used)
 
 
 def too_wide(text):
@@ -304,15 +357,6 @@ def lost_files(text):
     return lost
 
 
-def too_long(page, text):
-    """Whether a page has too many lines."""
-    path = page.relative_to(ROOT)
-    kind = f"crates/{path.name}" if path.parts[0] == "crates" else str(path)
-    most = LENGTHS.get(kind)
-    count = text.count("\n")
-    return [f"it has {count} lines, and {most} are allowed"] if most and count > most else []
-
-
 def anchors(page):
     """The names by which links lead to the parts of a page."""
     heads = re.findall(r"^#+ (.*)$", QUOTE.sub("", page.read_text(encoding="utf-8")), re.MULTILINE)
@@ -328,28 +372,26 @@ def lost_pages(page, text):
 
 
 def sound(page, text):
-    """What is wrong with a page's lines, its length, and the files that it names."""
-    return too_wide(text) + too_long(page, text) + lost_files(text) + lost_pages(page, text)
+    """What is wrong with a page's lines, and the files and pages that it names."""
+    return too_wide(text) + lost_files(text) + lost_pages(page, text)
 
 
-def with_quotes(page, complaints):
-    """A page's text with its quotes as they should be, which `--write` writes."""
-    text = page.read_text(encoding="utf-8")
-    wanted = QUOTE.sub(lambda m: "\n".join([*marker(m[1]), *quote(page, m[2], complaints), m[3]]), text)
-    if "--write" in sys.argv:
-        page.write_text(wanted, encoding="utf-8")
-    elif text != wanted:
-        complaints.append("it does not quote the sources as they are: tests/pages.py --write")
-    return wanted
+def with_quotes(page, text, complaints):
+    """A page's text with its quotes as they should be."""
+    return QUOTE.sub(lambda m: "\n".join([*marker(m[1]), *quote(page, m[2], complaints), m[3]]), text)
 
 
-def page_for_callers(page):
+def not_explained(page, text):
+    """The words of the public contracts of a page's crate that have no comment, where the page quotes contracts."""
+    used = words_of_contracts(page.parent) if "<!-- quote contracts" in text else {}
+    paths = {(name, module): file_of(module) for name, module in used.items()}
+    lost = [key for key, path in paths.items() if path and not defined_in(path).get(key[0], (0, ""))[1]]
+    return [f"{name} of {module} has no comment" for name, module in lost]
+
+
+def page_for_callers(page, text):
     """What is wrong with a page for callers."""
-    complaints = []
-    text = with_quotes(page, complaints)
-    if not QUOTE.search(text):
-        complaints.append("it quotes nothing")
-    return complaints + sound(page, text)
+    return ([] if QUOTE.search(text) else ["it quotes nothing"]) + not_explained(page, text) + sound(page, text)
 
 
 def packed(text):
@@ -370,23 +412,20 @@ def examples(text):
     return complaints
 
 
-def readme(page):
-    """What is wrong with the README."""
-    complaints = []
-    text = with_quotes(page, complaints)
+def readme(page, text):
+    """What is wrong with the README of the root."""
     crates = sorted(path.relative_to(ROOT) for path in CRATES.glob("*/README.md"))
-    complaints += [f"it has no link to {path}" for path in crates if f"]({path})" not in text]
+    complaints = [f"it has no link to {path}" for path in crates if f"]({path})" not in text]
+    count = text.count("\n")
+    complaints += [f"it has {count} lines, and {LINES} are allowed"] if count > LINES else []
     return complaints + sound(page, text) + examples(text)
 
 
-def readme_of_crate(page):
+def readme_of_crate(page, text):
     """What is wrong with the README of a crate: the parts that it lacks, and another script than `gip` is run on."""
     complaints, crate = [], page.parent.name
-    if not page.is_file():
-        return ["it is not there"]
-    text = with_quotes(page, complaints)
     if crate not in PARTS:
-        return complaints + sound(page, text)
+        return sound(page, text)
     heads = re.findall(r"^##? .*$", QUOTE.sub("", text), re.MULTILINE)
     complaints += [f"it has no part {part}" for part in (f"# `{crate}`", *PARTS[crate]) if part not in heads]
     if EXAMPLE in PARTS[crate] and crate != "gip" and f"`your_crate: {crate}" not in text:
@@ -395,12 +434,13 @@ def readme_of_crate(page):
         lines = (page.parent / name).read_text(encoding="utf-8").splitlines()
         if ", ".join(f"`{line}`" for line in lines) not in " ".join(text.split()):
             complaints.append(f"it has not the lines of crates/gip/{name}")
-    return complaints + sound(page, text) + examples(text)
+    if crate == "giputils":
+        complaints += not_gathered()
+    return complaints + not_explained(page, text) + sound(page, text) + examples(text)
 
 
-def elsewhere(page):
+def elsewhere(page, text):
     """What is wrong with the page on other repositories: folders of a part that are not its last one and all below it."""
-    text = page.read_text(encoding="utf-8")
     lines = re.findall(r"^(\w+):(.*)$", (ROOT / "crates.txt").read_text(encoding="utf-8"), re.MULTILINE)
     below = {crate: [other for other in others.split() if (CRATES / other).is_dir()] for crate, others in lines}
 
@@ -423,23 +463,19 @@ def handed_on():
     return set(re.findall(r"^pub use Rattle\.([\w.]+)", "\n".join(lists), re.MULTILINE))
 
 
-def words_of_contracts():
-    """The words of specs/ that public contracts use, each with the file of specs/ that it comes from."""
-    imports = re.compile(r"ghost use Rattle\.(\w+\.specs\.(?!contracts|declared)[\w.]+)\.\{([^}]*)\}")
-    found = {}
-    pages = (path for path in CRATES.glob("*/*.md") if "<!-- quote contracts" in path.read_text(encoding="utf-8"))
-    for folder in sorted({path.parent for path in pages}):
-        crate = Crate(folder)
-        for text in crate.texts.values():
-            lines = "\n".join(contracts(crate, text, set(), set(), set()))
-            names = [(name, file) for file, group in imports.findall(text) for name in re.split(r",\s*", group.strip())]
-            found |= {name: file for name, file in names if re.search(rf"\b{re.escape(name)}\b", lines)}
+def words_of_contracts(folder):
+    """The words of specs/ that the public contracts of a crate use, each with the module that it comes from."""
+    crate, found = Crate(folder), {}
+    for text in crate.texts.values():
+        found |= words(text, contracts(crate, text, set(), set(), set()))
     kits = handed_on()
-    return {name: file for name, file in found.items() if file.startswith("gip") or file in kits}
+    return {name: module for name, module in found.items() if module.startswith("gip") or module in kits}
 
 
-def not_gathered(files):
-    """Of these files of specs/ and of all files of public lemmas, those that the crate `giputils` does not hand out."""
+def not_gathered():
+    """What the crate `giputils` does not hand out of all files of public lemmas, and of those of specs/ that callers need."""
+    pages = (path for path in CRATES.glob("*/*.md") if "<!-- quote contracts" in path.read_text(encoding="utf-8"))
+    files = {file for folder in {path.parent for path in pages} for file in words_of_contracts(folder).values()}
     wanted = {file for file in files if file.split(".")[0] in GATHERED}
     for crate in GATHERED:
         lemmas_of = (CRATES / crate / "proofs/Lib.antt").read_text(encoding="utf-8")
@@ -451,95 +487,44 @@ def not_gathered(files):
     return [f"giputils does not hand out {file}" for file in lost]
 
 
-def applied(name, lines):
-    """A definition's name with the names of its arguments, where its one equation or its record tells them."""
-    record = re.match(rf" *(?:pub )?record {re.escape(name)}\b(.*?) : Type", " ".join(lines[:3]))
-    if record:
-        return " ".join([name, *" ".join(re.findall(r"\(([^:()]+) :", record[1])).split()])
-    own = [line for line in lines[1:] if re.match(rf" *{re.escape(name)}(?: [^=]*)? =", line)]
-    plain = re.match(rf" *({re.escape(name)}(?: [a-zA-Z]\w*)*) =", own[0]) if len(own) == 1 else None
-    return plain[1] if plain else name
-
-
-def defined_in(path):
-    """The definitions of a file of specs/, in order: each name, with its arguments, and with the comment above it, or
-    above those before it."""
-    found, comment, section, open_comment = [], "", "", False
-    lines = path.read_text(encoding="utf-8").split("\n")
-    for number, line in enumerate(lines):
-        said = re.match(r" *--( -{3,})? ?(.*)", line)
-        name = DEFINED.match(line)
-        if said and said[1]:
-            section = f"{said[2]}: "
-        elif said:
-            comment = f"{comment} {said[2]}" if open_comment else section + said[2]
-        elif line.startswith("use "):
-            comment = ""
-        elif name:
-            end = next((n for n in range(number, len(lines)) if not lines[n].strip()), len(lines))
-            found.append((name[1], applied(name[1], lines[number:end]), comment))
-        open_comment = bool(said)
-    return found
-
-
-def definitions(page):
-    """What is wrong with the list of definitions: words of contracts that have no comment, and another text."""
-    words = words_of_contracts()
-    lines, complaints, crate = [PREFACE], not_gathered(set(words.values())), None
-    for file in sorted({file for file in words.values() if file.startswith("gip")}):
-        path = CRATES / f"{file.replace('.', '/')}.antt"
-        if crate != path.parts[-len(file.split("."))]:
-            crate = file.split(".")[0]
-            lines += ["", f"## {crate}"]
-        lines += ["", f"`{path.relative_to(CRATES / crate).with_suffix('')}`", ""]
-        wanted = {name for name, place in words.items() if place == file}
-        defined = [(name, shown, comment) for name, shown, comment in defined_in(path) if name in wanted]
-        told = {name for name, _, comment in defined if comment}
-        complaints += [f"{name} of {file} has no comment" for name in sorted(wanted - told)]
-        for comment in dict.fromkeys(comment for _, _, comment in defined):
-            names = ", ".join(f"`{shown}`" for _, shown, other in defined if other == comment)
-            text = re.sub(r"`[^`]*`", lambda m: m[0].replace(" ", "\0"), f"- {names}: {comment}")
-            text = textwrap.wrap(text, WIDTH, subsequent_indent="  ", break_long_words=False, break_on_hyphens=False)
-            lines += [line.replace("\0", " ") for line in text]
-    wanted = "\n".join([*lines, ""])
-    if "--write" in sys.argv:
-        page.write_text(wanted, encoding="utf-8")
-    elif not page.is_file() or page.read_text(encoding="utf-8") != wanted:
-        complaints.append("it does not say what specs/ says: tests/pages.py --write")
-    return complaints + sound(page, wanted)
-
-
-def map_of_crates(page):
-    """What is wrong with the map: modules that a crate's entry does not name, and names that are no module of it."""
-    text = page.read_text(encoding="utf-8")
-    part = text.partition("## Crates\n")[2].partition("\n## ")[0]
-    complaints, crates = [], {path.name for path in CRATES.iterdir() if (path / "src").is_dir()}
-    entries = re.findall(r"^- \*\*`(\w+)`\*\*(.*?)(?=^\S|\Z)", part, re.DOTALL | re.MULTILINE)
-    complaints += [f"it has no entry of {crate}" for crate in sorted(crates - {crate for crate, _ in entries})]
-    for crate, entry in entries:
-        files = list((CRATES / crate / "src").rglob("*.rt"))
-        modules = {path.stem for path in files} - {"lib", "main"}
-        entry = re.sub(r"^ *\|.*$", "", entry, flags=re.MULTILINE)
-        named = set(re.findall(r"`([a-z_]+)`", entry))
-        sources = "".join(path.read_text(encoding="utf-8") for path in files)
-        known = modules | crates | {word for word in named if re.search(rf"\b{word}\b", sources)}
-        complaints += [f"{crate} has a module {name} that it does not name" for name in sorted(modules - named)]
-        complaints += [f"{crate} has no module {name}" for name in sorted(named - known)]
+def map_of_crates(page, text):
+    """What is wrong with the map: crates that it has no entry of, and modules whose first line says nothing."""
+    crates = sorted(path.parent.name for path in CRATES.glob("*/src"))
+    complaints = [f"it has no entry of {crate}" for crate in crates if f"`{crate}`" not in text]
+    for path in sorted(CRATES.glob("*/src/**/*.rt")):
+        if not path.read_text(encoding="utf-8").startswith("//! "):
+            complaints.append(f"{path.relative_to(ROOT)} does not begin with a line //!")
     return complaints + sound(page, text)
 
 
+def arguments():
+    """What the command line asks for."""
+    parser = argparse.ArgumentParser(description=__doc__, formatter_class=argparse.RawDescriptionHelpFormatter)
+    parser.add_argument("--write", action="store_true", help="write the quotes, and the links below them, anew")
+    return parser.parse_args()
+
+
 def main():
-    pages = {page: page_for_callers for page in sorted(CRATES.glob("*/CALLING.md"))}
-    pages |= {page.with_name("README.md"): readme_of_crate for page in list(pages)}
-    pages |= {CRATES / crate / "README.md": readme_of_crate for crate in PARTS}
-    pages |= {page: readme_of_crate for page in sorted(CRATES.glob("*/README.md"))}
-    plain = lambda page: sound(page, page.read_text(encoding="utf-8"))
-    pages |= {page: plain for page in sorted((ROOT / "docs").glob("*.md"))}
-    pages |= {ROOT / "docs/DEFINITIONS.md": definitions, ROOT / "docs/ELSEWHERE.md": elsewhere}
-    pages |= {ROOT / "docs/DESIGN.md": map_of_crates, ROOT / "README.md": readme}
+    write = arguments().write
+    pages = {page: sound for page in sorted((ROOT / "docs").glob("*.md"))}
+    pages |= {ROOT / "docs/ELSEWHERE.md": elsewhere, ROOT / "docs/DESIGN.md": map_of_crates, ROOT / "README.md": readme}
+    callers = sorted(CRATES.glob("*/CALLING.md"))
+    pages |= {page: page_for_callers for page in callers}
+    wanted = {page.with_name("README.md") for page in callers} | {CRATES / crate / "README.md" for crate in PARTS}
+    pages |= {page: readme_of_crate for page in sorted(wanted | set(CRATES.glob("*/README.md")))}
     failed = 0
     for page, look in pages.items():
-        complaints = look(page)
+        complaints = []
+        if page.is_file():
+            text = page.read_text(encoding="utf-8")
+            quoting = with_quotes(page, text, complaints)
+            if write:
+                page.write_text(quoting, encoding="utf-8")
+            elif text != quoting:
+                complaints.append("it does not quote the sources as they are: tests/pages.py --write")
+            complaints += look(page, quoting)
+        else:
+            complaints.append("it is not there")
         failed += bool(complaints)
         for complaint in complaints:
             print(f"{page.relative_to(ROOT)}: {complaint}")
