@@ -20,15 +20,16 @@ PARTS lists. A page for callers, crates/NAME/CALLING.md, quotes the sources. Pag
 In a contract `S` is what `self` points to at the call, and `S'` at the return. An item is public if it is `pub` in a
 public module, or if a public module names it by `pub use`. A public function that is not quoted on a page for callers
 stands there, or in the README beside it, by name. Below a quote stand its words, each with a link to its definition in
-specs/. Each word of specs/ that a public contract uses has a comment there, and the crate `giputils` hands out the files
-of specs/ that have these words, and all public lemmas.
+specs/. Each word of specs/ that a public contract uses has a comment there. The crate `giputils` hands out the files of
+specs/ that have these words, and all public lemmas.
 
 Each line of an example in Rust on a README that is not quoted stands in giputils_trials/src/examples.rt, its imports
 under the names that `giputils` gives them. The page of `gip` has the script that `gip` is run on, with its replies. The
 README of the root links to that of each crate. The folders that docs/ELSEWHERE.md names for a part are, with those of
-the rows that it names, all that crates.txt asks for. docs/DESIGN.md has an entry for each crate, and each module begins
-with a line `//!`. Each file that a page names is there, and each part of a page that a link names; no line has more than
-120 columns, but for imports that are quoted, and the README of the root has at most 90 lines.
+the rows that it names, all that crates.txt asks for. docs/DESIGN.md names each crate, and in its table those that it
+stands on; each module begins with a line `//!`. Each file that a page names is there, and each part of a page that a
+link names; no line has more than 120 columns, but for imports that are quoted, and the README of the root has at most
+90 lines.
 """
 
 import argparse
@@ -265,7 +266,7 @@ def words(text, lines):
 
 @functools.cache
 def defined_in(path):
-    """The definitions of a file of specs/: the line of each name, and the comment above it, or above those before it."""
+    """The definitions of a file of specs/: the line of each, and the comment above it, or above those before it."""
     found, comment, section, open_comment = {}, "", "", False
     for number, line in enumerate(path.read_text(encoding="utf-8").split("\n"), 1):
         said = re.match(r" *--( -{3,})? ?(.*)", line)
@@ -439,14 +440,20 @@ def readme_of_crate(page, text):
     return complaints + not_explained(page, text) + sound(page, text) + examples(text)
 
 
-def elsewhere(page, text):
-    """What is wrong with the page on other repositories: folders of a part that are not its last one and all below it."""
+@functools.cache
+def uses():
+    """The crates of the repository that the line of each crate in crates.txt names."""
     lines = re.findall(r"^(\w+):(.*)$", (ROOT / "crates.txt").read_text(encoding="utf-8"), re.MULTILINE)
-    below = {crate: [other for other in others.split() if (CRATES / other).is_dir()] for crate, others in lines}
+    return {crate: [other for other in others.split() if (CRATES / other).is_dir()] for crate, others in lines}
 
-    def needed(crate):
-        return {crate}.union(*(needed(other) for other in below.get(crate, [])))
 
+def needed(crate):
+    """A crate with all crates of the repository below it."""
+    return {crate}.union(*(needed(other) for other in uses().get(crate, [])))
+
+
+def elsewhere(page, text):
+    """What is wrong with the page on other repositories: parts whose folders are not the last one and all below it."""
     complaints, rows = sound(page, text), {}
     for part, folders in re.findall(r"^\| ([^|]+) \| ([^|]*`\w+`) \|$", text, re.MULTILINE):
         named = re.findall(r"`(\w+)`", folders)
@@ -473,7 +480,7 @@ def words_of_contracts(folder):
 
 
 def not_gathered():
-    """What the crate `giputils` does not hand out of all files of public lemmas, and of those of specs/ that callers need."""
+    """The files of public lemmas, and those of specs/ that callers need, which the crate `giputils` does not hand out."""
     pages = (path for path in CRATES.glob("*/*.md") if "<!-- quote contracts" in path.read_text(encoding="utf-8"))
     files = {file for folder in {path.parent for path in pages} for file in words_of_contracts(folder).values()}
     wanted = {file for file in files if file.split(".")[0] in GATHERED}
@@ -488,9 +495,15 @@ def not_gathered():
 
 
 def map_of_crates(page, text):
-    """What is wrong with the map: crates that it has no entry of, and modules whose first line says nothing."""
+    """What is wrong with the map: a crate that it does not name, or that stands on others than crates.txt says, and a
+    module whose first line says nothing."""
     crates = sorted(path.parent.name for path in CRATES.glob("*/src"))
-    complaints = [f"it has no entry of {crate}" for crate in crates if f"`{crate}`" not in text]
+    complaints = [f"it does not name {crate}" for crate in crates if f"`{crate}`" not in text]
+    table = text.partition("\n## In a crate")[0]
+    for own, others in re.findall(r"^\| ((?:`\w+`(?:, )?)+) \| ([^|]*) \|$", table, re.MULTILINE):
+        told = set().union(*(needed(other) for other in re.findall(r"`(\w+)`", others)))
+        wrong = [crate for crate in re.findall(r"`(\w+)`", own) if needed(crate) - {crate} != told]
+        complaints += [f"{crate} stands on other crates" for crate in wrong]
     for path in sorted(CRATES.glob("*/src/**/*.rt")):
         if not path.read_text(encoding="utf-8").startswith("//! "):
             complaints.append(f"{path.relative_to(ROOT)} does not begin with a line //!")
