@@ -49,8 +49,8 @@ import tempfile
 from pathlib import Path
 from typing import NamedTuple
 
-import families
-from families import colouring, mixed, one_model, parity, parity_chains, pigeonhole, random_clauses, units
+from lib import families
+from lib.families import colouring, mixed, one_model, parity, parity_chains, pigeonhole, random_clauses, units
 
 SECONDS = 100
 REPLAY = Path(__file__).resolve().parent.parent / "crates" / "giputils_replay"
@@ -543,22 +543,37 @@ def choose(words):
 
 
 def parse(words):
-    parser = argparse.ArgumentParser(usage=__doc__)
+    parser = argparse.ArgumentParser(description=__doc__, formatter_class=argparse.RawDescriptionHelpFormatter)
     mode = parser.add_mutually_exclusive_group(required=True)
     mode.add_argument("--list", action="store_true")
     mode.add_argument("--write", metavar="FOLDER", type=Path)
     mode.add_argument("--time", action="store_true")
     mode.add_argument("--table", nargs="+", metavar="FILE", type=Path)
     mode.add_argument("--check", action="store_true")
-    parser.add_argument("formulas", nargs="?")
-    parser.add_argument("programs", nargs="*")
-    parser.add_argument("--family")
-    parser.add_argument("--sample", type=int)
-    parser.add_argument("--skip", type=int, default=0)
-    parser.add_argument("--limit", type=float, default=30)
-    parser.add_argument("--processor", type=int)
-    parser.add_argument("--keep", type=Path)
-    return parser.parse_intermixed_args(words)
+    parser.add_argument("formulas", nargs="?", metavar="FORMULAS")
+    parser.add_argument("programs", nargs="*", metavar="PROGRAM")
+    parser.add_argument("--family", metavar="NAME,..")
+    parser.add_argument("--sample", type=int, metavar="N")
+    parser.add_argument("--skip", type=int, default=0, metavar="N")
+    parser.add_argument("--limit", type=float, default=30, metavar="SECONDS")
+    parser.add_argument("--processor", type=int, metavar="N")
+    parser.add_argument("--keep", type=Path, metavar="FILE")
+    found = parser.parse_intermixed_args(words)
+    if (found.write or found.time or found.check) and not found.formulas:
+        parser.error("FORMULAS are wanted: a folder, tuning or report")
+    if found.formulas and found.formulas not in LISTS and not Path(found.formulas).is_dir():
+        parser.error(f"'{found.formulas}' is neither a folder nor one of {', '.join(LISTS)}")
+    least, most = (1, None) if found.time else (1, 2) if found.check else (0, 0)
+    if len(found.programs) < least:
+        parser.error("a program is wanted behind FORMULAS")
+    if most is not None and len(found.programs) > most:
+        parser.error(f"one word too many: '{found.programs[most]}'")
+    for program in found.programs:
+        if not shutil.which((shlex.split(program) or [""])[0]):
+            parser.error(f"there is no program '{program}'")
+    if (found.list or found.table) and found.formulas:
+        parser.error(f"one word too many: '{found.formulas}'")
+    return found
 
 
 def main():
@@ -567,17 +582,15 @@ def main():
         write_list()
     elif words.table:
         print_tables([json.loads(line) for path in words.table for line in path.read_text().splitlines()])
-    elif words.write and words.formulas:
+    elif words.write:
         words.write.mkdir(parents=True, exist_ok=True)
         for name, _, _, path in choose(words):
             shutil.copy(path, words.write / f"{name}.cnf")
-    elif words.time and words.programs:
+    elif words.time:
         sys.exit(measure(choose(words), words.programs, words.limit, words.processor, words.keep) > 0)
-    elif words.check and 0 < len(words.programs) < 3:
+    else:
         gipsat, *peer = map(shlex.split, words.programs)
         sys.exit(check(choose(words), gipsat, peer[0] if peer else []) > 0)
-    else:
-        sys.exit(__doc__)
 
 
 if __name__ == "__main__":

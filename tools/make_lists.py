@@ -15,19 +15,20 @@ The kept answers come from a program over the Rust crate giputils 0.3.6 that mak
 own container (command: `tools/make_lists.py giputils-oracle`). A call whose condition doesn't hold it answers by
 `skipped`, without making it. What it answers of a heap is compared with what a set of keys with ranks would.
 
-The list `new texts` is of questions on statistics. PROGRAM isn't asked: texts.py beside this answers. Nor
-is it of the lists `new solver ..` and `new tables ..`, which solver_lists.py makes with their answers.
+The list `new texts` is of questions on statistics. PROGRAM isn't asked: lib/texts.py answers. Nor
+is it of the lists `new solver ..` and `new tables ..`, which lib/solver_lists.py makes with their answers.
 
 Each sort of list comes from a seed of its own, so that a change of one sort leaves the others as they are.
 """
 
+import argparse
 import random
+import shutil
 import subprocess
 import sys
 from pathlib import Path
 
-import solver_lists
-import texts
+from lib import solver_lists, texts
 
 REPLAY = Path(__file__).resolve().parent.parent / "crates" / "giputils_replay"
 
@@ -390,15 +391,20 @@ def write_rows():
 
 
 def main():
-    if len(sys.argv) != 2:
-        sys.exit(__doc__)
-    if sys.argv[1] == "--rows":
+    parser = argparse.ArgumentParser(description=__doc__, formatter_class=argparse.RawDescriptionHelpFormatter)
+    source = parser.add_mutually_exclusive_group(required=True)
+    source.add_argument("--rows", action="store_true")
+    source.add_argument("program", nargs="?", metavar="PROGRAM")
+    asked = parser.parse_args()
+    if asked.rows:
         return write_rows()
+    if not shutil.which(asked.program):
+        parser.error(f"there is no program '{asked.program}'")
     questions = []
     answers = []
     for header, *calls in all_lists():
         questions += [header, *calls]
-        answers += [header, *answers_of(sys.argv[1], header, calls)]
+        answers += [header, *answers_of(asked.program, header, calls)]
     for header, calls, wanted in solver_lists.lists():
         questions += [header, *calls]
         answers += [header, *wanted]

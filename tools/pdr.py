@@ -1,8 +1,8 @@
 #!/usr/bin/env python3
 """Times gipmc beside abc's pdr, on families of circuits.
 
-tools/pdr.py SECONDS GIPMC [OPTION]..  GIPMC is the built program; `--engine ic3` times IC3 alone
-tools/pdr.py --family NAME SIZE        prints a circuit
+    tools/pdr.py SECONDS GIPMC [OPTION]..  GIPMC is the built program; `--engine ic3` times IC3 alone
+    tools/pdr.py --family NAME SIZE        prints a circuit
 
 The program gets the name of a file in AIGER's binary form as its last word, and writes a first line `0` where the
 circuit is safe, and `1` where it fails.
@@ -10,12 +10,14 @@ Each runs for so many seconds of processor time. A row has the latches and gates
 line has how many circuits each decided, and the geometric mean of the ratio of the times, where both decided and one of
 them took a tenth of a second.
 """
+import argparse
 import itertools
 import math
 import os
 import random
 import re
 import resource
+import shutil
 import subprocess
 import sys
 import tempfile
@@ -374,16 +376,25 @@ def timed(seconds, command):
 
 
 def main():
-    words = sys.argv[1:]
-    if len(words) == 3 and words[0] == "--family":
-        sys.stdout.write(made(words[1], int(words[2])).text())
-    elif len(words) > 1 and words[0].isdigit():
-        timed(int(words[0]), words[1:])
-    else:
-        print(__doc__, file=sys.stderr)
-        return 2
-    return 0
+    parser = argparse.ArgumentParser(description=__doc__, formatter_class=argparse.RawDescriptionHelpFormatter)
+    parser.add_argument("--family", nargs=2, metavar=("NAME", "SIZE"))
+    parser.add_argument("seconds", nargs="?", type=int, metavar="SECONDS")
+    parser.add_argument("program", nargs=argparse.REMAINDER, metavar="GIPMC [OPTION]..")
+    asked = parser.parse_args()
+    if asked.family:
+        name, size = asked.family
+        names = [*(family.__name__ for family in SIZES), *FAMILIES]
+        if name not in names or not size.isdigit() or asked.seconds is not None:
+            parser.error(f"--family takes one of {', '.join(names)} and a size, and nothing more")
+        sys.stdout.write(made(name, int(size)).text())
+        return
+    if not asked.program:
+        parser.error("SECONDS and the program GIPMC are wanted")
+    for program in (asked.program[0], "berkeley-abc"):
+        if not shutil.which(program):
+            parser.error(f"there is no program '{program}'")
+    timed(asked.seconds, asked.program)
 
 
 if __name__ == "__main__":
-    sys.exit(main())
+    main()

@@ -1,8 +1,6 @@
 #!/usr/bin/env python3
 """Times the workloads of giputils_bench beside those of other programs, and names the ratios that got worse.
 
-    tools/speed.py [--program FILE] [--peers DIR] [--turns N] [--processor N] [--write] [WORKLOAD..]
-
 Run it by hand, where a change touches a container or its workloads. FILE is the program, by default
 crates/giputils_bench/out/giputils_bench, which `rt run` makes in crates/giputils_bench. DIR holds the programs to
 compare with (by default the one that the variable GIPUTILS_PEERS names): bench-giputils, over the Rust crate giputils,
@@ -161,25 +159,25 @@ def write(rows):
 
 
 def main():
-    parser = argparse.ArgumentParser(usage=__doc__)
-    parser.add_argument("--program", default=str(TOP / "crates/giputils_bench/out/giputils_bench"))
-    parser.add_argument("--peers", default=os.environ.get("GIPUTILS_PEERS"))
-    parser.add_argument("--turns", type=int, default=7, help="at least 2")
-    parser.add_argument("--processor", type=int)
+    parser = argparse.ArgumentParser(description=__doc__, formatter_class=argparse.RawDescriptionHelpFormatter)
+    parser.add_argument("--program", default=str(TOP / "crates/giputils_bench/out/giputils_bench"), metavar="FILE")
+    parser.add_argument("--peers", default=os.environ.get("GIPUTILS_PEERS"), metavar="DIR")
+    parser.add_argument("--turns", type=int, default=7, metavar="N", help="at least 2")
+    parser.add_argument("--processor", type=int, metavar="N")
     parser.add_argument("--write", action="store_true")
-    parser.add_argument("workloads", nargs="*")
+    parser.add_argument("workloads", nargs="*", metavar="WORKLOAD")
     said = parser.parse_args()
     if said.turns < 2:
-        sys.exit("speed.py: --turns is at least 2, since the noise is measured between turns")
+        parser.error("--turns is at least 2, since the noise is measured between turns")
     known = workloads()
     unknown = [it for it in said.workloads if it not in known]
     if unknown:
-        sys.exit(f"speed.py: no workload has the name {unknown[0]}; there are {' '.join(known)}")
+        parser.error(f"no workload has the name {unknown[0]}; there are {' '.join(known)}")
     if not os.access(said.program, os.X_OK):
-        sys.exit(f"speed.py: there is no program {said.program}: make it by `rt run` in crates/giputils_bench")
+        parser.error(f"there is no program {said.program}: make it by `rt run` in crates/giputils_bench")
     folder = sorted(pathlib.Path(said.peers).glob("bench-*")) if said.peers else []
     if said.peers and not folder:
-        sys.exit(f"speed.py: no program in {said.peers} has a name bench-*")
+        parser.error(f"no program in {said.peers} has a name bench-*")
     peers = {path.name.removeprefix("bench-"): str(path) for path in folder if os.access(path, os.X_OK)}
     os.sched_setaffinity(0, {max(os.sched_getaffinity(0)) if said.processor is None else said.processor})
     rows, worse = load(), 0

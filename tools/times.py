@@ -1,7 +1,7 @@
 #!/usr/bin/env python3
 """Runs ./test, and prints where its processor time went, by crate and part, beside the time of a yardstick.
 
-    tools/times.py            runs ./test, shows what it prints, and then a table in Markdown
+It shows what ./test prints, and then the table for docs/SPEED.md. It takes as long as ./test, and a minute more.
 
 The yardstick is the check of one small crate from nothing, before ./test and after it. By it the figures of two machines
 compare, and of one whose processors are lent out to others.
@@ -11,6 +11,7 @@ prove: the crate, its tests, the wrong bodies that `rt ci` tries, or those of th
 between the last look and their end is in the whole alone, as is what is no proof: compilers, programs, scripts.
 """
 
+import argparse
 import collections
 import os
 import pathlib
@@ -94,6 +95,7 @@ def look(gate, taken):
 
 
 def main():
+    argparse.ArgumentParser(description=__doc__, formatter_class=argparse.RawDescriptionHelpFormatter).parse_args()
     before = yardstick()
     taken, start, began = {}, children_seconds(), time.monotonic()
     gate = subprocess.Popen([ROOT / "test"], cwd=ROOT)
