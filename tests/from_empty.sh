@@ -5,6 +5,9 @@
 # libraries, and the heap's caller as a module of giputils_heap_trials.
 # The last line is 'N passed, M failed'.
 set -u
+# shellcheck source=tests/usage.sh
+source "$(dirname "$0")/usage.sh"
+take_arguments tests/from_empty.sh "$@"
 here=$(cd "$(dirname "$0")/.." && pwd) || exit 2
 there=$(mktemp -d) || exit 2
 trap 'rm -rf "$there"' EXIT

@@ -1,9 +1,12 @@
 #!/usr/bin/env bash
-# Runs the model checker's program over circuits and into its faults: tests/gipmc.sh GIPMC
+# Runs the model checker's program over circuits and into its faults.
 # GIPMC is the built program: crates/gipmc/out/gipmc, which both `rt ci` and `rt run` leave. It prints a line for each
 # case. The last line is 'N passed, M failed', and the status is 1 where a case failed.
 set -u
-gipmc=${1:?usage: tests/gipmc.sh GIPMC}
+# shellcheck source=tests/usage.sh
+source "$(dirname "$0")/usage.sh"
+take_arguments "tests/gipmc.sh GIPMC" "$@"
+gipmc=$1
 if [ ! -x "$gipmc" ]; then
     echo "no program $gipmc"
     echo "0 passed, 1 failed"
@@ -272,8 +275,8 @@ printf '%b' "$kept" > kept.aag
 summary "a summary" 0 "c b0: $bmc$took" --engine bmc --depth 5 kept.aag
 summary "a summary of simulation" 0 "c b0: round [0-9]*; $took" --engine sim kept.aag
 summary "a summary of IC3 where its first calls decide" 20 "c b0: $ic3$took" --engine ic3 kept.aag
-"$top/tools/pdr.py" --family queue_length 4 > queue.aag
-summary "a summary of IC3" 20 "c b0: $ic3$took" --engine ic3 queue.aag
+# `tools/pdr.py --family queue_length 4` made it.
+summary "a summary of IC3" 20 "c b0: $ic3$took" --engine ic3 "$top/tests/queue.aag"
 summary "a summary of two literals" 10 "c b0: $bmc${took}c b1: $bmc$took" --engine bmc --depth 3 two.aag
 summary "a summary of the second literal" 10 "c b1: $bmc$took" --engine bmc --bad 1 two.aag
 printf '%b' "$kept" | "$gipmc" --quiet > out 2> err

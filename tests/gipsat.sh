@@ -1,9 +1,12 @@
 #!/usr/bin/env bash
-# Runs the solver's program over formulas and into its faults: tests/gipsat.sh GIPSAT
+# Runs the solver's program over formulas and into its faults.
 # GIPSAT is the built program: crates/gipsat/out/gipsat, which both `rt ci` and `rt run` leave. It prints a line for each
 # case. The last line is 'N passed, M failed', and the status is 1 where a case failed.
 set -u
-gipsat=${1:?usage: tests/gipsat.sh GIPSAT}
+# shellcheck source=tests/usage.sh
+source "$(dirname "$0")/usage.sh"
+take_arguments "tests/gipsat.sh GIPSAT" "$@"
+gipsat=$1
 if [ ! -x "$gipsat" ]; then
     echo "no program $gipsat"
     echo "0 passed, 1 failed"

@@ -7,6 +7,7 @@ The changes are made one by one in a copy of the repository's crates. Nothing is
 before any proof.
 """
 
+import argparse
 import pathlib
 import shutil
 import subprocess
@@ -48,6 +49,7 @@ def compile_with(case, copy):
 
 
 def main():
+    argparse.ArgumentParser(description=__doc__, formatter_class=argparse.RawDescriptionHelpFormatter).parse_args()
     with tempfile.TemporaryDirectory(prefix="giputils-") as room:
         copy = pathlib.Path(room)
         shutil.copytree(ROOT / "crates", copy / "crates", ignore=shutil.ignore_patterns("incremental", "rlib"))

@@ -8,6 +8,7 @@ Of the crate, only the functions in which these wrong bodies stand are checked, 
 is 'N passed, M failed'.
 """
 
+import argparse
 import re
 import subprocess
 import sys
@@ -56,14 +57,17 @@ def begin(crate):
 
 
 def main():
+    parser = argparse.ArgumentParser(description=__doc__, formatter_class=argparse.RawDescriptionHelpFormatter)
+    parser.add_argument("commit", nargs="?", default="HEAD", metavar="COMMIT")
+    asked = parser.parse_args()
+    words = ["git", "rev-parse", "--verify", "--quiet", "--end-of-options", asked.commit]
+    told = subprocess.run(words, cwd=wrong.ROOT, stdout=subprocess.PIPE, text=True)
+    if told.returncode:
+        parser.error(f"there is no commit '{asked.commit}'")
     uses = wrong.libraries()
     having = wrong.having_wrong_bodies(uses)
-    told = subprocess.run(["git", "rev-parse", *(sys.argv[1:] or ["HEAD"])], cwd=wrong.ROOT, stdout=subprocess.PIPE, check=True, text=True)
     name, first = chosen(told.stdout, having)
-    rt = wrong.load_kit()
-    of_kit = {each.name: each for each in rt.rtlib.crates_below(str(wrong.ROOT))}
-    words = lambda jobs: [rt.rtlib.RATTLE, "check", *of_kit[name].words(["--jobs", str(jobs)], keeps=False)]
-    crate = wrong.Crate(name, words, None)
+    crate = wrong.Crate(name, wrong.command_of(name), None)
     crate.bodies = some_of(crate.bodies, first)
     crate.kept.mkdir(parents=True, exist_ok=True)
     begin(crate)

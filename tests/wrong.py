@@ -4,8 +4,6 @@
     tests/wrong.py [CRATE..]     tries those of these crates, or of each whose line in tests/wrong.txt is not current, and
                                  writes the line of each crate whose wrong bodies were all refused as their files say
     tests/wrong.py --current     tries none, and tells whether each crate's line is current: part of ./test
-    tests/wrong.py --turn        tries those of one crate, which the commit chooses, over the libraries that `rt ci` built,
-                                 and heeds no line: part of ./test
 
     --jobs N         checks at a time (as many as there are processors and memory)
     --said FOLDER    keeps what the prover said of each check
@@ -466,8 +464,8 @@ class Said:
 class Crate:
     """A crate, and how its wrong bodies are tried."""
 
-    def __init__(self, name, commands, said_to):
-        self.name, self.commands, self.said_to = name, commands, said_to
+    def __init__(self, name, command, said_to):
+        self.name, self.command, self.said_to = name, command, said_to
         self.folder = ROOT / "crates" / name
         self.kept = self.folder / "out" / "incremental"
         found = [file for each in FOLDERS for file in sorted((self.folder / each).glob("*.edit"))]
@@ -475,7 +473,7 @@ class Crate:
         self.outcomes = {body: ("other", body.fault) for body in self.bodies if body.fault}
         self.names, self.checks, self.numbers = set(), 0, itertools.count(1)
 
-    def check(self, texts, only=(), kept=None, jobs=1):
+    def check(self, texts, only=(), kept=None):
         """What the prover says of a copy of the crate with these texts, over a copy of what the last check kept."""
         with tempfile.TemporaryDirectory(prefix="giputils-wrong-") as room:
             for part in PARTS:
@@ -486,7 +484,7 @@ class Crate:
             if kept is None:
                 kept = f"{room}/kept"
                 subprocess.run(["cp", "-a", self.kept, kept], check=True)
-            words = [*self.commands(jobs), "--incremental", str(kept), *(word for name in only for word in ("--only", name))]
+            words = [*self.command, "--incremental", str(kept), *(word for name in only for word in ("--only", name))]
             told = {"stdin": subprocess.DEVNULL, "stdout": subprocess.PIPE, "stderr": subprocess.STDOUT}
             ran = subprocess.run(words, cwd=room, text=True, errors="replace", **told)
         self.checks = number = next(self.numbers)
@@ -592,6 +590,7 @@ def report(crate):
     return len(crate.bodies) - failed, failed
 
 
+@functools.cache
 def load_kit():
     """The kit's `rt` as a module, which knows the words of a check."""
     sys.dont_write_bytecode = True
@@ -601,6 +600,17 @@ def load_kit():
     return made
 
 
+@functools.cache
+def crates_of_kit():
+    """The crates of the repository as the kit's `rt` sees them, by their names."""
+    return {each.name: each for each in load_kit().rtlib.crates_below(str(ROOT))}
+
+
+def command_of(crate):
+    """The command that checks a crate in the current folder."""
+    return [load_kit().rtlib.RATTLE, "check", *crates_of_kit()[crate].words(["--jobs", "1"], keeps=False)]
+
+
 def processors():
     """How many checks there is room for: one a processor, and 3 GB each."""
     memory = int(re.search(r"MemAvailable:\s+(\d+)", pathlib.Path("/proc/meminfo").read_text())[1])
@@ -608,36 +618,30 @@ def processors():
 
 
 def main():
-    asked = argparse.ArgumentParser(description=__doc__, formatter_class=argparse.RawDescriptionHelpFormatter)
-    asked.add_argument("crates", nargs="*", metavar="CRATE")
-    asked.add_argument("--current", action="store_true")
-    asked.add_argument("--turn", action="store_true")
-    asked.add_argument("--jobs", type=int, default=processors(), metavar="N")
-    asked.add_argument("--said", type=pathlib.Path, metavar="FOLDER")
-    asked = asked.parse_args()
+    parser = argparse.ArgumentParser(description=__doc__, formatter_class=argparse.RawDescriptionHelpFormatter)
+    parser.add_argument("crates", nargs="*", metavar="CRATE")
+    parser.add_argument("--current", action="store_true")
+    parser.add_argument("--jobs", type=int, default=processors(), metavar="N")
+    parser.add_argument("--said", type=pathlib.Path, metavar="FOLDER")
+    asked = parser.parse_args()
     uses = libraries()
+    having, kept = having_wrong_bodies(uses), ledger()
+    if unknown := [crate for crate in asked.crates if crate not in having]:
+        parser.error(f"'{unknown[0]}' is no crate with wrong bodies")
+    if asked.current and asked.crates:
+        parser.error("--current is of all crates")
+    if asked.jobs < 1:
+        parser.error("--jobs is at least 1")
     if asked.current:
         return current(uses)
-    having, kept = having_wrong_bodies(uses), ledger()
     sums = {crate: sum_of(crate, uses) for crate in having}
-    if unknown := [crate for crate in asked.crates if crate not in having]:
-        sys.exit(f"{unknown[0]} is no crate with wrong bodies")
     chosen = asked.crates or [crate for crate in having if kept.get(crate) != sums[crate]]
-    if asked.turn:
-        commit = subprocess.run(["git", "rev-parse", "HEAD"], cwd=ROOT, stdout=subprocess.PIPE, check=True, text=True)
-        chosen = [having[int(commit.stdout, 16) % len(having)]]
     if asked.said:
         asked.said.mkdir(parents=True, exist_ok=True)
-    rt = load_kit()
     os.chdir(ROOT)
-    of_kit = {each.name: each for each in rt.rtlib.crates_below(str(ROOT))}
-
-    def commands(name):
-        return lambda jobs: [rt.rtlib.RATTLE, "check", *of_kit[name].words(["--jobs", str(jobs)], keeps=False)]
-
-    crates = [Crate(name, commands(name), asked.said) for name in chosen]
+    crates = [Crate(name, command_of(name), asked.said) for name in chosen]
     for crate in crates:
-        prepare(crate, asked)
+        prepare(crate)
     try_all(crates, asked.jobs)
     passed = failed = 0
     for crate in crates:
@@ -646,20 +650,15 @@ def main():
         kept.pop(crate.name, None)
         if not not_refused and sum_of(crate.name, uses) == sums[crate.name]:
             kept[crate.name] = sums[crate.name]
-    if not asked.turn:
-        LEDGER.write_text("".join(f"{crate} {kept[crate]}\n" for crate in having if crate in kept), encoding="utf-8")
+    LEDGER.write_text("".join(f"{crate} {kept[crate]}\n" for crate in having if crate in kept), encoding="utf-8")
     print(f"{passed} passed, {failed} failed")
     return 1 if failed else 0
 
 
-def prepare(crate, asked):
+def prepare(crate):
     """Checks a crate as it is, so that its work is kept and the prover's names of its functions are known."""
-    if asked.turn:
-        crate.kept.mkdir(parents=True, exist_ok=True)
-        said = crate.check({}, kept=crate.kept, jobs=asked.jobs)
-    else:
-        ran = subprocess.run(["rt", "check"], cwd=crate.folder, stdout=subprocess.PIPE, text=True, errors="replace")
-        said = Said(ran.stdout)
+    ran = subprocess.run(["rt", "check"], cwd=crate.folder, stdout=subprocess.PIPE, text=True, errors="replace")
+    said = Said(ran.stdout)
     if not re.search(r"^logic=proved ", said.text, re.MULTILINE):
         sys.exit(f"{crate.name} is not proved without a wrong body:\n{said.text[-2000:]}")
     crate.learn_names(said)

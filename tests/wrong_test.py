@@ -3,6 +3,7 @@
 search's limit, and which changes make a crate's line not current; and tests/turn.py. The last line is 'N passed, M
 failed'."""
 
+import argparse
 import pathlib
 import re
 import shutil
@@ -286,6 +287,7 @@ def cases(repository):
 
 
 def main():
+    argparse.ArgumentParser(description=__doc__, formatter_class=argparse.RawDescriptionHelpFormatter).parse_args()
     passed = failed = 0
     with tempfile.TemporaryDirectory(prefix="giputils-wrong-test-") as folder:
         for name, found, wanted in cases(Repository(pathlib.Path(folder))):

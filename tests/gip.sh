@@ -1,9 +1,12 @@
 #!/usr/bin/env bash
-# Runs the program into each of its faults: tests/faults.sh GIP
-# GIP is the built program: crates/gip/out/gip, which both `rt ci` and `rt run` leave. It prints a line for each case. The
-# last line is 'N passed, M failed', and the status is 1 where a case failed.
+# Runs the program into each of its faults.
+# GIP is the built program: crates/gip/out/gip, which both `rt ci` and `rt run` leave. It prints a line for each
+# case. The last line is 'N passed, M failed', and the status is 1 where a case failed.
 set -u
-gip=${1:?usage: tests/faults.sh GIP}
+# shellcheck source=tests/usage.sh
+source "$(dirname "$0")/usage.sh"
+take_arguments "tests/gip.sh GIP" "$@"
+gip=$1
 if [ ! -x "$gip" ]; then
     echo "no program $gip"
     echo "0 passed, 1 failed"
