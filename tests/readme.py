@@ -1,0 +1,95 @@
+#!/usr/bin/env python3
+"""Runs the commands that README.md shows, and compares what they print with what stands below them.
+
+A command is a line `$ COMMAND` of a block ```console, which bash runs at the top of the checkout. It has to end with
+status 0, and to print the lines that follow, to standard output or error; a line `...` stands for any lines, and a
+command with no line below it may print anything. `./test`, which runs this script, and `rt ci`, which runs before it, are not run.
+
+The commands run in order in a copy of the files that git lists, with the programs crates/NAME/out/NAME that `rt ci` has
+built. A command counts as a test. The last line is 'N passed, M failed'.
+"""
+
+import argparse
+import os
+import pathlib
+import re
+import shutil
+import signal
+import subprocess
+import sys
+import tempfile
+
+ROOT = pathlib.Path(__file__).resolve().parent.parent
+SECONDS = 600
+BLOCK = re.compile(r"^```console\n(.*?)^```$", re.DOTALL | re.MULTILINE)
+NOT_RUN = re.compile(r"(?:\./test|rt ci)(?:\s+#.*)?")
+
+
+def commands(page):
+    """The commands of a page, each with the lines that it has to print."""
+    found = []
+    for block in BLOCK.findall(page):
+        for number, line in enumerate(block.splitlines()):
+            if line.startswith("$ "):
+                found.append((line[2:], []))
+            elif number:
+                found[-1][1].append(line)
+            else:
+                sys.exit(f"a block begins with no command, but with {line!r}")
+    for _, lines in found:
+        while lines and not lines[-1]:
+            lines.pop()
+    return found
+
+
+def copy_checkout(folder):
+    """Copies the files that git lists, and the programs that were built."""
+    words = ["git", "ls-files", "-z", "--cached", "--others", "--exclude-standard"]
+    listed = subprocess.run(words, cwd=ROOT, stdout=subprocess.PIPE, check=True, text=True).stdout
+    files = [ROOT / name for name in listed.split("\0") if name]
+    files += [path / "out" / path.name for path in (ROOT / "crates").iterdir()]
+    for file in filter(pathlib.Path.is_file, files):
+        copy = folder / file.relative_to(ROOT)
+        copy.parent.mkdir(parents=True, exist_ok=True)
+        shutil.copy(file, copy)
+
+
+def run(command, folder):
+    """What a command prints, and its status."""
+    streams = {"stdin": subprocess.DEVNULL, "stdout": subprocess.PIPE, "stderr": subprocess.STDOUT}
+    words = ["bash", "-c", command]
+    with subprocess.Popen(words, cwd=folder, text=True, errors="replace", start_new_session=True, **streams) as process:
+        try:
+            return process.communicate(timeout=SECONDS)[0], process.returncode
+        except subprocess.TimeoutExpired:
+            # With all that it has started.
+            os.killpg(process.pid, signal.SIGKILL)
+            return process.communicate()[0], f"none within {SECONDS} seconds"
+
+
+def is_as_shown(printed, lines):
+    """Whether a command printed what is shown; spaces at the ends of lines are no matter."""
+    wanted = "".join(r"(?:.*\n)*" if line == "..." else re.escape(line.rstrip()) + "\n" for line in lines)
+    return not lines or re.fullmatch(wanted, "".join(f"{line.rstrip()}\n" for line in printed.splitlines()))
+
+
+def main():
+    argparse.ArgumentParser(description=__doc__, formatter_class=argparse.RawDescriptionHelpFormatter).parse_args()
+    passed = failed = 0
+    with tempfile.TemporaryDirectory(prefix="giputils-readme-") as room:
+        copy_checkout(pathlib.Path(room))
+        for command, lines in commands((ROOT / "README.md").read_text(encoding="utf-8")):
+            if NOT_RUN.fullmatch(command):
+                continue
+            printed, status = run(command, room)
+            is_well = status == 0 and is_as_shown(printed, lines)
+            passed, failed = passed + bool(is_well), failed + (not is_well)
+            print(f"{'ok' if is_well else 'FAILED'}: {command}", flush=True)
+            if not is_well:
+                print(f"status {status}; it printed\n{printed[-2000:]}")
+    print(f"{passed} passed, {failed} failed")
+    return 1 if failed or not passed else 0
+
+
+if __name__ == "__main__":
+    sys.exit(main())
