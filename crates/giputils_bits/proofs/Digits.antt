@@ -151,8 +151,3 @@ value_of-below (false ∷ bs) = rw pow-suc (omega (arith, value_of-below bs))
 -- a list is the digits of its number
 pub digits_of-value_of : (bs : List Bool) → digits_of (length bs) (value_of bs) ≡ bs
 digits_of-value_of bs = digits_of_is (length bs) (value_of bs) bs refl (λ i below. has_digit-value_of bs i)
-
-pub value_of-digits_of : (number : ℕ) → number < 2 ^ 64 → value_of (digits_of 64 number) ≡ number
-value_of-digits_of number below =
-    let fits : value_of (digits_of 64 number) < 2 ^ 64 = rw (length-digits_of 64 number) at (value_of-below (digits_of 64 number)) in
-    same_from_digits _ number fits below (λ i within. has_digit-value_of (digits_of 64 number) i ∙ get_or-digits_of 64 number i false within)

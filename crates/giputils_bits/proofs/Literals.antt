@@ -1,15 +1,10 @@
 -- The values of a node of an and-inverter graph: `and` of two lists, each of them negated or not.
 use Rattle.std.proofs.Common.{◌≡◌, ℕ, ◌<◌, Bool, false, ◌&&◌, List, length, get_or, sym, ◌∙◌, arith}
 use Rattle.giputils_bits.specs.Logic.{and_of, negated_if, xor}
-use Rattle.giputils_bits.proofs.Logic.{length-zip_with, get_or-zip_with, length-negated_if, get_or-negated_if}
+use Rattle.giputils_bits.proofs.Logic.{get_or-zip_with, length-negated_if, get_or-negated_if}
 
 alike : (p q : Bool) (a b : List Bool) → length a ≡ length b → length (negated_if p a) ≡ length (negated_if q b)
 alike p q a b long = length-negated_if p a ∙ long ∙ sym (length-negated_if q b)
-
--- the node has as many values as each of them
-pub length-and_of_literals : (p q : Bool) (a b : List Bool) → length a ≡ length b
-    → length (and_of (negated_if p a) (negated_if q b)) ≡ length a
-length-and_of_literals p q a b long = length-zip_with ◌&&◌ (negated_if p a) (negated_if q b) (alike p q a b long) ∙ length-negated_if p a
 
 -- its value at a place
 pub get_or-and_of_literals : (p q : Bool) (a b : List Bool) (i : ℕ) → i < length a → length a ≡ length b

@@ -107,18 +107,6 @@ words_from-all : (ws : List ℕ) → 0 < length ws → words_from 0 (get_or ws 0
 words_from-all [] some = absurd (omega arith)
 words_from-all (w ∷ ws) some = refl
 
-skip-word : (k : ℕ) (ws : List ℕ) (j : ℕ) → get_or (words_from k 0 ws) j 0 ≡ get_or (words_from (k + 1) (get_or ws (k + 1) 0) ws) j 0
-skip-word k ws j = elim (cases_lt j (k + 1)) [
-  | inl l ↦ elim (cases_lt j k) [
-    | inl h ↦ word-before k 0 ws j h ∙ sym (word-before (k + 1) (get_or ws (k + 1) 0) ws j l)
-    | inr h ↦ let e : j ≡ k = omega arith in ap (λ i. get_or (words_from k 0 ws) i 0) e ∙ word-at k 0 ws ∙ sym (word-before (k + 1) (get_or ws (k + 1) 0) ws j l)
-  ]
-  | inr l ↦ word-after k 0 ws j (omega arith) ∙ elim (cases_eq j (k + 1)) [
-    | inl e ↦ rw e (sym (word-at (k + 1) (get_or ws (k + 1) 0) ws))
-    | inr m ↦ sym (word-after (k + 1) (get_or ws (k + 1) 0) ws j (omega arith))
-  ]
-]
-
 -- a place taken away
 SetsPlace-words_from : (k w v t : ℕ) (ws : List ℕ) → k < length ws → t < 64 → SetsDigit w v t false → SetsPlace (words_from k w ws) (words_from k v ws) (64 * k + t) false
 SetsPlace-words_from k w v t ws within small s =

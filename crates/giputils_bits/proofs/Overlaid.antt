@@ -9,9 +9,6 @@ use Rattle.giputils_bits.specs.Places.{place, bits_of, IsPacked, Overlays}
 use Rattle.giputils_bits.proofs.Digits.{has_digit-or, has_digit-zero, has_digit-above, has_digit-shl_low, has_digit-shl_high, has_digit-shr}
 use Rattle.giputils_bits.proofs.Places.{place_is, place-past, length-bits_of, get_or-bits_of, bits_of_is}
 
-pub Overlays-none : (n : ℕ) (others old : List ℕ) → Overlays n others old old (64 * (n / 64))
-Overlays-none n others old = record { count = refl; before = λ i h. refl; laid = λ i h l. absurd (omega arith); rest = λ i h. refl }
-
 -- the digits of x are the places that are laid on word j, where words are laid from place n on
 pub record IsLaid (n : ℕ) (others : List ℕ) (j x : ℕ) : Type 0 where
   pub below : (d : ℕ) → d < 64 → 64 * j + d < n → has_digit x d ≡ false
@@ -57,9 +54,6 @@ pub record Carries (n : ℕ) (others : List ℕ) (j carry : ℕ) : Type 0 where
   pub below : (d : ℕ) → 64 * j + d < n → has_digit carry d ≡ false
   pub low : (d : ℕ) → d < n % 64 → n ≤ 64 * j + d → has_digit carry d ≡ place others (64 * j + d - n)
   pub high : (d : ℕ) → n % 64 ≤ d → has_digit carry d ≡ false
-
-pub Carries-none : (n : ℕ) (others : List ℕ) → Carries n others (n / 64) 0
-Carries-none n others = record { below = λ d h. has_digit-zero d; low = λ d l h. absurd (omega arith); high = λ d h. has_digit-zero d }
 
 pub Carries-next : (n : ℕ) (others : List ℕ) (k j : ℕ) → get_or others k 0 < 2 ^ 64 → n / 64 + k + 1 ≡ j → Carries n others j (get_or others k 0 / 2 ^ 1 / 2 ^ (64 - 1 - n % 64))
 Carries-next n others k j fits at =

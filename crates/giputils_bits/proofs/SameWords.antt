@@ -6,7 +6,7 @@ use Rattle.std.specs.Int.Bits.{or_zero_l, xor_self}
 use Rattle.std.proofs.lemmas.List.{same_lists, get_or_default, take-append-drop}
 use Rattle.std.proofs.lemmas.Nat.{le_or_l, le_or_r}
 use Rattle.std.proofs.lemmas.Nat.Bits.{same_from_bits, bit_at-zero, bit_at-lt, bit_at_xor}
-use Rattle.std.proofs.lemmas.Bool.{cases_eq}
+use Rattle.std.proofs.lemmas.Bool.{cases_eq, eqb-true}
 
 -- numbers that do not differ are equal
 pub same_from_xor : (a b : ℕ) → bit_xor a b ≡ 0 → a ≡ b
@@ -34,14 +34,11 @@ GathersDifferences-more words others d k g =
     }
 
 -- where they are gathered from all words, the lists are equal exactly where there is none
-zero_from_test : (n : ℕ) → IsTrue (nat_eq n 0) → n ≡ 0
-zero_from_test n t = grind (arith, t)
-
 pub same_where_none : (words others : List ℕ) (differences : ℕ) → length words ≡ length others → GathersDifferences words others differences (length words)
     → IsTrue (nat_eq differences 0) ↔ (words ≡ others)
 same_where_none words others d long g = (
   λ t. same_lists words others long (λ k x within.
-      get_or_default words k x 0 within ∙ g.same (zero_from_test d t) k within ∙ sym (get_or_default others k x 0 (omega (arith, long)))),
+      get_or_default words k x 0 within ∙ g.same (eqb-true d 0 t) k within ∙ sym (get_or_default others k x 0 (omega (arith, long)))),
   λ e. ap (λ n. nat_eq n 0) (g.none (λ i l. ap (λ ws. get_or ws i 0) e)),
 )
 

@@ -4,11 +4,8 @@ use Rattle.std.specs.Prelude.{bit_or}
 use Rattle.std.specs.Int.Bits.{or_zero_l}
 use Rattle.std.proofs.lemmas.List.{get_or-take, get_or-drop, length-take, length-drop}
 use Rattle.std.proofs.lemmas.Nat.{le_or_l, le_or_r}
-use Rattle.std.proofs.lemmas.Bool.{cases_eq, cases_lt}
+use Rattle.std.proofs.lemmas.Bool.{cases_eq, cases_lt, eqb-true}
 use Rattle.giputils_bits.specs.Places.{MakesZeros}
-
-zero_from_test : (n : ℕ) → IsTrue (nat_eq n 0) → n ≡ 0
-zero_from_test n t = grind (arith, t)
 
 module _ (f : ℕ → ℕ → ℕ) where
   -- the number is 0 exactly where f makes 0 of the first k words and the ones at their places
@@ -28,7 +25,7 @@ module _ (f : ℕ → ℕ → ℕ) where
 
   pub zeros_where_none : (words others : List ℕ) (made : ℕ) → GathersZeros words others made (length words) → IsTrue (nat_eq made 0) ↔ MakesZeros f words others
   zeros_where_none words others made g = (
-    λ t. g.each (zero_from_test made t),
+    λ t. g.each (eqb-true made 0 t),
     λ zeros. ap (λ n. nat_eq n 0) (g.all zeros),
   )
 
