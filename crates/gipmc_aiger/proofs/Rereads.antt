@@ -7,7 +7,7 @@ use Rattle.std.specs.Char.{digit_value, is_ascii_digit}
 use Rattle.std.specs.Str.Parse.{AllDigits, digits_value_after}
 use Rattle.std.proofs.lemmas.Str.{digit_value_digit}
 use Rattle.std.proofs.lemmas.Str.Parse.{digit_from_value}
-use Rattle.std.proofs.lemmas.Fmt.{decimal_is_IsNumeral, le_value_after}
+use Rattle.std.proofs.lemmas.Fmt.{decimal_is_IsNumeral}
 use Rattle.giputils_text.specs.Lines.{space}
 use Rattle.gipsat_solver.specs.Literals.{Lit}
 use Rattle.gipmc_circuits.specs.declared.circuit.And.{And}
@@ -35,6 +35,10 @@ digit_less : (d : ℕ) → digit_value d < 10 → digit_value d ≡ d - 48
 digit_less d small = let same = digit_value_digit d (digit_from_value d small) in omega (arith, same)
 
 -- more digits make no smaller number
+value_grows : (n : ℕ) (ds : List ℕ) → n ≤ digits_value_after 10 n ds
+value_grows n [] = omega arith
+value_grows n (d ∷ ds) = let more = value_grows (n * 10 + digit_value d) ds in omega (arith, more)
+
 below : (n limit : ℕ) → n ≤ limit → nat_le n limit ≡ true
 below n limit within = grind (arith, within)
 
@@ -46,7 +50,7 @@ digits-reread limit n [] (end ∷ rest) all ends within = rw ends refl
 digits-reread limit n (d ∷ ds) rest (digit, all) ends within =
     let same : 10 * n + (d - 48) ≡ n * 10 + digit_value d = let e = digit_less d digit in omega (arith, e) in
     let small : nat_le (n * 10 + digit_value d) limit ≡ true =
-    below (n * 10 + digit_value d) limit (let g = le_value_after (n * 10 + digit_value d) ds in omega (arith, g, within))
+    below (n * 10 + digit_value d) limit (let g = value_grows (n * 10 + digit_value d) ds in omega (arith, g, within))
     in
     rw (digit_is d digit, same, small) (digits-reread limit (n * 10 + digit_value d) ds rest all ends within)
 

@@ -3,7 +3,7 @@ use Rattle.std.proofs.Common.{◌≡◌, ⊎_elim, ℕ, ◌&&◌, eqb, Bool, tru
 use Rattle.std.specs.Bool.{beq}
 use Rattle.std.specs.Cmp.{booleans_Decides}
 use Rattle.std.specs.List.{list_all}
-use Rattle.std.proofs.lemmas.Bool.{and_from, and_parts, both_ways, cases_Bool, cond-true, cond-false, eqb-true, eq-eqb, false≢true, not-true, or_cases, or_left, or_right, same_from_beq}
+use Rattle.std.proofs.lemmas.Bool.{and_from, and_parts, both_ways, cases_Bool, cond-true, cond-false, eqb-true, eq-eqb, not-true, or_cases, or_left, or_right}
 use Rattle.gipsat_solver.specs.Formulas.{Assignment, is_true}
 use Rattle.gipmc_circuits.specs.declared.circuit.And.{And}
 use Rattle.gipmc_circuits.specs.declared.circuit.Circuit.{Circuit}
@@ -44,9 +44,9 @@ same_from (g ∷ gates) defined a b order in_a in_b agree =
     let (here_a, rest_a) = and_parts (has_value a g) (list_all (has_value a) gates) in_a in
     let (here_b, rest_b) = and_parts (has_value b g) (list_all (has_value b) gates) in_b in
     let output : a g.output ≡ b g.output =
-    same_from_beq (a g.output) (is_true a g.left && is_true a g.right) here_a
+    (booleans_Decides (a g.output) (is_true a g.left && is_true a g.right)).0 here_a
     ∙ operands_alike g defined a b parts.operands agree
-    ∙ sym (same_from_beq (b g.output) (is_true b g.left && is_true b g.right) here_b)
+    ∙ sym ((booleans_Decides (b g.output) (is_true b g.left && is_true b g.right)).0 here_b)
     in
     same_from gates (with_variable g.output defined) a b parts.rest rest_a rest_b
     (λ v is. ⊎_elim (λ same. let here : v ≡ g.output = eqb-true v g.output same in subst (λ w. a w ≡ b w) (sym here)
