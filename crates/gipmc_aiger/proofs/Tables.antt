@@ -1,9 +1,9 @@
 -- Tables of what defines variables, and lists that are read one after the other.
 use Rattle.std.proofs.Common.{◌≡◌, ⊎_elim, ℕ, zero, suc, ◌<◌, ◌++◌, ◌||◌, ◌&&◌, not, IsTrue, eqb, Bool, true, false, List, [], ◌∷◌, length, set, get_or, take, drop, Option, Some, None, refl, sym, ap, subst, ◌∙◌, ◌+◌, arith}
+use Rattle.std.proofs.Math.Bool.{or_assoc}
 use Rattle.std.proofs.Math.Path.{fun_ext}
 use Rattle.std.proofs.lemmas.Bool.{cases_Bool, eqb-true, eq-eqb, false≢true, or_left, or_right}
 use Rattle.std.proofs.lemmas.List.{get_or-set_other, get_or-set_same, get_or_default, take-append-drop, take_more}
-use Rattle.std.proofs.lemmas.List.Folds.{or_assoc}
 use Rattle.std.proofs.Math.Seq.{drop-cons}
 use Rattle.std.specs.Prelude.{is_some}
 use Rattle.gipsat_solver.specs.Literals.{Lit}
@@ -56,7 +56,7 @@ pub comes_twice-append : (xs ys : List ℕ) (d : ℕ → Bool) (v : ℕ)
 comes_twice-append [] ys d v = refl
 comes_twice-append (x ∷ xs) ys d v =
     ap (λ b. (eqb x v && d x) || b) (comes_twice-append xs ys (with_variable x d) v)
-    ∙ or_assoc (eqb x v && d x) (comes_twice xs (with_variable x d) v) (comes_twice ys (with_variables xs (with_variable x d)) v)
+    ∙ sym (or_assoc (eqb x v && d x) (comes_twice xs (with_variable x d) v) (comes_twice ys (with_variables xs (with_variable x d)) v))
 
 -- a defect of a part is one of the whole
 pub twice_front : (xs ys : List ℕ) (d : ℕ → Bool) (e : Defect) → IsTwiceIn xs d e → IsTwiceIn (xs ++ ys) d e
@@ -76,7 +76,7 @@ twice_behind xs ys d (defect.Cycle v) is = absurd is
 has_variable-append : (xs ys : List Lit) (v : ℕ) → has_variable (xs ++ ys) v ≡ (has_variable xs v || has_variable ys v)
 has_variable-append [] ys v = refl
 has_variable-append (x ∷ xs) ys v =
-    ap (λ b. eqb x.variable v || b) (has_variable-append xs ys v) ∙ or_assoc (eqb x.variable v) (has_variable xs v) (has_variable ys v)
+    ap (λ b. eqb x.variable v || b) (has_variable-append xs ys v) ∙ sym (or_assoc (eqb x.variable v) (has_variable xs v) (has_variable ys v))
 
 and_or_left : (a b c : Bool) → (a && c) ≡ true → ((a || b) && c) ≡ true
 and_or_left true b c is = is
