@@ -3,7 +3,6 @@ mod Counting
 mod Examples
 mod FirstQuestion
 mod Followed
-mod Gathered
 mod Held
 mod Incrementals
 mod MinimalCores

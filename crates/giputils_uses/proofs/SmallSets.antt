@@ -21,12 +21,6 @@ joined xs ys long q = get_or-zip_with_all ◌||◌ xs ys q refl long
 pub met : (xs ys : List Bool) → length xs ≡ length ys → IsIntersection xs ys (and_of xs ys)
 met xs ys long q = get_or-zip_with_all ◌&&◌ xs ys q refl long
 
-pub as_long : (f : Bool → Bool → Bool) (xs ys : List Bool) → length xs ≡ length ys → length (zip_with f xs ys) ≡ length xs
-as_long f xs ys long = length-zip_with f xs ys long
-
-pub as_long_without : (xs ys : List Bool) → length xs ≡ length ys → length (and_of xs (not_of ys)) ≡ length xs
-as_long_without = length-without
-
 pub taken : (xs ys : List Bool) → length xs ≡ length ys → IsDifference xs ys (and_of xs (not_of ys))
 taken xs ys long q = get_or-without xs ys q long
 
@@ -35,3 +29,6 @@ within = sets.within
 
 pub counted : (bs : List Bool) → true_count bs ≡ length (true_places 0 bs)
 counted bs = sym (length-true_places 0 bs)
+
+-- what two sets of one bound have together, either alone or in common is as long
+pub ruleset as_long = (length-zip_with, length-without)

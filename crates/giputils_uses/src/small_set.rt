@@ -94,7 +94,7 @@ impl<A: Allocator> SmallSet<A> {
     }
 
     /// Takes the members of another set of the same bound out.
-    #[tactic(auto, using(crate::proofs::SmallSets::taken, crate::proofs::SmallSets::as_long_without))]
+    #[tactic(auto, using(crate::proofs::SmallSets::taken, crate::proofs::SmallSets::as_long))]
     pub fn subtract<B: Allocator>(&mut self, other: &SmallSet<B>)
         requires { length self.old ≡ length other.now }
         ensures members { IsDifference self.old other.now self.new }
