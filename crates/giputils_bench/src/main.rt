@@ -47,45 +47,70 @@ const WORKLOADS: [&str; 24] = [
     "calls_within",
 ];
 
+// What the arguments ask for.
+#[derive(Clone, Copy)]
+struct Task<'a> {
+    workload: &'a str,
+    size: u32,
+    seed: u64,
+    reps: u64,
+}
+
 fn main(rt: HostRuntime) -> anyhow::Result<ExitCode> {
-    let alloc = rt.alloc();
-    let args: Vec<String> = env::args(&rt)?.collect(alloc)?;
+    let args: Vec<String> = env::args(&rt)?.collect(rt.alloc())?;
+    perform(&rt, task(rt.alloc(), &args)?)
+}
+
+// What the arguments ask for, of which the first is the name of the program.
+fn task(alloc: Global, args: &[String]) -> anyhow::Result<Task<'_>> {
     let words: Vec<&str> = args.iter().map(|arg| arg.as_str()).collect(alloc)?;
-    let (workload, size, seed, reps) = match *words.as_slice() {
+    task_of(&words)
+}
+
+fn task_of<'a>(words: &[&'a str]) -> anyhow::Result<Task<'a>> {
+    let (workload, size, seed, reps) = match *words {
         [_, workload, size, seed] => (workload, size, seed, "1"),
         [_, workload, size, seed, reps] => (workload, size, seed, reps),
         _ => bail!("usage: giputils_bench WORKLOAD SIZE SEED [REPS]"),
     };
-    let size: u32 = size.parse().context("SIZE")?;
-    let seed: u64 = seed.parse().context("SEED")?;
-    let reps: u64 = reps.parse().context("REPS")?;
-    if workload == "all" {
-        for workload in WORKLOADS {
-            if let Some(checksum) = repeat(alloc, workload, size, seed, reps)? {
-                println!(rt; "{workload} {checksum}")?;
-            }
+    Ok(Task {
+        workload,
+        size: size.parse().context("SIZE")?,
+        seed: seed.parse().context("SEED")?,
+        reps: reps.parse().context("REPS")?,
+    })
+}
+
+// Runs the workload, or all of them, and prints the checksums.
+fn perform(rt: &HostRuntime, task: Task<'_>) -> anyhow::Result<ExitCode> {
+    if task.workload == "all" {
+        for &workload in &WORKLOADS {
+            print_named(rt, Task { workload, ..task })?;
         }
         return Ok(ExitCode::SUCCESS);
     }
-    match repeat(alloc, workload, size, seed, reps)? {
+    match repeat(rt.alloc(), task)? {
         Some(checksum) => println!(rt; "{checksum}")?,
         None => return Ok(ExitCode::from(3)),
     }
     Ok(ExitCode::SUCCESS)
 }
 
-// The checksum of `reps` runs of the workload of this name, if there is one.
-fn repeat(
-    alloc: Global,
-    workload: &str,
-    size: u32,
-    seed: u64,
-    reps: u64,
-) -> anyhow::Result<Option<Checksum>> {
+// Prints the workload's name and its checksum, if there is one of this name.
+fn print_named(rt: &HostRuntime, task: Task<'_>) -> anyhow::Result<()> {
+    let workload = task.workload;
+    if let Some(checksum) = repeat(rt.alloc(), task)? {
+        println!(rt; "{workload} {checksum}")?;
+    }
+    Ok(())
+}
+
+// The checksum of all runs of the workload of a task, if there is one of this name.
+fn repeat(alloc: Global, task: Task<'_>) -> anyhow::Result<Option<Checksum>> {
     let mut checksum = Checksum::new();
-    for rep in 0..reps {
-        let mut rng = Generator::new(seed.wrapping_add(rep));
-        if !run(alloc, workload, size, &mut rng, &mut checksum)? {
+    for rep in 0..task.reps {
+        let mut rng = Generator::new(task.seed.wrapping_add(rep));
+        if !run(alloc, task.workload, task.size, &mut rng, &mut checksum)? {
             return Ok(None);
         }
     }
