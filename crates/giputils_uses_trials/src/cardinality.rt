@@ -1,98 +1,100 @@
 //! Clauses that say how many of some literals are true.
 
+use crate::formulas::literals;
 use gipsat_solver::{AnswerUnder, Literal, Solver};
 use giputils_uses::cardinality::{add_at_least_one, add_at_most_one, add_exactly_one};
-use std::alloc::Global;
+use std::alloc::{AllocError, Global};
 use std::test::Fail;
 
-// What is said of a formula.
-#[derive(Clone, Copy, PartialEq, Eq, Debug)]
-enum Said {
-    True(usize),
-    Unsat,
-    Unknown,
+// How many of the literals are true.
+#[derive(Clone, Copy)]
+enum Count {
+    AtLeastOne,
+    AtMostOne,
+    ExactlyOne,
 }
 
-fn literals(positive: bool) -> [Literal; 4] {
-    [
-        Literal::new(0, positive),
-        Literal::new(1, positive),
-        Literal::new(2, positive),
-        Literal::new(3, positive),
-    ]
+// Assumptions, and how many variables are true in a model under them, where there is one.
+type Question = (&'static [i8], Option<usize>);
+
+// What is added about four variables, and what is asked then.
+const FORMULAS: &[(Count, &[Question])] = &[
+    (
+        Count::ExactlyOne,
+        &[
+            (&[], Some(1)),
+            (&[3], Some(1)),
+            (&[2, 3], None),
+            (&[-1, -2, -3, -4], None),
+        ],
+    ),
+    (
+        Count::AtMostOne,
+        &[
+            (&[-1, -2, -3, -4], Some(0)),
+            (&[1], Some(1)),
+            (&[1, 2], None),
+        ],
+    ),
+    (
+        Count::AtLeastOne,
+        &[
+            (&[1, 2, 3, 4], Some(4)),
+            (&[-2, -3, -4], Some(1)),
+            (&[-1, -2, -3, -4], None),
+        ],
+    ),
+];
+
+fn add(solver: &mut Solver, count: Count, literals: &[Literal]) -> Result<(), AllocError> {
+    match count {
+        Count::AtLeastOne => add_at_least_one(solver, literals),
+        Count::AtMostOne => add_at_most_one(solver, literals),
+        Count::ExactlyOne => add_exactly_one(solver, literals),
+    }
 }
 
-// How many variables are true in the model that is found under assumptions.
-fn say(solver: &mut Solver<Global>, assumptions: &[Literal]) -> Result<Said, Fail> {
-    Ok(match solver.solve_under(assumptions, 1000)? {
-        AnswerUnder::Sat(model) => Said::True(model.iter().filter(|value| **value).count()),
-        AnswerUnder::Unsat(_) => Said::Unsat,
-        AnswerUnder::Unknown => Said::Unknown,
-    })
+// Whether so many variables are true in a model, or there is none.
+fn is_right(answer: &AnswerUnder, wanted: Option<usize>) -> bool {
+    match answer {
+        AnswerUnder::Sat(model) => Some(model.iter().filter(|value| **value).count()) == wanted,
+        AnswerUnder::Unsat(_) => wanted.is_none(),
+        AnswerUnder::Unknown => false,
+    }
 }
 
-fn of_exactly_one(solver: &mut Solver<Global>) -> Result<[Said; 4], Fail> {
-    let positive = literals(true);
-    let [_, b, c, _] = positive;
-    add_exactly_one(solver, &positive)?;
-    Ok([
-        say(solver, &[])?,
-        say(solver, &[c])?,
-        say(solver, &[b, c])?,
-        say(solver, &literals(false))?,
-    ])
+// Whether a question has the right answer.
+fn answers(alloc: Global, solver: &mut Solver, question: Question) -> Result<bool, AllocError> {
+    let (assumptions, wanted) = question;
+    let answer = solver.solve_under(&literals(alloc, assumptions)?, 1000)?;
+    Ok(is_right(&answer, wanted))
 }
 
-fn said_of_exactly_one(alloc: Global) -> Result<[Said; 4], Fail> {
-    of_exactly_one(&mut Solver::new(alloc))
+// How many questions in a row have the right answers, once it was added how many variables are true.
+fn right_answers(
+    alloc: Global,
+    solver: &mut Solver,
+    count: Count,
+    questions: &[Question],
+) -> Result<usize, AllocError> {
+    add(solver, count, &literals(alloc, &[1, 2, 3, 4])?)?;
+    for (place, &question) in questions.iter().enumerate() {
+        if !answers(alloc, solver, question)? {
+            return Ok(place);
+        }
+    }
+    Ok(questions.len())
+}
+
+// The same, of a solver of no clause.
+fn ask(alloc: Global, count: Count, questions: &[Question]) -> Result<usize, AllocError> {
+    right_answers(alloc, &mut Solver::new(alloc), count, questions)
 }
 
 #[test]
-fn exactly_one_is_true(rt: HostRuntime) -> Result<(), Fail> {
-    let said = said_of_exactly_one(rt.alloc())?;
-    assert!(rt; said == [Said::True(1), Said::True(1), Said::Unsat, Said::Unsat]);
-    Ok(())
-}
-
-fn of_at_most_one(solver: &mut Solver<Global>) -> Result<[Said; 3], Fail> {
-    let positive = literals(true);
-    add_at_most_one(solver, &positive)?;
-    Ok([
-        say(solver, &literals(false))?,
-        say(solver, &positive[..1])?,
-        say(solver, &positive[..2])?,
-    ])
-}
-
-fn said_of_at_most_one(alloc: Global) -> Result<[Said; 3], Fail> {
-    of_at_most_one(&mut Solver::new(alloc))
-}
-
-#[test]
-fn at_most_one_is_true(rt: HostRuntime) -> Result<(), Fail> {
-    let said = said_of_at_most_one(rt.alloc())?;
-    assert!(rt; said == [Said::True(0), Said::True(1), Said::Unsat]);
-    Ok(())
-}
-
-fn of_at_least_one(solver: &mut Solver<Global>) -> Result<[Said; 3], Fail> {
-    let (positive, negative) = (literals(true), literals(false));
-    let [_, b, c, d] = negative;
-    add_at_least_one(solver, &positive)?;
-    Ok([
-        say(solver, &positive)?,
-        say(solver, &[b, c, d])?,
-        say(solver, &negative)?,
-    ])
-}
-
-fn said_of_at_least_one(alloc: Global) -> Result<[Said; 3], Fail> {
-    of_at_least_one(&mut Solver::new(alloc))
-}
-
-#[test]
-fn at_least_one_is_true(rt: HostRuntime) -> Result<(), Fail> {
-    let said = said_of_at_least_one(rt.alloc())?;
-    assert!(rt; said == [Said::True(4), Said::True(1), Said::Unsat]);
+fn as_many_are_true_as_was_said(rt: HostRuntime) -> Result<(), Fail> {
+    for &(count, questions) in FORMULAS {
+        assert!(rt; ask(rt.alloc(), count, questions)? == questions.len());
+    }
     Ok(())
 }

@@ -19,6 +19,8 @@ mod drain;
 #[cfg(test)]
 mod first_question;
 #[cfg(test)]
+mod formulas;
+#[cfg(test)]
 mod incremental;
 #[cfg(test)]
 mod last;

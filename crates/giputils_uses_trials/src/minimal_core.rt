@@ -1,65 +1,46 @@
 //! A core none of whose literals can be left out.
 
+use crate::formulas::{give, literals};
 use gipsat_solver::{Literal, Solver};
 use giputils_uses::minimal_core::minimal_core;
-use std::alloc::Global;
+use std::alloc::{AllocError, Global};
 use std::test::Fail;
 
-// Under assumption v clause v holds: a or b, not a or b, not b, b or c.
-fn guarded(alloc: Global) -> Result<Solver<Global>, Fail> {
-    let mut solver = Solver::new(alloc);
-    add_guarded(&mut solver)?;
-    Ok(solver)
+// Where guard 1 to 4 is true, its clause holds: 5 or 6, not 5 or 6, not 6, 6 or 7.
+const GUARDED: &[&[i8]] = &[&[-1, 5, 6], &[-2, -5, 6], &[-3, -6], &[-4, 6, 7]];
+
+// Assumptions, and the variables of each minimal core of them, as the bits of a number. 0 where all can be true.
+const QUESTIONS: &[(&[i8], &[u32])] = &[
+    // Either the first three guards, or the last two and that 7 is false.
+    (&[4, 1, 2, -7, 3], &[0b111, 0b1001100]),
+    (&[1, 2], &[0]),
+];
+
+// The variables of a core, as the bits of a number. 0 where there is none.
+fn variables_of(core: &Option<Vec<Literal>>) -> u32 {
+    let Some(core) = core else {
+        return 0;
+    };
+    core.iter()
+        .fold(0, |bits, l| bits | 1 << (l.variable() % 32))
 }
 
-fn add_guarded(solver: &mut Solver<Global>) -> Result<(), Fail> {
-    let (a, b) = (Literal::new(4, true), Literal::new(5, true));
-    solver.add_clause(&[Literal::new(0, false), a, b])?;
-    solver.add_clause(&[Literal::new(1, false), a.negated(), b])?;
-    solver.add_clause(&[Literal::new(2, false), b.negated()])?;
-    solver.add_clause(&[Literal::new(3, false), b, Literal::new(6, true)])?;
-    Ok(())
+// The variables of a minimal core that a solver of no clause finds.
+fn core_by(alloc: Global, solver: &mut Solver, assumptions: &[i8]) -> Result<u32, AllocError> {
+    give(alloc, solver, GUARDED)?;
+    let core = minimal_core(alloc, solver, &literals(alloc, assumptions)?, 1000)?;
+    Ok(variables_of(&core))
 }
 
-// The variables of a minimal core of these assumptions, as the bits of a number. 0 where none is found.
-fn core_of(alloc: Global, assumptions: &[Literal], limit: usize) -> Result<u32, Fail> {
-    let mut solver = guarded(alloc)?;
-    core_in(alloc, &mut solver, assumptions, limit)
-}
-
-// The same, of the formula in a solver.
-fn core_in(
-    alloc: Global,
-    solver: &mut Solver<Global>,
-    assumptions: &[Literal],
-    limit: usize,
-) -> Result<u32, Fail> {
-    let core = minimal_core(alloc, solver, assumptions, limit)?;
-    let core = core.unwrap_or(Vec::new(alloc));
-    Ok(
-        core.iter()
-            .fold(0, |bits, l| bits | 1 << (l.variable() % 32)),
-    )
+fn core_of(alloc: Global, assumptions: &[i8]) -> Result<u32, AllocError> {
+    core_by(alloc, &mut Solver::new(alloc), assumptions)
 }
 
 #[test]
 fn what_is_not_needed_is_left_out(rt: HostRuntime) -> Result<(), Fail> {
-    let all = [
-        Literal::new(3, true),
-        Literal::new(0, true),
-        Literal::new(1, true),
-        Literal::new(6, false),
-        Literal::new(2, true),
-    ];
-    // Either the first three clauses, or the last two and that c is false.
-    let core = core_of(rt.alloc(), &all, 1000)?;
-    assert!(rt; core == 0b111 || core == 0b1001100);
-    Ok(())
-}
-
-#[test]
-fn none_is_found_where_all_can_be_true(rt: HostRuntime) -> Result<(), Fail> {
-    let some = [Literal::new(0, true), Literal::new(1, true)];
-    assert!(rt; core_of(rt.alloc(), &some, 1000)? == 0);
+    for &(assumptions, cores) in QUESTIONS {
+        let core = core_of(rt.alloc(), assumptions)?;
+        assert!(rt; cores.contains(&core));
+    }
     Ok(())
 }
