@@ -4,7 +4,8 @@
 #[cfg(test)]
 mod certificates;
 pub mod example;
-pub mod latched;
+#[cfg(test)]
+mod latched;
 #[cfg(test)]
 mod moments;
 #[cfg(test)]

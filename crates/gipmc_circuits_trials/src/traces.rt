@@ -1,77 +1,79 @@
 //! Traces that are replayed.
 
 use crate::latched::latched;
-use gipmc_circuits::{Trace, replay};
+use gipmc_circuits::{Circuit, Trace, replay};
 use gipsat_solver::Literal;
-use std::alloc::{AllocError, Allocator};
+use std::alloc::{AllocError, Global};
 
-// Whether the circuit fails by this trace: at first the latches hold these values, and the input is one after another.
-// A constraint is added, if there is one.
-fn fails<A: Allocator + Copy>(
-    alloc: A,
-    constraint: Option<Literal>,
-    latches: &[bool],
-    inputs: &[bool],
-) -> Result<bool, AllocError> {
+// A variable and its value at each moment, if there is a constraint.
+type Constraint = Option<(u8, bool)>;
+
+// The circuit with a constraint.
+fn constrained(alloc: Global, constraint: Constraint) -> Result<Circuit, AllocError> {
     let mut circuit = latched(alloc)?;
-    if let Some(l) = constraint {
-        circuit.constraints.push(l)?;
+    if let Some((variable, value)) = constraint {
+        circuit
+            .constraints
+            .push(Literal::new(u32::from(variable), value))?;
     }
+    Ok(circuit)
+}
+
+// The values of the input, one moment after another.
+fn rows(alloc: Global, inputs: &[bool]) -> Result<Vec<Vec<bool>>, AllocError> {
     let mut rows = Vec::new(alloc);
-    for input in inputs {
-        let mut row = Vec::new(alloc);
-        row.push(*input)?;
+    for &input in inputs {
+        let row = Vec::from_array(alloc, [input])?;
         rows.reserve(1)?;
         rows.push_reserved(row);
     }
-    let trace = Trace {
+    Ok(rows)
+}
+
+// The trace that begins with these values of the latches.
+fn trace(alloc: Global, latches: &[bool], inputs: &[bool]) -> Result<Trace, AllocError> {
+    let inputs = rows(alloc, inputs)?;
+    Ok(Trace {
         latches: latches.to_vec(alloc)?,
-        inputs: rows,
-    };
+        inputs,
+    })
+}
+
+// Whether the circuit fails by a trace.
+fn fails(
+    alloc: Global,
+    constraint: Constraint,
+    latches: &[bool],
+    inputs: &[bool],
+) -> Result<bool, AllocError> {
+    let circuit = constrained(alloc, constraint)?;
+    let trace = trace(alloc, latches, inputs)?;
     replay(alloc, &circuit, Literal::new(4, true), &trace)
 }
 
-#[test]
-fn replays_what_the_circuit_does(rt: HostRuntime) -> Result<(), AllocError> {
+// A constraint, the values of the latches at first and of the input one moment after another, and whether the circuit
+// fails by this trace.
+const TRACES: &[(Constraint, &[bool], &[bool], bool)] = &[
     // Latch 3 may begin at 1, and latch 2 holds the input then.
-    assert!(rt; fails(rt.alloc(), None, &[false, true], &[true, false])?);
+    (None, &[false, true], &[true, false], true),
     // Latch 3 may begin at 0 as well, and the gate is false then.
-    assert!(rt; !fails(rt.alloc(), None, &[false, false], &[true, false])?);
+    (None, &[false, false], &[true, false], false),
     // Latch 2 has to begin at 0.
-    assert!(rt; !fails(rt.alloc(), None, &[true, true], &[false])?);
+    (None, &[true, true], &[false], false),
     // No moment at all.
-    assert!(rt; !fails(rt.alloc(), None, &[false, true], &[])?);
-    Ok(())
-}
+    (None, &[false, true], &[], false),
+    // The first moment alone breaks it.
+    (Some((1, false)), &[false, true], &[true, false], false),
+    // The last moment alone breaks it.
+    (Some((2, false)), &[false, true], &[true, false], false),
+    // None breaks it.
+    (Some((3, true)), &[false, true], &[true, false], true),
+];
 
 #[test]
-fn constraints_hold_at_each_moment(rt: HostRuntime) -> Result<(), AllocError> {
-    // The first moment alone breaks it.
-    assert!(rt;
-        !fails(
-            rt.alloc(),
-            Some(Literal::new(1, false)),
-            &[false, true],
-            &[true, false]
-        )?
-    );
-    // The last moment alone breaks it.
-    assert!(rt;
-        !fails(
-            rt.alloc(),
-            Some(Literal::new(2, false)),
-            &[false, true],
-            &[true, false]
-        )?
-    );
-    // None breaks it.
-    assert!(rt;
-        fails(
-            rt.alloc(),
-            Some(Literal::new(3, true)),
-            &[false, true],
-            &[true, false]
-        )?
-    );
+fn replays_what_the_circuit_does(rt: HostRuntime) -> Result<(), AllocError> {
+    for &(constraint, latches, inputs, wanted) in TRACES {
+        assert!(rt; fails(rt.alloc(), constraint, latches, inputs)? == wanted);
+    }
     Ok(())
 }
