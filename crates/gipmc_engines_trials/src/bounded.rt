@@ -1,13 +1,13 @@
 //! How far bounded model checking goes.
 
-use crate::shifter::{full, shifter};
+use crate::shifter::{FULL, shifter};
 use crate::stopper::Stopper;
 use gipmc_engines::{Bounds, Verdict, search};
 use gipsat_solver::Literal;
-use std::alloc::{AllocError, Allocator};
+use std::alloc::{AllocError, Global};
 
 // What a search says, in short.
-#[derive(Clone, Copy, PartialEq, Eq, Debug)]
+#[derive(Clone, Copy, PartialEq, Eq)]
 enum Found {
     // A trace of so many moments.
     Trace(usize),
@@ -17,50 +17,47 @@ enum Found {
     Other,
 }
 
+// What is said where this is the verdict.
+fn found_by(verdict: &Verdict) -> Found {
+    match verdict {
+        Verdict::Fails(trace) => Found::Trace(trace.inputs.len()),
+        Verdict::NoFailureWithin(depth) => Found::Within(*depth),
+        _ => Found::Other,
+    }
+}
+
 // What a search to one depth says of the register, where a listener stops it before another.
-fn told<A: Allocator + Copy>(
-    alloc: A,
-    bad: Literal,
-    depth: u8,
-    stop: u8,
-) -> Result<Found, AllocError> {
+fn told(alloc: Global, bad: Literal, depth: usize, stop: usize) -> Result<Found, AllocError> {
     let circuit = shifter(alloc)?;
-    let mut watch = Stopper::new(0, usize::from(stop));
     let bounds = Bounds {
-        depth: usize::from(depth),
+        depth,
         limit: 100,
         calls: 0,
     };
-    Ok(match search(alloc, &circuit, bad, bounds, &mut watch)? {
-        Verdict::Fails(trace) => Found::Trace(trace.inputs.len()),
-        Verdict::NoFailureWithin(depth) => Found::Within(depth),
-        _ => Found::Other,
-    })
+    let verdict = search(alloc, &circuit, bad, bounds, &mut Stopper::new(0, stop))?;
+    Ok(found_by(&verdict))
 }
 
-#[test]
-fn finds_a_shortest_trace(rt: HostRuntime) -> Result<(), AllocError> {
-    assert!(rt; told(rt.alloc(), full(), 9, 9)? == Found::Trace(3));
-    assert!(rt; told(rt.alloc(), full(), 2, 9)? == Found::Trace(3));
-    Ok(())
-}
+// The bad literal's variable, a depth, the depth where a listener stops, and what is found.
+const SEARCHES: &[(u8, usize, usize, Found)] = &[
+    // A shortest trace.
+    (FULL, 9, 9, Found::Trace(3)),
+    (FULL, 2, 9, Found::Trace(3)),
+    // The greatest depth ends it.
+    (FULL, 1, 9, Found::Within(1)),
+    (FULL, 0, 9, Found::Within(0)),
+    // The listener stops it.
+    (FULL, 9, 2, Found::Within(1)),
+    (FULL, 9, 0, Found::Within(0)),
+    // The variable is not there.
+    (9, 5, 9, Found::Other),
+];
 
 #[test]
-fn ends_at_the_greatest_depth(rt: HostRuntime) -> Result<(), AllocError> {
-    assert!(rt; told(rt.alloc(), full(), 1, 9)? == Found::Within(1));
-    assert!(rt; told(rt.alloc(), full(), 0, 9)? == Found::Within(0));
-    Ok(())
-}
-
-#[test]
-fn ends_where_a_listener_stops_it(rt: HostRuntime) -> Result<(), AllocError> {
-    assert!(rt; told(rt.alloc(), full(), 9, 2)? == Found::Within(1));
-    assert!(rt; told(rt.alloc(), full(), 9, 0)? == Found::Within(0));
-    Ok(())
-}
-
-#[test]
-fn says_nothing_of_a_variable_that_is_not_there(rt: HostRuntime) -> Result<(), AllocError> {
-    assert!(rt; told(rt.alloc(), Literal::new(9, true), 5, 9)? == Found::Other);
+fn finds_a_shortest_trace_as_far_as_it_may_go(rt: HostRuntime) -> Result<(), AllocError> {
+    for &(variable, depth, stop, found) in SEARCHES {
+        let bad = Literal::new(u32::from(variable), true);
+        assert!(rt; told(rt.alloc(), bad, depth, stop)? == found);
+    }
     Ok(())
 }

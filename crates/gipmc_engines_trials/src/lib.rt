@@ -4,9 +4,11 @@
 #[cfg(test)]
 mod bounded;
 pub mod example;
-pub mod shifter;
+#[cfg(test)]
+mod shifter;
 #[cfg(test)]
 mod simulation;
-pub mod stopper;
+#[cfg(test)]
+mod stopper;
 #[cfg(test)]
 mod turns;

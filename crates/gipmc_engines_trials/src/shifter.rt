@@ -4,9 +4,12 @@ use gipmc_circuits::{And, Circuit, Latch};
 use gipsat_solver::Literal;
 use std::alloc::{AllocError, Allocator};
 
-/// The literal that is true where both latches are.
+/// The gate that is true where both latches are.
+pub const FULL: u8 = 4;
+
+/// The literal of this gate.
 pub fn full() -> Literal {
-    Literal::new(4, true)
+    Literal::new(u32::from(FULL), true)
 }
 
 /// Latch 2 is one after a moment at which input 1 was, and latch 3 once latch 2 was one at the moment before. Both

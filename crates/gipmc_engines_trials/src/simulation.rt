@@ -5,44 +5,43 @@ use crate::stopper::Stopper;
 use gipmc_circuits::{And, Circuit, Latch};
 use gipmc_engines::{Tries, simulate};
 use gipsat_solver::Literal;
-use std::alloc::{AllocError, Allocator};
+use std::alloc::{AllocError, Global};
 
 // How many moments the trace has that simulation finds for the register, and of how many rounds a listener was told
 // that stops it after some.
-fn found<A: Allocator + Copy>(
-    alloc: A,
-    moments: u8,
-    rounds: u8,
-    stop: u8,
+fn found(
+    alloc: Global,
+    moments: usize,
+    rounds: usize,
+    stop: usize,
 ) -> Result<(Option<usize>, usize), AllocError> {
     let circuit = shifter(alloc)?;
     let tries = Tries {
         seed: 7,
-        rounds: usize::from(rounds),
-        moments: usize::from(moments),
+        rounds,
+        moments,
     };
-    let mut watch = Stopper::new(usize::from(stop), 0);
+    let mut watch = Stopper::new(stop, 0);
     let trace = simulate(alloc, &circuit, full(), tries, &mut watch)?;
     Ok((trace.map(|trace| trace.inputs.len()), watch.told))
 }
 
-#[test]
-fn finds_a_trace(rt: HostRuntime) -> Result<(), AllocError> {
-    // Of the runs one in four has the inputs for it.
-    assert!(rt; found(rt.alloc(), 9, 1, 9)? == (Some(3), 0));
-    Ok(())
-}
+// The moments of a run, the rounds, the round where a listener stops, and what is found and told.
+const RUNS: &[(usize, usize, usize, (Option<usize>, usize))] = &[
+    // Of the runs one in four has the inputs for a trace.
+    (9, 1, 9, (Some(3), 0)),
+    // The budget ends it.
+    (2, 9, 99, (None, 9)),
+    (9, 0, 99, (None, 0)),
+    // The listener stops it.
+    (2, 255, 3, (None, 3)),
+];
 
 #[test]
-fn ends_with_its_budget(rt: HostRuntime) -> Result<(), AllocError> {
-    assert!(rt; found(rt.alloc(), 2, 9, 99)? == (None, 9));
-    assert!(rt; found(rt.alloc(), 9, 0, 99)? == (None, 0));
-    Ok(())
-}
-
-#[test]
-fn ends_where_a_listener_stops_it(rt: HostRuntime) -> Result<(), AllocError> {
-    assert!(rt; found(rt.alloc(), 2, 255, 3)? == (None, 3));
+fn finds_a_trace_as_long_as_it_may(rt: HostRuntime) -> Result<(), AllocError> {
+    for &(moments, rounds, stop, wanted) in RUNS {
+        assert!(rt; found(rt.alloc(), moments, rounds, stop)? == wanted);
+    }
     Ok(())
 }
 
@@ -56,7 +55,7 @@ fn both(output: u8, left: u8, right: u8) -> And {
 }
 
 // Gate 11 is true where latches 1 to 3, which may begin at either value, and inputs 4 to 6 are.
-fn all_at_once<A: Allocator + Copy>(alloc: A) -> Result<Circuit<A>, AllocError> {
+fn all_at_once(alloc: Global) -> Result<Circuit, AllocError> {
     let mut circuit = Circuit::new(alloc);
     for &variable in &[1u8, 2, 3] {
         circuit.latches.push(Latch {
@@ -74,22 +73,21 @@ fn all_at_once<A: Allocator + Copy>(alloc: A) -> Result<Circuit<A>, AllocError> 
     Ok(circuit)
 }
 
-#[test]
-fn draws_a_trace_again(rt: HostRuntime) -> Result<(), AllocError> {
-    // Of the runs one in 64 has these values at the first moment: a trace with others would be refused.
-    let alloc = rt.alloc();
+// How many moments the trace has that one round finds for this circuit.
+fn found_at_once(alloc: Global) -> Result<Option<usize>, AllocError> {
+    let circuit = all_at_once(alloc)?;
     let tries = Tries {
         seed: 1,
         rounds: 1,
         moments: 9,
     };
-    let trace = simulate(
-        alloc,
-        &all_at_once(alloc)?,
-        Literal::new(11, true),
-        tries,
-        &mut (),
-    )?;
-    assert!(rt; trace.map(|trace| trace.inputs.len()) == Some(1));
+    let trace = simulate(alloc, &circuit, Literal::new(11, true), tries, &mut ())?;
+    Ok(trace.map(|trace| trace.inputs.len()))
+}
+
+#[test]
+fn draws_a_trace_again(rt: HostRuntime) -> Result<(), AllocError> {
+    // Of the runs one in 64 has these values at the first moment: a trace with others would be refused.
+    assert!(rt; found_at_once(rt.alloc())? == Some(1));
     Ok(())
 }

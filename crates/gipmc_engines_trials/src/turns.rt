@@ -2,12 +2,13 @@
 
 use crate::shifter::{full, register, shifter};
 use crate::stopper::Stopper;
+use gipmc_circuits::Circuit;
 use gipmc_engines::{Bounds, Verdict, decide, decide_by_turns};
 use gipsat_solver::Literal;
-use std::alloc::{AllocError, Allocator};
+use std::alloc::{AllocError, Global};
 
 // What is said, in short.
-#[derive(Clone, Copy, PartialEq, Eq, Debug)]
+#[derive(Clone, Copy, PartialEq, Eq)]
 enum Said {
     // There is a trace that fails.
     Fails,
@@ -19,15 +20,13 @@ enum Said {
     Unknown,
 }
 
-impl Said {
-    // What a verdict says.
-    fn of<A: Allocator>(verdict: Verdict<A>) -> Self {
-        match verdict {
-            Verdict::Fails(_) => Said::Fails,
-            Verdict::Safe(_) => Said::Safe,
-            Verdict::NoFailureWithin(depth) => Said::Within(depth),
-            Verdict::Unknown => Said::Unknown,
-        }
+// What a verdict says.
+fn said_by(verdict: &Verdict) -> Said {
+    match verdict {
+        Verdict::Fails(_) => Said::Fails,
+        Verdict::Safe(_) => Said::Safe,
+        Verdict::NoFailureWithin(depth) => Said::Within(*depth),
+        Verdict::Unknown => Said::Unknown,
     }
 }
 
@@ -37,69 +36,85 @@ fn never() -> Literal {
 }
 
 // What IC3 says of the register by so many calls.
-fn alone<A: Allocator + Copy>(alloc: A, bad: Literal, calls: u8) -> Result<Said, AllocError> {
+fn alone(alloc: Global, bad: Literal, calls: usize) -> Result<Said, AllocError> {
     let circuit = shifter(alloc)?;
-    let verdict = decide(alloc, &circuit, bad, usize::from(calls), &mut ())?;
-    Ok(Said::of(verdict))
+    let verdict = decide(alloc, &circuit, bad, calls, &mut ())?;
+    Ok(said_by(&verdict))
 }
 
 // Bounds for both.
-fn bounds(depth: u8, calls: u8) -> Bounds {
+fn bounds(depth: usize, calls: usize) -> Bounds {
     Bounds {
-        depth: usize::from(depth),
+        depth,
         limit: 1000,
-        calls: usize::from(calls),
+        calls,
     }
 }
 
 // What both say by turns.
-fn by_turns<A: Allocator + Copy>(
-    alloc: A,
-    bad: Literal,
-    depth: u8,
-    calls: u8,
-) -> Result<Said, AllocError> {
+fn by_turns(alloc: Global, bad: Literal, depth: usize, calls: usize) -> Result<Said, AllocError> {
     let circuit = shifter(alloc)?;
-    let bounds = bounds(depth, calls);
-    let verdict = decide_by_turns(alloc, &circuit, bad, bounds, &mut ())?;
-    Ok(Said::of(verdict))
+    said_by_turns(alloc, &circuit, bad, bounds(depth, calls))
 }
 
-#[test]
-fn finds_a_trace(rt: HostRuntime) -> Result<(), AllocError> {
-    assert!(rt; alone(rt.alloc(), full(), 200)? == Said::Fails);
-    assert!(rt; by_turns(rt.alloc(), full(), 9, 200)? == Said::Fails);
-    Ok(())
+fn said_by_turns(
+    alloc: Global,
+    circuit: &Circuit,
+    bad: Literal,
+    bounds: Bounds,
+) -> Result<Said, AllocError> {
+    let verdict = decide_by_turns(alloc, circuit, bad, bounds, &mut ())?;
+    Ok(said_by(&verdict))
 }
 
-#[test]
-fn finds_a_trace_by_ic3_where_bounded_model_checking_waits(
-    rt: HostRuntime,
-) -> Result<(), AllocError> {
-    assert!(rt; by_turns(rt.alloc(), full(), 0, 200)? == Said::Fails);
-    Ok(())
+// Who decides about the register.
+#[derive(Clone, Copy)]
+enum Decider {
+    // IC3 by so many calls.
+    Alone(usize),
+    // Bounded model checking to a depth, and IC3 by so many calls.
+    ByTurns(usize, usize),
 }
 
-#[test]
-fn finds_an_invariant(rt: HostRuntime) -> Result<(), AllocError> {
-    assert!(rt; alone(rt.alloc(), never(), 200)? == Said::Safe);
-    assert!(rt; by_turns(rt.alloc(), never(), 9, 200)? == Said::Safe);
-    Ok(())
+fn say(alloc: Global, bad: Literal, decider: Decider) -> Result<Said, AllocError> {
+    match decider {
+        Decider::Alone(calls) => alone(alloc, bad, calls),
+        Decider::ByTurns(depth, calls) => by_turns(alloc, bad, depth, calls),
+    }
 }
 
+// What is said where both latches are.
+const OF_FULL: &[(Decider, Said)] = &[
+    (Decider::Alone(200), Said::Fails),
+    (Decider::ByTurns(9, 200), Said::Fails),
+    // IC3 finds a trace where bounded model checking waits.
+    (Decider::ByTurns(0, 200), Said::Fails),
+];
+
+// What is said where the bad literal is never true.
+const OF_NEVER: &[(Decider, Said)] = &[
+    (Decider::Alone(200), Said::Safe),
+    (Decider::ByTurns(9, 200), Said::Safe),
+    // All calls are made.
+    (Decider::Alone(0), Said::Unknown),
+    (Decider::ByTurns(0, 0), Said::Unknown),
+];
+
 #[test]
-fn ends_where_all_calls_are_made(rt: HostRuntime) -> Result<(), AllocError> {
-    assert!(rt; alone(rt.alloc(), never(), 0)? == Said::Unknown);
-    assert!(rt; by_turns(rt.alloc(), never(), 0, 0)? == Said::Unknown);
+fn finds_traces_and_invariants(rt: HostRuntime) -> Result<(), AllocError> {
+    for &(decider, said) in OF_FULL {
+        assert!(rt; say(rt.alloc(), full(), decider)? == said);
+    }
+    for &(decider, said) in OF_NEVER {
+        assert!(rt; say(rt.alloc(), never(), decider)? == said);
+    }
     Ok(())
 }
 
 // What both say by turns of a register of 60 latches, which is full after as many transitions, by few calls.
-fn of_a_long_register<A: Allocator + Copy>(alloc: A, depth: u8) -> Result<Said, AllocError> {
+fn of_a_long_register(alloc: Global, depth: usize) -> Result<Said, AllocError> {
     let circuit = register(alloc, 60)?;
-    let last = Literal::new(61, true);
-    let verdict = decide_by_turns(alloc, &circuit, last, bounds(depth, 150), &mut ())?;
-    Ok(Said::of(verdict))
+    said_by_turns(alloc, &circuit, Literal::new(61, true), bounds(depth, 150))
 }
 
 #[test]
@@ -108,26 +123,43 @@ fn says_how_far_bounded_model_checking_came(rt: HostRuntime) -> Result<(), Alloc
     Ok(())
 }
 
-// Of how many slices of IC3 a listener is told that stops it behind the first one which finds nothing, alone and by
-// turns.
-fn told<A: Allocator + Copy>(
-    alloc: A,
+// Of how many slices of IC3 a listener is told that stops it behind the first one which finds nothing.
+fn told_alone(
+    alloc: Global,
+    circuit: &Circuit,
     bad: Literal,
-    calls: u8,
-) -> Result<(usize, usize), AllocError> {
+    calls: usize,
+) -> Result<usize, AllocError> {
+    let mut watch = Stopper::new(0, 0);
+    let _ = decide(alloc, circuit, bad, calls, &mut watch)?;
+    Ok(watch.slices)
+}
+
+// The same by turns.
+fn told_by_turns(
+    alloc: Global,
+    circuit: &Circuit,
+    bad: Literal,
+    calls: usize,
+) -> Result<usize, AllocError> {
+    let mut watch = Stopper::new(0, 0);
+    let _ = decide_by_turns(alloc, circuit, bad, bounds(0, calls), &mut watch)?;
+    Ok(watch.slices)
+}
+
+// Both.
+fn told(alloc: Global, bad: Literal, calls: usize) -> Result<(usize, usize), AllocError> {
     let circuit = shifter(alloc)?;
-    let mut alone = Stopper::new(0, 0);
-    let _ = decide(alloc, &circuit, bad, usize::from(calls), &mut alone)?;
-    let mut by_turns = Stopper::new(0, 0);
-    let _ = decide_by_turns(alloc, &circuit, bad, bounds(0, calls), &mut by_turns)?;
-    Ok((alone.slices, by_turns.slices))
+    let alone = told_alone(alloc, &circuit, bad, calls)?;
+    let by_turns = told_by_turns(alloc, &circuit, bad, calls)?;
+    Ok((alone, by_turns))
 }
 
 #[test]
 fn tells_of_each_slice(rt: HostRuntime) -> Result<(), AllocError> {
     // Of the one that finds a trace or an invariant, and of the one behind which all calls are made.
-    assert!(rt; told(rt.alloc(), full(), 200)? == (1, 1));
-    assert!(rt; told(rt.alloc(), never(), 200)? == (1, 1));
-    assert!(rt; told(rt.alloc(), never(), 0)? == (1, 1));
+    for &(bad, calls) in &[(full(), 200), (never(), 200), (never(), 0)] {
+        assert!(rt; told(rt.alloc(), bad, calls)? == (1, 1));
+    }
     Ok(())
 }
