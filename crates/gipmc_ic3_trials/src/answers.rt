@@ -1,13 +1,13 @@
 //! What a search finds, replayed or certified.
 
-use crate::circuits::{counter, ring, shift_register};
+use crate::circuits::{Kind, literal, made};
 use gipmc_circuits::{Circuit, Trace, certificate, certify, replay};
 use gipmc_ic3::{Found, Search};
 use gipsat_solver::Literal;
-use std::alloc::{AllocError, Allocator};
+use std::alloc::{AllocError, Allocator, Global};
 
 // What is believed of a circuit.
-#[derive(Clone, Copy, PartialEq, Eq, Debug)]
+#[derive(Clone, Copy, PartialEq, Eq)]
 pub(crate) enum Answer {
     // It fails by a trace of so many moments.
     Fails(usize),
@@ -18,9 +18,9 @@ pub(crate) enum Answer {
 }
 
 // What a search of one slice finds out about a circuit.
-fn answer_of<A: Allocator + Copy>(
-    alloc: A,
-    circuit: &Circuit<A>,
+fn answer_of(
+    alloc: Global,
+    circuit: &Circuit,
     bad: Literal,
     calls: u64,
 ) -> Result<Answer, AllocError> {
@@ -29,12 +29,12 @@ fn answer_of<A: Allocator + Copy>(
 }
 
 // What a search of one slice finds.
-fn found_in_a_slice<A: Allocator + Copy>(
-    alloc: A,
-    circuit: &Circuit<A>,
+fn found_in_a_slice(
+    alloc: Global,
+    circuit: &Circuit,
     bad: Literal,
     calls: u64,
-) -> Result<Found<A>, AllocError> {
+) -> Result<Found, AllocError> {
     let mut search = Search::new(alloc, circuit, bad)?;
     search.run(calls)
 }
@@ -80,54 +80,55 @@ fn certified<A: Allocator + Copy>(
     }
 }
 
-// The answer about the shift register with a reset and a constraint.
-fn answer_of_register<A: Allocator + Copy>(
-    alloc: A,
-    reset: Option<bool>,
-    constraint: Literal,
-) -> Result<Answer, AllocError> {
-    let mut circuit = shift_register(alloc, reset)?;
-    circuit.constraints.push(constraint)?;
-    answer_of(alloc, &circuit, Literal::new(6, true), 1000)
-}
-
-#[test]
-fn finds_shortest_traces(rt: HostRuntime) -> Result<(), AllocError> {
-    // No constraint.
-    let none = Literal::new(0, false);
-    assert!(rt; answer_of_register(rt.alloc(), Some(false), none)? == Answer::Fails(4));
+// A circuit, the literal that is bad, and what a search finds out about them.
+const ANSWERS: &[(Kind, (u8, bool), Answer)] = &[
+    // No constraint. The traces are shortest ones.
+    (
+        Kind::Register(Some(false), (0, false)),
+        (6, true),
+        Answer::Fails(4),
+    ),
     // A free latch may begin at 1.
-    assert!(rt; answer_of_register(rt.alloc(), None, none)? == Answer::Fails(1));
-    let circuit = counter(rt.alloc())?;
-    assert!(rt; answer_of(rt.alloc(), &circuit, Literal::new(6, true), 1000)? == Answer::Fails(4));
-    Ok(())
-}
-
-#[test]
-fn constraints_hold_at_each_moment(rt: HostRuntime) -> Result<(), AllocError> {
+    (
+        Kind::Register(None, (0, false)),
+        (6, true),
+        Answer::Fails(1),
+    ),
+    (Kind::Counter, (6, true), Answer::Fails(4)),
     // The input is always 0.
-    assert!(rt;
-        answer_of_register(rt.alloc(), Some(false), Literal::new(1, false))? == Answer::Safe
-    );
+    (
+        Kind::Register(Some(false), (1, false)),
+        (6, true),
+        Answer::Safe,
+    ),
     // Only the last moment would break this.
-    assert!(rt;
-        answer_of_register(rt.alloc(), Some(false), Literal::new(4, false))? == Answer::Safe
-    );
+    (
+        Kind::Register(Some(false), (4, false)),
+        (6, true),
+        Answer::Safe,
+    ),
     // It excludes the bad literal at each moment.
-    assert!(rt; answer_of_register(rt.alloc(), None, Literal::new(5, false))? == Answer::Safe);
+    (Kind::Register(None, (5, false)), (6, true), Answer::Safe),
     // No moment meets this.
-    assert!(rt; answer_of_register(rt.alloc(), None, Literal::new(0, true))? == Answer::Safe);
-    Ok(())
+    (Kind::Register(None, (0, true)), (6, true), Answer::Safe),
+    (Kind::Ring, (6, true), Answer::Safe),
+    // A constant.
+    (Kind::Ring, (0, true), Answer::Safe),
+    (Kind::Ring, (0, false), Answer::Fails(1)),
+    // An input.
+    (Kind::Ring, (1, true), Answer::Fails(1)),
+];
+
+// What a search of one slice finds out about a circuit of this kind.
+fn answer_about(alloc: Global, kind: Kind, bad: (u8, bool)) -> Result<Answer, AllocError> {
+    let circuit = made(alloc, kind)?;
+    answer_of(alloc, &circuit, literal(bad), 1000)
 }
 
 #[test]
-fn finds_invariants(rt: HostRuntime) -> Result<(), AllocError> {
-    let circuit = ring(rt.alloc())?;
-    assert!(rt; answer_of(rt.alloc(), &circuit, Literal::new(6, true), 1000)? == Answer::Safe);
-    // A constant.
-    assert!(rt; answer_of(rt.alloc(), &circuit, Literal::new(0, true), 1000)? == Answer::Safe);
-    assert!(rt; answer_of(rt.alloc(), &circuit, Literal::new(0, false), 1000)? == Answer::Fails(1));
-    // An input.
-    assert!(rt; answer_of(rt.alloc(), &circuit, Literal::new(1, true), 1000)? == Answer::Fails(1));
+fn finds_shortest_traces_and_invariants(rt: HostRuntime) -> Result<(), AllocError> {
+    for &(kind, bad, answer) in ANSWERS {
+        assert!(rt; answer_about(rt.alloc(), kind, bad)? == answer);
+    }
     Ok(())
 }

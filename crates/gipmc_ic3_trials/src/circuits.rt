@@ -45,12 +45,9 @@ fn circuit<A: Allocator + Copy>(
     Ok(circuit)
 }
 
-/// A shift register: latch 2 holds next what input 1 is, latch 3 what latch 2 is, and latch 4 what latch 3 is. Each has
-/// this reset. Gate 6 is true where all three are.
-///
-/// # Errors
-/// `AllocError` where memory is refused.
-pub fn shift_register<A: Allocator + Copy>(
+// A shift register: latch 2 holds next what input 1 is, latch 3 what latch 2 is, and latch 4 what latch 3 is. Each has
+// this reset. Gate 6 is true where all three are.
+fn shift_register<A: Allocator + Copy>(
     alloc: A,
     reset: Option<bool>,
 ) -> Result<Circuit<A>, AllocError> {
@@ -63,12 +60,9 @@ pub fn shift_register<A: Allocator + Copy>(
     circuit(alloc, &latches, &gates)
 }
 
-/// A token in a ring of latches 2 to 5, which moves to the next latch at each moment. It is in latch 2 at first. Gate 6
-/// is true where both latch 2 and latch 4 have one.
-///
-/// # Errors
-/// `AllocError` where memory is refused.
-pub fn ring<A: Allocator + Copy>(alloc: A) -> Result<Circuit<A>, AllocError> {
+// A token in a ring of latches 2 to 5, which moves to the next latch at each moment. It is in latch 2 at first. Gate 6
+// is true where both latch 2 and latch 4 have one.
+fn ring<A: Allocator + Copy>(alloc: A) -> Result<Circuit<A>, AllocError> {
     let latches = [
         latch(2, is(5), Some(true)),
         latch(3, is(2), Some(false)),
@@ -78,12 +72,9 @@ pub fn ring<A: Allocator + Copy>(alloc: A) -> Result<Circuit<A>, AllocError> {
     circuit(alloc, &latches, &[gate(6, is(2), is(4))])
 }
 
-/// A counter of latch 2, the low digit, and latch 3. It begins at 0, and goes on where input 1 is true. Gate 6 is true
-/// where it is at 3 and goes on.
-///
-/// # Errors
-/// `AllocError` where memory is refused.
-pub fn counter<A: Allocator + Copy>(alloc: A) -> Result<Circuit<A>, AllocError> {
+// A counter of latch 2, the low digit, and latch 3. It begins at 0, and goes on where input 1 is true. Gate 6 is true
+// where it is at 3 and goes on.
+fn counter<A: Allocator + Copy>(alloc: A) -> Result<Circuit<A>, AllocError> {
     let latches = [latch(2, is(8), Some(false)), latch(3, is(9), Some(false))];
     let gates = [
         gate(4, is(1), is(2)),
@@ -94,4 +85,43 @@ pub fn counter<A: Allocator + Copy>(alloc: A) -> Result<Circuit<A>, AllocError> 
         gate(9, not(6), not(7)),
     ];
     circuit(alloc, &latches, &gates)
+}
+
+/// One of these circuits.
+#[derive(Clone, Copy)]
+pub enum Kind {
+    /// The shift register with a reset, and the constraint that a variable has a value.
+    Register(Option<bool>, (u8, bool)),
+    /// The ring.
+    Ring,
+    /// The counter.
+    Counter,
+}
+
+/// The literal that is true where a variable has a value.
+pub fn literal((variable, value): (u8, bool)) -> Literal {
+    Literal::new(u32::from(variable), value)
+}
+
+/// A circuit of this kind.
+///
+/// # Errors
+/// `AllocError` where memory is refused.
+pub fn made<A: Allocator + Copy>(alloc: A, kind: Kind) -> Result<Circuit<A>, AllocError> {
+    match kind {
+        Kind::Register(reset, constraint) => constrained(alloc, reset, literal(constraint)),
+        Kind::Ring => ring(alloc),
+        Kind::Counter => counter(alloc),
+    }
+}
+
+// The shift register with a constraint.
+fn constrained<A: Allocator + Copy>(
+    alloc: A,
+    reset: Option<bool>,
+    constraint: Literal,
+) -> Result<Circuit<A>, AllocError> {
+    let mut circuit = shift_register(alloc, reset)?;
+    circuit.constraints.push(constraint)?;
+    Ok(circuit)
 }

@@ -3,8 +3,10 @@
 
 #[cfg(test)]
 mod answers;
-pub mod caller;
-pub mod circuits;
+#[cfg(test)]
+mod caller;
+#[cfg(test)]
+mod circuits;
 #[cfg(test)]
 mod memory;
 #[cfg(test)]

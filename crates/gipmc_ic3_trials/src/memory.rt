@@ -1,7 +1,7 @@
 //! Searches that are refused memory.
 
 use crate::answers::{Answer, checked};
-use crate::circuits::{counter, ring};
+use crate::circuits::{Kind, made};
 use gipmc_circuits::Circuit;
 use gipmc_ic3::{Found, Search};
 use gipsat_solver::Literal;
@@ -39,48 +39,32 @@ fn found_at_last<'a>(
     }
 }
 
-fn answer_of_counter(memory: &Refusing) -> Result<Answer, AllocError> {
-    let circuit = counter(memory)?;
+fn answer_of(memory: &Refusing, kind: Kind) -> Result<Answer, AllocError> {
+    let circuit = made(memory, kind)?;
     answer_at_last(memory, &circuit)
 }
 
-fn answer_of_ring(memory: &Refusing) -> Result<Answer, AllocError> {
-    let circuit = ring(memory)?;
-    answer_at_last(memory, &circuit)
-}
-
-// How many searches find that the counter fails. None where another answer is given.
-fn times_counter_fails(alloc: Global) -> Option<usize> {
-    let mut times = 0usize;
+// How many searches find out what is wanted. None where another answer is given.
+fn right_answers(alloc: Global, kind: Kind, wanted: Answer) -> Option<usize> {
+    let mut count = 0usize;
     for place in 0..SEARCHES {
         let memory = Refusing::nth(alloc, FIRST_REQUEST + STEP * place);
-        match answer_of_counter(&memory) {
-            Ok(Answer::Fails(4)) => times = times.saturating_add(1),
-            Ok(_) => return None,
-            Err(_) => {}
+        if let Ok(answer) = answer_of(&memory, kind) {
+            if answer != wanted {
+                return None;
+            }
+            count = count.saturating_add(1);
         }
     }
-    Some(times)
-}
-
-// How many searches find that the ring is safe. None where another answer is given.
-fn times_ring_is_safe(alloc: Global) -> Option<usize> {
-    let mut times = 0usize;
-    for place in 0..SEARCHES {
-        let memory = Refusing::nth(alloc, FIRST_REQUEST + STEP * place);
-        match answer_of_ring(&memory) {
-            Ok(Answer::Safe) => times = times.saturating_add(1),
-            Ok(_) => return None,
-            Err(_) => {}
-        }
-    }
-    Some(times)
+    Some(count)
 }
 
 #[test]
 fn goes_on_where_memory_was_refused(rt: HostRuntime) {
-    let of_counter = times_counter_fails(rt.alloc()).unwrap_or(0);
-    let of_ring = times_ring_is_safe(rt.alloc()).unwrap_or(0);
-    assert!(rt; of_counter > 30);
-    assert!(rt; of_ring > 30);
+    for &(kind, wanted) in &[
+        (Kind::Counter, Answer::Fails(4)),
+        (Kind::Ring, Answer::Safe),
+    ] {
+        assert!(rt; right_answers(rt.alloc(), kind, wanted).is_some_and(|count| count > 30));
+    }
 }

@@ -2,154 +2,137 @@
 
 use crate::answers::{Answer, checked};
 use crate::caller::found_in_slices;
-use crate::circuits::{counter, ring};
+use crate::circuits::{Kind, made};
 use gipmc_circuits::Circuit;
-use gipmc_ic3::{Found, Search, Statistics};
+use gipmc_ic3::{Found, Search};
 use gipsat_solver::Literal;
-use std::alloc::{AllocError, Allocator};
+use std::alloc::{AllocError, Global};
 
 // What slices of so many calls find out about gate 6.
-fn answer_in_slices<A: Allocator + Copy>(
-    alloc: A,
-    circuit: &Circuit<A>,
-    calls: u64,
-) -> Result<Answer, AllocError> {
+fn answer_in_slices(alloc: Global, kind: Kind, calls: u64) -> Result<Answer, AllocError> {
+    let circuit = made(alloc, kind)?;
+    answer_in_slices_of(alloc, &circuit, calls)
+}
+
+fn answer_in_slices_of(alloc: Global, circuit: &Circuit, calls: u64) -> Result<Answer, AllocError> {
     let bad = Literal::new(6, true);
     let found = found_in_slices(alloc, circuit, bad, 1000, calls)?;
     checked(alloc, circuit, bad, &found)
 }
 
+// A circuit, how many calls a slice has, and what slices find out.
+const SLICES: &[(Kind, u64, Answer)] = &[
+    (Kind::Ring, 0, Answer::Unknown),
+    (Kind::Ring, 1, Answer::Safe),
+    (Kind::Ring, 3, Answer::Safe),
+    (Kind::Counter, 1, Answer::Fails(4)),
+    (Kind::Counter, 3, Answer::Fails(4)),
+];
+
 #[test]
 fn goes_on_from_slice_to_slice(rt: HostRuntime) -> Result<(), AllocError> {
-    let safe = ring(rt.alloc())?;
-    assert!(rt; answer_in_slices(rt.alloc(), &safe, 0)? == Answer::Unknown);
-    assert!(rt; answer_in_slices(rt.alloc(), &safe, 1)? == Answer::Safe);
-    assert!(rt; answer_in_slices(rt.alloc(), &safe, 3)? == Answer::Safe);
-    let failing = counter(rt.alloc())?;
-    assert!(rt; answer_in_slices(rt.alloc(), &failing, 1)? == Answer::Fails(4));
-    assert!(rt; answer_in_slices(rt.alloc(), &failing, 3)? == Answer::Fails(4));
+    for &(kind, calls, answer) in SLICES {
+        assert!(rt; answer_in_slices(rt.alloc(), kind, calls)? == answer);
+    }
     Ok(())
 }
 
-// What a search finds by so many calls, and then by none.
-fn answer_without_calls<A: Allocator + Copy>(
-    alloc: A,
-    circuit: &Circuit<A>,
+// What a search tells of itself.
+#[derive(Clone, Copy)]
+struct Told {
     calls: u64,
-) -> Result<Answer, AllocError> {
-    let bad = Literal::new(6, true);
-    let found = found_without_calls(alloc, circuit, bad, calls)?;
-    checked(alloc, circuit, bad, &found)
+    frame: usize,
+    lemmas: usize,
+    // The literals of all lemmas.
+    literals: u128,
 }
 
-// What is found without calls behind so many.
-fn found_without_calls<A: Allocator + Copy>(
-    alloc: A,
-    circuit: &Circuit<A>,
-    bad: Literal,
-    calls: u64,
-) -> Result<Found<A>, AllocError> {
-    let mut search = Search::new(alloc, circuit, bad)?;
-    run_and_run_without_calls(&mut search, calls)
+fn told_by(search: &Search<'_, Global>) -> Told {
+    let statistics = search.statistics();
+    Told {
+        calls: statistics.calls,
+        frame: search.frame(),
+        lemmas: statistics.lengths.count(),
+        literals: statistics.lengths.sum(),
+    }
 }
 
-fn run_and_run_without_calls<A: Allocator + Copy>(
-    search: &mut Search<'_, A>,
-    calls: u64,
-) -> Result<Found<A>, AllocError> {
-    search.run(calls)?;
-    search.run(0)
+// What the second of two slices finds, and what the search tells then.
+fn run_twice(
+    search: &mut Search<'_, Global>,
+    first: u64,
+    second: u64,
+) -> Result<(Found, Told), AllocError> {
+    search.run(first)?;
+    let found = search.run(second)?;
+    Ok((found, told_by(search)))
 }
+
+fn search_twice(
+    alloc: Global,
+    circuit: &Circuit,
+    first: u64,
+    second: u64,
+) -> Result<(Found, Told), AllocError> {
+    let mut search = Search::new(alloc, circuit, Literal::new(6, true))?;
+    run_twice(&mut search, first, second)
+}
+
+// The same of a circuit of this kind.
+fn two_slices_of(
+    alloc: Global,
+    circuit: &Circuit,
+    first: u64,
+    second: u64,
+) -> Result<(Answer, Told), AllocError> {
+    let (found, told) = search_twice(alloc, circuit, first, second)?;
+    let answer = checked(alloc, circuit, Literal::new(6, true), &found)?;
+    Ok((answer, told))
+}
+
+fn two_slices(
+    alloc: Global,
+    kind: Kind,
+    first: u64,
+    second: u64,
+) -> Result<(Answer, Told), AllocError> {
+    let circuit = made(alloc, kind)?;
+    two_slices_of(alloc, &circuit, first, second)
+}
+
+// A circuit, how many calls the first slice has, and what the second finds, which has none.
+const FOUND_AGAIN: &[(Kind, u64, Answer)] = &[
+    (Kind::Ring, 1000, Answer::Safe),
+    (Kind::Ring, 2, Answer::Unknown),
+    (Kind::Counter, 1000, Answer::Fails(4)),
+];
 
 #[test]
 fn finds_again_what_it_found(rt: HostRuntime) -> Result<(), AllocError> {
-    let safe = ring(rt.alloc())?;
-    assert!(rt; answer_without_calls(rt.alloc(), &safe, 1000)? == Answer::Safe);
-    assert!(rt; answer_without_calls(rt.alloc(), &safe, 2)? == Answer::Unknown);
-    let failing = counter(rt.alloc())?;
-    assert!(rt; answer_without_calls(rt.alloc(), &failing, 1000)? == Answer::Fails(4));
+    for &(kind, calls, wanted) in FOUND_AGAIN {
+        let (answer, _) = two_slices(rt.alloc(), kind, calls, 0)?;
+        assert!(rt; answer == wanted);
+    }
     Ok(())
-}
-
-// How many calls a search made that had two slices, each of so many.
-fn calls_of_two_slices<A: Allocator + Copy>(
-    alloc: A,
-    circuit: &Circuit<A>,
-    calls: u64,
-) -> Result<u64, AllocError> {
-    let mut search = Search::new(alloc, circuit, Literal::new(6, true))?;
-    count_two_slices(&mut search, calls)
-}
-
-fn count_two_slices<A: Allocator + Copy>(
-    search: &mut Search<'_, A>,
-    calls: u64,
-) -> Result<u64, AllocError> {
-    search.run(calls)?;
-    search.run(calls)?;
-    Ok(search.statistics().calls)
 }
 
 #[test]
 fn asks_no_more_than_it_may(rt: HostRuntime) -> Result<(), AllocError> {
-    let circuit = ring(rt.alloc())?;
-    assert!(rt; calls_of_two_slices(rt.alloc(), &circuit, 0)? == 0);
-    assert!(rt; calls_of_two_slices(rt.alloc(), &circuit, 2)? == 4);
+    for &(calls, wanted) in &[(0, 0), (2, 4)] {
+        let (_, told) = two_slices(rt.alloc(), Kind::Ring, calls, calls)?;
+        assert!(rt; told.calls == wanted);
+    }
     Ok(())
-}
-
-// The last frame where a search for a trace of the counter ends.
-fn last_frame<A: Allocator + Copy>(alloc: A) -> Result<usize, AllocError> {
-    let circuit = counter(alloc)?;
-    last_frame_of(alloc, &circuit)
-}
-
-fn last_frame_of<A: Allocator + Copy>(alloc: A, circuit: &Circuit<A>) -> Result<usize, AllocError> {
-    let mut search = Search::new(alloc, circuit, Literal::new(6, true))?;
-    run_to_frame(&mut search)
-}
-
-fn run_to_frame<A: Allocator + Copy>(search: &mut Search<'_, A>) -> Result<usize, AllocError> {
-    search.run(1000)?;
-    Ok(search.frame())
-}
-
-// How many lemmas a search for an invariant of the ring learned, and whether they are short.
-fn lemmas<A: Allocator + Copy>(alloc: A) -> Result<(usize, bool), AllocError> {
-    let circuit = ring(alloc)?;
-    lemmas_of(alloc, &circuit)
-}
-
-fn lemmas_of<A: Allocator + Copy>(
-    alloc: A,
-    circuit: &Circuit<A>,
-) -> Result<(usize, bool), AllocError> {
-    let mut search = Search::new(alloc, circuit, Literal::new(6, true))?;
-    run_to_lemmas(&mut search)
-}
-
-fn run_to_lemmas<A: Allocator + Copy>(
-    search: &mut Search<'_, A>,
-) -> Result<(usize, bool), AllocError> {
-    search.run(1000)?;
-    Ok(of_lemmas(search.statistics()))
-}
-
-// How many lemmas were learned, and whether they have one to four literals on average.
-fn of_lemmas(statistics: &Statistics) -> (usize, bool) {
-    let count = statistics.lengths.count();
-    let literals = statistics.lengths.sum();
-    (
-        count,
-        count as u128 <= literals && literals <= 4 * count as u128,
-    )
 }
 
 #[test]
 fn tells_how_far_it_is(rt: HostRuntime) -> Result<(), AllocError> {
-    assert!(rt; last_frame(rt.alloc())? == 3);
-    let (count, are_short) = lemmas(rt.alloc())?;
-    assert!(rt; count > 1);
-    assert!(rt; are_short);
+    let (_, of_counter) = two_slices(rt.alloc(), Kind::Counter, 1000, 0)?;
+    assert!(rt; of_counter.frame == 3);
+    let (_, of_ring) = two_slices(rt.alloc(), Kind::Ring, 1000, 0)?;
+    assert!(rt; of_ring.lemmas > 1);
+    // A lemma has one to four literals on average.
+    let lemmas = of_ring.lemmas as u128;
+    assert!(rt; lemmas <= of_ring.literals && of_ring.literals <= 4 * lemmas);
     Ok(())
 }
