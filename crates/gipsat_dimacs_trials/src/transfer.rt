@@ -12,50 +12,54 @@ const TEXT: &[u8] = b"p cnf 2 2\n-1 0\n1 2 0\n";
 
 const ANSWER: &[u8] = b"s SATISFIABLE\nv -1 2 0\n";
 
-// What is found out, where all memory is there.
-fn solve(
-    alloc: Global,
-    reader: &mut Source<'_>,
-    writer: &mut Sink<Global>,
-) -> Result<Verdict, DimacsError> {
-    let solved = solve_text(alloc, reader, writer, 100, &mut ())?;
-    Ok(solved.verdict)
+// What is told of a run: how it ends, the calls of the reader and of the writer, how many bytes were written, and
+// whether they are the whole answer.
+type Moved = (Result<Verdict, DimacsError>, u64, u64, u64, bool);
+
+// Answers the text one byte at a time, where the read and the write of these numbers fail; with 0 none does.
+fn move_bytes(alloc: Global, read: u64, write: u64, failure: Failure) -> Moved {
+    let mut reader = Source::new(TEXT, 1, read);
+    let mut writer = Sink::new(alloc, 1, write, failure);
+    let outcome = solve_text(alloc, &mut reader, &mut writer, 100, &mut ());
+    (
+        outcome.map(|solved| solved.verdict),
+        reader.calls,
+        writer.calls,
+        writer.text.len() as u64,
+        writer.text.as_slice() == ANSWER,
+    )
 }
+
+const READS: u64 = 1 + TEXT.len() as u64;
+
+const WRITES: u64 = ANSWER.len() as u64;
 
 #[test]
 fn moves_one_byte_at_a_time(rt: HostRuntime) {
-    let mut reader = Source::new(TEXT, 1, 0);
-    let mut writer = Sink::new(rt.alloc(), 1, 0, REFUSES);
-    let outcome = solve(rt.alloc(), &mut reader, &mut writer);
-    assert!(rt; outcome == Ok(Verdict::Satisfiable));
-    assert!(rt; writer.text.as_slice() == ANSWER);
-    assert!(rt; reader.calls == 1 + TEXT.len() as u64);
-    assert!(rt; writer.calls == ANSWER.len() as u64);
+    let moved = move_bytes(rt.alloc(), 0, 0, REFUSES);
+    assert!(rt; moved == (Ok(Verdict::Satisfiable), READS, WRITES, WRITES, true));
 }
 
 #[test]
 fn stops_at_each_failed_read(rt: HostRuntime) {
-    for call in 1..=1 + TEXT.len() as u64 {
-        let mut reader = Source::new(TEXT, 1, call);
-        let mut writer = Sink::new(rt.alloc(), 1, 0, REFUSES);
-        let outcome = solve(rt.alloc(), &mut reader, &mut writer);
-        assert!(rt; outcome == Err(DimacsError::Input), "at call {call}");
-        assert!(rt; (reader.calls, writer.calls) == (call, 0));
+    for call in 1..=READS {
+        let moved = move_bytes(rt.alloc(), call, 0, REFUSES);
+        assert!(rt;
+            moved == (Err(DimacsError::Input), call, 0, 0, false),
+            "at call {call}"
+        );
     }
 }
 
 #[test]
 fn stops_at_each_failed_write(rt: HostRuntime) {
     for &failure in &[REFUSES, Failure::TakesNone] {
-        for call in 1..=ANSWER.len() as u64 {
-            let mut reader = Source::new(TEXT, 1, 0);
-            let mut writer = Sink::new(rt.alloc(), 1, call, failure);
-            let outcome = solve(rt.alloc(), &mut reader, &mut writer);
+        for call in 1..=WRITES {
+            let moved = move_bytes(rt.alloc(), 0, call, failure);
             assert!(rt;
-                outcome == Err(DimacsError::Output),
+                moved == (Err(DimacsError::Output), READS, call, call - 1, false),
                 "{failure:?} at call {call}"
             );
-            assert!(rt; (writer.calls, writer.text.len() as u64) == (call, call - 1));
         }
     }
 }
