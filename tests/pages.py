@@ -11,6 +11,7 @@ PARTS lists. A page for callers, crates/NAME/CALLING.md, quotes the sources. Pag
     <!-- quote functions gipsat/src/main.rt: use solve -->
                                                     these functions of a file alone, behind its imports where `use` is
                                                     named
+    <!-- quote bare gipsat/src/main.rt: solve -->   the same, without comments, and without links below it
     <!-- quote contracts -->                         the public contracts of the crate
     <!-- quote contracts: push HeapStep::new Gvec::Index<u32> -->
                                                     those of these functions, traits, and impls of traits alone
@@ -304,18 +305,19 @@ def quote(page, what, complaints):
     """The lines that a quote on the page should have."""
     kind, _, names = what.partition(":")
     chosen = names.split()
-    if kind.startswith(("file ", "functions ")):
+    if kind.startswith(("file ", "functions ", "bare ")):
         file = CRATES / kind.partition(" ")[2]
         if not file.is_file():
             complaints.append(f"there is no {kind}")
             return []
         text = file.read_text(encoding="utf-8")
-        if kind.startswith("functions "):
-            lines, lost = functions_of(text, chosen)
-            complaints += [f"{file.name} has no function {name}" for name in lost]
-        else:
+        if kind.startswith("file "):
             lines = (with_functions(text, chosen) if chosen else text).rstrip().split("\n")
-        return fenced(page, "rust", lines, words(text, lines))
+        else:
+            lines, lost = functions_of(text, chosen)
+            lines = [line for line in lines if not (kind.startswith("bare ") and line.lstrip().startswith("//"))]
+            complaints += [f"{file.name} has no function {name}" for name in lost]
+        return fenced(page, "rust", lines, {} if kind.startswith("bare ") else words(text, lines))
     if kind.startswith("lemmas "):
         file = page.parent / "proofs" / f"{kind.removeprefix('lemmas ')}.antt"
         lines, lost = lemmas(file, chosen) if file.is_file() else ([], chosen)
