@@ -352,8 +352,8 @@ def too_wide(text):
 def lost_files(text):
     """The files that a page names and that are not there."""
     lost = []
-    for path in re.findall(r"`((?:src|specs|proofs|tests|docs|crates)/[\w/.-]+)`", QUOTE.sub("", text)):
-        ways = [ROOT] if path.startswith(("tests", "docs", "crates")) else CRATES.iterdir()
+    for path in re.findall(r"`((?:src|specs|proofs|tests|tools|docs|crates)/[\w/.-]+)`", QUOTE.sub("", text)):
+        ways = [ROOT] if path.startswith(("tests", "tools", "docs", "crates")) else CRATES.iterdir()
         found = [way for way in ways for end in ("", ".rt", ".antt") if (way / f"{path}{end}").exists()]
         if not found and "NAME" not in path:
             lost.append(f"there is no {path}")
