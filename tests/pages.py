@@ -15,14 +15,15 @@ PARTS lists. A page for callers, crates/NAME/CALLING.md, quotes the sources. Pag
     <!-- quote contracts -->                         the public contracts of the crate
     <!-- quote contracts: push HeapStep::new Gvec::Index<u32> -->
                                                     those of these functions, traits, and impls of traits alone
+    <!-- quote words -->                            the words of the public contracts that the page does not quote
     <!-- quote lemmas Ranks: name name -->           statements of public lemmas of the crate, from proofs/Ranks.antt
     <!-- quote records Calls: Name Name -->          records of the crate with their fields, from specs/Calls.antt
 
 In a contract `S` is what `self` points to at the call, and `S'` at the return. An item is public if it is `pub` in a
 public module, or if a public module names it by `pub use`. A public function that is not quoted on a page for callers
 stands there, or in the README beside it, by name. Below a quote stand its words, each with a link to its definition in
-specs/. Each word of specs/ that a public contract uses has a comment there. The crate `giputils` hands out the files of
-specs/ that have these words, and all public lemmas.
+specs/. Each word of specs/ that a public contract uses has a comment there, and a link on a page that quotes contracts.
+The crate `giputils` hands out the files of specs/ that have these words, and all public lemmas.
 
 Each line of an example in Rust on a README that is not quoted stands in giputils_trials/src/examples.rt, its imports
 under the names that `giputils` gives them. The page of `gip` has the script that `gip` is run on, with its replies. The
@@ -284,21 +285,42 @@ def defined_in(path):
     return found
 
 
-def links(page, used):
-    """The lines below a quote that lead from its words to their definitions."""
+def links(page, used, begin="Words"):
+    """The lines that lead from words to their definitions."""
     found = []
     for name, module in sorted(used.items(), key=lambda pair: pair[0].lower()):
         path = file_of(module)
         if path and name in defined_in(path):
             way = os.path.relpath(path, page.parent)
             found.append(f"[`{name}`]({way}#L{defined_in(path)[name][0]})")
-    text = f"Words: {', '.join(found)}."
-    return ["", *textwrap.wrap(text, WIDTH, break_long_words=False, break_on_hyphens=False)] if found else []
+    text = f"{begin}: {', '.join(found)}."
+    return textwrap.wrap(text, WIDTH, break_long_words=False, break_on_hyphens=False) if found else []
 
 
 def fenced(page, kind, lines, used):
     """A block of lines, and below it the links of its words."""
-    return [f"```{kind}", *lines, "```", *links(page, used)]
+    below = links(page, used)
+    return [f"```{kind}", *lines, "```", *([""] if below else []), *below]
+
+
+def contracts_of(folder, chosen, named, met):
+    """The public contracts of a crate, or those chosen, under the names of their files; and their words."""
+    crate, lines, used = Crate(folder), [], {}
+    for file, text in crate.texts.items():
+        found = contracts(crate, text, chosen, named, met)
+        lines += [f"// {file.relative_to(folder)}", *found, ""] if found else []
+        used |= words(text, found)
+    kits = handed_on()
+    return lines[:-1], {name: module for name, module in used.items() if module.startswith("gip") or module in kits}
+
+
+def words_not_quoted(page):
+    """The words of the public contracts of a page's crate that are in no contract that the page quotes."""
+    quoted = set()
+    for _, what, _ in QUOTE.findall(page.read_text(encoding="utf-8")):
+        if what.startswith("contracts"):
+            quoted |= set(contracts_of(page.parent, set(what.split()[1:]), set(), set())[1])
+    return {name: module for name, module in words_of_contracts(page.parent).items() if name not in quoted}
 
 
 def quote(page, what, complaints):
@@ -328,19 +350,17 @@ def quote(page, what, complaints):
         lines, lost = records(file, chosen) if file.is_file() else ([], chosen)
         complaints += [f"{file.stem} has no record {name}" for name in lost]
         return fenced(page, "text", lines, words(file.read_text(encoding="utf-8"), lines) if lines else {})
-    crate, named, met, used = Crate(page.parent), set(), set(), {}
-    lines = []
-    for file, text in crate.texts.items():
-        found = contracts(crate, text, set(chosen), named, met)
-        lines += [f"// {file.relative_to(page.parent)}", *found, ""] if found else []
-        used |= words(text, found)
+    if kind == "words":
+        return links(page, words_not_quoted(page), "Words of the other contracts")
+    named, met = set(), set()
+    lines, used = contracts_of(page.parent, set(chosen), named, met)
     beside = [each for each in (page, page.with_name("README.md")) if each.is_file()]
     told = "".join(QUOTE.sub("", each.read_text(encoding="utf-8")) for each in beside)
     told = set(re.findall(r"\w+", " ".join(re.findall(r"`([^`]+)`", told))))
     told |= {each for name in chosen for each in name.split("::")}
     complaints += [f"{name} is neither quoted nor named" for name in sorted(named - told) if chosen]
     complaints += [f"there is no public {name}" for name in chosen if name not in met]
-    return fenced(page, "text", lines[:-1], used)
+    return fenced(page, "text", lines, used)
 
 
 def too_wide(text):
@@ -385,11 +405,12 @@ def with_quotes(page, text, complaints):
 
 
 def not_explained(page, text):
-    """The words of the public contracts of a page's crate that have no comment, where the page quotes contracts."""
+    """The words of public contracts that have no comment, or no link where a page quotes contracts of its crate."""
     used = words_of_contracts(page.parent) if "<!-- quote contracts" in text else {}
-    paths = {(name, module): file_of(module) for name, module in used.items()}
-    lost = [key for key, path in paths.items() if path and not defined_in(path).get(key[0], (0, ""))[1]]
-    return [f"{name} of {module} has no comment" for name, module in lost]
+    used = {name: file_of(module) for name, module in used.items() if file_of(module)}
+    lost = [f"{name} has no link: <!-- quote words -->" for name in used if f"[`{name}`](" not in text]
+    told = {name for name, path in used.items() if defined_in(path).get(name, (0, ""))[1]}
+    return lost + [f"{name} has no comment" for name in used if name not in told]
 
 
 def page_for_callers(page, text):
@@ -472,17 +493,14 @@ def handed_on():
     return set(re.findall(r"^pub use Rattle\.([\w.]+)", "\n".join(lists), re.MULTILINE))
 
 
+@functools.cache
 def words_of_contracts(folder):
     """The words of specs/ that the public contracts of a crate use, each with the module that it comes from."""
-    crate, found = Crate(folder), {}
-    for text in crate.texts.values():
-        found |= words(text, contracts(crate, text, set(), set(), set()))
-    kits = handed_on()
-    return {name: module for name, module in found.items() if module.startswith("gip") or module in kits}
+    return contracts_of(folder, set(), set(), set())[1]
 
 
 def not_gathered():
-    """The files of public lemmas, and those of specs/ that callers need, which the crate `giputils` does not hand out."""
+    """The files of public lemmas, and of words that callers need, which the crate `giputils` does not hand out."""
     pages = (path for path in CRATES.glob("*/*.md") if "<!-- quote contracts" in path.read_text(encoding="utf-8"))
     files = {file for folder in {path.parent for path in pages} for file in words_of_contracts(folder).values()}
     wanted = {file for file in files if file.split(".")[0] in GATHERED}
@@ -521,7 +539,7 @@ def arguments():
 
 def main():
     write = arguments().write
-    pages = {page: sound for page in sorted((ROOT / "docs").glob("*.md"))}
+    pages = {page: sound for folder in ("docs", "tools") for page in sorted((ROOT / folder).rglob("*.md"))}
     pages |= {ROOT / "docs/ELSEWHERE.md": elsewhere, ROOT / "docs/DESIGN.md": map_of_crates, ROOT / "README.md": readme}
     callers = sorted(CRATES.glob("*/CALLING.md"))
     pages |= {page: page_for_callers for page in callers}
