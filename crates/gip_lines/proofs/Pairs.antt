@@ -1,4 +1,7 @@
 -- The pairs of a key and its rank in a line, as far as they have been read.
+--
+-- How it is proved: words of a line by pairs. The invariant is the meaning of the line, as a function of the pairs that
+-- were read and of the meaning of the rest.
 use Rattle.std.proofs.Common.{◌≡◌, ℕ, zero, suc, ◌+◌, ◌<◌, List, [], ◌∷◌, length, take, get_or, refl, ap, arith, Option, Some, None, add-one}
 use Rattle.std.specs.Prelude.{◌&&◌, nat_lt, nat_le, if◌then◌else◌, slice_set}
 use Rattle.std.specs.Option.{option_map_or}

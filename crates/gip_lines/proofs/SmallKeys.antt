@@ -1,4 +1,7 @@
 -- The lines of a script name small keys.
+--
+-- How it is proved: chains of `if` on names. If code and definition test in the same order, the goals close. One lemma
+-- on `cond` proves a property of every branch. A `match` with a catch-all closes by `cc`.
 use Rattle.std.proofs.Common.{◌≡◌, ℕ, ◌≤◌, Bool, true, false, cond, List, [], ◌∷◌, map, refl, ap, ◌∙◌, Option, Some, None, le-leb, arith}
 use Rattle.std.specs.List.{list_all}
 use Rattle.std.specs.Option.{option_map}

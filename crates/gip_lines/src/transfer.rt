@@ -1,4 +1,9 @@
 //! The whole input in, and the whole output out.
+
+// How it is proved: bytes in and out. A reader whose contract tells its bytes has `R.remaining
+// device`, and such a writer has `W.contents`. `Appends` and `IsAtEnd` of `std.specs.Io.KnownBytes`
+// state the bytes that were read and written.
+
 ghost use Rattle.std.specs.Prelude.{◌≡◌, ◌<◌, ◌≤◌, false, is_err, length, take, vec_len, IfOk, IfErr, OnOk};
 ghost use Rattle.std.specs.Io.KnownBytes.{Appends, Consumes, IsAtEnd};
 ghost use Rattle.gip_lines.specs.Fault.{StopsReading};

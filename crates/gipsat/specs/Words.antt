@@ -1,4 +1,6 @@
 -- What the words of a command line ask for.
+--
+-- How it is proved: a parser of flags. A state for "a value is wanted" makes the definition structural.
 use Rattle.std.specs.Prelude.{ℕ, ◌==◌, ◌&&◌, Bool, true, false, List, [], ◌∷◌, length, nat_lt, slice_index, if◌then◌else◌, codes, Option, Some, None, Result, Ok, Err, is_none, not}
 use Rattle.std.specs.List.{after_first, before_first, position_or_len}
 use Rattle.std.specs.Option.{option_map, option_or, option_and_then}

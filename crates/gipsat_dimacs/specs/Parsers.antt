@@ -1,4 +1,8 @@
 -- What a text says, where a part of it has been read.
+--
+-- How it is proved: a parser that is pushed bytes. Define the meaning of the whole text by the parser and the rest of
+-- the text. Each private contract says that this meaning stays the same for every rest. Put the word that has not ended
+-- in front of the rest; a byte of a word is then `append_assoc`.
 use Rattle.std.specs.Prelude.{◌≡◌, ℕ, ◌+◌, max, ◌==◌, ◌&&◌, ◌||◌, Bool, true, false, not, List, [], ◌∷◌, ◌++◌, length, map, nat_lt, if◌then◌else◌, codes, Option, Some, None, ⊤}
 use Rattle.std.specs.List.{AllPass}
 use Rattle.std.specs.Option.{option_map, option_and_then}

@@ -1,4 +1,7 @@
 -- Clauses at places, and those that are held.
+--
+-- How it is proved: a list with holes. View it as a list of options. Emptying a place splits the list of the items that
+-- are there, and removing holes does not change this list.
 use Rattle.std.proofs.Common.{◌≡◌, ℕ, Bool, true, false, List, [], ◌∷◌, ◌++◌, length, map, set, Option, Some, None, is_some, suc, zero, refl, sym, ap, subst, ◌∙◌, ◌+◌, ◌<◌, ◌≤◌, ⊎_elim, arith}
 use Rattle.std.specs.Prelude.{filter, slice_get}
 use Rattle.std.specs.Bool.{OnFalse}

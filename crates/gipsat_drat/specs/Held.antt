@@ -1,4 +1,8 @@
 -- What a checker holds.
+--
+-- How it is proved: a struct that is half done when memory is refused. State: any formula that implied everything held
+-- before implies everything held now. Facts on structure follow from this at the formula `[] ∷ []`
+-- (`proofs/HeldLemmas`).
 use Rattle.std.specs.Prelude.{◌≡◌, ◌⊎◌, ◌++◌, ◌∷◌, ℕ, Bool, true, false, List, [], Some, slice_get}
 use Rattle.gipsat_solver.specs.Literals.{Lit}
 use Rattle.gipsat_solver.specs.Formulas.{Assignment, Clause, Formula, Has, Implies, is_true, satisfies_clause}

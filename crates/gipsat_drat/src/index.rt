@@ -1,5 +1,10 @@
 //! Hints: which clauses to look at when a literal becomes false, and where a clause may stand. Contracts use only the
 //! places that `find` has compared.
+
+// How it is proved: an index without an invariant. Ask the index and check its answer; if there is
+// none, search all places. Only the loop over all places needs a proof that it looks at each
+// (`find` in `src/checker.rt`, `src/notes.rt`).
+
 ghost use Rattle.std.specs.Prelude.{IfSome};
 ghost use Rattle.gipsat_drat.specs.Clauses.{IsSameAt};
 

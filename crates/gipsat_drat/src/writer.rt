@@ -1,5 +1,11 @@
 //! A writer of proofs that nothing satisfies a formula, in the DRAT form: a step for each clause that is learned, and
 //! one for each that leaves the database.
+
+// How it is proved: writing into a Vec of bytes. The invariant "the written bytes, followed by
+// those left to write" is enough.
+// How it is proved: an error type that has only cases which can occur (`Fault`) lets the clauses of
+// its caller close.
+
 ghost use Rattle.std.specs.Prelude.{◌≡◌, ◌++◌, ◌<◌, ◌+◌, ◌*◌, ◌^◌, [], drop, false, is_some, length};
 ghost use Rattle.std.specs.Prelude.{IfNone, IfSome, IsErrOf, IsOk, IsTrue, OnOk};
 ghost use Rattle.std.specs.ControlFlow.{break_value};

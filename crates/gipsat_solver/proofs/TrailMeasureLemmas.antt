@@ -1,4 +1,6 @@
 -- The trail as a number: longer ones are higher, and so is one with a reason where a decision stood.
+--
+-- How it is proved: a lexicographic measure. Write it as one number: `left * T + (T - h)` with h below T (`nearer`).
 use Rattle.std.proofs.Common.{◌≡◌, ℕ, ◌+◌, ◌<◌, ◌≤◌, List, [], ◌∷◌, ◌++◌, length, take, Option, Some, None, suc, zero, sym, ap, subst, ◌∙◌, ◌*◌, ◌-◌, ◌⊎◌, ⊎_elim, arith}
 use Rattle.std.specs.Prelude.{slice_get}
 use Rattle.gipsat_solver.specs.declared.trail.Step.{Step}

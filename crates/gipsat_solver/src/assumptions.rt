@@ -1,4 +1,8 @@
 //! Assumptions: literals that are decided before all others, and which of them failed.
+
+// How it is proved: a fact known only at the root. State it under the premise that the search began
+// there (`level_starts ≡ [] → ..`), and let the code restart from the root otherwise.
+
 ghost use Rattle.std.specs.Prelude.{◌≡◌, ◌<◌, ◌≤◌, [], None, Some, true, length, map, IfOk, IfNone, IfSome, OnOk};
 ghost use Rattle.std.specs.Bool.{OnTrue};
 ghost use Rattle.gipsat_solver.specs.Formulas.{AreBelow};

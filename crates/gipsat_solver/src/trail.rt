@@ -1,4 +1,10 @@
 //! The trail: the true literals, in the order in which they were assigned.
+
+// How it is proved: facts on the fields of one struct that are propositions can be its ghost
+// fields. No contract names them, and each has an answer under its own name where a field is
+// written (`invariant_of-self-clause-once`). If the struct is inconsistent between two calls, write
+// functions over its fields (`close` in `src/trail_calls.rt`).
+
 ghost use Rattle.std.specs.Prelude.{◌≡◌, ◌+◌, ◌^◌, ◌≤◌, length};
 ghost use Rattle.gipsat_solver.specs.TrailLists.{AreValued, AreOnce, IsRooted, decisions};
 ghost use Rattle.gipsat_solver.specs.Values.{unset};

@@ -1,4 +1,11 @@
 //! The operations on a trail: assign, decide, backtrack.
+
+// How it is proved: popping down to a place. The invariant is that `take place` of the list is
+// unchanged; the function ensures `take place old` with no `requires` (`Trail::backtrack_to`).
+// How it is proved: several vectors of one length. A function that resizes them takes the struct by
+// value and builds it again, with one answer (`grown`). If a call moves a struct out by
+// `mem::replace`, it needs no contract for a failure.
+
 ghost use Rattle.std.specs.Prelude.{◌≡◌, ◌++◌, ◌∷◌, ◌+◌, ◌^◌, ◌<◌, ◌≤◌, [], None, Some, length, replicate, take, IfOk, IfSome, OnOk};
 ghost use Rattle.std.specs.Bool.{OnTrue};
 ghost use Rattle.gipsat_solver.specs.Backjump.{IsAssignedFrom, IsDecided};

@@ -1,4 +1,6 @@
 -- The new indexes that a collection gives.
+--
+-- How it is proved: `length (filter p xs)` computes on a cons; `count_by` does not.
 use Rattle.std.specs.Prelude.{◌≡◌, ◌↔◌, ℕ, zero, suc, ◌+◌, ◌<◌, ◌≤◌, Bool, true, false, not, List, [], ◌∷◌, length, map, filter, take, slice_index_or, Option, Some, None, IsSome, is_some, option_and_then, if◌then◌else◌, nat_eq, refl}
 use Rattle.std.proofs.Common.{arith, ap, sym, ◌∙◌, cond}
 use Rattle.std.specs.List.{filter_map, cons_option}

@@ -1,4 +1,7 @@
 -- An allocator of indexes as a list of slots. A slot is a value, and whether it is marked as removed.
+--
+-- How it is proved: an edit of one item is `option_map_or (λ x. slice_set xs i (f x)) (slice_get xs i) xs`. Its lemmas
+-- are short with the option as a variable (`proofs/Slots`).
 use Rattle.std.specs.Prelude.{◌≡◌, ◌↔◌, ℕ, ◌+◌, ◌<◌, Bool, true, false, not, List, [], ◌∷◌, length, map, filter, take, slice_get, slice_set, Option, Some, None, IsSome, option_map, option_and_then, if◌then◌else◌, nat_eq}
 use Rattle.std.specs.Option.{option_map_or}
 use Rattle.giputils_base.specs.Hash.{get, HasUniqueKeys}

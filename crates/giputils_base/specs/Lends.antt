@@ -1,4 +1,8 @@
 -- What a wrapper ends as, where a `&mut` into it is returned.
+--
+-- How it is proved: `DerefMut` and `IndexMut` of a wrapper close with `Lends (the row of the wrapper) (the row inside)
+-- g r (λ v. v.items)` as a definition in specs/. For a map the row is `map_row` of `std.specs.HashMap.Lent`
+-- (`specs/LendsHashed`). Lend twice in two statements: `let slot = &mut v[i]; slot.deref_mut()`.
 use Rattle.std.specs.Prelude.{ℕ, List, slice_set}
 use Rattle.std.specs.Borrow.{Lends, Fml, RattleType, MutBor}
 use Rattle.std.specs.declared.alloc.Allocator.{Ghosts}

@@ -1,4 +1,8 @@
 //! A vector that is indexed by `u32`, `i32` and `usize`.
+
+// How it is proved: filling. Use `for` with `push_reserved` after one `reserve`; `resize_with` gets
+// no proof. `retain` closes by `filter_same` (`src/allocator.rt`).
+
 ghost use Rattle.std.specs.Prelude.{◌≡◌, ◌+◌, ◌<◌, ◌≤◌, [], length, slice_index_or, swap, IfOk, OnOk, OnErr, IsOk};
 ghost use Rattle.std.specs.List.{FoldsTo, AllZip};
 ghost use Rattle.std.specs.Borrow.{sem};

@@ -1,4 +1,8 @@
 //! What all workloads share: the numbers that they draw, and the checksum of what was answered.
+
+// How it is proved: eight bytes at a time. `as_chunks::<8>()` with `from_le_bytes(*bytes)` closes;
+// `chunks(8)` does not say that a chunk has at most 8 bytes.
+
 ghost use Rattle.std.specs.Prelude.{◌^◌, ◌<◌, ◌≤◌};
 
 use rand_core::Rng;

@@ -1,4 +1,7 @@
 -- Bits that are gathered in a word, which is the last of the words once it is written.
+--
+-- How it is proved: gathering bits. A record states the words as they are once the gathered word is written; a step is
+-- one digit.
 use Rattle.std.proofs.Common.{◌≡◌, ℕ, zero, suc, ◌+◌, ◌/◌, ◌%◌, ◌<◌, ◌≤◌, Bool, List, [], ◌∷◌, ◌++◌, length, get_or, set, refl, ap, arith}
 use Rattle.std.proofs.lemmas.List.{length-set, length_push, get_or-set_same, get_or_push}
 use Rattle.giputils_bits.specs.Places.{bits_of, IsPacked, SetsDigit, HasRoom}

@@ -1,4 +1,7 @@
 -- Laws of logic on lists of booleans.
+--
+-- How it is proved: `bits.iter().filter(..).count()` needs a bound on the items: a function with `requires { length
+-- bits.now < 2 ^ 32 }` closes. For lengths through logic use `length-zip_with` and `length-not_of`.
 use Rattle.std.proofs.Common.{◌≡◌, ℕ, ◌<◌, Bool, true, false, ◌&&◌, ◌||◌, not, List, [], ◌∷◌, length, get_or, drop, replicate, ◌↔◌, refl, sym, ap, ◌∙◌, arith, inl, inr}
 use Rattle.std.specs.List.{zip}
 use Rattle.std.proofs.lemmas.List.{length-map, length-replicate, get_or-map, get_or-replicate, get_or_past}

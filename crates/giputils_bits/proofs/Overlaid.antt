@@ -1,4 +1,7 @@
 -- Words laid over others from any place on, and the list that they append.
+--
+-- How it is proved: writing words at any offset. State the places before, within and behind the written words
+-- (`Overlays`), with the carry as a record of its digits. `w >> 1 >> (63 - shift)` needs no branch at shift 0.
 use Rattle.std.proofs.Common.{◌≡◌, ◌≢◌, ℕ, ◌+◌, ◌-◌, ◌*◌, ◌/◌, ◌%◌, ◌^◌, ◌<◌, ◌≤◌, Bool, false, ◌||◌, List, ◌++◌, length, replicate, take, get_or, set, refl, sym, ap, ◌∙◌, arith, inl, inr}
 use Rattle.std.specs.Prelude.{bit_or}
 use Rattle.std.proofs.Math.Bool.{or-false}

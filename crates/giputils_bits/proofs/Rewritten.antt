@@ -1,4 +1,7 @@
 -- Words that are rewritten one by one, and the lists that they keep then.
+--
+-- How it is proved: rewriting words in place. One record, `Rewrites f old new n`, with f of the index and the word,
+-- serves logic and negation.
 use Rattle.std.proofs.Common.{◌≡◌, ℕ, ◌+◌, ◌-◌, ◌*◌, ◌/◌, ◌%◌, ◌≢◌, ◌^◌, ◌<◌, Bool, true, false, ◌&&◌, not, List, map, length, replicate, ◌↔◌, get_or, set, refl, sym, ap, ◌∙◌, arith, inl, inr, w64}
 use Rattle.std.specs.Prelude.{bit_and, bit_xor}
 use Rattle.std.specs.Int.{bit_not}

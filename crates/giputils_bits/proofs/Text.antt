@@ -1,4 +1,7 @@
 -- Digits of numbers, and the texts of lists that are kept in words.
+--
+-- How it is proved: digits of a number from words. Recurse on the lowest digit, and split at any place. Define powers
+-- by recursion (`power`): `b ^ n` with a variable does not compute.
 use Rattle.std.proofs.Common.{◌≡◌, ◌≢◌, ℕ, zero, suc, ◌+◌, ◌-◌, ◌*◌, ◌/◌, ◌%◌, ◌^◌, ◌<◌, ◌≤◌, Bool, true, false, eqb, cond, nat_lt, List, [], ◌∷◌, ◌++◌, map, reverse, length, take, drop, get_or, set, replicate, codes, refl, sym, ap, ◌∙◌, arith, inl, inr}
 use Rattle.std.specs.Prelude.{◌==◌}
 use Rattle.std.specs.Fmt.{digit_glyph, digits, digits_onto}

@@ -1,4 +1,7 @@
 -- Texts written one after another, whatever options the formatter has.
+--
+-- How it is proved: formatter options. `f.write_str` has a clause for any options. State the private writer by
+-- `WritesStyledOnOk` alone, join pieces by `styled_more`, and get the plain clause by `plain_too`.
 use Rattle.std.proofs.Common.{◌≡◌, ℕ, Result, List, [], ◌∷◌, ◌++◌, sym, subst, ◌∙◌}
 use Rattle.std.specs.declared.fmt.Formatter.{Formatter}
 use Rattle.std.specs.declared.fmt.Error.{Error}

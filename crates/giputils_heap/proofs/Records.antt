@@ -1,4 +1,7 @@
 -- Records that answer: step by step, while they pop until nothing is held, and under one order.
+--
+-- How it is proved: equal comparators. Carry a fact from one to the other by `subst (λ k. .. (at_least k) ..) same
+-- fact`. `fun_ext` turns relations that agree pointwise into equal ones.
 use Rattle.std.proofs.Common.{◌≡◌, ℕ, zero, suc, ◌+◌, Bool, true, false, ◌&&◌, ◌||◌, not, List, [], ◌∷◌, ◌++◌, length, take, Option, Some, None, refl, ap, sym, ◌∙◌, subst, ⊎_elim, arith, cond, ltb}
 use Rattle.std.specs.Prelude.{slice_get, filter, if◌then◌else◌}
 use Rattle.std.specs.List.{All, list_all}

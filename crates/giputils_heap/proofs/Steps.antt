@@ -1,4 +1,7 @@
 -- One call of a heap, and the record that it adds to.
+--
+-- How it is proved: records. State a lemma over the fields of a record `p`, with constructors as patterns, and apply it
+-- to `p.held` and `p.last`; by η, `p` is the record of its fields.
 use Rattle.std.proofs.Common.{◌≡◌, ℕ, ◌+◌, ◌*◌, ◌<◌, ◌≤◌, Bool, cond, true, false, ◌&&◌, ◌||◌, not, List, [], ◌∷◌, length, Option, Some, None, refl, ap, sym, ◌∙◌, subst, ⊎_elim, arith}
 use Rattle.std.specs.Prelude.{IsTrue, IfSome, IfNone, IsSome, ◌↔◌}
 use Rattle.std.specs.Bool.{beq}

@@ -1,4 +1,9 @@
 //! A comparer with a count of how often it was asked.
+
+// How it is proved: a generic struct with a model has `Value = { List T }` and an invariant over
+// the bound's member. A struct that lends a reference has a record with a `code_by`. A model with
+// `inverse` over numbers makes a type `Copy` (giputils_stat `src/statistic/average.rt`).
+
 ghost use Rattle.std.specs.Prelude.{◌≡◌, ◌+◌, ◌<◌};
 
 use crate::key::BinaryHeapCmp;

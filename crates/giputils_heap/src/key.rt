@@ -1,4 +1,8 @@
 //! What a heap asks of its keys, and of the comparer that it is lent.
+
+// How it is proved: laws of a trait. In an answer, a law is `g.met.T.HeapKey.one_value` and a ghost
+// member is `g.T.HeapKey.number`.
+
 ghost use Rattle.std.specs.Prelude.{◌≡◌, ◌==◌, ℕ, Bool, refl};
 
 /// A key of a heap: a value that is told apart by its number alone.

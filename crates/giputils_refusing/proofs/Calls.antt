@@ -1,6 +1,9 @@
 -- `admits` and `inner` at a call. Assumes `Logic`.
 --     Admits, at_admits, admits_goes, admits_gives      the contract of `admits`, what it is handed, and the allocator that it shows, if it shows one
 --     Inner, at_inner, inner_goes, inner_gives      the same for `inner`, which always shows one
+--
+-- How it is proved: a function that runs its argument repeatedly is proved by records over `FnReturnsAt F.Fn run`:
+-- `IsRun` holds the allocator that the run borrowed.
 use Rattle.std.proofs.Common.{◌≡◌, ℕ, ◌^◌, ◌<◌, List, [], ◌∷◌, ◌++◌, Option, None, Some, IfSome, refl, ap, ◌∙◌, lit<, w64, Bor}
 use lib.Dec.{T}
 use seplogic.Ra.Ura.{Ura}

@@ -1,4 +1,8 @@
 //! Runs of one piece of work, each of which is refused memory a little later than the one before.
+
+// How it is proved: two public functions of a private one with a flag. Write the answers for the
+// private one; the public ones close.
+
 ghost use Rattle.std.specs.Prelude.{◌≡◌, IfOk, IfErr};
 ghost use Rattle.std.specs.Fn.{FnReturnsAt};
 ghost use Rattle.giputils_refusing.specs.InTurn.{at_request, IsRun, AreRefused, IsServed, IsFault};

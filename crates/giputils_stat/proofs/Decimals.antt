@@ -1,4 +1,7 @@
 -- The text of a decimal, from its whole part and its decimals.
+--
+-- How it is proved: decimals of a fraction. Let a private function return the pair with `whole * 10^d + decimals ≡
+-- rounded (a * 10^d) b` and `decimals < 10^d`.
 use Rattle.std.specs.Prelude.{◌≡◌, ℕ, zero, suc, ◌+◌, ◌-◌, ◌*◌, ◌^◌, ◌<◌, ◌∷◌, ◌++◌, codes}
 use Rattle.std.specs.Fmt.{decimal as digits_of, format_spec, styled_decimal}
 use Rattle.std.proofs.Common.{arith, append_assoc, sym}

@@ -1,4 +1,7 @@
 -- The whole number nearest to a fraction: which it is, that there is one alone, and how it moves with whole numbers.
+--
+-- How it is proved: nearest. A goal on the nearest integer closes by `omega` once `m * b` is a variable or multiplied
+-- out. Uniqueness is by `cases_lt` and two lemmas without products.
 use Rattle.std.specs.Prelude.{◌≡◌, ℕ, zero, suc, ◌+◌, ◌*◌, ◌/◌, ◌%◌, ◌^◌, ◌<◌, ◌≤◌, false, refl}
 use Rattle.std.specs.Int.{abs_diff}
 use Rattle.std.proofs.Common.{arith, inl, inr}

@@ -1,4 +1,8 @@
 -- A search for shortest paths: what is known of the edges and of the distances so far.
+--
+-- How it is proved: shortest distances. The invariant is: if the start of an edge does not wait, the distance of its
+-- end is at most that of its start plus the weight. The measure is twice the sum of the distances plus the number of
+-- waiting nodes.
 use Rattle.std.proofs.Common.{◌≡◌, ◌≢◌, ℕ, ◌+◌, ◌*◌, ◌<◌, ◌≤◌, ◌⊎◌, true, false, List, [], ◌∷◌, ◌++◌, length, get_or, replicate, sum_by, Some, slice_index, arith, refl, sym, ◌∙◌, ⊎_elim, inl, inr, eqb, min, ltb}
 use Rattle.std.specs.Prelude.{slice_get}
 use Rattle.std.specs.List.{list_all}

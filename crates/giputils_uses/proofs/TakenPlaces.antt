@@ -1,4 +1,7 @@
 -- A set that is emptied from its least member on, as a list of truth values.
+--
+-- How it is proved: a walk by `next_one`. The invariant is `places ++ true_places start (drop start old) ≡ true_places
+-- 0 old`, and no place from `start` on has changed. The lemmas of giputils_bits `Walks` are its step and its end.
 use Rattle.std.proofs.Common.{◌≡◌, ℕ, ◌+◌, ◌<◌, ◌≤◌, Bool, false, List, [], ◌∷◌, ◌++◌, length, length-append, append_assoc, get_or, set, length-set, drop, arith, refl, sym, ap, ◌∙◌, inl, inr}
 use Rattle.std.proofs.lemmas.Bool.{cases_eq, cases_lt}
 use Rattle.std.proofs.lemmas.List.{append-nil, get_or-set_same, get_or-set_other}

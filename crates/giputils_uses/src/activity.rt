@@ -1,4 +1,9 @@
 //! The order in which a solver picks its variables: the most active first.
+
+// How it is proved: a heap beside its priorities has the invariant `IsInOrder (by_rank (λ k. k)
+// a.scores.items) a.queue`. The slice that a `Vec` lends is another list than its items;
+// `c.deref.ensures.value` converts.
+
 ghost use Rattle.std.specs.Prelude.{◌≡◌, ◌<◌, [], ◌∷◌, length, replicate, IfSome, IfNone, IfOk, OnOk, OnErr};
 ghost use Rattle.std.specs.List.Sorted.{IsPermutation};
 ghost use Rattle.giputils.specs.Keys.{HoldAlike};

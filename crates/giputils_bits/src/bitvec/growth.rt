@@ -1,4 +1,9 @@
 //! How a bit vector grows and is emptied. What refuses stands before what writes.
+
+// How it is proved: `for` over `U: IntoIterator` with early returns. Use std's `ExtendsWithItems`,
+// with the bound `(goal.iterator-loop-bit g).remaining`. Which items were taken follows from
+// `YieldsList .. .runs`; name the steps, since they cannot be inferred (`proofs/Taken`).
+
 ghost use Rattle.std.specs.Prelude.{◌≡◌, ◌+◌, ◌-◌, ◌*◌, ◌/◌, ◌%◌, ◌<◌, ◌≤◌, ◌↔◌, [], ◌∷◌, ◌++◌, length, replicate, take, IfOk, IfErr, OnErr, OnOk, IsOk, MatchOption};
 ghost use Rattle.std.specs.Iterator.{ExtendsWithItems};
 ghost use Rattle.giputils_bits.specs.Bits.{digits_of, word_count};
