@@ -29,9 +29,9 @@ Each line of an example in Rust on a README that is not quoted stands in giputil
 under the names that `giputils` gives them. The page of `gip` has the script that `gip` is run on, with its replies. The
 README of the root links to that of each crate. The folders that docs/ELSEWHERE.md names for a part are, with those of
 the rows that it names, all that crates.txt asks for. docs/DESIGN.md names each crate, and in its table those that it
-stands on; each module begins with a line `//!`. Each file that a page names is there, and each part of a page that a
-link names; no line has more than 120 columns, but for imports that are quoted, and the README of the root has at most
-90 lines.
+stands on; the solver has the names that stand there beside MiniSat's, and each module begins with a line `//!`. Each
+file that a page names is there, and each part of a page that a link names; no line has more than 120 columns, but for
+imports that are quoted, and the README of the root has at most 90 lines.
 """
 
 import argparse
@@ -515,8 +515,8 @@ def not_gathered():
 
 
 def map_of_crates(page, text):
-    """What is wrong with the map: a crate that it does not name, or that stands on others than crates.txt says, and a
-    module whose first line says nothing."""
+    """What is wrong with the map: a crate that it does not name, or that stands on others than crates.txt says, a name
+    beside one of MiniSat that the solver has not, and a module whose first line says nothing."""
     crates = sorted(path.parent.name for path in CRATES.glob("*/src"))
     complaints = [f"it does not name {crate}" for crate in crates if f"`{crate}`" not in text]
     table = text.partition("\n## In a crate")[0]
@@ -524,6 +524,10 @@ def map_of_crates(page, text):
         told = set().union(*(needed(other) for other in re.findall(r"`(\w+)`", others)))
         wrong = [crate for crate in re.findall(r"`(\w+)`", own) if needed(crate) - {crate} != told]
         complaints += [f"{crate} stands on other crates" for crate in wrong]
+    solver = "".join(path.read_text(encoding="utf-8") for path in (CRATES / "gipsat_solver/src").rglob("*.rt"))
+    rows = re.findall(r"^\| ([^|]*) \| [^|]* \|$", text.partition("| MiniSat |")[2].partition("\n## ")[0], re.MULTILINE)
+    lost = [name for row in rows for name in re.findall(r"`(\w+)`", row) if not re.search(rf"\b{name}\b", solver)]
+    complaints += [f"the solver has no {name}" for name in lost]
     for path in sorted(CRATES.glob("*/src/**/*.rt")):
         if not path.read_text(encoding="utf-8").startswith("//! "):
             complaints.append(f"{path.relative_to(ROOT)} does not begin with a line //!")
