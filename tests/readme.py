@@ -3,7 +3,8 @@
 
 A command is a line `$ COMMAND` of a block ```console, which bash runs at the top of the checkout. It has to end with
 status 0, and to print the lines that follow, to standard output or error; a line `...` stands for any lines, and a
-command with no line below it may print anything. `./test`, which runs this script, and `rt ci`, which runs before it, are not run.
+command with no line below it may print anything. `./test`, which runs this script, and `rt ci`, which runs before it,
+are not run.
 
 The commands run in order in a copy of the files that git lists, with the programs crates/NAME/out/NAME that `rt ci` has
 built. A command counts as a test. The last line is 'N passed, M failed'.
