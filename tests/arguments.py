@@ -12,7 +12,8 @@ import subprocess
 import sys
 
 ROOT = pathlib.Path(__file__).resolve().parent.parent
-SECONDS = 5
+# What a script takes at most, on a machine with much beside it: a run that one starts by mistake takes minutes.
+SECONDS = 60
 
 
 def scripts():
