@@ -4,6 +4,8 @@
 //! The tests hold what no clause can say: that a call answers want of memory only where a request was refused, that
 //! some calls make no request, and that the plain calls ask no oftener than the counted ones. They stand apart from the
 //! library, so that it is not proved twice for them.
+//!
+//! A list of calls is a table of rows, which costs no proof: add one to `rows`, or to `runs` for a run.
 #![tactic(auto)]
 
 #[cfg(test)]
@@ -20,6 +22,8 @@ pub mod list_heap;
 mod orders;
 #[cfg(test)]
 mod refusals;
+#[cfg(test)]
+mod rows;
 #[cfg(test)]
 mod runs;
 #[cfg(test)]

@@ -56,13 +56,6 @@ impl<T: HeapKey, A: Allocator> ListHeap<T, A> {
         self.keys.clear();
     }
 
-    /// The held keys, in the order in which they came.
-    pub fn elements(&self) -> &[T]
-        ensures { result.now ≡ self.now }
-    {
-        self.keys.as_slice()
-    }
-
     /// Whether a key is held.
     pub fn holds(&self, v: T) -> bool
         ensures { result ≡ is_held T.number self.now v }
@@ -113,21 +106,6 @@ impl<T: HeapKey, A: Allocator> ListHeap<T, A> {
         self.keys.retain(|k| number != k.key());
         held
     }
-
-    /// Restores the order after a key's rank rose: there is none to restore.
-    pub fn up<C: BinaryHeapCmp<T>>(&mut self, _key: T, _cmp: &C)
-        ensures { self.new ≡ self.old }
-    {}
-
-    /// Restores the order after a key's rank fell: there is none to restore.
-    pub fn down<C: BinaryHeapCmp<T>>(&mut self, _key: T, _cmp: &C)
-        ensures { self.new ≡ self.old }
-    {}
-
-    /// Restores the order after a key's rank changed: there is none to restore.
-    pub fn update<C: BinaryHeapCmp<T>>(&mut self, _key: T, _cmp: &C)
-        ensures { self.new ≡ self.old }
-    {}
 }
 
 // The place of the first key that is at least every key, or of the first of all where there is none such.

@@ -1,137 +1,170 @@
 //! Runs at concrete types.
-ghost use Rattle.std.specs.Prelude.{◌&&◌, nat_le};
+ghost use Rattle.std.specs.Prelude.{◌&&◌, nat_le, IfOk};
+ghost use Rattle.giputils_heap.specs.Record.{CanCount};
 
-use giputils_heap::{BinaryHeapCmp, ByNumber, HeapCall, HeapReply, HeapStep, RankTable, heap_run};
+use giputils_heap::HeapCall::{Clear, Down, IsEmpty, Len, Pop, Push, Rebuild, Up, Update};
+use giputils_heap::HeapReply::{Done, Empty, Length, Popped, Skipped};
+use giputils_heap::{BinaryHeapCmp, HeapCall, HeapReply, HeapStep, RankTable, heap_run};
 use std::alloc::{AllocError, Global};
 use std::test::Fail;
 
-#[test]
-fn a_run_of_no_steps_has_no_replies(rt: HostRuntime) -> Result<(), Fail> {
-    let mut steps: [HeapStep<u32, ByNumber>; 0] = [];
-    assert!(rt; heap_run(rt.alloc(), &mut steps)?.len() == 0);
-    Ok(())
-}
+// A call of a run, which of the comparers it is lent, its reply, and how often it asks at most.
+type Row = (HeapCall<u32>, usize, HeapReply<u32>, u64);
 
-#[test]
-fn a_key_pushed_twice_is_held_once(rt: HostRuntime) -> Result<(), Fail> {
-    let mut steps = [
-        HeapStep::new(HeapCall::Push(0u32), &ByNumber),
-        HeapStep::new(HeapCall::Push(1), &ByNumber),
-        HeapStep::new(HeapCall::Push(0), &ByNumber),
-        HeapStep::new(HeapCall::Len, &ByNumber),
-    ];
-    let replies = heap_run(rt.alloc(), &mut steps)?;
-    let done = HeapReply::Done;
-    assert!(rt; replies.as_slice() == [done, done, done, HeapReply::Length(2)].as_slice());
-    assert!(rt; steps[2].cmp.count() == 0);
-    Ok(())
-}
+const RUNS: &[(&str, &[RankTable<4>], &[Row])] = &[
+    (
+        "a run of no steps has no replies",
+        &[RankTable([0; 4])],
+        &[],
+    ),
+    (
+        "a key pushed twice is held once",
+        &[RankTable([0; 4])],
+        &[
+            (Push(0), 0, Done, 0),
+            (Push(1), 0, Done, 1),
+            (Push(0), 0, Done, 0),
+            (Len, 0, Length(2), 0),
+        ],
+    ),
+    (
+        "a run skips what is no key",
+        &[RankTable([0; 4])],
+        &[
+            (Push(u32::MAX), 0, Skipped, 0),
+            (Len, 0, Length(0), 0),
+            (IsEmpty, 0, Empty(true), 0),
+            (Up(u32::MAX), 0, Done, 0),
+            (Push(7), 0, Done, 0),
+            (Pop, 0, Popped(Some(7)), 0),
+            (Clear, 0, Done, 0),
+        ],
+    ),
+    (
+        "a way up puts a risen rank right",
+        &[RankTable([5, 3, 4, 0]), RankTable([5, 9, 4, 0])],
+        &[
+            (Push(0), 0, Done, 0),
+            (Push(1), 0, Done, 1),
+            (Push(2), 0, Done, 1),
+            (Up(1), 1, Done, 1),
+            (Pop, 1, Popped(Some(1)), 2),
+            (Pop, 1, Popped(Some(0)), 2),
+            (Pop, 1, Popped(Some(2)), 0),
+        ],
+    ),
+    (
+        "a way down puts a fallen rank right",
+        &[RankTable([5, 3, 4, 0]), RankTable([1, 3, 4, 0])],
+        &[
+            (Push(0), 0, Done, 0),
+            (Push(1), 0, Done, 1),
+            (Push(2), 0, Done, 1),
+            (Down(0), 1, Done, 2),
+            (Pop, 1, Popped(Some(2)), 2),
+            (Pop, 1, Popped(Some(1)), 2),
+            (Pop, 1, Popped(Some(0)), 0),
+        ],
+    ),
+    (
+        "an update puts a risen rank right",
+        &[RankTable([5, 3, 4, 0]), RankTable([5, 9, 4, 0])],
+        &[
+            (Push(0), 0, Done, 0),
+            (Push(1), 0, Done, 1),
+            (Push(2), 0, Done, 1),
+            (Update(1), 1, Done, 2),
+            (Pop, 1, Popped(Some(1)), 2),
+            (Pop, 1, Popped(Some(0)), 2),
+            (Pop, 1, Popped(Some(2)), 0),
+        ],
+    ),
+    (
+        "an update puts a fallen rank right",
+        &[RankTable([5, 3, 4, 0]), RankTable([1, 3, 4, 0])],
+        &[
+            (Push(0), 0, Done, 0),
+            (Push(1), 0, Done, 1),
+            (Push(2), 0, Done, 1),
+            (Update(0), 1, Done, 2),
+            (Pop, 1, Popped(Some(2)), 2),
+            (Pop, 1, Popped(Some(1)), 2),
+            (Pop, 1, Popped(Some(0)), 0),
+        ],
+    ),
+    (
+        "a rebuild puts two changed ranks right",
+        &[RankTable([10, 8, 2, 6]), RankTable([1, 0, 2, 6])],
+        &[
+            (Push(0), 0, Done, 0),
+            (Push(1), 0, Done, 1),
+            (Push(2), 0, Done, 1),
+            (Push(3), 0, Done, 2),
+            (Update(0), 1, Done, 4),
+            (Update(1), 1, Done, 4),
+            (Rebuild, 1, Done, 8),
+            (Pop, 1, Popped(Some(3)), 4),
+            (Pop, 1, Popped(Some(2)), 2),
+            (Pop, 1, Popped(Some(0)), 2),
+            (Pop, 1, Popped(Some(1)), 0),
+            (Pop, 1, Popped(None), 0),
+        ],
+    ),
+];
 
-#[test]
-fn a_run_skips_what_is_no_key(rt: HostRuntime) -> Result<(), Fail> {
-    let mut steps = [
-        HeapStep::new(HeapCall::Push(u32::MAX), &ByNumber),
-        HeapStep::new(HeapCall::Len, &ByNumber),
-        HeapStep::new(HeapCall::IsEmpty, &ByNumber),
-        HeapStep::new(HeapCall::Up(u32::MAX), &ByNumber),
-        HeapStep::new(HeapCall::Push(7), &ByNumber),
-        HeapStep::new(HeapCall::Pop, &ByNumber),
-        HeapStep::new(HeapCall::Clear, &ByNumber),
-    ];
-    let replies = heap_run(rt.alloc(), &mut steps)?;
-    let wanted = &[
-        HeapReply::Skipped,
-        HeapReply::Length(0),
-        HeapReply::Empty(true),
-        HeapReply::Done,
-        HeapReply::Done,
-        HeapReply::Popped(Some(7)),
-        HeapReply::Done,
-    ];
-    assert!(rt; replies.as_slice() == wanted.as_slice());
-    Ok(())
-}
-
-// The replies of a run that pushes keys 0 to 2 of ranks 5, 3, 4, makes this call under other ranks and pops all; and
-// how often the call asked.
-fn repaired(
+// A step for each row.
+fn steps_of<'a, C: BinaryHeapCmp<u32>>(
     alloc: Global,
-    call: HeapCall<u8>,
-    ranks: [u32; 3],
-) -> Result<(Vec<HeapReply<u8>>, u64), AllocError> {
-    let (before, after) = (RankTable([5, 3, 4]), RankTable(ranks));
-    let mut steps = [
-        HeapStep::new(HeapCall::Push(0), &before),
-        HeapStep::new(HeapCall::Push(1), &before),
-        HeapStep::new(HeapCall::Push(2), &before),
-        HeapStep::new(call, &after),
-        HeapStep::new(HeapCall::Pop, &after),
-        HeapStep::new(HeapCall::Pop, &after),
-        HeapStep::new(HeapCall::Pop, &after),
-    ];
-    let replies = heap_run(alloc, &mut steps)?;
-    Ok((replies, steps[3].cmp.count()))
-}
-
-#[test]
-fn a_run_repairs_a_changed_rank(rt: HostRuntime) -> Result<(), Fail> {
-    let done = HeapReply::Done;
-    for &(call, ranks, most, [first, second, third]) in &[
-        (HeapCall::Up(1), [5, 9, 4], 1, [1, 0, 2]),
-        (HeapCall::Down(0), [1, 3, 4], 2, [2, 1, 0]),
-        (HeapCall::Update(1), [5, 9, 4], 2, [1, 0, 2]),
-        (HeapCall::Update(0), [1, 3, 4], 2, [2, 1, 0]),
-    ] {
-        let (replies, count) = repaired(rt.alloc(), call, ranks)?;
-        let wanted = [
-            done,
-            done,
-            done,
-            done,
-            HeapReply::Popped(Some(first)),
-            HeapReply::Popped(Some(second)),
-            HeapReply::Popped(Some(third)),
-        ];
-        assert!(rt; replies.as_slice() == wanted.as_slice());
-        assert!(rt; count <= most);
+    comparers: &'a [C],
+    rows: &[Row],
+) -> Result<Vec<HeapStep<'a, u32, C>>, AllocError>
+    ensures { IfOk result (λ steps. CanCount steps.items) }
+{
+    let mut steps = Vec::with_capacity(alloc, rows.len())?;
+    for (call, comparer, _, _) in rows {
+        let Some(cmp) = comparers.get(*comparer) else {
+            continue;
+        };
+        steps.push(HeapStep::new(*call, cmp))?;
     }
-    Ok(())
+    Ok(steps)
+}
+
+// The place of the first row that does not come true, or the number of rows where there is another number of replies.
+fn first_wrong<C: BinaryHeapCmp<u32>>(
+    alloc: Global,
+    comparers: &[C],
+    rows: &[Row],
+) -> Result<Option<usize>, AllocError> {
+    let mut steps = steps_of(alloc, comparers, rows)?;
+    let replies = heap_run(alloc, &mut steps)?;
+    Ok(first_difference(&steps, &replies, rows))
+}
+
+fn first_difference<C: BinaryHeapCmp<u32>>(
+    steps: &[HeapStep<'_, u32, C>],
+    replies: &[HeapReply<u32>],
+    rows: &[Row],
+) -> Option<usize> {
+    for (place, (_, _, wanted, most)) in rows.iter().enumerate() {
+        match (steps.get(place), replies.get(place)) {
+            (Some(step), Some(reply)) if reply == wanted && step.cmp.count() <= *most => (),
+            _ => return Some(place),
+        }
+    }
+    if replies.len() == rows.len() {
+        None
+    } else {
+        Some(rows.len())
+    }
 }
 
 #[test]
-fn a_run_puts_two_changed_ranks_right_by_a_rebuild(rt: HostRuntime) -> Result<(), Fail> {
-    let (before, after) = (RankTable([10, 8, 2, 6]), RankTable([1, 0, 2, 6]));
-    let mut steps = [
-        HeapStep::new(HeapCall::Push(0u8), &before),
-        HeapStep::new(HeapCall::Push(1), &before),
-        HeapStep::new(HeapCall::Push(2), &before),
-        HeapStep::new(HeapCall::Push(3), &before),
-        HeapStep::new(HeapCall::Update(0), &after),
-        HeapStep::new(HeapCall::Update(1), &after),
-        HeapStep::new(HeapCall::Rebuild, &after),
-        HeapStep::new(HeapCall::Pop, &after),
-        HeapStep::new(HeapCall::Pop, &after),
-        HeapStep::new(HeapCall::Pop, &after),
-        HeapStep::new(HeapCall::Pop, &after),
-        HeapStep::new(HeapCall::Pop, &after),
-    ];
-    let replies = heap_run(rt.alloc(), &mut steps)?;
-    let wanted = &[
-        HeapReply::Done,
-        HeapReply::Done,
-        HeapReply::Done,
-        HeapReply::Done,
-        HeapReply::Done,
-        HeapReply::Done,
-        HeapReply::Done,
-        HeapReply::Popped(Some(3)),
-        HeapReply::Popped(Some(2)),
-        HeapReply::Popped(Some(0)),
-        HeapReply::Popped(Some(1)),
-        HeapReply::Popped(None),
-    ];
-    assert!(rt; replies.as_slice() == wanted.as_slice());
-    assert!(rt; steps[6].cmp.count() <= 8);
+fn each_step_of_the_runs_replies_and_asks_as_its_row_says(rt: HostRuntime) -> Result<(), Fail> {
+    for (title, comparers, rows) in RUNS {
+        let wrong = first_wrong(rt.alloc(), comparers, rows)?;
+        assert!(rt; wrong.is_none(), "{title}: {wrong:?}");
+    }
     Ok(())
 }
 
@@ -141,36 +174,28 @@ struct Switched {
     on: bool,
 }
 
-impl BinaryHeapCmp<u8> for Switched {
+impl BinaryHeapCmp<u32> for Switched {
     ghost at_least = { λ c s o. c.on && nat_le o s };
 
-    fn gte(&self, s: u8, o: u8) -> bool {
+    fn gte(&self, s: u32, o: u32) -> bool {
         self.on && s >= o
     }
 }
 
+const FORGOTTEN: &[Row] = &[
+    (Push(0), 0, Done, 0),
+    (Push(1), 0, Done, 1),
+    (Push(2), 0, Done, 1),
+    (Clear, 0, Done, 0),
+    (Push(1), 1, Done, 0),
+    (Push(2), 1, Done, 1),
+    (Pop, 1, Popped(Some(2)), 2),
+];
+
 #[test]
 fn a_comparer_without_laws_is_forgotten_once_nothing_is_held(rt: HostRuntime) -> Result<(), Fail> {
-    let (off, on) = (Switched { on: false }, Switched { on: true });
-    let mut steps = [
-        HeapStep::new(HeapCall::Push(0u8), &off),
-        HeapStep::new(HeapCall::Push(1), &off),
-        HeapStep::new(HeapCall::Push(2), &off),
-        HeapStep::new(HeapCall::Clear, &off),
-        HeapStep::new(HeapCall::Push(1), &on),
-        HeapStep::new(HeapCall::Push(2), &on),
-        HeapStep::new(HeapCall::Pop, &on),
-    ];
-    let replies = heap_run(rt.alloc(), &mut steps)?;
-    let wanted = &[
-        HeapReply::Done,
-        HeapReply::Done,
-        HeapReply::Done,
-        HeapReply::Done,
-        HeapReply::Done,
-        HeapReply::Done,
-        HeapReply::Popped(Some(2)),
-    ];
-    assert!(rt; replies.as_slice() == wanted.as_slice());
+    let comparers = [Switched { on: false }, Switched { on: true }];
+    let wrong = first_wrong(rt.alloc(), &comparers, FORGOTTEN)?;
+    assert!(rt; wrong.is_none());
     Ok(())
 }
