@@ -179,7 +179,6 @@ BODIES = {
     "low/wrong/quadruple_is_triple": ("", "twice + twice", "twice + u16::from(n)", "refused (goal)"),
     "high/wrong/quintuple_is_quadruple": ("", "quadruple(n) + u16::from(n)", "quadruple(n)", "refused (goal)"),
     "odd/wrong/proves": ("", "let copy = n;", "let copy = n + 0;", "NOT REFUSED"),
-    "odd/wrong/does_not_compile": ("", "u16::from(n) + 1", "u16::form(n) + 1", "WRONG REASON (other, and not goal): it does not compile"),
     "odd/wrong/misses_a_name": ("", "let after = next(n);", "let after = u16::from(n) + 1;", "WRONG REASON (name, and not goal)"),
     "odd/wrong/says_that_it_misses_a_name": (
         "refused: name",
@@ -190,6 +189,8 @@ BODIES = {
     "odd/wrong/turns_for_ever": ("refused: form", "let mark = n;", "let mark = n; while mark > 200 {}", "refused (form)"),
     "odd/wrong/fits_no_answer": ("refused: type", "    later", "    later.min(3)", "refused (type)"),
     "odd/wrong/shows_more_than_it_says": ("refused: limit", "let mark = n;", "let mark = 0;", "refused (goal)"),
+    # It stands in one function with `proves`, so it is tried in one check with `turns_for_ever`, and then each by itself.
+    "odd/wrong/will_not_compile": ("", "    copy", "    copy.of()", "WRONG REASON (other, and not goal): it does not compile"),
     # It stands in no function, so it is tried by itself.
     "odd/wrong/a_step_is_two": ("", "u16 = 1;", "u16 = 2;", "refused (goal)"),
     "odd/wrong/says_nothing_that_is_known": ("refusd: goal", "= next(n);", "= 0;", "WRONG REASON (other, and not goal): it has a line"),
@@ -212,7 +213,8 @@ class Repository:
             write(folder / name, text)
         for name, (first, old, new, _) in BODIES.items():
             write(folder / "crates" / f"{name}.edit", f"{first}\nfile: src/lib.rt\nold: {old}\nnew: {new}\n")
-        (folder / "tests").mkdir()
+        # A line that a crate had before.
+        write(folder / "tests/wrong.txt", "low 0\n")
         for script in ("wrong.py", "turn.py"):
             shutil.copy(HERE / script, folder / "tests")
         subprocess.run(["git", "init", "--quiet"], cwd=folder, check=True)
@@ -226,6 +228,10 @@ class Repository:
         """The last line of the turn of the first crate, and its status."""
         said, status = self.run(40 * "0", script="turn.py")
         return said.splitlines()[-1], status
+
+    def lines(self):
+        """The crates that have a line."""
+        return [line.split()[0] for line in (self.folder / "tests/wrong.txt").read_text(encoding="utf-8").splitlines()]
 
     def stale(self):
         """The crates whose lines are not current."""
@@ -249,13 +255,18 @@ class Repository:
 
 def cases(repository):
     """Each case: what is tested, what was found, and what is wanted."""
-    said, status = repository.run()
-    verdicts = dict(re.findall(r"^(\w+/\w+): (.*)", said, re.MULTILINE))
+    right = ("low/wrong/quadruple_is_triple.edit", "twice + u16::from(n)", "twice + twice")
+    said, status = repository.with_text(*right, repository.run)
+    yield "it fails where not all were refused", status, 1
+    yield "a crate loses its line where one is not refused", repository.lines(), ["high", "told"]
+    yield "and is not current then", repository.stale(), ["low", "odd"]
+    of_low, status = repository.run("low")
+    yield "those of one crate are tried again", (of_low.splitlines()[-1], status), ("2 passed, 0 failed", 0)
+    verdicts = dict(re.findall(r"^(\w+/\w+): (.*)", said + of_low, re.MULTILINE))
     for name, (*_, wanted) in BODIES.items():
         crate, _, body = name.split("/")
         found = verdicts.get(f"{crate}/{body}", said)
         yield f"{body} is told", found[: len(wanted)], wanted
-    yield "it fails where not all were refused", status, 1
     yield "a crate with a faulty one has no line", repository.stale(), ["odd"]
     body = ("low/src/lib.rt", "    twice + twice", "    2 * twice")
     yield "a body of a library is no matter to those above", repository.stale_with(*body), ["low", "odd"]
@@ -277,11 +288,6 @@ def cases(repository):
     yield "a wrong body is a matter of its crate", repository.stale_with(*wrong), ["low", "odd"]
     line = ("../crates.txt", "low:\n", "low: log\n")
     yield "a line of crates.txt is a matter of all above", repository.stale_with(*line), ["low", "high", "odd", "told"]
-    said, status = repository.run("low")
-    yield "those of one crate are tried again", (said.splitlines()[-1], status), ("2 passed, 0 failed", 0)
-    right = ("low/wrong/quadruple_is_triple.edit", "twice + u16::from(n)", "twice + twice")
-    repository.with_text(*right, lambda: repository.run("low"))
-    yield "a crate loses its line where one is not refused", repository.stale(), ["low", "odd"]
     yield "the turn tries those of a crate", repository.turn(), ("2 passed, 0 failed", 0)
     yield "and fails where one is not refused", repository.with_text(*right, repository.turn), ("1 passed, 1 failed", 1)
 
