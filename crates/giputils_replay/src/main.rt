@@ -13,6 +13,7 @@
 
 mod bits;
 mod calls;
+mod containers;
 mod formulas;
 mod galloc;
 mod heap;
@@ -71,9 +72,13 @@ fn replay<W: Write>(alloc: Global, out: &mut W, list: &List) -> anyhow::Result<(
         Some("formulas") => formulas::replay(alloc, out, &list.calls),
         Some("galloc") => galloc::replay(alloc, out, &list.calls),
         Some("heap") => heap::replay(alloc, out, &list.calls),
+        Some("map") => containers::map::replay(alloc, out, &list.calls),
+        Some("set") => containers::set::replay(alloc, out, &list.calls),
+        Some("slots") => containers::slots::replay(alloc, out, &list.calls),
         Some("solver") => solver::replay(alloc, out, &list.calls),
         Some("tables") => tables::replay(alloc, out, &list.calls),
         Some("texts") => texts::replay(alloc, out, &list.calls),
+        Some("vector") => containers::vector::replay(alloc, out, &list.calls),
         _ => bail!("line {}: no container has this name", list.first),
     };
     outcome.context(format_args!("the list at line {}", list.first))
