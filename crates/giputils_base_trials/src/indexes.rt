@@ -5,7 +5,7 @@ use giputils_base::allocator::{
 };
 use giputils_base::gvec::Gvec;
 use giputils_refusing::{Refusing, refuse_each};
-use std::alloc::{AllocError, Allocator, Global};
+use std::alloc::{AllocError, Global};
 use std::ops::{Deref, DerefMut};
 use std::process::Abort;
 use std::test::Fail;
@@ -79,8 +79,10 @@ const CALLS: [GallocCall<u32>; 11] = [
     GallocCall::Gc,
 ];
 
+type Reply<'a> = GallocReply<u32, &'a Refusing>;
+
 // The reply, where it is no map.
-fn text<A: Allocator>(reply: &GallocReply<u32, A>) -> (&'static str, usize) {
+fn text(reply: &Reply<'_>) -> (&'static str, usize) {
     match reply {
         GallocReply::Index(index) => ("index", *index),
         GallocReply::Done => ("done", 0),
@@ -94,34 +96,27 @@ fn text<A: Allocator>(reply: &GallocReply<u32, A>) -> (&'static str, usize) {
 }
 
 // Whether these are the replies, each by its text.
-fn are_texts<A: Allocator>(
-    replies: &[GallocReply<u32, A>],
-    answers: &[(&'static str, usize)],
-) -> bool {
-    replies.iter().map(text).eq(answers.iter().copied())
+fn are_texts(replies: &[Reply<'_>], answers: &[(&'static str, usize)]) -> bool {
+    if replies.len() != answers.len() {
+        return false;
+    }
+    for (reply, answer) in replies.iter().zip(answers) {
+        if text(reply) != *answer {
+            return false;
+        }
+    }
+    true
 }
 
 // Whether a run of the calls is answered so.
-fn is_answered<A: Allocator + Copy>(
-    alloc: A,
+fn is_answered(
+    memory: &Refusing,
     calls: &[GallocCall<u32>],
     answers: &[(&'static str, usize)],
 ) -> bool {
-    match galloc_run(alloc, calls) {
-        Ok((_, replies)) => are_texts(replies.as_slice(), answers),
+    match galloc_run(memory, calls) {
+        Ok((_, replies)) => are_texts(&replies, answers),
         Err(_) => false,
-    }
-}
-
-// The new indexes that the reply at this place gives the first three old ones.
-fn moved<A: Allocator>(replies: &[GallocReply<u32, A>], place: usize) -> [Option<usize>; 3] {
-    match replies.get(place) {
-        Some(GallocReply::Map(indexes)) => [
-            indexes.get(&0).copied(),
-            indexes.get(&1).copied(),
-            indexes.get(&2).copied(),
-        ],
-        _ => [None; 3],
     }
 }
 
@@ -129,12 +124,12 @@ fn moved<A: Allocator>(replies: &[GallocReply<u32, A>], place: usize) -> [Option
 // call that was not refused memory may not be answered so.
 fn is_run(memory: &Refusing) -> bool {
     match galloc_run(memory, &CALLS) {
-        Ok((_, replies)) => refused_calls(replies.as_slice()) != 1,
+        Ok((_, replies)) => refused_calls(&replies) != 1,
         Err(_) => false,
     }
 }
 
-fn refused_calls<A: Allocator>(replies: &[GallocReply<u32, A>]) -> usize {
+fn refused_calls(replies: &[Reply<'_>]) -> usize {
     let mut refused = 0usize;
     for reply in replies {
         if matches!(reply, GallocReply::Refused) {
@@ -144,73 +139,31 @@ fn refused_calls<A: Allocator>(replies: &[GallocReply<u32, A>]) -> usize {
     refused
 }
 
-#[test]
-fn a_run_answers_each_call(rt: HostRuntime) {
-    let answers = &[
-        ("index", 0usize),
-        ("index", 1),
-        ("index", 2),
-        ("done", 0),
-        ("map", 2),
-        ("value", 20),
-        ("done", 0),
-        ("value", 5),
-        ("skipped", 0),
-        ("length", 2),
-        ("map", 2),
-    ];
-    assert!(rt; is_answered(rt.alloc(), &CALLS, answers));
-}
-
-// The new indexes that the two collections of the run give, and how many slots it leaves.
-fn collected_twice(alloc: Global) -> Result<([[Option<usize>; 3]; 2], usize), AllocError> {
-    let (allocator, replies) = galloc_run(alloc, &CALLS)?;
-    let indexes = [moved(&replies, 4), moved(&replies, 10)];
-    Ok((indexes, allocator.len()))
-}
-
-#[test]
-fn a_run_tells_where_its_collections_move_values(rt: HostRuntime) -> Result<(), Fail> {
-    let (indexes, len) = collected_twice(rt.alloc())?;
-    assert!(rt; indexes == [[None, Some(0), Some(1)], [Some(0), Some(1), None]]);
-    assert!(rt; len == 2);
-    Ok(())
-}
-
-#[test]
-fn a_marked_value_can_be_written_and_read(rt: HostRuntime) {
-    let calls = &[
-        GallocCall::Alloc(1u32),
-        GallocCall::Dealloc(0),
-        GallocCall::Write(0, 2),
-        GallocCall::IsRemoved(0),
-        GallocCall::Read(0),
-        GallocCall::Dealloc(1),
-    ];
-    let answers = &[
-        ("index", 0usize),
-        ("done", 0),
-        ("done", 0),
-        ("flag", 1),
-        ("value", 2),
-        ("skipped", 0),
-    ];
-    assert!(rt; is_answered(rt.alloc(), calls, answers));
+// Whether the work of this name was served.
+fn is_served(work: &str, memory: &Refusing) -> bool {
+    match work {
+        "alloc" => are_allocated(memory),
+        "gc" => are_collected(memory),
+        "gc_table" => are_tabled(memory),
+        "reserve" => is_room_made(memory),
+        "galloc_run" => is_run(memory),
+        _ => false,
+    }
 }
 
 // How many requests a collection and a run make is open: the map of a collection may grow more than once.
 #[test]
 fn each_request_of_an_allocator_is_refused_in_turn(rt: HostRuntime) {
     let alloc = rt.alloc();
-    let outcomes = [
-        ("alloc", refuse_each(alloc, are_allocated), 1),
-        ("gc", refuse_each(alloc, are_collected), 2),
-        ("gc_table", refuse_each(alloc, are_tabled), 2),
-        ("reserve", refuse_each(alloc, is_room_made), 2),
-        ("galloc_run", refuse_each(alloc, is_run), 4),
-    ];
-    for (call, outcome, least) in outcomes {
-        assert!(rt; outcome.unwrap_or(0) >= least, "{call}: {outcome:?}");
+    for &(work, least) in &[
+        ("alloc", 1),
+        ("gc", 2),
+        ("gc_table", 2),
+        ("reserve", 2),
+        ("galloc_run", 4),
+    ] {
+        let outcome = refuse_each(alloc, |memory| is_served(work, memory));
+        assert!(rt; outcome.unwrap_or(0) >= least, "{work}: {outcome:?}");
     }
 }
 

@@ -17,8 +17,6 @@ mod lists;
 #[cfg(test)]
 mod logs;
 #[cfg(test)]
-mod maps;
-#[cfg(test)]
 mod options;
 #[cfg(test)]
 mod owners;
