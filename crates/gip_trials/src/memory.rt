@@ -27,44 +27,49 @@ const BITS: &[u8] =
 const TEXTS: &[u8] =
     b"10000000000000000000000000000000000000000000000000000000000000000 0x10000000000000000 65\n[] [] 0\n01101 0xd 5\n";
 
-// How a run ends.
-#[derive(Clone, Copy, PartialEq, Debug)]
-enum Ending {
-    // With the output where nothing is refused.
-    Served,
-    // With the replies to a script that is refused one key.
-    WithoutKey,
-    // With want of memory, and nothing written.
-    Unwritten,
-    Other,
-}
+// How a run ends: with the output where nothing is refused (`served`), with the replies to a script that is refused one
+// key (`without a key`), with want of memory and nothing written (`unwritten`), or otherwise (`other`).
+type Ending = &'static str;
 
 // Runs the script. Its replies are written to memory that is not refused.
 fn ending_of(alloc: Global, memory: &Refusing) -> Ending {
     let mut reader = Watched::new(SCRIPT);
     let mut writer = Watched::new(Vec::new(alloc));
     let outcome = script(memory, &mut reader, &mut writer);
-    let written = writer.device().as_slice();
+    ending_as(outcome, writer.device(), REPLIES)
+}
+
+// How a run ends that had this outcome and wrote this, where that is written if nothing is refused.
+fn ending_as(outcome: Result<(), GipFault>, written: &[u8], wanted: &[u8]) -> Ending {
     match outcome {
-        Ok(()) if written == REPLIES => Ending::Served,
-        Ok(()) if REPLIES_WITHOUT.iter().any(|replies| written == *replies) => Ending::WithoutKey,
-        Err(GipFault::Memory) if written.is_empty() => Ending::Unwritten,
-        _ => Ending::Other,
+        Ok(()) if written == wanted => "served",
+        Ok(()) if is_without_key(written) => "without a key",
+        Err(GipFault::Memory) if written.is_empty() => "unwritten",
+        _ => "other",
     }
+}
+
+fn is_without_key(written: &[u8]) -> bool {
+    for &replies in &REPLIES_WITHOUT {
+        if written == replies {
+            return true;
+        }
+    }
+    false
 }
 
 #[test]
 fn a_refusal_stops_a_script_unwritten_or_costs_one_key(rt: HostRuntime) -> Result<(), Fail> {
     let alloc = rt.alloc();
-    let refused = refuse_each(alloc, |memory| ending_of(alloc, memory) == Ending::Served)?;
+    let refused = refuse_each(alloc, |memory| ending_of(alloc, memory) == "served")?;
     let (mut costs_a_key, mut stops) = (false, false);
     for n in 1..=refused {
         let ending = ending_of(alloc, &Refusing::nth(alloc, n));
-        costs_a_key = costs_a_key || ending == Ending::WithoutKey;
-        stops = stops || ending == Ending::Unwritten;
+        costs_a_key = costs_a_key || ending == "without a key";
+        stops = stops || ending == "unwritten";
         assert!(rt;
-            ending != Ending::Served && ending != Ending::Other,
-            "request {n}: {ending:?}"
+            ending != "served" && ending != "other",
+            "request {n}: {ending}"
         );
     }
     assert!(rt; costs_a_key && stops);
@@ -76,29 +81,21 @@ fn ending_of_bits(alloc: Global, memory: &Refusing) -> Ending {
     let mut reader = Watched::new(BITS);
     let mut writer = Watched::new(Vec::new(alloc));
     let outcome = bits(memory, &mut reader, &mut writer);
-    let written = writer.device().as_slice();
-    match outcome {
-        Ok(()) if written == TEXTS => Ending::Served,
-        Err(GipFault::Memory) if written.is_empty() => Ending::Unwritten,
-        _ => Ending::Other,
-    }
+    ending_as(outcome, writer.device(), TEXTS)
 }
 
 // Bits are collected, which asks again where a request is refused: so each run is refused the later requests too.
 #[test]
 fn a_refusal_stops_bits_unwritten(rt: HostRuntime) -> Result<(), Fail> {
     let alloc = rt.alloc();
-    let refused = refuse_from_each(
-        alloc,
-        |memory| ending_of_bits(alloc, memory) == Ending::Served,
-    )?;
+    let refused = refuse_from_each(alloc, |memory| ending_of_bits(alloc, memory) == "served")?;
     for n in 1..=refused {
         let ending = ending_of_bits(alloc, &Refusing::from(alloc, n));
-        assert!(rt; ending == Ending::Unwritten, "from request {n} on");
+        assert!(rt; ending == "unwritten", "from request {n} on");
         let ending = ending_of_bits(alloc, &Refusing::nth(alloc, n));
         assert!(rt;
-            ending == Ending::Unwritten || ending == Ending::Served,
-            "request {n}: {ending:?}"
+            ending == "unwritten" || ending == "served",
+            "request {n}: {ending}"
         );
     }
     assert!(rt; refused > 0);
