@@ -1,12 +1,12 @@
 //! Hashed sets and maps.
 
 use giputils_base::hash::{GHashMap, GHashSet};
-use giputils_refusing::{Refusing, refuse_each, refuse_from_each};
+use giputils_refusing::Refusing;
 use std::alloc::AllocError;
 use std::ops::{Deref, DerefMut};
 
 // The requests of one growth of a hashed collection.
-const GROWTH: u64 = 4;
+pub(crate) const GROWTH: u64 = 4;
 
 fn is_set_collected(memory: &Refusing) -> bool {
     GHashSet::from_iter(memory, [3u32, 3]).is_ok()
@@ -45,39 +45,15 @@ fn is_map_cloned(memory: &Refusing) -> bool {
 }
 
 // Whether the work of this name was served.
-fn is_served(work: &str, memory: &Refusing) -> bool {
+pub(crate) fn is_served(work: &str, memory: &Refusing) -> bool {
     match work {
-        "a set from_iter" => is_set_collected(memory),
-        "a map from_iter" => is_map_collected(memory),
-        "a set's insert" => is_member_put(memory),
-        "a map's insert" => is_value_put(memory),
-        "a set's clone" => is_set_cloned(memory),
-        "a map's clone" => is_map_cloned(memory),
+        "GHashSet::from_iter" => is_set_collected(memory),
+        "GHashMap::from_iter" => is_map_collected(memory),
+        "GHashSet::insert" => is_member_put(memory),
+        "GHashMap::insert" => is_value_put(memory),
+        "GHashSet::clone" => is_set_cloned(memory),
+        "GHashMap::clone" => is_map_cloned(memory),
         _ => false,
-    }
-}
-
-#[test]
-fn each_request_of_a_hashed_collection_is_refused_in_turn(rt: HostRuntime) {
-    let alloc = rt.alloc();
-    for &(work, requests) in &[
-        ("a set's insert", GROWTH),
-        ("a map's insert", GROWTH),
-        ("a set's clone", 2 * GROWTH),
-        ("a map's clone", 2 * GROWTH),
-    ] {
-        let outcome = refuse_each(alloc, |memory| is_served(work, memory));
-        assert!(rt; outcome == Ok(requests), "{work}");
-    }
-}
-
-// Collecting asks again where the room for all items is refused, so that one refusal alone can pass.
-#[test]
-fn each_request_to_collect_items_is_refused_with_the_later_ones(rt: HostRuntime) {
-    let alloc = rt.alloc();
-    for &work in &["a set from_iter", "a map from_iter"] {
-        let outcome = refuse_from_each(alloc, |memory| is_served(work, memory));
-        assert!(rt; outcome == Ok(GROWTH), "{work}");
     }
 }
 

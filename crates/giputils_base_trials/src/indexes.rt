@@ -4,7 +4,7 @@ use giputils_base::allocator::{
     GallocCall, GallocElem, GallocReply, Gallocator, galloc_run, rename,
 };
 use giputils_base::gvec::Gvec;
-use giputils_refusing::{Refusing, refuse_each};
+use giputils_refusing::Refusing;
 use std::alloc::{AllocError, Global};
 use std::ops::{Deref, DerefMut};
 use std::process::Abort;
@@ -140,7 +140,7 @@ fn refused_calls(replies: &[Reply<'_>]) -> usize {
 }
 
 // Whether the work of this name was served.
-fn is_served(work: &str, memory: &Refusing) -> bool {
+pub(crate) fn is_served(work: &str, memory: &Refusing) -> bool {
     match work {
         "alloc" => are_allocated(memory),
         "gc" => are_collected(memory),
@@ -148,22 +148,6 @@ fn is_served(work: &str, memory: &Refusing) -> bool {
         "reserve" => is_room_made(memory),
         "galloc_run" => is_run(memory),
         _ => false,
-    }
-}
-
-// How many requests a collection and a run make is open: the map of a collection may grow more than once.
-#[test]
-fn each_request_of_an_allocator_is_refused_in_turn(rt: HostRuntime) {
-    let alloc = rt.alloc();
-    for &(work, least) in &[
-        ("alloc", 1),
-        ("gc", 2),
-        ("gc_table", 2),
-        ("reserve", 2),
-        ("galloc_run", 4),
-    ] {
-        let outcome = refuse_each(alloc, |memory| is_served(work, memory));
-        assert!(rt; outcome.unwrap_or(0) >= least, "{work}: {outcome:?}");
     }
 }
 

@@ -21,6 +21,8 @@ mod options;
 #[cfg(test)]
 mod owners;
 #[cfg(test)]
+mod refused;
+#[cfg(test)]
 mod slots;
 #[cfg(test)]
 mod statistics;

@@ -2,7 +2,7 @@
 
 use giputils_base::grc::Grc;
 use giputils_base::gvec::Gvec;
-use giputils_refusing::{Refusing, refuse_each, refuse_from_each};
+use giputils_refusing::Refusing;
 use std::alloc::AllocError;
 use std::ops::{Deref, DerefMut};
 use std::test::Fail;
@@ -48,32 +48,16 @@ fn is_shared(memory: &Refusing) -> bool {
 }
 
 // Whether the work of this name was served.
-fn is_served(work: &str, memory: &Refusing) -> bool {
+pub(crate) fn is_served(work: &str, memory: &Refusing) -> bool {
     match work {
-        "from_array" => is_made(memory),
-        "reserve" => is_filled_up(memory),
-        "clone" => is_cloned(memory),
-        "new_rand" => is_drawn(memory),
+        "Gvec::from_array" => is_made(memory),
+        "Gvec::from_iter" => is_collected(memory),
+        "Gvec::reserve" => is_filled_up(memory),
+        "Gvec::clone" => is_cloned(memory),
+        "Gvec::new_rand" => is_drawn(memory),
         "Grc::new" => is_shared(memory),
         _ => false,
     }
-}
-
-#[test]
-fn each_request_of_a_vector_is_refused_in_turn(rt: HostRuntime) {
-    let alloc = rt.alloc();
-    for &(work, requests) in &[
-        ("from_array", 1),
-        ("reserve", 2),
-        ("clone", 2),
-        ("new_rand", 1),
-        ("Grc::new", 1),
-    ] {
-        let outcome = refuse_each(alloc, |memory| is_served(work, memory));
-        assert!(rt; outcome == Ok(requests), "{work}");
-    }
-    // Collecting asks again where the room for all items is refused, so that one refusal alone can pass.
-    assert!(rt; refuse_from_each(alloc, is_collected) == Ok(1));
 }
 
 // Moves and writes the items of a list of three, and takes one out.

@@ -1,16 +1,15 @@
 //! The average of the last numbers.
 
-use giputils_refusing::{Refusing, refuse_each};
+use giputils_refusing::Refusing;
 use giputils_stat::statistic::MovingAverage;
 use std::test::Fail;
 
-fn is_made(memory: &Refusing) -> bool {
+pub(crate) fn is_made(memory: &Refusing) -> bool {
     MovingAverage::with_room(memory, 3).is_ok()
 }
 
 #[test]
 fn a_moving_average_asks_for_its_memory_where_it_is_made(rt: HostRuntime) -> Result<(), Fail> {
-    assert!(rt; refuse_each(rt.alloc(), is_made) == Ok(1));
     let memory = Refusing::from(rt.alloc(), 2);
     let mut average = MovingAverage::with_room(&memory, 3)?;
     for number in 0..5 {
