@@ -57,17 +57,24 @@ fn a_heap_asks_at_once_for_what_it_needs(rt: HostRuntime) {
     }
 }
 
-// Makes each call that is handed a key.
-fn call_with(heap: &mut BoundedHeap<u32, &Refusing>, key: u32) {
+// Makes each call that holds a key.
+fn push(heap: &mut BoundedHeap<u32, &Refusing>, key: u32) {
     if key < heap.bound() {
         heap.push(key, &ByNumber);
         heap.push_counted(key, &mut Counting::new(&ByNumber));
         heap.push_or_update(key, &ByNumber);
         heap.push_or_update_counted(key, &mut Counting::new(&ByNumber));
     }
+}
+
+// Makes each call that repairs the place of a key.
+fn repair(heap: &mut BoundedHeap<u32, &Refusing>, key: u32) {
     heap.up(key, &ByNumber);
     heap.down(key, &ByNumber);
     heap.update(key, &ByNumber);
+}
+
+fn repair_counted(heap: &mut BoundedHeap<u32, &Refusing>, key: u32) {
     heap.up_counted(key, &mut Counting::new(&ByNumber));
     heap.down_counted(key, &mut Counting::new(&ByNumber));
     heap.update_counted(key, &mut Counting::new(&ByNumber));
@@ -98,7 +105,9 @@ fn a_bounded_heap_takes_no_memory_once_it_is_made(rt: HostRuntime) -> Result<(),
     let memory = Refusing::from(rt.alloc(), 3);
     let mut heap = BoundedHeap::with_bound(&memory, 64)?;
     for key in 0..66 {
-        call_with(&mut heap, key);
+        push(&mut heap, key);
+        repair(&mut heap, key);
+        repair_counted(&mut heap, key);
     }
     let left = call_without(&mut heap);
     let built = build_of_two(&mut heap);

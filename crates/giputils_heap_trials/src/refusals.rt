@@ -1,8 +1,7 @@
 //! Heaps, and lists of calls of one, that are refused memory.
 
-use giputils_heap::{
-    BinaryHeap, ByNumber, Counting, HeapCall, HeapReply, HeapStep, RankTable, heap_run,
-};
+use crate::runs::{TWO_CHANGED, TWO_TABLES, steps_of};
+use giputils_heap::{BinaryHeap, ByNumber, Counting, HeapCall, HeapReply, HeapStep, heap_run};
 use giputils_refusing::{Refusing, refuse_each};
 use std::alloc::{AllocError, Global};
 use std::test::Fail;
@@ -59,23 +58,9 @@ fn is_filled(memory: &Refusing) -> bool {
     pops_all_below(&mut heap, MANY)
 }
 
-// Pushes four keys, changes the ranks of two of them, and updates these and rebuilds before five pops.
+// The replies to a run whose ranks change; none where memory for the lists of steps and replies is refused.
 fn replies_under_changed_ranks(memory: &Refusing) -> Option<Vec<HeapReply<u32>, &Refusing>> {
-    let (before, after) = (RankTable([10, 8, 2, 6]), RankTable([1, 0, 2, 6]));
-    let mut steps = [
-        HeapStep::new(HeapCall::Push(0), &before),
-        HeapStep::new(HeapCall::Push(1), &before),
-        HeapStep::new(HeapCall::Push(2), &before),
-        HeapStep::new(HeapCall::Push(3), &before),
-        HeapStep::new(HeapCall::Update(0), &after),
-        HeapStep::new(HeapCall::Update(1), &after),
-        HeapStep::new(HeapCall::Rebuild, &after),
-        HeapStep::new(HeapCall::Pop, &after),
-        HeapStep::new(HeapCall::Pop, &after),
-        HeapStep::new(HeapCall::Pop, &after),
-        HeapStep::new(HeapCall::Pop, &after),
-        HeapStep::new(HeapCall::Pop, &after),
-    ];
+    let mut steps = steps_of(memory, TWO_TABLES, TWO_CHANGED).ok()?;
     heap_run(memory, &mut steps).ok()
 }
 
@@ -91,7 +76,12 @@ fn pop_by_later_ranks(replies: &[HeapReply<u32>]) -> bool {
             return false;
         }
     }
-    pops.all(|reply| *reply == HeapReply::Popped(None))
+    for reply in pops {
+        if *reply != HeapReply::Popped(None) {
+            return false;
+        }
+    }
+    true
 }
 
 // Where a key is refused, tells so only if the others come out as they should.
@@ -156,6 +146,9 @@ fn repair(heap: &mut BinaryHeap<u32, &Refusing>, key: u32) {
     heap.up(key, &ByNumber);
     heap.down(key, &ByNumber);
     heap.update(key, &ByNumber);
+}
+
+fn repair_counted(heap: &mut BinaryHeap<u32, &Refusing>, key: u32) {
     heap.up_counted(key, &mut Counting::new(&ByNumber));
     heap.down_counted(key, &mut Counting::new(&ByNumber));
     heap.update_counted(key, &mut Counting::new(&ByNumber));
@@ -201,6 +194,7 @@ fn called_in_place(
     push_held(&mut heap)?;
     for &key in &[3, 6, 9, 10, 4_000_000_000, u32::MAX] {
         repair(&mut heap, key);
+        repair_counted(&mut heap, key);
     }
     rebuild(&mut heap);
     let seen = (found(&heap), popped(&mut heap), removed(&mut heap));

@@ -5,11 +5,11 @@ ghost use Rattle.giputils_heap.specs.Record.{CanCount};
 use giputils_heap::HeapCall::{Clear, Down, IsEmpty, Len, Pop, Push, Rebuild, Up, Update};
 use giputils_heap::HeapReply::{Done, Empty, Length, Popped, Skipped};
 use giputils_heap::{BinaryHeapCmp, HeapCall, HeapReply, HeapStep, RankTable, heap_run};
-use std::alloc::{AllocError, Global};
+use std::alloc::{AllocError, Allocator, Global};
 use std::test::Fail;
 
-// A call of a run, which of the comparers it is lent, its reply, and how often it asks at most.
-type Row = (HeapCall<u32>, usize, HeapReply<u32>, u64);
+/// A call of a run, which of the comparers it is lent, its reply, and how often it asks at most.
+pub(crate) type Row = (HeapCall<u32>, usize, HeapReply<u32>, u64);
 
 const RUNS: &[(&str, &[RankTable<4>], &[Row])] = &[
     (
@@ -94,30 +94,36 @@ const RUNS: &[(&str, &[RankTable<4>], &[Row])] = &[
     ),
     (
         "a rebuild puts two changed ranks right",
-        &[RankTable([10, 8, 2, 6]), RankTable([1, 0, 2, 6])],
-        &[
-            (Push(0), 0, Done, 0),
-            (Push(1), 0, Done, 1),
-            (Push(2), 0, Done, 1),
-            (Push(3), 0, Done, 2),
-            (Update(0), 1, Done, 4),
-            (Update(1), 1, Done, 4),
-            (Rebuild, 1, Done, 8),
-            (Pop, 1, Popped(Some(3)), 4),
-            (Pop, 1, Popped(Some(2)), 2),
-            (Pop, 1, Popped(Some(0)), 2),
-            (Pop, 1, Popped(Some(1)), 0),
-            (Pop, 1, Popped(None), 0),
-        ],
+        TWO_TABLES,
+        TWO_CHANGED,
     ),
 ];
 
-// A step for each row.
-fn steps_of<'a, C: BinaryHeapCmp<u32>>(
-    alloc: Global,
+/// Ranks, and those of the same keys once two have changed.
+pub(crate) const TWO_TABLES: &[RankTable<4>] = &[RankTable([10, 8, 2, 6]), RankTable([1, 0, 2, 6])];
+
+/// Pushes four keys, changes the ranks of two of them, and updates these and rebuilds before five pops.
+pub(crate) const TWO_CHANGED: &[Row] = &[
+    (Push(0), 0, Done, 0),
+    (Push(1), 0, Done, 1),
+    (Push(2), 0, Done, 1),
+    (Push(3), 0, Done, 2),
+    (Update(0), 1, Done, 4),
+    (Update(1), 1, Done, 4),
+    (Rebuild, 1, Done, 8),
+    (Pop, 1, Popped(Some(3)), 4),
+    (Pop, 1, Popped(Some(2)), 2),
+    (Pop, 1, Popped(Some(0)), 2),
+    (Pop, 1, Popped(Some(1)), 0),
+    (Pop, 1, Popped(None), 0),
+];
+
+/// A step for each row.
+pub(crate) fn steps_of<'a, A: Allocator, C: BinaryHeapCmp<u32>>(
+    alloc: A,
     comparers: &'a [C],
     rows: &[Row],
-) -> Result<Vec<HeapStep<'a, u32, C>>, AllocError>
+) -> Result<Vec<HeapStep<'a, u32, C>, A>, AllocError>
     ensures { IfOk result (λ steps. CanCount steps.items) }
 {
     let mut steps = Vec::with_capacity(alloc, rows.len())?;
