@@ -1,5 +1,5 @@
 //! Learning from a conflict: the learned clause, the backjump, and the asserted literal.
-ghost use Rattle.std.specs.Prelude.{◌≡◌, IfOk};
+ghost use Rattle.std.specs.Prelude.{◌≡◌, IfOk, OnOk};
 ghost use Rattle.gipsat_solver.specs.Database.{Gains, Learns};
 ghost use Rattle.gipsat_solver.specs.Trail.{ComesFarther, IsConflictOf, IsReady};
 
