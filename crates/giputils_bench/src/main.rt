@@ -58,11 +58,11 @@ struct Task<'a> {
 
 fn main(rt: HostRuntime) -> anyhow::Result<ExitCode> {
     let args: Vec<String> = env::args(&rt)?.collect(rt.alloc())?;
-    perform(&rt, task(rt.alloc(), &args)?)
+    perform(&rt, read_task(rt.alloc(), &args)?)
 }
 
 // What the arguments ask for, of which the first is the name of the program.
-fn task(alloc: Global, args: &[String]) -> anyhow::Result<Task<'_>> {
+fn read_task(alloc: Global, args: &[String]) -> anyhow::Result<Task<'_>> {
     let words: Vec<&str> = args.iter().map(|arg| arg.as_str()).collect(alloc)?;
     task_of(&words)
 }
