@@ -39,7 +39,15 @@ fn distances_in(alloc: Global, graph: &[Gvec<(u16, u32)>]) -> Result<Option<Vec<
     Ok(Some(distances(alloc, graph, 0)?))
 }
 
-// Whether these are the distances.
+// Whether these are the distances that are wanted.
+fn are_wanted(far: &Option<Vec<u32>>, wanted: Option<&[u32]>) -> bool {
+    match (far, wanted) {
+        (Some(far), Some(wanted)) => far.as_slice() == wanted,
+        (None, None) => true,
+        _ => false,
+    }
+}
+
 fn has_distances(
     alloc: Global,
     edges: &[&[(u16, u32)]],
@@ -47,11 +55,7 @@ fn has_distances(
 ) -> Result<bool, AllocError> {
     let graph = graph(alloc, edges)?;
     let far = distances_in(alloc, &graph)?;
-    Ok(match (far, wanted) {
-        (Some(far), Some(wanted)) => far.as_slice() == wanted,
-        (None, None) => true,
-        _ => false,
-    })
+    Ok(are_wanted(&far, wanted))
 }
 
 #[test]
