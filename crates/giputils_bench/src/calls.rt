@@ -40,7 +40,7 @@ pub(crate) fn run(
 }
 
 // Which variables a question decides: all, or those that its assumptions depend on.
-#[derive(Clone, Copy, PartialEq, Eq)]
+#[derive(Clone, Copy)]
 enum Deciding {
     All,
     Cone,
