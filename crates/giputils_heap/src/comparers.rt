@@ -6,7 +6,7 @@ use crate::key::{BinaryHeapCmp, HeapKey};
 use std::cmp::Reverse;
 
 /// Compares keys by their numbers: the greatest number comes first, as a max heap by default.
-#[derive(Clone, Copy)]
+#[derive(Clone, Copy, PartialEq, Eq, Default, Debug)]
 pub struct ByNumber;
 
 impl<T: HeapKey> BinaryHeapCmp<T> for ByNumber {
@@ -29,7 +29,7 @@ impl<T, C: BinaryHeapCmp<T>> BinaryHeapCmp<T> for Reverse<C> {
 /// Compares keys by their ranks in a table, and those of one rank by their numbers.
 ///
 /// The rank of a key stands in the table at the place of its number; a key past the table's end has rank 0.
-#[derive(Clone, Copy)]
+#[derive(Clone, Copy, Debug)]
 pub struct ByRank<'a>(pub &'a [u32]);
 
 impl ByRank<'_> {
@@ -59,7 +59,7 @@ impl<T: HeapKey> BinaryHeapCmp<T> for ByRank<'_> {
 /// The rank of a key stands in the table at the place of its number; a key past the table's end comes after all others.
 /// As an `Ord` is a total order, so is this on any keys: an activity may be a `u64`, or a key of one's own that wraps a
 /// float.
-#[derive(Clone, Copy)]
+#[derive(Clone, Copy, Debug)]
 pub struct ByOrd<'a, R>(pub &'a [R]);
 
 impl<T: HeapKey, R: Ord> BinaryHeapCmp<T> for ByOrd<'_, R> {

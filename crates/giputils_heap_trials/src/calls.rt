@@ -337,19 +337,19 @@ fn comparers_without_laws_lose_no_key(rt: HostRuntime) {
     assert!(rt; loses_a_key(rt.alloc(), &Circle).is_none());
 }
 
-// All keys of a heap from the greatest, and how often listing them asked.
-fn drained(alloc: Global, keys: &[u8]) -> Result<(Vec<u8>, u64), AllocError> {
+// All keys of a heap from the greatest, how often listing them asked, and how many keys are left.
+fn drained(alloc: Global, keys: &[u8]) -> Result<(Vec<u8>, u64, usize), AllocError> {
     let mut heap = filled(alloc, keys)?;
     let mut counter = Counting::new(&ByNumber);
     let keys = heap.drain_sorted_counted(alloc, &mut counter)?;
-    Ok((keys, counter.count()))
+    Ok((keys, counter.count(), heap.len()))
 }
 
 #[test]
 fn draining_lists_all_keys_and_asks_little(rt: HostRuntime) -> Result<(), Fail> {
-    let (keys, asked) = drained(rt.alloc(), &[3, 1, 4, 1, 5, 9, 2, 6])?;
+    let (keys, asked, left) = drained(rt.alloc(), &[3, 1, 4, 1, 5, 9, 2, 6])?;
     assert!(rt; keys.as_slice() == [9, 6, 5, 4, 3, 2, 1].as_slice());
-    assert!(rt; asked <= 28);
+    assert!(rt; left == 0 && asked <= 28);
     Ok(())
 }
 
