@@ -84,6 +84,7 @@ try "lines that end with carriage returns alone" 1 "$none" "" 'p cnf 2 2\r1 0\r-
 try "two numbers in a word" 1 "<stdin>:2: not a number" "" 'p cnf 2 1\n1-2 0\n'
 try "a number past 2^32" 1 "<stdin>:2: a number past 2147483647" "" 'p cnf 1 1\n4294967297 0\n'
 try "a number with many zeros" 10 "" "$two" 'p cnf 0002 2\n00000000000000000001 00\n-01 000002 0\n'
+# shellcheck disable=SC2016
 try "a device without a byte" 1 '/dev/null:1: no header `p cnf VARIABLES CLAUSES`' "" "" /dev/null
 
 # Files that can't be read. A message names the file, the line where there is one, and the cause.
@@ -114,7 +115,7 @@ try "the version behind other words" 0 "" "gipsat 0.1.0" "" a --stats --version 
 help=$("$gipsat" --help)
 try "the help" 0 "" "$help" "" -h
 for option in --conflicts -t --time -n --no-witness -q --quiet --stats --proof --binary -f --force --relaxed --no-simplify --check -h --help --version --; do
-    if printf '%s\n' "$help" | grep -qE -- "^ *([^ ]+ )?$option[ ,]"; then
+    if printf '%s\n' "$help" | grep -qE -- "^ *([^ ]+ )?${option}[ ,]"; then
         echo "ok: the help tells of $option"
         passed=$((passed + 1))
     else

@@ -1,3 +1,4 @@
+# shellcheck shell=bash
 # Read by the scripts beside it that are no Python: what becomes of their arguments.
 
 # USAGE [ARGUMENT..]: answers --help by the usage and the comment at the head of the script, and refuses an option, or
