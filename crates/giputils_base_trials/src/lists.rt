@@ -34,9 +34,10 @@ fn is_cloned(memory: &Refusing) -> bool {
     }
 }
 
-fn is_drawn(memory: &Refusing) -> bool {
+// Whether a list of so many drawn numbers is made.
+fn are_drawn(memory: &Refusing, count: usize) -> bool {
     let mut drawn = 0u32;
-    let list = Gvec::new_rand(memory, 3, &mut drawn, |drawn| {
+    let list = Gvec::new_rand(memory, count, &mut drawn, |drawn| {
         *drawn = drawn.wrapping_add(1);
         *drawn
     });
@@ -54,7 +55,7 @@ pub(crate) fn is_served(work: &str, memory: &Refusing) -> bool {
         "Gvec::from_iter" => is_collected(memory),
         "Gvec::reserve" => is_filled_up(memory),
         "Gvec::clone" => is_cloned(memory),
-        "Gvec::new_rand" => is_drawn(memory),
+        "Gvec::new_rand" => are_drawn(memory, 3),
         "Grc::new" => is_shared(memory),
         _ => false,
     }
@@ -94,11 +95,6 @@ fn is_filled_up_by_none(memory: &Refusing) -> bool {
     Gvec::<u32, &Refusing>::new(memory).reserve(0).is_ok()
 }
 
-fn are_none_drawn(memory: &Refusing) -> bool {
-    let mut drawn = 0u32;
-    Gvec::new_rand(memory, 0, &mut drawn, |drawn| *drawn).is_ok()
-}
-
 #[test]
 fn lists_of_no_items_take_no_memory(rt: HostRuntime) {
     let memory = Refusing::from(rt.alloc(), 1);
@@ -106,7 +102,7 @@ fn lists_of_no_items_take_no_memory(rt: HostRuntime) {
         is_filled_up_by_none(&memory),
         is_copied(&Gvec::new(&memory)),
         Gvec::<u32, _>::from_iter(&memory, []).is_ok(),
-        are_none_drawn(&memory),
+        are_drawn(&memory, 0),
     ];
     assert!(rt; (is_made, memory.requests()) == ([true; 4], 0));
     // std's array of no items is asked for as well, as a block of no bytes.
