@@ -10,8 +10,7 @@ Reads a circuit in the ascii or the binary form of AIGER 1.9 from FILE, or from 
 its name is -, and searches for each bad literal in turn. At the end it writes for each what it found: the lines `1`,
 `b` with the literal's place (from 0 on), a witness and `.`; or `0` in place of `1` where no bad state is reachable, and
 `2` where that is open. A line `u` with a number before a `2` says that no counterexample has so many transitions or
-fewer.
-Where the circuit has no bad literals, its outputs are taken for them.
+fewer. Where the circuit has no bad literals, its outputs are taken for them.
 
 Input:
       --bad I           only the bad literal at place I
