@@ -361,17 +361,31 @@ def answers_of(program, header, calls):
     return answers
 
 
+def row_files():
+    return sorted((Path(__file__).resolve().parent / "rows").glob("*.txt"))
+
+
+def rows_of(path):
+    """The lists of a file of tools/rows, as lines with their answers. The answer to a list's first line is that line."""
+    for number, line in enumerate(path.read_text(encoding="utf-8").splitlines(), 1):
+        call, arrow, answer = line.partition(" -> ")
+        if line.startswith("new ") and len(line.split()) > 2:
+            yield line, line
+        elif arrow:
+            yield call, answer
+        elif line and not line.startswith("#"):
+            sys.exit(f"{path}:{number}: neither 'new NAME TITLE' nor 'CALL -> ANSWER'")
+
+
 def hand_written():
-    """The lists of tools/rows, as lines with their answers. The answer to the first line of a list is that line."""
-    for path in sorted((Path(__file__).resolve().parent / "rows").glob("*.txt")):
-        for number, line in enumerate(path.read_text(encoding="utf-8").splitlines(), 1):
-            call, arrow, answer = line.partition(" -> ")
-            if line.startswith("new ") and len(line.split()) > 2:
-                yield line, line
-            elif arrow:
-                yield call, answer
-            elif line and not line.startswith("#"):
-                sys.exit(f"{path}:{number}: neither 'new NAME TITLE' nor 'CALL -> ANSWER'")
+    """The lists of all files of tools/rows."""
+    return [line for path in row_files() for line in rows_of(path)]
+
+
+def stored_lines():
+    """The lines of all lists that giputils_replay is run on, with their answers."""
+    calls, answers = ((REPLAY / name).read_text(encoding="utf-8").splitlines() for name in ("stdin", "stdout"))
+    return list(zip(calls, answers, strict=True))
 
 
 def generated(lines):
@@ -385,11 +399,6 @@ def write(lines):
         (REPLAY / name).write_text("".join(f"{line[place]}\n" for line in lines), encoding="utf-8")
 
 
-def write_rows():
-    stored = ((REPLAY / name).read_text(encoding="utf-8").splitlines() for name in ("stdin", "stdout"))
-    write([*hand_written(), *generated(list(zip(*stored)))])
-
-
 def main():
     parser = argparse.ArgumentParser(description=__doc__, formatter_class=argparse.RawDescriptionHelpFormatter)
     source = parser.add_mutually_exclusive_group(required=True)
@@ -397,7 +406,8 @@ def main():
     source.add_argument("program", nargs="?", metavar="PROGRAM")
     asked = parser.parse_args()
     if asked.rows:
-        return write_rows()
+        write([*hand_written(), *generated(stored_lines())])
+        return
     if not shutil.which(asked.program):
         parser.error(f"there is no program '{asked.program}'")
     questions = []
