@@ -29,13 +29,14 @@ Each line of an example in Rust on a README that is not quoted stands in giputil
 under the names that `giputils` gives them. The page of `gip` has the script that `gip` is run on, with its replies. The
 README of the root links to that of each crate. The folders that docs/ELSEWHERE.md names for a part are, with those of
 the rows that it names, all that crates.txt asks for. docs/DESIGN.md names each crate, and in its table those that it
-stands on; the solver has the names that stand there beside MiniSat's, and each module begins with a line `//!`. Each
-file that a page names is there, and each part of a page that a link names; no line has more than 120 columns, but for
-imports that are quoted, and the README of the root has at most 90 lines.
+stands on; the solver has the names that stand there beside MiniSat's, the imports of its modules make no cycle, and
+each module begins with a line `//!`. Each file that a page names is there, and each part of a page that a link names;
+no line has more than 120 columns, but for imports that are quoted, and the README of the root has at most 90 lines.
 """
 
 import argparse
 import functools
+import graphlib
 import os
 import pathlib
 import re
@@ -514,9 +515,21 @@ def not_gathered():
     return [f"giputils does not hand out {file}" for file in lost]
 
 
+def ring_of_modules(folder):
+    """A complaint on modules of a folder that import each other in a ring, if there are any."""
+    texts = {path.stem: without_comments(path.read_text(encoding="utf-8")) for path in folder.glob("*.rt")}
+    imports = {module: set(re.findall(r"\bcrate::(\w+)", text)) - {module} for module, text in texts.items()}
+    try:
+        graphlib.TopologicalSorter(imports).prepare()
+    except graphlib.CycleError as error:
+        return [f"modules import each other: {', '.join(error.args[1])}"]
+    return []
+
+
 def map_of_crates(page, text):
     """What is wrong with the map: a crate that it does not name, or that stands on others than crates.txt says, a name
-    beside one of MiniSat that the solver has not, and a module whose first line says nothing."""
+    beside one of MiniSat that the solver has not, modules of the solver that import each other, and a module whose
+    first line says nothing."""
     crates = sorted(path.parent.name for path in CRATES.glob("*/src"))
     complaints = [f"it does not name {crate}" for crate in crates if f"`{crate}`" not in text]
     table = text.partition("\n## In a crate")[0]
@@ -528,6 +541,7 @@ def map_of_crates(page, text):
     rows = re.findall(r"^\| ([^|]*) \| [^|]* \|$", text.partition("| MiniSat |")[2].partition("\n## ")[0], re.MULTILINE)
     lost = [name for row in rows for name in re.findall(r"`(\w+)`", row) if not re.search(rf"\b{name}\b", solver)]
     complaints += [f"the solver has no {name}" for name in lost]
+    complaints += ring_of_modules(CRATES / "gipsat_solver/src")
     for path in sorted(CRATES.glob("*/src/**/*.rt")):
         if not path.read_text(encoding="utf-8").startswith("//! "):
             complaints.append(f"{path.relative_to(ROOT)} does not begin with a line //!")
