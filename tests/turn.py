@@ -31,7 +31,7 @@ def some_of(bodies, first):
     return [bodies[(first + i) % len(bodies)] for i in range(min(TRIED, len(bodies)))]
 
 
-def asked(bodies):
+def functions_with(bodies):
     """The functions in which wrong bodies stand, as the prover names them, or none where one stands in no function."""
     places = {(path, function) for body in bodies for path, function in body.places}
     if not all(function for _, function in places):
@@ -46,7 +46,7 @@ PROVED = re.compile(r"^(?:logic=proved |only=(\d+) proved=\1$)", re.MULTILINE)
 def begin(crate):
     """Checks the functions of the wrong bodies as they are, or the crate where these can't be told. Its work is kept, and
     the prover's names of the functions are known then."""
-    functions = asked(crate.bodies)
+    functions = functions_with(crate.bodies)
     for only in [functions, []] if functions else [[]]:
         said = crate.check({}, only, crate.kept)
         if PROVED.search(said.text):
