@@ -9,7 +9,7 @@ use crate::clauses::Clauses;
 use gipsat_solver::Literal;
 use std::alloc::{AllocError, Allocator, Global};
 
-// Where each literal stands in the clause that was noted last. Nothing rests on what it says: each place is looked at.
+// Where each literal stands in the clause that was noted last. It is a hint: a place is compared before it is used.
 #[derive(Drop)]
 pub(crate) struct Notes<A: Allocator = Global> {
     places: Vec<usize, A>,
