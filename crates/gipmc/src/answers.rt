@@ -15,7 +15,7 @@ use std::io::Write;
 /// What is known of some bad literals together.
 #[derive(Clone, Copy, PartialEq, Eq)]
 pub enum Outcome {
-    /// The circuit fails by one of them.
+    /// One of them is reachable, and a counterexample shows it.
     Fails,
     /// It is safe as to each of them.
     Safe,
@@ -235,7 +235,7 @@ fn write_number<A: Allocator>(text: &mut Vec<u8, A>, number: u64) -> Result<(), 
     write!(text, "{number}").map_err(|_| AllocError)
 }
 
-/// Whether the circuit that a text writes fails by the trace that a witness writes.
+/// Whether the trace that a witness writes is a counterexample to the circuit that a text writes.
 ///
 /// # Errors
 /// - [`TaskError::Circuit`] and [`TaskError::Witness`] where a text has another form.
@@ -267,7 +267,7 @@ fn witness_in<A: Allocator + Copy>(
     }
 }
 
-// Whether the circuit fails by the trace of a witness, at the bad literal that the witness names.
+// Whether the trace of a witness is a counterexample, at the bad literal that the witness names.
 fn fails_by<A: Allocator + Copy>(
     alloc: A,
     circuit: &Circuit<A>,
@@ -282,7 +282,7 @@ fn fails_by<A: Allocator + Copy>(
     Ok(fails_at(alloc, circuit, place, &witness.trace)?)
 }
 
-// Whether the circuit fails by a trace, at the bad literal at a place.
+// Whether a trace is a counterexample, at the bad literal at a place.
 fn fails_at<A: Allocator + Copy>(
     alloc: A,
     circuit: &Circuit<A>,

@@ -39,7 +39,7 @@ fn trace(alloc: Global, latches: &[bool], inputs: &[bool]) -> Result<Trace, Allo
     })
 }
 
-// Whether the circuit fails by a trace.
+// Whether a trace is a counterexample.
 fn fails(
     alloc: Global,
     constraint: Constraint,

@@ -10,7 +10,7 @@ use std::alloc::{AllocError, Global};
 // What is said, in short.
 #[derive(Clone, Copy, PartialEq, Eq)]
 enum Said {
-    // There is a trace that fails.
+    // There is a counterexample.
     Fails,
     // There is none.
     Safe,

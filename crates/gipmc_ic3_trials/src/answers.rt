@@ -9,7 +9,7 @@ use std::alloc::{AllocError, Allocator, Global};
 // What is believed of a circuit.
 #[derive(Clone, Copy, PartialEq, Eq)]
 pub(crate) enum Answer {
-    // It fails by a trace of so many moments.
+    // There is a counterexample of so many moments.
     Fails(usize),
     Safe,
     Unknown,
