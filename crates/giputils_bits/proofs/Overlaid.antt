@@ -9,7 +9,7 @@ use Rattle.std.proofs.lemmas.List.{length-set, take_all, length-append, length-r
 use Rattle.std.proofs.lemmas.Bool.{cases_eq, cases_lt}
 use Rattle.giputils_bits.specs.Bits.{has_digit}
 use Rattle.giputils_bits.specs.Places.{place, bits_of, IsPacked, Overlays}
-use Rattle.giputils_bits.proofs.Digits.{has_digit-or, has_digit-zero, has_digit-above, has_digit-shl_low, has_digit-shl_high, has_digit-shr}
+use Rattle.giputils_bits.proofs.Digits.{has_digit-or, has_digit-above, has_digit-shl_low, has_digit-shl_high, has_digit-shr}
 use Rattle.giputils_bits.proofs.Places.{place_is, place-past, length-bits_of, get_or-bits_of, bits_of_is}
 
 -- the digits of x are the places that are laid on word j, where words are laid from place n on
