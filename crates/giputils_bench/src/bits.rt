@@ -23,17 +23,18 @@ pub(crate) fn run(
     rng: &mut Generator,
     checksum: &mut Checksum,
 ) -> Result<bool, BitVecError> {
-    match workload {
-        "bits_push" => push(alloc, size, rng, checksum)?,
-        "bits_eq" => eq(alloc, size, rng, checksum)?,
-        "bits_get" => get(alloc, size, rng, checksum)?,
-        "bits_logic" => logic(alloc, size, rng, checksum)?,
-        "bits_hex" => hex(alloc, size, rng, checksum)?,
-        "bits_bin" => bin(alloc, size, rng, checksum)?,
-        "bits_append" => append(alloc, size, Growth::Append, rng, checksum)?,
-        "bits_append_by_push" => append(alloc, size, Growth::Push, rng, checksum)?,
+    let outcome = match workload {
+        "bits_push" => push(alloc, size, rng, checksum),
+        "bits_eq" => eq(alloc, size, rng, checksum),
+        "bits_get" => get(alloc, size, rng, checksum),
+        "bits_logic" => logic(alloc, size, rng, checksum),
+        "bits_hex" => hex(alloc, size, rng, checksum),
+        "bits_bin" => bin(alloc, size, rng, checksum),
+        "bits_append" => append(alloc, size, Growth::Append, rng, checksum),
+        "bits_append_by_push" => append(alloc, size, Growth::Push, rng, checksum),
         _ => return Ok(false),
-    }
+    };
+    outcome?;
     Ok(true)
 }
 

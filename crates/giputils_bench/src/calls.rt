@@ -31,11 +31,12 @@ pub(crate) fn run(
     rng: &mut Generator,
     checksum: &mut Checksum,
 ) -> Result<bool, AllocError> {
-    match workload {
-        "calls" => ask(alloc, size, Deciding::All, rng, checksum)?,
-        "calls_within" => ask(alloc, size, Deciding::Cone, rng, checksum)?,
+    let outcome = match workload {
+        "calls" => ask(alloc, size, Deciding::All, rng, checksum),
+        "calls_within" => ask(alloc, size, Deciding::Cone, rng, checksum),
         _ => return Ok(false),
-    }
+    };
+    outcome?;
     Ok(true)
 }
 

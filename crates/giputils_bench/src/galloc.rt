@@ -18,11 +18,12 @@ pub(crate) fn run(
     rng: &mut Generator,
     checksum: &mut Checksum,
 ) -> Result<bool, AllocError> {
-    match workload {
-        "galloc" => galloc(alloc, size, rng, checksum)?,
-        "galloc_table" => galloc_table(alloc, size, rng, checksum)?,
+    let outcome = match workload {
+        "galloc" => galloc(alloc, size, rng, checksum),
+        "galloc_table" => galloc_table(alloc, size, rng, checksum),
         _ => return Ok(false),
-    }
+    };
+    outcome?;
     Ok(true)
 }
 

@@ -32,14 +32,15 @@ pub(crate) fn run(
     rng: &mut Generator,
     checksum: &mut Checksum,
 ) -> Result<bool, BitVecError> {
-    match workload {
-        "bits_count" => count(alloc, size, rng, checksum)?,
-        "bits_ones" => ones(alloc, size, rng, checksum)?,
-        "bits_few" => few(alloc, size, rng, checksum)?,
-        "bits_subset" => subset(alloc, size, rng, checksum)?,
-        "bits_aig" => aig(alloc, size, rng, checksum)?,
+    let outcome = match workload {
+        "bits_count" => count(alloc, size, rng, checksum),
+        "bits_ones" => ones(alloc, size, rng, checksum),
+        "bits_few" => few(alloc, size, rng, checksum),
+        "bits_subset" => subset(alloc, size, rng, checksum),
+        "bits_aig" => aig(alloc, size, rng, checksum),
         _ => return Ok(false),
-    }
+    };
+    outcome?;
     Ok(true)
 }
 
