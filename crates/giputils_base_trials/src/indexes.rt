@@ -1,8 +1,6 @@
 //! Allocators of indexes, and lists of their calls.
 
-use giputils_base::allocator::{
-    GallocCall, GallocElem, GallocReply, Gallocator, galloc_run, rename,
-};
+use giputils_base::allocator::{GallocCall, GallocElem, GallocReply, Gallocator, galloc_run};
 use giputils_base::gvec::Gvec;
 use giputils_refusing::Refusing;
 use std::alloc::{AllocError, Global};
@@ -209,11 +207,9 @@ fn requests_of_three_slots(alloc: Global) -> Result<u64, u32> {
 
 // Marks the second of three slots, whose collection is refused.
 fn refuse_collection(rt: &impl Abort, slots: &mut Slots<'_>) {
-    assert!(rt; slots.len() == 3);
-    slots.dealloc(1);
+    assert!(rt; is_marked(slots, 1));
     assert!(rt; slots.gc().is_err());
-    assert!(rt; slots.len() == 3);
-    assert!(rt; (slots.is_removed(1), slots[1usize]) == (true, 20));
+    assert!(rt; first_two(slots) == Some((10, 20, true)));
 }
 
 // Collects slots. Tells how many are left, and the new indexes of the first and the last of three.
@@ -257,29 +253,60 @@ fn a_table_is_asked_for_once(rt: HostRuntime) -> Result<(), Fail> {
     Ok(())
 }
 
-// Writes two of three slots, marks one of them, and reads them.
-fn write_two(rt: &impl Abort, slots: &mut Slots<'_>) {
-    assert!(rt; slots.len() == 3);
-    slots[0usize] = 5;
-    assert!(rt; slots.len() == 3);
-    slots[1u32] = 6;
-    assert!(rt; slots.len() == 3);
-    slots.dealloc(1);
-    assert!(rt; slots.len() == 3);
-    assert!(rt; (slots[0usize], slots[1u32], slots.is_removed(1)) == (5, 6, true));
+// Whether the slot is there, whose value is this one then.
+fn is_written(slots: &mut Slots<'_>, index: usize, value: u32) -> bool {
+    if index >= slots.len() {
+        return false;
+    }
+    slots[index] = value;
+    true
 }
 
-fn write_two_of_three(rt: &impl Abort, memory: &Refusing) -> Result<(), u32> {
+// The same by an index of 32 bits.
+fn is_written_short(slots: &mut Slots<'_>, index: u32, value: u32) -> bool {
+    if index as usize >= slots.len() {
+        return false;
+    }
+    slots[index] = value;
+    true
+}
+
+// Whether the slot is there, which is marked then.
+fn is_marked(slots: &mut Slots<'_>, index: usize) -> bool {
+    if index >= slots.len() {
+        return false;
+    }
+    slots.dealloc(index);
+    true
+}
+
+// The values of the first two of three slots, and whether the second is marked.
+fn first_two(slots: &Slots<'_>) -> Option<(u32, u32, bool)> {
+    if slots.len() != 3 {
+        return None;
+    }
+    Some((slots[0usize], slots[1u32], slots.is_removed(1)))
+}
+
+// Writes two of three slots, and marks one of them. Tells what is read then.
+fn write_two(slots: &mut Slots<'_>) -> Option<(u32, u32, bool)> {
+    if is_written(slots, 0, 5) && is_written_short(slots, 1, 6) && is_marked(slots, 1) {
+        first_two(slots)
+    } else {
+        None
+    }
+}
+
+fn write_two_of_three(memory: &Refusing) -> Result<Option<(u32, u32, bool)>, u32> {
     let mut slots = three_slots(memory)?;
-    write_two(rt, &mut slots);
-    Ok(())
+    Ok(write_two(&mut slots))
 }
 
 #[test]
 fn slots_are_marked_read_and_written_in_place(rt: HostRuntime) -> Result<(), Fail> {
     let requests = requests_of_three_slots(rt.alloc())?;
     let memory = Refusing::from(rt.alloc(), requests.saturating_add(1));
-    write_two_of_three(&rt, &memory)?;
+    assert!(rt; write_two_of_three(&memory) == Ok(Some((5, 6, true))));
     assert!(rt; memory.requests() == requests);
     assert!(rt; Slots::new(&memory).len() == 0);
     Ok(())
@@ -312,16 +339,6 @@ fn slots_are_taken_and_walked_in_place(rt: HostRuntime) -> Result<(), Fail> {
     let before = memory.requests();
     let seen = seen_once_taken(&mut slots);
     assert!(rt; (seen, memory.requests()) == (((Some(20), 2, true), Some((2, 30))), before));
-    Ok(())
-}
-
-#[test]
-fn a_list_of_indexes_is_renamed_without_memory(rt: HostRuntime) -> Result<(), Fail> {
-    let memory = Refusing::none(rt.alloc());
-    let mut watched = Vec::from_array(&memory, [2usize, 1])?;
-    let before = memory.requests();
-    rename(&[Some(0), None, Some(1)], &mut watched);
-    assert!(rt; (watched.pop(), watched.len(), memory.requests()) == (Some(1), 0, before));
     Ok(())
 }
 

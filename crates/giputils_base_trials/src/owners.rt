@@ -19,12 +19,16 @@ fn read(owner: &Grc<u32>) -> u32
     **owner
 }
 
+fn text(alloc: Global, owner: &Grc<u32>) -> Result<String, AllocError> {
+    format!(in alloc; "{owner:?}")
+}
+
 #[test]
 fn all_owners_read_the_same_value(rt: HostRuntime) -> Result<(), Fail> {
     let (first, second) = shared(rt.alloc(), 8)?;
     assert!(rt; read(&first) == 8);
     drop(first);
     assert!(rt; read(&second) == 8);
-    assert!(rt; format!(in rt.alloc(); "{second:?}")?.as_str() == "Grc { inner: 8 }");
+    assert!(rt; text(rt.alloc(), &second)?.as_str() == "Grc { inner: 8 }");
     Ok(())
 }

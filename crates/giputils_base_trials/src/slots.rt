@@ -2,7 +2,8 @@
 ghost use Rattle.std.specs.Prelude.{◌≡◌};
 
 use giputils_base::allocator::{GallocElem, rename};
-use std::test::Fail;
+use giputils_refusing::Refusing;
+use std::alloc::AllocError;
 
 fn replaced(mut elem: GallocElem<u32>, value: u32) -> GallocElem<u32>
     ensures { result ≡ (value, elem.1) }
@@ -19,10 +20,17 @@ fn an_element_keeps_its_value_and_is_not_removed(rt: HostRuntime) {
     assert!(rt; elem.take() == 4);
 }
 
+// Whether a list of indexes is renamed so, without memory.
+fn is_renamed(memory: &Refusing, indexes: &[usize], wanted: &[usize]) -> Result<bool, AllocError> {
+    let mut list = indexes.to_vec(memory)?;
+    let before = memory.requests();
+    rename(&[Some(0), None, Some(1)], &mut list);
+    Ok(list.as_slice() == wanted && memory.requests() == before)
+}
+
 #[test]
-fn a_list_of_indexes_is_renamed_in_place(rt: HostRuntime) -> Result<(), Fail> {
-    let mut indexes = vec![in rt.alloc(); 2usize, 1, 0, 2, 7]?;
-    rename([Some(0), None, Some(1)].as_slice(), &mut indexes);
-    assert!(rt; indexes.as_slice() == [1, 0, 1].as_slice());
-    Ok(())
+fn a_list_of_indexes_is_renamed_without_memory(rt: HostRuntime) {
+    let memory = Refusing::none(rt.alloc());
+    assert!(rt; is_renamed(&memory, &[2, 1, 0, 2, 7], &[1, 0, 1]) == Ok(true));
+    assert!(rt; is_renamed(&memory, &[2, 1], &[1]) == Ok(true));
 }
