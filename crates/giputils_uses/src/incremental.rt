@@ -1,5 +1,5 @@
 //! Formulas to which clauses are added one after another.
-ghost use Rattle.std.specs.Prelude.{◌≡◌, ◌++◌, IfNone, IfOk, IfSome, IsTrue, OnOk};
+ghost use Rattle.std.specs.Prelude.{◌≡◌, ◌++◌, [], IfNone, IfOk, IfSome, IsTrue, OnOk};
 ghost use Rattle.gipsat_solver.specs.Answers.{IsModel};
 ghost use Rattle.gipsat_solver.specs.Assumptions.{IsSatisfiableUnder, makes_true};
 ghost use Rattle.gipsat_solver.specs.Formulas.{Assignment, IsSatisfiable};
@@ -23,7 +23,18 @@ pub fn cover<A: Allocator + Copy>(
     ensures covers { IfOk result (λ found. IfSome found (λ model. Covers pairs.now (assignment_in model.items))) }
     ensures none { IfOk result (λ found. IfNone found ((a : Assignment) → ¬ (Covers pairs.now a))) }
 {
-    let mut solver = Solver::new(alloc);
+    cover_by(&mut Solver::new(alloc), pairs)
+}
+
+// The same, by a solver without clauses.
+fn cover_by<A: Allocator + Copy>(
+    solver: &mut Solver<A>,
+    pairs: &[(Literal, Literal)],
+) -> Result<Option<Vec<bool, A>>, AllocError>
+    requires empty { solver.old.formula ≡ [] }
+    ensures covers { IfOk result (λ found. IfSome found (λ model. Covers pairs.now (assignment_in model.items))) }
+    ensures none { IfOk result (λ found. IfNone found ((a : Assignment) → ¬ (Covers pairs.now a))) }
+{
     for (first, second) in pairs {
         solver.add_clause(&[*first, *second])?;
     }

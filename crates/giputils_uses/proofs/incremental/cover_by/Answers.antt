@@ -6,7 +6,7 @@ use Rattle.gipsat_solver.specs.Values.{assignment_in}
 use Rattle.giputils_uses.specs.Incremental.{either}
 use Rattle.giputils_uses.proofs.Incrementals.{covers, covered}
 use Rattle.giputils_uses.proofs.Outcomes.{found-weaker, missing-weaker}
-use Rattle.giputils_uses.proofs.incremental.cover.Goals as goal
+use Rattle.giputils_uses.proofs.incremental.cover_by.Goals as goal
 
 pub returns-clause-covers : goal.returns-clause-covers
 returns-clause-covers g c =

@@ -1,7 +1,7 @@
 -- The clauses of the pairs so far.
 use Rattle.std.proofs.Common.{◌≡◌, map, take}
 use Rattle.giputils_uses.specs.Incremental.{either}
-use Rattle.giputils_uses.proofs.incremental.cover.Given as goal
+use Rattle.giputils_uses.proofs.incremental.cover_by.Given as goal
 
 abbrev pub invariant-loop-first : goal.invariant-loop-first
 invariant-loop-first g l = l.solver.formula ≡ map either (take l.first-index l.pairs)
