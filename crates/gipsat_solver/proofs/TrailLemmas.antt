@@ -3,9 +3,10 @@ use Rattle.std.proofs.Common.{◌≡◌, ◌≢◌, ℕ, ◌+◌, ◌<◌, ◌�
 use Rattle.gipsat_solver.specs.Literals.{Lit, negated}
 use Rattle.std.specs.Prelude.{slice_get, option_map}
 use Rattle.std.specs.Bool.{beq}
+use Rattle.std.specs.Cmp.{booleans_Decides}
 use Rattle.std.proofs.lemmas.List.{get_or-set_same, get_or-set_other, length-set, length_push, get_or_past}
 use Rattle.std.proofs.lemmas.Option.{slice_get_within}
-use Rattle.std.proofs.lemmas.Bool.{false≢true, cases_eq, cases_lt, same_from_beq}
+use Rattle.std.proofs.lemmas.Bool.{false≢true, cases_eq, cases_lt}
 use Rattle.gipsat_solver.specs.declared.trail.Step.{Step}
 use Rattle.gipsat_solver.specs.Formulas.{Clause, Has}
 use Rattle.gipsat_solver.specs.Values.{value_of}
@@ -44,7 +45,7 @@ true_after : (values : List (Option Bool)) (l m : Lit) → l.variable < length v
     → value_of (set values l.variable (Some l.positive)) m ≡ Some true
     → (m ≡ l) ⊎ (value_of values m ≡ Some true)
 true_after values l m within is =
-    ⊎_elim (λ same. inl (literal_equal m l same (sym (same_from_beq l.positive m.positive (same_some _ _ (sym (value_at values m l.variable (Some l.positive) same within) ∙ is))))))
+    ⊎_elim (λ same. inl (literal_equal m l same (sym ((booleans_Decides l.positive m.positive).0 (same_some _ _ (sym (value_at values m l.variable (Some l.positive) same within) ∙ is))))))
     (λ other. inr (sym (value_other values m l.variable (Some l.positive) other) ∙ is)) (cases_eq m.variable l.variable)
 
 pub Extends-set : (values : List (Option Bool)) (l : Lit) → value_of values l ≡ None
