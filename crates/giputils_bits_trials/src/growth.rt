@@ -9,9 +9,9 @@ use std::alloc::Global;
 // What a new generator of these tests draws first.
 const FIRST_DRAWN: u32 = 0xa15c_02b7;
 
-// The calls that make a vector.
+// Calls that make a vector, or let one grow.
 #[derive(Clone, Copy)]
-enum Making {
+enum Call {
     FromElem,
     Zero,
     Ones,
@@ -20,20 +20,40 @@ enum Making {
     NewRand,
     From,
     FromBinaryText,
+    Clone,
+    Not,
+    Resize,
+    Append,
+    Reserve,
+    WithCapacity,
+    Extend,
+    Push,
+    PushWord,
 }
 
-fn is_made(memory: &Refusing, making: Making) -> bool {
-    let made = match making {
-        Making::FromElem => BitVec::from_elem(memory, 129, true),
-        Making::Zero => BitVec::zero(memory, 65),
-        Making::Ones => BitVec::ones(memory, 65),
-        Making::One => BitVec::one(memory, 65),
-        Making::FromUsize => BitVec::from_usize(memory, 70, 5),
-        Making::From => BitVec::from(memory, [true; 300]),
-        Making::NewRand => return is_drawn(memory),
-        Making::FromBinaryText => return BitVec::from_binary_text(memory, &[b'1'; 300]).is_ok(),
+// Makes a vector of more than 64 bits, or makes a call that lets one grow. Tells whether no memory was refused.
+fn is_made(memory: &Refusing, call: Call) -> bool {
+    let made = match call {
+        Call::FromElem => BitVec::from_elem(memory, 129, true),
+        Call::Zero => BitVec::zero(memory, 65),
+        Call::Ones => BitVec::ones(memory, 65),
+        Call::One => BitVec::one(memory, 65),
+        Call::FromUsize => BitVec::from_usize(memory, 70, 5),
+        Call::From => BitVec::from(memory, [true; 300]),
+        _ => return is_read_or_drawn(memory, call),
     };
     made.is_ok()
+}
+
+fn is_read_or_drawn(memory: &Refusing, call: Call) -> bool {
+    match call {
+        Call::NewRand => is_drawn(memory),
+        Call::FromBinaryText => BitVec::from_binary_text(memory, &[b'1'; 300]).is_ok(),
+        Call::WithCapacity => is_made_with_room(memory),
+        Call::Clone | Call::Not => is_copied(memory, call),
+        Call::Append => is_appended(memory),
+        _ => is_grown(&mut BitVec::new(memory), call),
+    }
 }
 
 // Where memory is refused, tells so only if nothing was drawn.
@@ -42,56 +62,26 @@ fn is_drawn(memory: &Refusing) -> bool {
     BitVec::new_rand(memory, 2, &mut rng).is_ok() || rng.next_u32() != FIRST_DRAWN
 }
 
-// How many requests such a call makes, each of which was refused in turn.
-fn requests(alloc: Global, making: Making) -> Result<u64, TurnFault> {
-    let run = |memory: &Refusing| is_made(memory, making);
-    match making {
-        // An iterator that tells its length is one request. Where that is refused, another is made for a word.
-        Making::From => refuse_from_each(alloc, run),
-        _ => refuse_each(alloc, run),
+// There is room for 200 bits at once.
+fn is_made_with_room(memory: &Refusing) -> bool {
+    match BitVec::with_capacity(memory, 200) {
+        Ok(mut bits) => bits.resize(200, true).is_ok(),
+        Err(_) => false,
     }
 }
 
-#[test]
-fn a_call_that_makes_a_vector_makes_one_request(rt: HostRuntime) {
-    for &(call, making) in &[
-        ("from_elem", Making::FromElem),
-        ("zero", Making::Zero),
-        ("ones", Making::Ones),
-        ("one", Making::One),
-        ("from_usize", Making::FromUsize),
-        ("new_rand", Making::NewRand),
-        ("from", Making::From),
-        ("from_binary_text", Making::FromBinaryText),
-    ] {
-        assert!(rt; requests(rt.alloc(), making) == Ok(1), "{call}");
+fn is_copied(memory: &Refusing, call: Call) -> bool {
+    match BitVec::ones(memory, 65) {
+        Ok(bits) => is_copied_by(&bits, call),
+        Err(_) => false,
     }
 }
 
-fn is_cloned(memory: &Refusing) -> bool {
-    let Ok(bits) = BitVec::ones(memory, 65) else {
-        return false;
-    };
-    bits.clone().is_ok()
-}
-
-fn is_negated(memory: &Refusing) -> bool {
-    let Ok(bits) = BitVec::ones(memory, 65) else {
-        return false;
-    };
-    bits.not().is_ok()
-}
-
-// A vector of one bit is made longer.
-fn is_resized(memory: &Refusing) -> bool {
-    let mut bits = BitVec::new(memory);
-    bits.resize(64, true).is_ok()
-        && bits.resize(1000, false).is_ok()
-        && bits.resize(65, true).is_ok()
-}
-
-fn is_appended_twice<'m>(bits: &mut BitVec<&'m Refusing>, more: &BitVec<&'m Refusing>) -> bool {
-    bits.append(more).is_ok() && bits.append(more).is_ok()
+fn is_copied_by(bits: &BitVec<&Refusing>, call: Call) -> bool {
+    match call {
+        Call::Not => bits.not().is_ok(),
+        _ => bits.clone().is_ok(),
+    }
 }
 
 // A vector that is not aligned is appended to one of a full word.
@@ -102,53 +92,64 @@ fn is_appended(memory: &Refusing) -> bool {
     }
 }
 
-// There is room for 200 bits at once.
-fn is_reserved(memory: &Refusing) -> bool {
-    let mut bits = BitVec::new(memory);
+fn is_appended_twice<'m>(bits: &mut BitVec<&'m Refusing>, more: &BitVec<&'m Refusing>) -> bool {
+    bits.append(more).is_ok() && bits.append(more).is_ok()
+}
+
+// Lets a vector grow that is empty at first: by what was reserved behind a bit, by more bits or a bit behind a full
+// word, by a word behind a bit, or to greater lengths.
+fn is_grown(bits: &mut BitVec<&Refusing>, call: Call) -> bool {
+    match call {
+        Call::Reserve => is_reserved(bits),
+        Call::Extend => bits.push_word(7).is_ok() && bits.extend([true; 200]).is_ok(),
+        Call::Push => bits.push_word(7).is_ok() && bits.push(true).is_ok(),
+        Call::PushWord => bits.push(true).is_ok() && bits.push_word(7).is_ok(),
+        _ => is_resized(bits),
+    }
+}
+
+fn is_reserved(bits: &mut BitVec<&Refusing>) -> bool {
     bits.push(true).is_ok() && bits.reserve(199).is_ok() && bits.resize(200, true).is_ok()
 }
 
-fn is_made_with_room(memory: &Refusing) -> bool {
-    let Ok(mut bits) = BitVec::with_capacity(memory, 200) else {
-        return false;
-    };
-    bits.resize(200, true).is_ok()
+fn is_resized(bits: &mut BitVec<&Refusing>) -> bool {
+    bits.resize(64, true).is_ok()
+        && bits.resize(1000, false).is_ok()
+        && bits.resize(65, true).is_ok()
 }
 
-// A vector of one full word is extended by more.
-fn is_extended(memory: &Refusing) -> bool {
-    let mut bits = BitVec::new(memory);
-    bits.push_word(7).is_ok() && bits.extend([true; 200]).is_ok()
-}
-
-// A vector of one full word is followed by a bit.
-fn is_bit_pushed(memory: &Refusing) -> bool {
-    let mut bits = BitVec::new(memory);
-    bits.push_word(7).is_ok() && bits.push(true).is_ok()
-}
-
-// A bit is followed by a word.
-fn is_word_pushed(memory: &Refusing) -> bool {
-    let mut bits = BitVec::new(memory);
-    bits.push(true).is_ok() && bits.push_word(7).is_ok()
+// How many requests such a call makes, each of which was refused in turn.
+fn requests(alloc: Global, call: Call) -> Result<u64, TurnFault> {
+    let run = |memory: &Refusing| is_made(memory, call);
+    match call {
+        // An iterator that tells its length is one request. Where that is refused, another is made for a word.
+        Call::From | Call::Extend => refuse_from_each(alloc, run),
+        _ => refuse_each(alloc, run),
+    }
 }
 
 #[test]
 fn each_request_of_a_growing_vector_is_refused_in_turn(rt: HostRuntime) {
-    let alloc = rt.alloc();
-    let outcomes = [
-        ("clone", refuse_each(alloc, is_cloned), 2),
-        ("not", refuse_each(alloc, is_negated), 2),
-        ("resize", refuse_each(alloc, is_resized), 1),
-        ("append", refuse_each(alloc, is_appended), 1),
-        ("reserve", refuse_each(alloc, is_reserved), 1),
-        ("with_capacity", refuse_each(alloc, is_made_with_room), 1),
-        ("extend", refuse_from_each(alloc, is_extended), 1),
-        ("push", refuse_each(alloc, is_bit_pushed), 1),
-        ("push_word", refuse_each(alloc, is_word_pushed), 1),
-    ];
-    for (call, outcome, requests) in outcomes {
-        assert!(rt; outcome == Ok(requests), "{call}");
+    for &(name, call, wanted) in &[
+        ("from_elem", Call::FromElem, 1),
+        ("zero", Call::Zero, 1),
+        ("ones", Call::Ones, 1),
+        ("one", Call::One, 1),
+        ("from_usize", Call::FromUsize, 1),
+        ("new_rand", Call::NewRand, 1),
+        ("from", Call::From, 1),
+        ("from_binary_text", Call::FromBinaryText, 1),
+        ("clone", Call::Clone, 2),
+        ("not", Call::Not, 2),
+        ("resize", Call::Resize, 1),
+        ("append", Call::Append, 1),
+        ("reserve", Call::Reserve, 1),
+        ("with_capacity", Call::WithCapacity, 1),
+        ("extend", Call::Extend, 1),
+        ("push", Call::Push, 1),
+        ("push_word", Call::PushWord, 1),
+    ] {
+        assert!(rt; requests(rt.alloc(), call) == Ok(wanted), "{name}");
     }
 }
 

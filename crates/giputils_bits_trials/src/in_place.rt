@@ -44,18 +44,18 @@ fn push_up_to_64(bits: &mut BitVec<&Refusing>) -> Result<(), BitVecError> {
 }
 
 // How many bits there are where some are pushed.
-fn pushed(memory: &Refusing) -> Result<usize, BitVecError> {
+fn pushed(memory: &Refusing) -> Option<usize> {
     let mut bits = BitVec::new(memory);
-    push_up_to_64(&mut bits)?;
-    Ok(bits.len())
+    match push_up_to_64(&mut bits) {
+        Ok(()) => Some(bits.len()),
+        Err(_) => None,
+    }
 }
 
 #[test]
-fn up_to_64_bits_are_pushed_without_memory(rt: HostRuntime) -> Result<(), Fail> {
+fn up_to_64_bits_are_pushed_without_memory(rt: HostRuntime) {
     let memory = Refusing::from(rt.alloc(), 1);
-    let len = pushed(&memory)?;
-    assert!(rt; (len, memory.requests()) == (64, 0));
-    Ok(())
+    assert!(rt; (pushed(&memory), memory.requests()) == (Some(64), 0));
 }
 
 // Makes each call that reads a vector of `len` times true. Tells whether the answers were right.
@@ -272,4 +272,56 @@ fn vectors_are_joined_by_value_without_memory(rt: HostRuntime) {
         let outcome = (is_joined_by_value(&memory, len), memory.requests());
         assert!(rt; outcome == (true, requests), "{len} bits");
     }
+}
+
+// Writes to a vector of 66 places in each way.
+fn write_in_each_way<'m>(bits: &mut BitVec<&'m Refusing>, zeros: &BitVec<&'m Refusing>) {
+    if bits.len() != 66 || zeros.len() != 66 {
+        return;
+    }
+    bits.flip(65);
+    bits.put(0, true);
+    bits.negate();
+    bits.set_word(1, 6);
+    bits.fill(true);
+    bits.copy_from(zeros);
+}
+
+// Whether a vector that is written to in each way is zero then.
+fn is_written(memory: &Refusing) -> bool {
+    match two_filled(memory, 66, false, false) {
+        Ok((mut bits, zeros)) => {
+            write_in_each_way(&mut bits, &zeros);
+            bits == zeros
+        }
+        Err(_) => false,
+    }
+}
+
+#[test]
+fn a_vector_is_written_without_memory(rt: HostRuntime) {
+    let memory = Refusing::from(rt.alloc(), 3);
+    assert!(rt; (is_written(&memory), memory.requests()) == (true, 2));
+}
+
+// Takes the last of some true places away, and pushes one again.
+fn is_shortened_in_each_way(bits: &mut BitVec<&Refusing>) -> bool {
+    bits.truncate(65);
+    let last = bits.pop();
+    let is_pushed = bits.push(false).is_ok();
+    bits.truncate(0);
+    (last, is_pushed, bits.pop()) == (Some(true), true, None)
+}
+
+fn is_shortened(memory: &Refusing) -> bool {
+    match BitVec::from_elem(memory, 130, true) {
+        Ok(mut bits) => is_shortened_in_each_way(&mut bits),
+        Err(_) => false,
+    }
+}
+
+#[test]
+fn the_last_bits_are_taken_away_without_memory(rt: HostRuntime) {
+    let memory = Refusing::from(rt.alloc(), 2);
+    assert!(rt; (is_shortened(&memory), memory.requests()) == (true, 1));
 }

@@ -8,23 +8,19 @@
 #![tactic(auto)]
 
 #[cfg(test)]
+mod by_value;
+#[cfg(test)]
 mod growth;
 #[cfg(test)]
 mod hashed;
 #[cfg(test)]
 mod in_place;
 #[cfg(test)]
-mod iterators;
-#[cfg(test)]
-mod joined;
-#[cfg(test)]
 mod left;
 #[cfg(test)]
 mod replies;
 #[cfg(test)]
 mod runs;
-#[cfg(test)]
-mod sets;
 #[cfg(test)]
 mod texts;
 #[cfg(test)]

@@ -1,10 +1,17 @@
 //! Lists of calls of a bit vector.
+//!
+//! BITS are digits, the first bit first, and TEXT is a binary text, the last bit first, or `[]` of no bits. A call whose
+//! condition does not hold is answered by `skipped`.
 ghost use Rattle.std.specs.Prelude.{◌<◌, IfOk};
+
+mod places;
+mod two;
 
 use crate::calls::NotACall;
 use anyhow::Context;
-use giputils_bits::bitvec::BitVec;
-use std::alloc::Global;
+use giputils_bits::bitvec::{BitVec, BitVecError};
+use std::alloc::{AllocError, Global};
+use std::cmp::Ordering;
 use std::io::{self, Write};
 
 /// Makes the calls on a vector that is empty at first, and writes a line for each reply.
@@ -25,6 +32,8 @@ enum Reply {
     Number(usize),
     Flag(bool),
     Bit(Option<bool>),
+    Place(Option<usize>),
+    Order(Ordering),
 }
 
 // Makes the call of a line, and writes its reply.
@@ -35,7 +44,7 @@ fn answer<W: Write>(
     line: &str,
 ) -> anyhow::Result<()> {
     let words: Vec<&str> = line.split(' ').collect(alloc)?;
-    if !show(out, bits, &words)? {
+    if !show(alloc, out, bits, &words)? {
         let reply = call(alloc, bits, &words)?;
         write_reply(out, reply)?;
     }
@@ -51,13 +60,27 @@ fn call(alloc: Global, bits: &mut BitVec, words: &[&str]) -> anyhow::Result<Repl
     if change(bits, words)? {
         return Ok(Reply::Done);
     }
-    Ok(match *words {
-        [name] => ask(bits, name)?,
-        ["get", index] => get(bits, index.parse()?),
-        ["set", index, bit] => set(bits, index.parse()?, bit == "1"),
-        [name, text] => join(alloc, bits, name, text)?,
-        _ => return Err(NotACall.into()),
-    })
+    match *words {
+        ["from_binary_text"] => read(alloc, bits, ""),
+        [name] => Ok(ask(bits, name)?),
+        ["from_binary_text", text] => read(alloc, bits, text),
+        ["assign_and", ref inputs @ ..] => two::assign_and(alloc, bits, inputs),
+        [name, text] if two::is_call(name) => two::call(alloc, bits, name, text),
+        [name, number] => Ok(places::call(bits, name, number.parse()?, 0)?),
+        [name, number, other] => Ok(places::call(bits, name, number.parse()?, other.parse()?)?),
+        _ => Err(NotACall.into()),
+    }
+}
+
+// Reads a binary text. The vector stays as it was where the text is none.
+fn read(alloc: Global, bits: &mut BitVec, text: &str) -> anyhow::Result<Reply> {
+    match BitVec::from_binary_text(alloc, text.as_bytes())? {
+        Some(made) => {
+            *bits = made;
+            Ok(Reply::Done)
+        }
+        None => Ok(Reply::Bit(None)),
+    }
 }
 
 // The vector that a constructor's words make, if they are a constructor's: `from BITS`, `from_elem LEN BIT`,
@@ -87,21 +110,33 @@ fn positive(word: &str) -> Result<usize, NotACall>
     Ok(number)
 }
 
-// Makes the call of `push BIT`, `push_word WORD`, `extend BITS`, `invert` or `clear`, if the words are one of these.
+// Makes the call of `push BIT`, `push_word WORD`, `extend BITS`, `resize LEN BIT`, `invert` or one that cannot fail, if
+// the words are one of these.
 fn change(bits: &mut BitVec, words: &[&str]) -> anyhow::Result<bool> {
     match *words {
         ["push", bit] => bits.push(bit == "1")?,
         ["push_word", word] => bits.push_word(word.parse()?)?,
         ["extend", items] => bits.extend(items.bytes().map(|digit| digit == b'1'))?,
+        ["resize", len, bit] => bits.resize(len.parse()?, bit == "1")?,
         ["invert"] => *bits = bits.not()?,
-        ["clear"] => bits.clear(),
-        _ => return Ok(false),
+        _ => return Ok(write(bits, words)),
     }
     Ok(true)
 }
 
-// The reply to a question of one word.
-fn ask(bits: &BitVec, name: &str) -> Result<Reply, NotACall> {
+// Makes the call of `clear`, `negate` or `fill BIT`, if the words are one of these.
+fn write(bits: &mut BitVec, words: &[&str]) -> bool {
+    match *words {
+        ["clear"] => bits.clear(),
+        ["negate"] => bits.negate(),
+        ["fill", bit] => bits.fill(bit == "1"),
+        _ => return false,
+    }
+    true
+}
+
+// The reply to a call of one word.
+fn ask(bits: &mut BitVec, name: &str) -> Result<Reply, NotACall> {
     Ok(match name {
         "len" => Reply::Number(bits.len()),
         "word_len" => Reply::Number(bits.word_len()),
@@ -112,44 +147,24 @@ fn ask(bits: &BitVec, name: &str) -> Result<Reply, NotACall> {
         "is_zero" => Reply::Flag(bits.is_zero()),
         "is_one" => Reply::Flag(bits.is_one()),
         "is_ones" => Reply::Flag(bits.is_ones()),
+        "pop" => Reply::Bit(bits.pop()),
+        _ => return ask_as_set(bits, name),
+    })
+}
+
+// The reply to a question of one word on the places that are true.
+fn ask_as_set(bits: &BitVec, name: &str) -> Result<Reply, NotACall> {
+    Ok(match name {
+        "count_ones" => Reply::Number(bits.count_ones()),
+        "any" => Reply::Flag(bits.any()),
+        "all" => Reply::Flag(bits.all()),
+        "none" => Reply::Flag(bits.none()),
+        "first_one" => Reply::Place(bits.first_one()),
         _ => return Err(NotACall),
     })
 }
 
-fn get(bits: &BitVec, index: usize) -> Reply {
-    if index < bits.len() {
-        Reply::Flag(bits.get(index))
-    } else {
-        Reply::Skipped
-    }
-}
-
-fn set(bits: &mut BitVec, index: usize, bit: bool) -> Reply {
-    if index < bits.len() {
-        bits.set(index, bit);
-        Reply::Done
-    } else {
-        Reply::Skipped
-    }
-}
-
-// Joins the vector by `and`, `or` or `xor` with the one that has this text, the last bit first, where the lengths are
-// alike.
-fn join(alloc: Global, bits: &mut BitVec, name: &str, text: &str) -> anyhow::Result<Reply> {
-    let other = BitVec::from(alloc, text.bytes().rev().map(|digit| digit == b'1'))?;
-    if bits.len() != other.len() {
-        return Ok(Reply::Skipped);
-    }
-    match name {
-        "and" => *bits &= &other,
-        "or" => *bits |= &other,
-        "xor" => *bits ^= &other,
-        _ => return Err(NotACall.into()),
-    }
-    Ok(Reply::Done)
-}
-
-// Writes a reply as a line: a number, a truth value, `ok`, `some BIT`, `none` or `skipped`.
+// Writes a reply as a line: a number, a truth value, `ok`, `some BIT`, `some PLACE`, `none`, an order or `skipped`.
 fn write_reply<W: Write>(out: &mut W, reply: Reply) -> io::Result<()> {
     match reply {
         Reply::Done => writeln!(out, "ok"),
@@ -157,14 +172,32 @@ fn write_reply<W: Write>(out: &mut W, reply: Reply) -> io::Result<()> {
         Reply::Number(n) => writeln!(out, "{n}"),
         Reply::Flag(flag) => writeln!(out, "{flag}"),
         Reply::Bit(Some(bit)) => writeln!(out, "some {bit}"),
-        Reply::Bit(None) => writeln!(out, "none"),
+        Reply::Place(Some(place)) => writeln!(out, "some {place}"),
+        Reply::Bit(None) | Reply::Place(None) => writeln!(out, "none"),
+        Reply::Order(order) => writeln!(out, "{}", name_of(order)),
     }
 }
 
-// Writes a text of the vector, or the bits of an iterator, if the words ask for one.
-fn show<W: Write>(out: &mut W, bits: &BitVec, words: &[&str]) -> io::Result<bool> {
+fn name_of(order: Ordering) -> &'static str {
+    match order {
+        Ordering::Less => "less",
+        Ordering::Equal => "equal",
+        Ordering::Greater => "greater",
+    }
+}
+
+// Writes a text of the vector, its words, its true places or the bits of an iterator, if the words ask for one.
+fn show<W: Write>(
+    alloc: Global,
+    out: &mut W,
+    bits: &BitVec,
+    words: &[&str],
+) -> anyhow::Result<bool> {
     match *words {
         ["iter", steps] => write_steps(out, bits, steps)?,
+        ["words"] => writeln!(out, "{:?}", bits.words())?,
+        ["iter_ones"] => write_places(out, &places_of(alloc, bits)?)?,
+        ["texts"] => write_texts(out, bits)?,
         ["bin"] => writeln!(out, "{bits}")?,
         ["hex"] => writeln!(out, "{}", bits.lower_hex())?,
         ["HEX"] => writeln!(out, "{}", bits.upper_hex())?,
@@ -190,4 +223,23 @@ fn write_steps<W: Write>(out: &mut W, bits: &BitVec, steps: &str) -> io::Result<
         write!(out, "{text}")?;
     }
     writeln!(out)
+}
+
+// The true places of a vector.
+fn places_of(alloc: Global, bits: &BitVec) -> Result<Vec<usize>, AllocError> {
+    bits.iter_ones().collect(alloc)
+}
+
+fn write_places<W: Write>(out: &mut W, places: &[usize]) -> io::Result<()> {
+    writeln!(out, "{places:?}")
+}
+
+// Writes each text of a vector, some of them under options.
+fn write_texts<W: Write>(out: &mut W, bits: &BitVec) -> io::Result<()> {
+    writeln!(
+        out,
+        "{bits} {bits:>300?} {} {:#09}",
+        bits.lower_hex(),
+        bits.upper_hex()
+    )
 }
