@@ -10,7 +10,6 @@ use std::alloc::Global;
 const FIRST_DRAWN: u32 = 0xa15c_02b7;
 
 // Calls that make a vector, or let one grow.
-#[derive(Clone, Copy)]
 enum Call {
     FromElem,
     Zero,
@@ -32,7 +31,7 @@ enum Call {
 }
 
 // Makes a vector of more than 64 bits, or makes a call that lets one grow. Tells whether no memory was refused.
-fn is_made(memory: &Refusing, call: Call) -> bool {
+fn is_made(memory: &Refusing, call: &Call) -> bool {
     let made = match call {
         Call::FromElem => BitVec::from_elem(memory, 129, true),
         Call::Zero => BitVec::zero(memory, 65),
@@ -45,7 +44,7 @@ fn is_made(memory: &Refusing, call: Call) -> bool {
     made.is_ok()
 }
 
-fn is_read_or_drawn(memory: &Refusing, call: Call) -> bool {
+fn is_read_or_drawn(memory: &Refusing, call: &Call) -> bool {
     match call {
         Call::NewRand => is_drawn(memory),
         Call::FromBinaryText => BitVec::from_binary_text(memory, &[b'1'; 300]).is_ok(),
@@ -70,14 +69,14 @@ fn is_made_with_room(memory: &Refusing) -> bool {
     }
 }
 
-fn is_copied(memory: &Refusing, call: Call) -> bool {
+fn is_copied(memory: &Refusing, call: &Call) -> bool {
     match BitVec::ones(memory, 65) {
         Ok(bits) => is_copied_by(&bits, call),
         Err(_) => false,
     }
 }
 
-fn is_copied_by(bits: &BitVec<&Refusing>, call: Call) -> bool {
+fn is_copied_by(bits: &BitVec<&Refusing>, call: &Call) -> bool {
     match call {
         Call::Not => bits.not().is_ok(),
         _ => bits.clone().is_ok(),
@@ -98,7 +97,7 @@ fn is_appended_twice<'m>(bits: &mut BitVec<&'m Refusing>, more: &BitVec<&'m Refu
 
 // Lets a vector grow that is empty at first: by what was reserved behind a bit, by more bits or a bit behind a full
 // word, by a word behind a bit, or to greater lengths.
-fn is_grown(bits: &mut BitVec<&Refusing>, call: Call) -> bool {
+fn is_grown(bits: &mut BitVec<&Refusing>, call: &Call) -> bool {
     match call {
         Call::Reserve => is_reserved(bits),
         Call::Extend => bits.push_word(7).is_ok() && bits.extend([true; 200]).is_ok(),
@@ -119,7 +118,7 @@ fn is_resized(bits: &mut BitVec<&Refusing>) -> bool {
 }
 
 // How many requests such a call makes, each of which was refused in turn.
-fn requests(alloc: Global, call: Call) -> Result<u64, TurnFault> {
+fn requests(alloc: Global, call: &Call) -> Result<u64, TurnFault> {
     let run = |memory: &Refusing| is_made(memory, call);
     match call {
         // An iterator that tells its length is one request. Where that is refused, another is made for a word.
@@ -130,7 +129,7 @@ fn requests(alloc: Global, call: Call) -> Result<u64, TurnFault> {
 
 #[test]
 fn each_request_of_a_growing_vector_is_refused_in_turn(rt: HostRuntime) {
-    for &(name, call, wanted) in &[
+    for (name, call, wanted) in &[
         ("from_elem", Call::FromElem, 1),
         ("zero", Call::Zero, 1),
         ("ones", Call::Ones, 1),
@@ -149,7 +148,7 @@ fn each_request_of_a_growing_vector_is_refused_in_turn(rt: HostRuntime) {
         ("push", Call::Push, 1),
         ("push_word", Call::PushWord, 1),
     ] {
-        assert!(rt; requests(rt.alloc(), call) == Ok(wanted), "{name}");
+        assert!(rt; requests(rt.alloc(), call) == Ok(*wanted), "{name}");
     }
 }
 

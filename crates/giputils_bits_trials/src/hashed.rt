@@ -1,65 +1,32 @@
-//! What a vector feeds a hasher, byte by byte, and vectors in a set.
-ghost use Rattle.std.specs.Prelude.{◌-◌, length, slice_get, is_some, if◌then◌else◌};
+//! What a vector feeds a hasher, and vectors in a set.
 
 use giputils_base::hash::GHashSet;
 use giputils_bits::bitvec::{BitVec, BitVecError};
 use std::alloc::Global;
-use std::hash::{Hash, Hasher};
+use std::hash::{DefaultHasher, Hash, Hasher};
 use std::test::Fail;
 
-// A hasher that records one of the bytes that it is fed: that before which there are `left` others.
-#[derive(Drop)]
-struct Recorder {
-    left: usize,
-    byte: Option<u8>,
-}
-
-impl Hasher for Recorder {
-    ghost write = { λ r bytes. if is_some r.byte then r else record { left = r.left - length bytes; byte = slice_get bytes r.left } };
-
-    ghost finish = { λ r. 0 };
-
-    fn finish(&self) -> u64 {
-        0
-    }
-
-    fn write(&mut self, bytes: &[u8]) {
-        if self.byte.is_some() {
-            return;
-        }
-        self.byte = bytes.get(self.left).copied();
-        self.left = self.left.saturating_sub(bytes.len());
-    }
-}
-
-// The byte at this place of what a vector of true places feeds a hasher, if it feeds so many.
-fn fed(alloc: Global, len: usize, place: usize) -> Result<Option<u8>, BitVecError> {
+// The hash of so many true places.
+fn hash(alloc: Global, len: usize) -> Result<u64, BitVecError> {
     let bits = BitVec::from_elem(alloc, len, true)?;
-    let mut recorder = Recorder {
-        left: place,
-        byte: None,
-    };
-    bits.hash(&mut recorder);
-    Ok(recorder.byte)
+    let mut hasher = DefaultHasher::new();
+    bits.hash(&mut hasher);
+    Ok(hasher.finish())
 }
 
-// The byte at this place of the words and then of the length modulo 64, lowest bytes first.
-fn wanted(words: &[u64], len: usize, place: usize) -> Option<u8> {
-    match words.get(place / 8) {
-        Some(word) => word.to_le_bytes().get(place % 8).copied(),
-        None if place / 8 == words.len() => (len % 64).to_le_bytes().get(place % 8).copied(),
-        None => None,
+// The hash of the words and then of the length modulo 64.
+fn hash_of(words: &[u64], len: usize) -> u64 {
+    let mut hasher = DefaultHasher::new();
+    for &word in words {
+        hasher.write_u64(word);
     }
+    hasher.write_usize(len % 64);
+    hasher.finish()
 }
 
 // Whether a vector of true places feeds a hasher these words and then its length modulo 64, and no more.
 fn feeds(alloc: Global, len: usize, words: &[u64]) -> Result<bool, BitVecError> {
-    for place in 0..48 {
-        if fed(alloc, len, place)? != wanted(words, len, place) {
-            return Ok(false);
-        }
-    }
-    Ok(true)
+    Ok(hash(alloc, len)? == hash_of(words, len))
 }
 
 #[test]

@@ -1,7 +1,8 @@
 //! What stands in a vector that was refused memory as it grew.
 
 use giputils_bits::bitvec::BitVec;
-use giputils_refusing::{Refusing, refuse_each, refuse_from_each};
+use giputils_refusing::{Refusing, TurnFault, refuse_each, refuse_from_each};
+use std::alloc::Global;
 use std::test::Fail;
 
 // The three bits that a vector begins with.
@@ -81,16 +82,39 @@ fn is_extended(memory: &Refusing) -> bool {
     }
 }
 
+// How a vector grows.
+enum Growth {
+    Push,
+    PushWord,
+    Extend,
+}
+
+fn is_grown(memory: &Refusing, growth: &Growth) -> bool {
+    match growth {
+        Growth::Push => is_pushed(memory),
+        Growth::PushWord => is_word_pushed(memory),
+        Growth::Extend => is_extended(memory),
+    }
+}
+
+// How many requests a growing vector makes, each of which was refused in turn.
+fn requests(alloc: Global, growth: &Growth) -> Result<u64, TurnFault> {
+    let run = |memory: &Refusing| is_grown(memory, growth);
+    match growth {
+        Growth::Extend => refuse_from_each(alloc, run),
+        _ => refuse_each(alloc, run),
+    }
+}
+
 // How often a growing vector asks is open, but it is oftener than once.
 #[test]
 fn what_came_before_a_refusal_stands(rt: HostRuntime) {
-    let alloc = rt.alloc();
-    let outcomes = [
-        ("push", refuse_each(alloc, is_pushed)),
-        ("push_word", refuse_each(alloc, is_word_pushed)),
-        ("extend", refuse_from_each(alloc, is_extended)),
-    ];
-    for (call, outcome) in outcomes {
+    for (call, growth) in &[
+        ("push", Growth::Push),
+        ("push_word", Growth::PushWord),
+        ("extend", Growth::Extend),
+    ] {
+        let outcome = requests(rt.alloc(), growth);
         assert!(rt;
             outcome.is_ok_and(|requests| requests > 1),
             "{call}: {outcome:?}"

@@ -3,8 +3,8 @@
 //!
 //! The latter hold what no clause can say: that a call answers want of memory only where a request was refused, how many
 //! requests it makes, and that some calls make none. What a refused call leaves is proved; it is read back here all the
-//! same, at each request of a growing vector; and what a vector feeds a hasher is recorded. They stand apart from the
-//! library, so that it is not proved twice for them.
+//! same, at each request of a growing vector. They stand apart from the library, so that it is not proved twice for them.
+//! Rows of calls and answers are lists of `giputils_replay`.
 #![tactic(auto)]
 
 #[cfg(test)]

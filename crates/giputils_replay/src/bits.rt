@@ -9,8 +9,8 @@ mod two;
 
 use crate::calls::NotACall;
 use anyhow::Context;
-use giputils_bits::bitvec::{BitVec, BitVecError};
-use std::alloc::{AllocError, Global};
+use giputils_bits::bitvec::BitVec;
+use std::alloc::Global;
 use std::cmp::Ordering;
 use std::io::{self, Write};
 
@@ -44,7 +44,7 @@ fn answer<W: Write>(
     line: &str,
 ) -> anyhow::Result<()> {
     let words: Vec<&str> = line.split(' ').collect(alloc)?;
-    if !show(alloc, out, bits, &words)? {
+    if !show(out, bits, &words)? {
         let reply = call(alloc, bits, &words)?;
         write_reply(out, reply)?;
     }
@@ -187,16 +187,11 @@ fn name_of(order: Ordering) -> &'static str {
 }
 
 // Writes a text of the vector, its words, its true places or the bits of an iterator, if the words ask for one.
-fn show<W: Write>(
-    alloc: Global,
-    out: &mut W,
-    bits: &BitVec,
-    words: &[&str],
-) -> anyhow::Result<bool> {
+fn show<W: Write>(out: &mut W, bits: &BitVec, words: &[&str]) -> io::Result<bool> {
     match *words {
         ["iter", steps] => write_steps(out, bits, steps)?,
         ["words"] => writeln!(out, "{:?}", bits.words())?,
-        ["iter_ones"] => write_places(out, &places_of(alloc, bits)?)?,
+        ["iter_ones"] => write_places(out, bits)?,
         ["texts"] => write_texts(out, bits)?,
         ["bin"] => writeln!(out, "{bits}")?,
         ["hex"] => writeln!(out, "{}", bits.lower_hex())?,
@@ -225,13 +220,12 @@ fn write_steps<W: Write>(out: &mut W, bits: &BitVec, steps: &str) -> io::Result<
     writeln!(out)
 }
 
-// The true places of a vector.
-fn places_of(alloc: Global, bits: &BitVec) -> Result<Vec<usize>, AllocError> {
-    bits.iter_ones().collect(alloc)
-}
-
-fn write_places<W: Write>(out: &mut W, places: &[usize]) -> io::Result<()> {
-    writeln!(out, "{places:?}")
+// Writes the true places, and `end` behind them.
+fn write_places<W: Write>(out: &mut W, bits: &BitVec) -> io::Result<()> {
+    for place in bits.iter_ones() {
+        write!(out, "{place} ")?;
+    }
+    writeln!(out, "end")
 }
 
 // Writes each text of a vector, some of them under options.
