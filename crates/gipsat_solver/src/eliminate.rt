@@ -1,5 +1,5 @@
 //! Elimination of variables, with subsumption: the clauses of a variable give way to their resolvents.
-ghost use Rattle.std.specs.Prelude.{◌≡◌, length, OnOk};
+ghost use Rattle.std.specs.Prelude.{◌≡◌, ◌^◌, ◌<◌, length, OnOk};
 ghost use Rattle.gipsat_solver.specs.Database.{Derives};
 ghost use Rattle.gipsat_solver.specs.Trail.{IsReady};
 
@@ -11,7 +11,7 @@ use crate::occurrences::Occurrences;
 use crate::propagate::propagate;
 use crate::resolve::{Resolution, add_resolvents};
 use crate::seen::Seen;
-use crate::subsume::{Marks, subsumed_by};
+use crate::subsume::{Marks, Subsumption, find_subsumed};
 use crate::trail::Trail;
 use crate::watches::{ClauseStatus, Watches, short};
 use std::alloc::{AllocError, Allocator, Global};
@@ -36,28 +36,18 @@ struct Elimination<A: Allocator = Global> {
 }
 
 impl<A: Allocator + Copy> Elimination<A> {
-    // Of the clauses that are watched for good, up to so many steps.
-    fn new(
-        alloc: A,
-        database: &Database<A>,
-        trail: &Trail<A>,
-        watches: &Watches<A>,
-        frozen: &[u32],
-        steps: u64,
-    ) -> Result<Self, AllocError> {
-        let variables = database.variables();
-        let mut elimination = Elimination {
+    // Of no clause yet and so many variables, up to so many steps.
+    fn new(alloc: A, variables: usize, steps: u64) -> Result<Self, AllocError>
+        requires { variables < 2 ^ 40 }
+    {
+        let marks = Marks::new(alloc, variables)?;
+        Ok(Elimination {
             occurrences: Occurrences::new(alloc, variables)?,
-            marks: Marks::new(alloc, variables)?,
+            marks,
             waiting: Vec::new(alloc),
             known: 0,
             steps,
-        };
-        for variable in frozen {
-            elimination.occurrences.freeze(*variable);
-        }
-        elimination.connect_new(database, trail, watches)?;
-        Ok(elimination)
+        })
     }
 
     // Lets the clauses take part that have come to the database, but for those that have a literal twice.
@@ -90,11 +80,11 @@ impl<A: Allocator + Copy> Elimination<A> {
         self.steps = self.steps.saturating_sub(literals as u64);
     }
 
-    // The clauses that have a literal.
-    fn clauses_of(&mut self, alloc: A, l: Literal) -> Result<Vec<u32, A>, AllocError> {
+    // Lists the clauses that have a literal, where none is listed yet.
+    fn list(&mut self, l: Literal, clauses: &mut Vec<u32, A>) -> Result<(), AllocError> {
         let len = self.occurrences.of(l).len();
         self.spend(len);
-        self.occurrences.tidied(alloc, l)
+        self.occurrences.list(l, clauses)
     }
 
     // The variables of a clause stay.
@@ -135,18 +125,18 @@ impl<A: Allocator + Copy> Elimination<A> {
         }
     }
 
-    // The resolvents that stand for the clauses of a variable. None where they are too many or too long.
-    fn resolutions(
+    // Lists the resolvents that stand for the clauses of a variable. Whether they are not too many, and none is too
+    // long.
+    fn list_resolutions(
         &mut self,
-        alloc: A,
         database: &Database<A>,
         trail: &Trail<A>,
         firsts: &[u32],
         seconds: &[u32],
         literal: Literal,
-    ) -> Result<Option<Vec<Resolution, A>>, AllocError> {
+        resolutions: &mut Vec<Resolution, A>,
+    ) -> Result<bool, AllocError> {
         let most = firsts.len().saturating_add(seconds.len());
-        let mut resolutions = Vec::new(alloc);
         for first in firsts {
             if *first as usize >= database.len() {
                 continue;
@@ -161,14 +151,14 @@ impl<A: Allocator + Copy> Elimination<A> {
                 seconds,
                 literal,
                 most,
-                &mut resolutions,
+                resolutions,
             );
             self.marks.set(trail, clause, false);
             if !done? {
-                return Ok(None);
+                return Ok(false);
             }
         }
-        Ok(Some(resolutions))
+        Ok(true)
     }
 
     // Lists the resolvents of the marked clause. Whether they are not too many, and none is too long.
@@ -220,37 +210,49 @@ impl<A: Allocator + Copy> Elimination<A> {
     }
 }
 
-// The clauses of a variable, and the resolvents that stand for them.
+// The clauses of a variable, by its sign, and the resolvents that stand for them.
 #[derive(Drop)]
 struct Replacement<A: Allocator = Global> {
-    clauses: Vec<u32, A>,
+    positive: Vec<u32, A>,
+    negative: Vec<u32, A>,
     resolutions: Vec<Resolution, A>,
 }
 
-// What to put in the place of the clauses of a variable. None where it would be too much.
+impl<A: Allocator + Copy> Replacement<A> {
+    // Of no clause.
+    fn new(alloc: A) -> Self {
+        Replacement {
+            positive: Vec::new(alloc),
+            negative: Vec::new(alloc),
+            resolutions: Vec::new(alloc),
+        }
+    }
+}
+
+// Finds what to put in the place of the clauses of a variable, whose positive literal is `l`. False where it would be
+// too much.
 fn find_replacement<A: Allocator + Copy>(
-    alloc: A,
     database: &Database<A>,
     trail: &Trail<A>,
     elimination: &mut Elimination<A>,
     l: Literal,
-) -> Result<Option<Replacement<A>>, AllocError> {
+    found: &mut Replacement<A>,
+) -> Result<bool, AllocError> {
     let count = elimination.occurrences.count(l);
     let negated = elimination.occurrences.count(l.negated());
     if trail.value(l).is_some() || count > OCCURRENCES || negated > OCCURRENCES {
-        return Ok(None);
+        return Ok(false);
     }
-    let mut clauses = elimination.clauses_of(alloc, l)?;
-    let others = elimination.clauses_of(alloc, l.negated())?;
-    let Some(resolutions) = elimination.resolutions(alloc, database, trail, &clauses, &others, l)?
-    else {
-        return Ok(None);
-    };
-    clauses.extend_from_slice(&others)?;
-    Ok(Some(Replacement {
-        clauses,
-        resolutions,
-    }))
+    elimination.list(l, &mut found.positive)?;
+    elimination.list(l.negated(), &mut found.negative)?;
+    elimination.list_resolutions(
+        database,
+        trail,
+        &found.positive,
+        &found.negative,
+        l,
+        &mut found.resolutions,
+    )
 }
 
 // Adds resolvents, which take part from now on.
@@ -316,14 +318,43 @@ fn subsume_by<A: Allocator + Copy>(
     ensures ready { OnOk result (IsReady database.new trail.now seen.new) }
     ensures derives { Derives database.old database.new }
 {
-    let found = subsumed_by(
+    let mut found = Subsumption::new(alloc);
+    apply_subsumption(
         alloc,
+        database,
+        trail,
+        heuristics,
+        seen,
+        elimination,
+        place,
+        &mut found,
+    )
+}
+
+// The same, where nothing is found yet.
+#[tactic(auto, using(crate::proofs::DerivesLemmas::Derives_same, crate::proofs::DerivesLemmas::Derives_then))]
+fn apply_subsumption<A: Allocator + Copy>(
+    alloc: A,
+    database: &mut Database<A>,
+    trail: &Trail<A>,
+    heuristics: &mut Heuristics<A>,
+    seen: &mut Seen<A>,
+    elimination: &mut Elimination<A>,
+    place: u32,
+    found: &mut Subsumption<A>,
+) -> Result<(), AllocError>
+    requires ready { IsReady database.old trail.now seen.old }
+    ensures ready { OnOk result (IsReady database.new trail.now seen.new) }
+    ensures derives { Derives database.old database.new }
+{
+    find_subsumed(
         database,
         trail,
         &elimination.occurrences,
         &mut elimination.marks,
         &mut elimination.steps,
         place,
+        found,
     )?;
     add_kept(
         alloc,
@@ -358,9 +389,38 @@ fn eliminate_variable<A: Allocator + Copy>(
     ensures ready { OnOk result (IsReady database.new trail.now seen.new) }
     ensures derives { Derives database.old database.new }
 {
-    let Some(found) = find_replacement(alloc, database, trail, elimination, l)? else {
+    let mut found = Replacement::new(alloc);
+    replace(
+        alloc,
+        database,
+        trail,
+        heuristics,
+        seen,
+        elimination,
+        l,
+        &mut found,
+    )
+}
+
+// Puts resolvents in the place of the clauses of a variable, unless they are too many or too long. Nothing is found yet.
+#[tactic(auto, using(crate::proofs::DerivesLemmas::Derives_same, crate::proofs::DerivesLemmas::Derives_then))]
+fn replace<A: Allocator + Copy>(
+    alloc: A,
+    database: &mut Database<A>,
+    trail: &Trail<A>,
+    heuristics: &mut Heuristics<A>,
+    seen: &mut Seen<A>,
+    elimination: &mut Elimination<A>,
+    l: Literal,
+    found: &mut Replacement<A>,
+) -> Result<(), AllocError>
+    requires ready { IsReady database.old trail.now seen.old }
+    ensures ready { OnOk result (IsReady database.new trail.now seen.new) }
+    ensures derives { Derives database.old database.new }
+{
+    if !find_replacement(database, trail, elimination, l, found)? {
         return Ok(());
-    };
+    }
     add_kept(
         alloc,
         database,
@@ -370,11 +430,12 @@ fn eliminate_variable<A: Allocator + Copy>(
         elimination,
         &found.resolutions,
     )?;
-    heuristics.eliminated.push(l, &found.clauses)?;
+    found.positive.extend_from_slice(&found.negative)?;
+    heuristics.eliminated.push(l, &found.positive)?;
     heuristics.activity.take_out(l.variable());
     elimination.occurrences.freeze(l.variable());
     let watches = &mut heuristics.watches;
-    for place in &found.clauses {
+    for place in &found.positive {
         elimination.take_out(database, trail, watches, *place, ClauseStatus::Eliminated);
     }
     subsume_all(alloc, database, trail, heuristics, seen, elimination)
@@ -457,16 +518,39 @@ pub(crate) fn eliminate<A: Allocator + Copy>(
         return Ok(());
     }
     heuristics.eliminated.tidy(alloc)?;
-    let mut elimination = Elimination::new(
+    let mut elimination = Elimination::new(alloc, database.variables(), steps)?;
+    eliminate_but(
         alloc,
         database,
         trail,
-        &heuristics.watches,
+        heuristics,
+        seen,
+        &mut elimination,
         frozen,
-        steps,
-    )?;
+    )
+}
+
+// Eliminates variables but for the frozen ones, in an elimination in which no clause takes part yet.
+#[tactic(auto, using(crate::proofs::DerivesLemmas::Derives_same, crate::proofs::DerivesLemmas::Derives_then))]
+fn eliminate_but<A: Allocator + Copy>(
+    alloc: A,
+    database: &mut Database<A>,
+    trail: &Trail<A>,
+    heuristics: &mut Heuristics<A>,
+    seen: &mut Seen<A>,
+    elimination: &mut Elimination<A>,
+    frozen: &[u32],
+) -> Result<(), AllocError>
+    requires ready { IsReady database.old trail.now seen.old }
+    ensures ready { OnOk result (IsReady database.new trail.now seen.new) }
+    ensures derives { Derives database.old database.new }
+{
+    for variable in frozen {
+        elimination.occurrences.freeze(*variable);
+    }
+    elimination.connect_new(database, trail, &heuristics.watches)?;
     heuristics.watches.detach_all();
-    eliminate_each(alloc, database, trail, heuristics, seen, &mut elimination)?;
+    eliminate_each(alloc, database, trail, heuristics, seen, elimination)?;
     delete_learned(database, heuristics);
     Ok(())
 }

@@ -87,10 +87,15 @@ impl<A: Allocator + Copy> Eliminated<A> {
     pub(crate) fn tidy(&mut self, alloc: A) -> Result<(), AllocError> {
         let records = mem::replace(&mut self.records, Vec::new(alloc));
         let places = mem::replace(&mut self.places, Vec::new(alloc));
-        for record in &records {
+        self.push_all(&records, &places)
+    }
+
+    // Eliminates the variables of these records again, but for those that are over.
+    fn push_all(&mut self, records: &[Record], places: &[u32]) -> Result<(), AllocError> {
+        for record in records {
             if !record.is_over {
-                let clauses = listed(alloc, &places, record.start, record.end)?;
-                self.push(record.literal, &clauses)?;
+                let clauses = places.get(record.start..record.end).unwrap_or(&[]);
+                self.push(record.literal, clauses)?;
             }
         }
         Ok(())
@@ -286,22 +291,6 @@ impl<A: Allocator + Copy> Eliminated<A> {
         }
         false
     }
-}
-
-// The listed clauses from one place to another.
-fn listed<A: Allocator + Copy>(
-    alloc: A,
-    places: &[u32],
-    start: usize,
-    end: usize,
-) -> Result<Vec<u32, A>, AllocError> {
-    let mut clauses = Vec::new(alloc);
-    for index in start..end {
-        if let Some(place) = places.get(index) {
-            clauses.push(*place)?;
-        }
-    }
-    Ok(clauses)
 }
 
 // Whether a clause has a literal, and no true one.

@@ -227,6 +227,18 @@ impl<A: Allocator + Copy> Heuristics<A> {
         Ok(())
     }
 
+    // So many original clauses come before all others, of which only some stay. None is watched then.
+    pub(crate) fn renumber(
+        &mut self,
+        alloc: A,
+        units: usize,
+        stays: &[bool],
+    ) -> Result<(), AllocError> {
+        let moved = self.eliminated.moved(alloc, units, stays)?;
+        self.eliminated.renumber(&moved);
+        self.watches.simplify(alloc, units, stays)
+    }
+
     // Goes back to earlier statistics, but for the number of deleted clauses.
     pub(crate) fn keep_stats(&mut self, earlier: Stats) {
         self.stats = Stats {

@@ -63,27 +63,30 @@ impl<A: Allocator + Copy> Occurrences<A> {
     pub(crate) fn new(alloc: A, variables: usize) -> Result<Self, AllocError>
         requires { variables < 2 ^ 40 }
     {
-        let mut lists = Vec::new(alloc);
-        for _ in 0..2 * variables {
-            lists.push(Vec::new(alloc))?;
-        }
-        let mut counts = Vec::new(alloc);
-        counts.resize(2 * variables, 0)?;
-        let mut ranks = Vec::new(alloc);
-        ranks.resize(variables, 0)?;
-        let mut is_frozen = Vec::new(alloc);
-        is_frozen.resize(variables, false)?;
-        Ok(Occurrences {
-            lists,
-            counts,
+        let bound = u32::try_from(variables).unwrap_or(u32::MAX);
+        let mut occurrences = Occurrences {
+            candidates: BoundedHeap::with_bound(alloc, bound)?,
+            lists: Vec::new(alloc),
+            counts: Vec::new(alloc),
             outlines: Vec::new(alloc),
-            candidates: BoundedHeap::with_bound(
-                alloc,
-                u32::try_from(variables).unwrap_or(u32::MAX),
-            )?,
-            ranks,
-            is_frozen,
-        })
+            ranks: Vec::new(alloc),
+            is_frozen: Vec::new(alloc),
+        };
+        occurrences.grow(alloc, variables)?;
+        Ok(occurrences)
+    }
+
+    // Makes room for the literals of so many variables.
+    fn grow(&mut self, alloc: A, variables: usize) -> Result<(), AllocError>
+        requires { variables < 2 ^ 40 }
+    {
+        for _ in 0..2 * variables {
+            self.lists.push(Vec::new(alloc))?;
+        }
+        self.counts.resize(2 * variables, 0)?;
+        self.ranks.resize(variables, 0)?;
+        self.is_frozen.resize(variables, false)?;
+        Ok(())
     }
 
     // A variable may not be eliminated.
@@ -197,9 +200,8 @@ impl<A: Allocator + Copy> Occurrences<A> {
         None
     }
 
-    // The clauses that have a literal. The list loses those that were taken out.
-    pub(crate) fn tidied(&mut self, alloc: A, l: Literal) -> Result<Vec<u32, A>, AllocError> {
-        let mut clauses = Vec::new(alloc);
+    // Lists the clauses that have a literal, where none is listed yet. Those that were taken out leave its own list.
+    pub(crate) fn list(&mut self, l: Literal, clauses: &mut Vec<u32, A>) -> Result<(), AllocError> {
         for place in self.of(l) {
             if self.has(*place) {
                 clauses.push(*place)?;
@@ -207,8 +209,8 @@ impl<A: Allocator + Copy> Occurrences<A> {
         }
         if let Some(list) = self.lists.get_mut(l.code()) {
             list.clear();
-            list.extend_from_slice(&clauses)?;
+            list.extend_from_slice(clauses)?;
         }
-        Ok(clauses)
+        Ok(())
     }
 }

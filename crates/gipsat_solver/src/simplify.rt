@@ -50,14 +50,26 @@ fn drop_satisfied<A: Allocator + Copy>(
     ensures refused { OnErr result (database.new ≡ database.old) }
 {
     let stays = unsatisfied(alloc, database, trail, &heuristics.watches)?;
-    let simpler = database.simplified(alloc, trail, &stays)?;
-    let moved = heuristics
-        .eliminated
-        .moved(alloc, trail.steps.len(), &stays)?;
-    heuristics.eliminated.renumber(&moved);
-    heuristics
-        .watches
-        .simplify(alloc, trail.steps.len(), &stays)?;
+    drop_others(alloc, database, trail, heuristics, &stays)
+}
+
+// Makes the root literals clauses of the formula, and drops the clauses that don't stay, but for those of the formula
+// which no root literal satisfies.
+fn drop_others<A: Allocator + Copy>(
+    alloc: A,
+    database: &mut Database<A>,
+    trail: &mut Trail<A>,
+    heuristics: &mut Heuristics<A>,
+    stays: &[bool],
+) -> Result<(), AllocError>
+    requires trail { IsTrailFor database.old trail.old }
+    requires root { trail.old.level_starts.items ≡ [] }
+    ensures trail { OnOk result (IsBelow database.new trail.new) }
+    ensures simplifies { OnOk result (Simplifies database.old database.new) }
+    ensures refused { OnErr result (database.new ≡ database.old) }
+{
+    heuristics.renumber(alloc, trail.steps.len(), stays)?;
+    let simpler = database.simplified(alloc, trail, stays)?;
     *database = simpler;
     trail.clear();
     heuristics.units = 0;

@@ -112,29 +112,35 @@ pub(crate) struct Subsumption<A: Allocator = Global> {
     pub strengthened: Vec<Resolution, A>,
 }
 
-// What the clause at a place says of the others, within so many steps.
-pub(crate) fn subsumed_by<A: Allocator + Copy>(
-    alloc: A,
+impl<A: Allocator + Copy> Subsumption<A> {
+    // Of no clause.
+    pub(crate) fn new(alloc: A) -> Self {
+        Subsumption {
+            subsumed: Vec::new(alloc),
+            strengthened: Vec::new(alloc),
+        }
+    }
+}
+
+// Finds what the clause at a place says of the others, within so many steps.
+pub(crate) fn find_subsumed<A: Allocator + Copy>(
     database: &Database<A>,
     trail: &Trail<A>,
     occurrences: &Occurrences<A>,
     marks: &mut Marks<A>,
     steps: &mut u64,
     place: u32,
-) -> Result<Subsumption<A>, AllocError> {
-    let mut found = Subsumption {
-        subsumed: Vec::new(alloc),
-        strengthened: Vec::new(alloc),
-    };
+    found: &mut Subsumption<A>,
+) -> Result<(), AllocError> {
     if place as usize >= database.len() || !occurrences.has(place) {
-        return Ok(found);
+        return Ok(());
     }
     let clause = database.clause(place as usize);
     let Some(l) = rarest(trail, occurrences, clause) else {
-        return Ok(found);
+        return Ok(());
     };
     marks.set(trail, clause, true);
-    let first = look_through(database, occurrences, marks, steps, place, l, &mut found);
+    let first = look_through(database, occurrences, marks, steps, place, l, found);
     let second = look_through(
         database,
         occurrences,
@@ -142,12 +148,11 @@ pub(crate) fn subsumed_by<A: Allocator + Copy>(
         steps,
         place,
         l.negated(),
-        &mut found,
+        found,
     );
     marks.set(trail, clause, false);
     first?;
-    second?;
-    Ok(found)
+    second
 }
 
 // Finds what the marked clause at a place says of the clauses that have a literal.

@@ -410,21 +410,28 @@ impl<A: Allocator + Copy> Watches<A> {
         units: usize,
         stays: &[bool],
     ) -> Result<(), AllocError> {
-        let mut statuses = Vec::new(alloc);
-        for _ in 0..units {
-            statuses.push(ClauseStatus::Kept)?;
-        }
-        for (place, stays) in stays.iter().take(self.statuses.len()).enumerate() {
-            if *stays {
-                statuses.push(self.status(place))?;
-            }
-        }
         for list in self.lists.iter_mut() {
             *list = Vec::new(alloc);
         }
         self.pairs = Vec::new(alloc);
         self.waiting.clear();
-        self.statuses = statuses;
+        let statuses = mem::replace(&mut self.statuses, Vec::new(alloc));
+        self.push_statuses(units, &statuses, stays)
+    }
+
+    // Adds the statuses of so many original clauses, and then those of the clauses that stay.
+    fn push_statuses(
+        &mut self,
+        units: usize,
+        statuses: &[ClauseStatus],
+        stays: &[bool],
+    ) -> Result<(), AllocError> {
+        self.statuses.resize(units, ClauseStatus::Kept)?;
+        for (status, stays) in statuses.iter().zip(stays) {
+            if *stays {
+                self.statuses.push(*status)?;
+            }
+        }
         Ok(())
     }
 }
