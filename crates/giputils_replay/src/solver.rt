@@ -2,18 +2,27 @@
 //!
 //! A literal is a number as DIMACS has it: 1 is the first variable, and -1 its negation.
 //!
-//! `clause LITERAL..` gives a clause, and `compact` closes the store up; both are answered `ok`. `solve LIMIT`,
-//! `under LIMIT LITERAL..` (these are assumed) and `find` (with no limit) are answered `sat`, `unsat` or `unknown`.
-//! Behind `unsat` under assumptions stands the core, in rising order. `slices LIMIT` goes on with such a limit until
-//! there is an answer, and `compact_slices LIMIT` closes the store up after each slice.
+//! `clause LITERAL..` gives a clause, `compact` closes the store up, `simplify` drops what has to hold anyway, and
+//! `eliminate STEPS VARIABLE..` eliminates variables, but for these; each is answered `ok`.
 //!
-//! `conflicts_above NUMBER` asks whether more conflicts were met, and `known_below NUMBER` whether fewer clauses were
-//! known each time that the store had been closed up; the replies are `true` and `false`.
+//! `solve LIMIT`, `limited LIMIT PROPAGATIONS`, `under LIMIT LITERAL..` (these are assumed) and `find` (with no limit)
+//! are answered `sat`, `unsat` or `unknown`, and so is `guess LIMIT LITERAL..`, whose `sat` is not looked at; `value
+//! VARIABLE` asks for a value then, `true`, `false` or `none`. Behind `unsat` under assumptions stands the core, in
+//! rising order. `domain VARIABLE..` (answered `ok`) lets guesses decide these alone, or all where none is named.
+//! `learn LIMIT` is `solve LIMIT`, but is answered `ok`. `slices LIMIT` goes on with such a limit until there is an
+//! answer, and `compact_slices LIMIT` closes the store up after each slice.
+//!
+//! `vivify PLACE PROPAGATIONS` shortens clauses from a place on: `shortened` if it added as many as it deleted,
+//! `nothing` if it did neither, and else `wrong`.
+//!
+//! `known`, `learned` and `decisions` ask for numbers. `conflicts_above NUMBER` asks whether more conflicts were met,
+//! `known_below NUMBER` whether fewer clauses were known each time that the store had been closed up, and `has PLACE
+//! VARIABLE` whether a clause from a place on has a variable; the replies are `true` and `false`.
 
 use crate::calls::NotACall;
 use crate::formulas::{satisfies, value};
 use anyhow::{Context, Result};
-use gipsat_solver::{Answer, AnswerUnder, Literal, Solver};
+use gipsat_solver::{Answer, AnswerUnder, Budget, Guess, Literal, Solver};
 use std::alloc::{AllocError, Global};
 use std::io::{self, Write};
 
@@ -41,6 +50,10 @@ pub(crate) enum Said {
 pub(crate) struct Given {
     solver: Solver,
     formula: Vec<Vec<Literal>>,
+    // The last core.
+    core: Vec<Literal>,
+    // The variables that guesses may decide, or none where all may be.
+    domain: Vec<u32>,
     // How many clauses were known at most when the store had been closed up.
     most: usize,
 }
@@ -48,10 +61,17 @@ pub(crate) struct Given {
 // The answer to a call.
 #[derive(Drop)]
 enum Reply {
-    Done,
-    Flag(bool),
-    Said(Said),
+    Word(&'static str),
+    Number(u64),
     Core(Vec<i32>),
+}
+
+// The reply to a call that has none of its own.
+const DONE: Reply = Reply::Word("ok");
+
+// The reply to whether something holds.
+fn flag(holds: bool) -> Reply {
+    Reply::Word(if holds { "true" } else { "false" })
 }
 
 /// Makes the calls, and writes a line for each reply.
@@ -76,43 +96,111 @@ fn answer_each<W: Write>(
 // Makes the call of a line.
 fn answer(alloc: Global, given: &mut Given, line: &str) -> Result<Reply> {
     let words: Vec<&str> = line.split(' ').collect(alloc)?;
+    call(alloc, given, &words)
+}
+
+// Makes the call of some words.
+fn call(alloc: Global, given: &mut Given, words: &[&str]) -> Result<Reply> {
     match *words {
-        ["clause", ref literals @ ..] => {
-            given.add(parse_literals(alloc, literals)?)?;
-            Ok(Reply::Done)
-        }
-        ["under", limit, ref literals @ ..] => {
-            let assumptions = parse_literals(alloc, literals)?;
-            under(alloc, given, &assumptions, limit.parse()?)
-        }
-        [name] => call(given, name),
+        ["clause", ref literals @ ..] => give(alloc, given, literals),
+        ["domain", ref variables @ ..] => limit_to(alloc, given, variables),
+        ["under", limit, ref literals @ ..] => under(alloc, given, limit.parse()?, literals),
+        ["guess", limit, ref literals @ ..] => guess(alloc, given, limit.parse()?, literals),
+        ["eliminate", steps, ref frozen @ ..] => eliminate(alloc, given, steps.parse()?, frozen),
+        [name] => call_alone(given, name),
         [name, number] => call_with(given, name, number.parse()?),
+        [name, first, second] => call_with_two(given, name, first.parse()?, second.parse()?),
         _ => Err(NotACall.into()),
     }
 }
 
 // Makes the call of a word alone.
-fn call(given: &mut Given, name: &str) -> Result<Reply> {
+fn call_alone(given: &mut Given, name: &str) -> Result<Reply> {
     match name {
-        "find" => Ok(Reply::Said(given.find()?)),
+        "find" => Ok(Reply::Word(given.find()?.word())),
         "compact" => {
             given.compact()?;
-            Ok(Reply::Done)
+            Ok(DONE)
         }
-        _ => Err(NotACall.into()),
+        "simplify" => {
+            given.solver.simplify()?;
+            Ok(DONE)
+        }
+        _ => match given.number(name) {
+            Some(number) => Ok(Reply::Number(number)),
+            None => Err(NotACall.into()),
+        },
     }
 }
 
 // Makes the call of a word and a number.
 fn call_with(given: &mut Given, name: &str, number: usize) -> Result<Reply> {
     Ok(match name {
-        "solve" => Reply::Said(given.solve(number)?),
-        "slices" => Reply::Said(given.solve_in_slices(number)?),
-        "compact_slices" => Reply::Said(given.solve_in_compact_slices(number)?),
-        "conflicts_above" => Reply::Flag(given.conflicts() > number as u64),
-        "known_below" => Reply::Flag(given.most < number),
+        "solve" => Reply::Word(given.solve(number)?.word()),
+        "learn" => {
+            given.solver.solve(number)?;
+            DONE
+        }
+        "slices" => Reply::Word(given.solve_in_slices(number)?.word()),
+        "compact_slices" => Reply::Word(given.solve_in_compact_slices(number)?.word()),
+        "conflicts_above" => flag(given.conflicts() > number as u64),
+        "known_below" => flag(given.most < number),
+        "value" => Reply::Word(given.value(number)),
         _ => return Err(NotACall.into()),
     })
+}
+
+// Makes the call of a word and two numbers.
+fn call_with_two(given: &mut Given, name: &str, first: usize, second: u64) -> Result<Reply> {
+    Ok(match name {
+        "limited" => Reply::Word(given.solve_limited(first, second)?.word()),
+        "vivify" => Reply::Word(given.vivify(first, second)?),
+        "has" => flag(given.has(first, second)),
+        _ => return Err(NotACall.into()),
+    })
+}
+
+// Gives a clause.
+fn give(alloc: Global, given: &mut Given, literals: &[&str]) -> Result<Reply> {
+    given.add(parse_literals(alloc, literals)?)?;
+    Ok(DONE)
+}
+
+// Lets guesses decide these variables alone.
+fn limit_to(alloc: Global, given: &mut Given, variables: &[&str]) -> Result<Reply> {
+    given.domain = parse_variables(alloc, variables)?;
+    Ok(DONE)
+}
+
+// Eliminates variables, but for these.
+fn eliminate(alloc: Global, given: &mut Given, steps: u64, frozen: &[&str]) -> Result<Reply> {
+    let frozen = parse_variables(alloc, frozen)?;
+    given.solver.eliminate(&frozen, steps)?;
+    Ok(DONE)
+}
+
+// What is said under assumptions, with the core.
+fn under(alloc: Global, given: &mut Given, limit: usize, literals: &[&str]) -> Result<Reply> {
+    let assumptions = parse_literals(alloc, literals)?;
+    let said = given.solve_under(&assumptions, limit)?;
+    reply_with_core(alloc, said, &given.core)
+}
+
+// What is guessed under assumptions, with the core.
+fn guess(alloc: Global, given: &mut Given, limit: usize, literals: &[&str]) -> Result<Reply> {
+    let assumptions = parse_literals(alloc, literals)?;
+    let said = given.guess(&assumptions, limit)?;
+    reply_with_core(alloc, said, &given.core)
+}
+
+// What is said, with the core where it is `Unsat`.
+fn reply_with_core(alloc: Global, said: Said, core: &[Literal]) -> Result<Reply> {
+    if said != Said::Unsat {
+        return Ok(Reply::Word(said.word()));
+    }
+    let mut numbers: Vec<i32> = core.iter().map(|l| number_of(*l)).collect(alloc)?;
+    numbers.sort_unstable();
+    Ok(Reply::Core(numbers))
 }
 
 // The literals of words.
@@ -133,21 +221,19 @@ fn parse_literal(word: &str) -> Result<Literal, NotACall> {
     Ok(Literal::new(variable, number > 0))
 }
 
+// The variables of words.
+fn parse_variables(alloc: Global, words: &[&str]) -> Result<Vec<u32>> {
+    let mut variables = Vec::new(alloc);
+    for word in words {
+        variables.push(parse_literal(word)?.variable())?;
+    }
+    Ok(variables)
+}
+
 // The number of a literal.
 fn number_of(l: Literal) -> i32 {
     let number = l.variable() as i32;
     if l.is_positive() { number } else { -number }
-}
-
-// What is said under assumptions, with the core.
-fn under(alloc: Global, given: &mut Given, assumptions: &[Literal], limit: usize) -> Result<Reply> {
-    let (said, core) = given.solve_under(alloc, assumptions, limit)?;
-    if said != Said::Unsat {
-        return Ok(Reply::Said(said));
-    }
-    let mut numbers: Vec<i32> = core.iter().map(|l| number_of(*l)).collect(alloc)?;
-    numbers.sort()?;
-    Ok(Reply::Core(numbers))
 }
 
 impl Given {
@@ -156,77 +242,159 @@ impl Given {
         Given {
             solver: Solver::new(alloc),
             formula: Vec::new(alloc),
+            core: Vec::new(alloc),
+            domain: Vec::new(alloc),
             most: 0,
         }
     }
 
     /// Gives the solver a clause.
     pub(crate) fn add(&mut self, clause: Vec<Literal>) -> Result<()> {
-        self.solver.add_clause(&clause)?;
         self.formula.push(clause)?;
+        if let Some(clause) = self.formula.last() {
+            self.solver.add_clause(clause)?;
+        }
         Ok(())
+    }
+
+    // What is said, unless a clause was left open.
+    fn unless_open(&self, said: Said) -> Said {
+        if self.solver.stats().left_open > 0 {
+            Said::LeftOpen
+        } else {
+            said
+        }
     }
 
     /// What is said within so many conflicts.
     pub(crate) fn solve(&mut self, limit: usize) -> Result<Said, AllocError> {
-        let answer = self.solver.solve(limit)?;
-        if self.solver.stats().left_open > 0 {
-            return Ok(Said::LeftOpen);
-        }
-        Ok(match answer {
+        let said = match self.solver.solve(limit)? {
             Answer::Sat(model) => said_of_model(&model, &self.formula),
             Answer::Unsat => Said::Unsat,
             Answer::Unknown => Said::Unknown,
-        })
+        };
+        Ok(self.unless_open(said))
+    }
+
+    // What is said within so many conflicts and propagations.
+    fn solve_limited(&mut self, clauses: usize, propagations: u64) -> Result<Said, AllocError> {
+        let budget = Budget {
+            clauses,
+            propagations,
+        };
+        let said = match self.solver.solve_limited(&[], budget)? {
+            AnswerUnder::Sat(model) => said_of_model(&model, &self.formula),
+            AnswerUnder::Unsat(_) => Said::Unsat,
+            AnswerUnder::Unknown => Said::Unknown,
+        };
+        Ok(self.unless_open(said))
     }
 
     // What is said with no limit.
     fn find(&mut self) -> Result<Said, AllocError> {
-        let found = self.solver.find_model()?;
-        if self.solver.stats().left_open > 0 {
-            return Ok(Said::LeftOpen);
-        }
-        Ok(match found {
+        let said = match self.solver.find_model()? {
             Some(model) => said_of_model(&model, &self.formula),
             None => Said::Unsat,
-        })
+        };
+        Ok(self.unless_open(said))
     }
 
-    /// What is said under assumptions, with a core where it is `Unsat`.
+    /// What is said under assumptions. Where it is `Unsat`, the core is kept.
     pub(crate) fn solve_under(
         &mut self,
-        alloc: Global,
-        assumptions: &[Literal],
-        limit: usize,
-    ) -> Result<(Said, Vec<Literal>), AllocError> {
-        let answer = self.solver.solve_under(assumptions, limit)?;
-        if self.solver.stats().left_open > 0 {
-            return Ok((Said::LeftOpen, Vec::new(alloc)));
-        }
-        Ok(match answer {
-            AnswerUnder::Sat(model) => {
-                let said = said_of_model_under(&model, &self.formula, assumptions);
-                (said, Vec::new(alloc))
-            }
-            AnswerUnder::Unsat(core) => (self.said_of_core(&core, assumptions, limit)?, core),
-            AnswerUnder::Unknown => (Said::Unknown, Vec::new(alloc)),
-        })
-    }
-
-    // What is said of a core: whether it is of the assumptions, and is found `Unsat` if it is assumed alone.
-    fn said_of_core(
-        &mut self,
-        core: &[Literal],
         assumptions: &[Literal],
         limit: usize,
     ) -> Result<Said, AllocError> {
-        if !core.iter().all(|l| assumptions.contains(l)) {
+        let said = match self.solver.solve_under(assumptions, limit)? {
+            AnswerUnder::Sat(model) => said_of_model_under(&model, &self.formula, assumptions),
+            AnswerUnder::Unsat(core) => {
+                self.core = core;
+                Said::Unsat
+            }
+            AnswerUnder::Unknown => Said::Unknown,
+        };
+        if said == Said::Unsat {
+            return self.said_of_core(assumptions, limit);
+        }
+        Ok(self.unless_open(said))
+    }
+
+    // What is said of the core: whether it is of the assumptions, and is found `Unsat` if it is assumed alone.
+    fn said_of_core(&mut self, assumptions: &[Literal], limit: usize) -> Result<Said, AllocError> {
+        if !self.core.iter().all(|l| assumptions.contains(l)) {
             return Ok(Said::Wrong);
         }
-        Ok(match self.solver.solve_under(core, limit)? {
+        let said = match self.solver.solve_under(&self.core, limit)? {
             AnswerUnder::Unsat(_) => Said::Unsat,
             _ => Said::Wrong,
+        };
+        Ok(self.unless_open(said))
+    }
+
+    // What is guessed under assumptions, in the domain if there is one. Where it is `Unsat`, the core is kept.
+    fn guess(&mut self, assumptions: &[Literal], limit: usize) -> Result<Said, AllocError> {
+        let guess = if self.domain.is_empty() {
+            self.solver.guess_under(assumptions, limit)?
+        } else {
+            self.solver.guess_within(&self.domain, assumptions, limit)?
+        };
+        Ok(match guess {
+            Guess::Sat => Said::Sat,
+            Guess::Unsat(core) => {
+                self.core = core;
+                Said::Unsat
+            }
+            Guess::Unknown => Said::Unknown,
         })
+    }
+
+    // The word for the value of a variable.
+    fn value(&self, variable: usize) -> &'static str {
+        match u32::try_from(variable)
+            .ok()
+            .and_then(|v| self.solver.value(v))
+        {
+            Some(true) => "true",
+            Some(false) => "false",
+            None => "none",
+        }
+    }
+
+    // Shortens clauses from a place on. The word for what became of them.
+    fn vivify(&mut self, place: usize, propagations: u64) -> Result<&'static str, AllocError> {
+        let (known, deleted) = (self.solver.len(), self.solver.stats().deleted);
+        self.solver.vivify(place, propagations)?;
+        let added = self.solver.len().saturating_sub(known) as u64;
+        let deleted = self.solver.stats().deleted.saturating_sub(deleted);
+        Ok(if added != deleted {
+            "wrong"
+        } else if added > 0 {
+            "shortened"
+        } else {
+            "nothing"
+        })
+    }
+
+    // Whether a clause from a place on has a variable.
+    fn has(&self, start: usize, variable: u64) -> bool {
+        for place in start..self.solver.len() {
+            for l in self.solver.clause(place) {
+                if u64::from(l.variable()) == variable {
+                    return true;
+                }
+            }
+        }
+        false
+    }
+
+    // The number that a word asks for.
+    fn number(&self, name: &str) -> Option<u64> {
+        match name {
+            "known" => Some(self.solver.len() as u64),
+            "learned" => Some(self.solver.learned() as u64),
+            "decisions" => Some(self.solver.stats().decisions),
+            _ => None,
+        }
     }
 
     // What is said in the end, where each call may meet so many conflicts.
@@ -304,9 +472,8 @@ impl Said {
 // Writes a reply as a line.
 fn write_reply<W: Write>(out: &mut W, reply: &Reply) -> io::Result<()> {
     match reply {
-        Reply::Done => writeln!(out, "ok"),
-        Reply::Flag(flag) => writeln!(out, "{flag}"),
-        Reply::Said(said) => write_word(out, said.word()),
+        Reply::Word(word) => write_word(out, word),
+        Reply::Number(number) => writeln!(out, "{number}"),
         Reply::Core(core) => write_core(out, core),
     }
 }

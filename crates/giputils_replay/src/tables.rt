@@ -31,17 +31,16 @@ pub(crate) fn replay<W: Write>(alloc: Global, out: &mut W, lines: &[String]) -> 
 fn answer(alloc: Global, line: &str) -> Result<Vec<Said>> {
     let words: Vec<&str> = line.split(' ').collect(alloc)?;
     match *words {
-        ["under", ref clauses @ ..] => said_under_each(alloc, clauses),
-        _ => said_after_each(alloc, &words),
+        ["under", ref clauses @ ..] => said_under_each(alloc, &mut Given::new(alloc), clauses),
+        _ => said_after_each(alloc, &mut Given::new(alloc), &words),
     }
 }
 
-// What is said after each clause.
-fn said_after_each(alloc: Global, clauses: &[&str]) -> Result<Vec<Said>> {
-    let mut given = Given::new(alloc);
+// What is said after each clause, by a solver that has none at first.
+fn said_after_each(alloc: Global, given: &mut Given, clauses: &[&str]) -> Result<Vec<Said>> {
     let mut answers = Vec::new(alloc);
     for word in clauses {
-        answers.push(said_after(alloc, &mut given, word)?)?;
+        answers.push(said_after(alloc, given, word)?)?;
     }
     Ok(answers)
 }
@@ -58,13 +57,12 @@ fn give(alloc: Global, given: &mut Given, word: &str) -> Result<()> {
     given.add(clause)
 }
 
-// What is said of all clauses under the literals of each one there is, by one solver.
-fn said_under_each(alloc: Global, clauses: &[&str]) -> Result<Vec<Said>> {
-    let mut given = Given::new(alloc);
+// What is said of all clauses under the literals of each one there is, by a solver that has none at first.
+fn said_under_each(alloc: Global, given: &mut Given, clauses: &[&str]) -> Result<Vec<Said>> {
     for word in clauses {
-        give(alloc, &mut given, word)?;
+        give(alloc, given, word)?;
     }
-    Ok(answers_under_each(alloc, &mut given)?)
+    Ok(answers_under_each(alloc, given)?)
 }
 
 fn answers_under_each(alloc: Global, given: &mut Given) -> Result<Vec<Said>, AllocError> {
@@ -78,8 +76,7 @@ fn answers_under_each(alloc: Global, given: &mut Given) -> Result<Vec<Said>, All
 // What is said under the literals of a clause.
 fn said_under(alloc: Global, given: &mut Given, assumed: u32) -> Result<Said, AllocError> {
     let assumptions = literals(alloc, assumed)?;
-    let (said, _) = given.solve_under(alloc, &assumptions, LIMIT)?;
-    Ok(said)
+    given.solve_under(&assumptions, LIMIT)
 }
 
 // The clause of a word.
