@@ -6,7 +6,7 @@ use gipsat_solver::{Answer, Literal, Solver};
 use std::alloc::{AllocError, Allocator};
 
 // What a solver says of a formula.
-#[derive(Clone, Copy, PartialEq, Eq, Debug)]
+#[derive(Clone, Copy)]
 pub(crate) enum Said {
     Sat,
     Unsat,

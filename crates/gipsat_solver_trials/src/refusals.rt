@@ -1,12 +1,13 @@
 //! Solvers that are refused memory.
 
-use crate::formulas::{Said, add_all, found_of, said_of, say};
-use crate::under::{SaidUnder, said_under};
-use gipsat_solver::{Answer, Literal, Solver};
+use crate::formulas::{Said, add_all, found_of, literal, said_of, say};
+use gipsat_solver::{Answer, AnswerUnder, Literal, Solver};
 use giputils_refusing::{Refusing, refuse_each, refuse_from_each};
 use std::alloc::AllocError;
 
-// Four clauses over two variables: no model, which is seen after a conflict alone.
+// The four clauses over two variables: no model, which is seen after a conflict alone.
+const CLASHING: [i32; 12] = [1, 2, 0, -1, 2, 0, 1, -2, 0, -1, -2, 0];
+
 fn clashing() -> [[Literal; 2]; 4] {
     let (a, b) = (Literal::new(1, true), Literal::new(2, true));
     [
@@ -49,15 +50,18 @@ fn answers_at_last(solver: &mut Solver<&Refusing>) -> bool {
 
 // Two variables, which are both true.
 fn is_found_satisfied(memory: &Refusing) -> bool {
-    said_of(memory, &[1, 2, 0, -1, 2, 0, 1, -2, 0], 100) == Ok(Said::Sat)
+    matches!(
+        said_of(memory, &[1, 2, 0, -1, 2, 0, 1, -2, 0], 100),
+        Ok(Said::Sat)
+    )
 }
 
 fn is_found_unsatisfied(memory: &Refusing) -> bool {
-    said_of(memory, &[1, 2, 0, -1, 2, 0, 1, -2, 0, -1, -2, 0], 100) == Ok(Said::Unsat)
+    matches!(said_of(memory, &CLASHING, 100), Ok(Said::Unsat))
 }
 
 fn is_found_with_no_limit(memory: &Refusing) -> bool {
-    found_of(memory, &[1, 2, 0, -1, 2, 0, 1, -2, 0, -1, -2, 0]) == Ok(Said::Unsat)
+    matches!(found_of(memory, &CLASHING), Ok(Said::Unsat))
 }
 
 // What is said of no model where the database is compacted after the first conflict.
@@ -78,7 +82,7 @@ fn compact_amid<'a>(
 }
 
 fn is_answered_when_compacted(memory: &Refusing) -> bool {
-    said_when_compacted(memory) == Ok(Said::Unsat)
+    matches!(said_when_compacted(memory), Ok(Said::Unsat))
 }
 
 // What is said of no model where the formula is simplified after the first conflict. The variable 4 has to be true.
@@ -101,17 +105,27 @@ fn simplify_amid<'a>(
 }
 
 fn is_answered_when_simplified(memory: &Refusing) -> bool {
-    said_when_simplified(memory) == Ok(Said::Unsat)
+    matches!(said_when_simplified(memory), Ok(Said::Unsat))
 }
 
-// Whether it is answered under assumptions; a wrong answer is no refusal.
+// Whether it is answered under assumptions, and then under the core alone; a wrong answer is no refusal.
 fn is_answered_under(memory: &Refusing) -> bool {
-    said_under(
+    ask_twice(memory, &mut Solver::new(memory)).is_ok()
+}
+
+fn ask_twice<'a>(
+    memory: &'a Refusing,
+    solver: &mut Solver<&'a Refusing>,
+) -> Result<(), AllocError> {
+    add_all(
         memory,
+        solver,
         &[1, 2, -9, 0, -1, 2, 0, 1, -2, 0, -1, -2, 0],
-        &[8, 9],
-    )
-    .is_ok()
+    )?;
+    if let AnswerUnder::Unsat(core) = solver.solve_under(&[literal(8), literal(9)], 100)? {
+        solver.solve_under(&core, 100)?;
+    }
+    Ok(())
 }
 
 // How many requests an answer takes is open. A model is collected, and `collect` asks again.
@@ -139,9 +153,9 @@ fn each_request_of_a_solver_is_refused_in_turn(rt: HostRuntime) {
             refuse_from_each(alloc, is_answered_when_simplified),
         ),
     ];
-    for (call, outcome) in outcomes {
+    for (call, outcome) in &outcomes {
         assert!(rt;
-            outcome.is_ok_and(|requests| requests >= 4),
+            matches!(outcome, Ok(requests) if *requests >= 4),
             "{call}: {outcome:?}"
         );
     }

@@ -263,7 +263,7 @@ fn is_right(
 }
 
 // What a session came to.
-#[derive(Clone, Copy, PartialEq, Eq, Debug)]
+#[derive(Clone, Copy)]
 enum Outcome {
     Right,
     // An answer was wrong.
@@ -309,9 +309,9 @@ fn session_of(alloc: Global, seed: u32) -> Result<Outcome, AllocError> {
 // The first session that is not right. None if all of so many are.
 fn first_fault(alloc: Global, sessions: u32) -> Result<Option<(u32, Outcome)>, AllocError> {
     for seed in 0..sessions {
-        let outcome = session_of(alloc, seed)?;
-        if outcome != Outcome::Right {
-            return Ok(Some((seed, outcome)));
+        match session_of(alloc, seed)? {
+            Outcome::Right => {}
+            outcome => return Ok(Some((seed, outcome))),
         }
     }
     Ok(None)
@@ -319,5 +319,5 @@ fn first_fault(alloc: Global, sessions: u32) -> Result<Option<(u32, Outcome)>, A
 
 #[test]
 fn random_sessions_leave_no_clause_open(rt: HostRuntime) {
-    assert!(rt; first_fault(rt.alloc(), SESSIONS) == Ok(None));
+    assert!(rt; matches!(first_fault(rt.alloc(), SESSIONS), Ok(None)));
 }
