@@ -14,13 +14,13 @@ fn hash(alloc: Global, len: usize) -> Result<u64, BitVecError> {
     Ok(hasher.finish())
 }
 
-// The hash of the words and then of the length modulo 64.
+// The hash of the bytes of the words and then of the length modulo 64, each with its lowest byte first.
 fn hash_of(words: &[u64], len: usize) -> u64 {
     let mut hasher = DefaultHasher::new();
-    for &word in words {
-        hasher.write_u64(word);
+    for word in words {
+        hasher.write(&word.to_le_bytes());
     }
-    hasher.write_usize(len % 64);
+    hasher.write(&(len % 64).to_le_bytes());
     hasher.finish()
 }
 
