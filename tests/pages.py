@@ -56,6 +56,7 @@ PARTS = {
     "giputils": (EXAMPLE, DIFFERS),
     "giputils_base": ALL,
     "giputils_bits": ALL,
+    "giputils_bits_run": (PROVED, TESTED, CHOICES),
     "giputils_heap": ALL,
     "giputils_stat": ALL,
     "giputils_text": (PROVED, TESTED, CHOICES),

@@ -4,7 +4,7 @@ pub use Rattle.giputils_base.proofs.LiveValues
 pub use Rattle.giputils_base.proofs.MapWrites
 pub use Rattle.giputils_base.proofs.Members
 pub use Rattle.giputils_base.proofs.Renumbering
-pub use Rattle.giputils_base.proofs.Runs as IndexRuns
+pub use Rattle.giputils_base.proofs.Runs
 pub use Rattle.giputils_base.proofs.Slots
 pub use Rattle.giputils_base.proofs.Vectors
 pub use Rattle.giputils_bits.proofs.BinaryTexts
@@ -13,9 +13,9 @@ pub use Rattle.giputils_bits.proofs.Literals
 pub use Rattle.giputils_bits.proofs.Logic
 pub use Rattle.giputils_bits.proofs.Ones
 pub use Rattle.giputils_bits.proofs.Rows
-pub use Rattle.giputils_bits.proofs.Runs as BitRuns
 pub use Rattle.giputils_bits.proofs.Sets
 pub use Rattle.giputils_bits.proofs.Tables
+pub use Rattle.giputils_bits.proofs.Taken
 pub use Rattle.giputils_bits.proofs.TruePlaces
 pub use Rattle.giputils_bits.proofs.Walks
 pub use Rattle.giputils_bits.proofs.Words

@@ -9,7 +9,6 @@ pub use Rattle.giputils_base.specs.LendsHashed
 pub use Rattle.giputils_base.specs.LendsValue
 pub use Rattle.giputils_base.specs.Others
 pub use Rattle.giputils_base.specs.Room
-pub use Rattle.giputils_bits.specs.BitRun
 pub use Rattle.giputils_bits.specs.Bits
 pub use Rattle.giputils_bits.specs.Error
 pub use Rattle.giputils_bits.specs.Extended

@@ -16,14 +16,12 @@ mod Overlaid
 mod Parsed
 mod Patterns
 mod Places
-mod Replies
 mod Rewritten
 pub mod Rows
-pub mod Runs
 mod SameWords
 pub mod Sets
 pub mod Tables
-mod Taken
+pub mod Taken
 mod Text
 pub mod TruePlaces
 pub mod Walks

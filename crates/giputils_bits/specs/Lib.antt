@@ -1,4 +1,3 @@
-pub mod BitRun
 pub mod Bits
 pub mod Error
 pub mod Extended

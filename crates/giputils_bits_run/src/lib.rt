@@ -1,11 +1,13 @@
 //! A list of calls, made on a bit vector one after another.
+#![tactic(auto)]
+
 ghost use Rattle.std.specs.Prelude.{◌≡◌, ◌<◌, ◌⊎◌, ⊤, [], length, IfOk, MatchResult, vec_len};
-ghost use Rattle.giputils_bits.specs.BitRun.{ExtendsBy, bits_after_extend, if_done, IsAnswer, bits_after, Answers};
+ghost use Rattle.giputils_bits_run.specs.BitRun.{ExtendsBy, bits_after_extend, if_done, IsAnswer, bits_after, Answers};
 ghost use Rattle.giputils_bits.specs.Logic.{not_of};
 ghost use Rattle.giputils_bits.specs.declared.bitvec.error.BitVecError.TheVariants.{Memory};
-ghost use Rattle.giputils_bits.specs.declared.bitvec.run.BitReply.TheVariants.{Done, Refused};
+ghost use Rattle.giputils_bits_run.specs.declared.BitReply.TheVariants.{Done, Refused};
 
-use super::{BitVec, BitVecError};
+use giputils_bits::bitvec::{BitVec, BitVecError};
 use std::alloc::{AllocError, Allocator, Global};
 
 /// A call on a bit vector, with its arguments. What it borrows may be of another allocator.

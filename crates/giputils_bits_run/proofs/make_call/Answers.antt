@@ -1,10 +1,10 @@
 use Rattle.std.proofs.Common.{◌∙◌, ap, refl, sym}
-use Rattle.giputils_bits.specs.declared.bitvec.run.BitReply.TheVariants.{Bit, Number}
+use Rattle.giputils_bits_run.specs.declared.BitReply.TheVariants.{Bit, Number}
 use Rattle.std.proofs.lemmas.Slice.Eq.{slice_eq-Decides}
 use Rattle.std.specs.Cmp.{booleans_Decides}
-use Rattle.giputils_bits.proofs.Replies.{any_reply, bit_reply, equality_reply_is, first_word, same_reply}
+use Rattle.giputils_bits_run.proofs.Replies.{any_reply, bit_reply, equality_reply_is, first_word, same_reply}
 use Rattle.giputils_bits.proofs.Words.{length-words_of}
-use Rattle.giputils_bits.proofs.bitvec.run.make_call.Goals as goal
+use Rattle.giputils_bits_run.proofs.make_call.Goals as goal
 
 pub returns-in-WordLen-clause-reply : goal.returns-in-WordLen-clause-reply
 returns-in-WordLen-clause-reply g c = rw c.in-WordLen.is (ap Number (c.word_len.ensures.words ∙ sym (length-words_of c.args.bits.now)))

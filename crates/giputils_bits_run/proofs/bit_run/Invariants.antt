@@ -1,7 +1,7 @@
 -- The calls so far were answered so, and there is room for the other replies.
 use Rattle.std.proofs.Common.{◌≡◌, ◌≤◌, length, [], take}
-use Rattle.giputils_bits.specs.BitRun.{Answers}
-use Rattle.giputils_bits.proofs.bitvec.run.bit_run.Given as goal
+use Rattle.giputils_bits_run.specs.BitRun.{Answers}
+use Rattle.giputils_bits_run.proofs.bit_run.Given as goal
 
 abbrev pub invariant-loop-call : goal.invariant-loop-call
 invariant-loop-call g l = record {

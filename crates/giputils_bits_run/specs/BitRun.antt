@@ -5,10 +5,10 @@ use Rattle.std.specs.Cmp.Lexicographic.{pointwise}
 use Rattle.std.specs.Option.{option_map_or}
 use Rattle.giputils_bits.specs.declared.bitvec.error.BitVecError.{BitVecError}
 use Rattle.giputils_bits.specs.declared.bitvec.error.BitVecError.TheVariants.{TooLong, Memory}
-use Rattle.giputils_bits.specs.declared.bitvec.run.BitCall.{BitCall}
-use Rattle.giputils_bits.specs.declared.bitvec.run.BitCall.TheVariants.{Push, PushWord, SetBit, GetBit, Clear, Extend, AndWith, OrWith, XorWith, Invert, Len, WordLen, ToUsize, IsEmpty, IsZero, IsOne, IsOnes, Bool as BoolCall, TryBool, Put, Flip, SetWord, Fill, CopyFrom, Negate, DifferenceWith, AssignAnd, Append, Resize, Truncate, Pop, CountOnes, Any, All, None as NoneCall, NextOne, IsSubset, IsDisjoint}
-use Rattle.giputils_bits.specs.declared.bitvec.run.BitReply.{BitReply}
-use Rattle.giputils_bits.specs.declared.bitvec.run.BitReply.TheVariants.{Done, Refused, Skipped, Bit, MaybeBit, Number, Place}
+use Rattle.giputils_bits_run.specs.declared.BitCall.{BitCall}
+use Rattle.giputils_bits_run.specs.declared.BitCall.TheVariants.{Push, PushWord, SetBit, GetBit, Clear, Extend, AndWith, OrWith, XorWith, Invert, Len, WordLen, ToUsize, IsEmpty, IsZero, IsOne, IsOnes, Bool as BoolCall, TryBool, Put, Flip, SetWord, Fill, CopyFrom, Negate, DifferenceWith, AssignAnd, Append, Resize, Truncate, Pop, CountOnes, Any, All, None as NoneCall, NextOne, IsSubset, IsDisjoint}
+use Rattle.giputils_bits_run.specs.declared.BitReply.{BitReply}
+use Rattle.giputils_bits_run.specs.declared.BitReply.TheVariants.{Done, Refused, Skipped, Bit, MaybeBit, Number, Place}
 use Rattle.giputils_bits.specs.Bits.{digits_of, words_of, word_count, one_of, with_word}
 use Rattle.giputils_bits.specs.Logic.{and_of, negated_if, or_of, xor_of, not_of}
 use Rattle.giputils_bits.specs.Ones.{true_count, HasNoneFrom, IsNextOne}

@@ -1,9 +1,9 @@
 -- Runs of calls on a bit vector.
 use Rattle.std.specs.Prelude.{Bool, List, [], ◌∷◌, ◌++◌}
 use Rattle.std.proofs.Common.{ap, subst}
-use Rattle.giputils_bits.specs.declared.bitvec.run.BitCall.{BitCall}
-use Rattle.giputils_bits.specs.declared.bitvec.run.BitReply.{BitReply}
-use Rattle.giputils_bits.specs.BitRun.{IsAnswer, bits_after, Answers}
+use Rattle.giputils_bits_run.specs.declared.BitCall.{BitCall}
+use Rattle.giputils_bits_run.specs.declared.BitReply.{BitReply}
+use Rattle.giputils_bits_run.specs.BitRun.{IsAnswer, bits_after, Answers}
 
 -- one more call
 pub Answers-push : {A : Type 0} (start : List Bool) (calls : List (BitCall A)) (replies : List BitReply) (end : List Bool) (call : BitCall A) (reply : BitReply)

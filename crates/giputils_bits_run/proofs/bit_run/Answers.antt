@@ -1,8 +1,8 @@
 -- One more call is answered; after the last, all are.
 use Rattle.std.proofs.Common.{arith, ap, sym, ◌∙◌, ◌≡◌, ◌+◌, ◌++◌, ◌∷◌, [], take}
 use Rattle.std.proofs.lemmas.List.{take_more, take_all}
-use Rattle.giputils_bits.proofs.Runs.{Answers-push}
-use Rattle.giputils_bits.proofs.bitvec.run.bit_run.Goals as goal
+use Rattle.giputils_bits_run.proofs.Runs.{Answers-push}
+use Rattle.giputils_bits_run.proofs.bit_run.Goals as goal
 
 pub loop-call-preserved : goal.loop-call-preserved
 loop-call-preserved g c =

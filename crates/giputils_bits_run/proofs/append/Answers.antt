@@ -3,9 +3,9 @@ use Rattle.std.proofs.lemmas.List.{length-append}
 use Rattle.std.proofs.iter.Yields.{copies, fronts}
 use Rattle.std.proofs.lemmas.Iterator.{YieldsList-from_slice}
 use Rattle.std.proofs.lemmas.Iterator.Consumers.{YieldsList-from_copied, YieldsList-at}
-use Rattle.giputils_bits.proofs.Replies.{refused_within, refused_leaves, stops_at}
+use Rattle.giputils_bits_run.proofs.Replies.{refused_within, refused_leaves, stops_at}
 use Rattle.giputils_bits.proofs.Taken.{drained}
-use Rattle.giputils_bits.proofs.bitvec.run.append.Goals as goal
+use Rattle.giputils_bits_run.proofs.append.Goals as goal
 
 pub returns-in-Ok-clause-after : goal.returns-in-Ok-clause-after
 returns-in-Ok-clause-after g c =

@@ -1,0 +1,3 @@
+mod Examples
+mod Replies
+pub mod Runs
