@@ -5,10 +5,8 @@
 //! writes its replies. `new texts` begins a list of questions on statistics, `new solver` one of calls of a solver, `new
 //! tables` one of small formulas, and `new formulas` one of formulas.
 //!
-//! The lists of the file `stdin` and the answers of the file `stdout` are made by
-//! `tools/make_lists.py` and `tools/formulas.py`: the texts are python's, the answers of a solver are
-//! those of tables of truth and of a search by cases, those to formulas are minisat's, and all others
-//! those of the Rust crate.
+//! The lists of the file `stdin` and the answers of the file `stdout` are made by `tools/make_lists.py` and
+//! `tools/formulas.py`. The README says where the answers come from.
 #![tactic(auto)]
 
 mod bits;
