@@ -1,11 +1,34 @@
-//! Vectors: reads and writes by three types of indexes, and vectors that are drawn.
-ghost use Rattle.std.specs.Prelude.{◌≡◌, length, IfOk};
+//! Vectors: items that are pushed or collected, reads and writes by three types of indexes, and vectors that are drawn.
+ghost use Rattle.std.specs.Prelude.{◌≡◌, ◌++◌, ◌∷◌, [], length, OnOk, IfOk};
 
 use giputils_base::gvec::Gvec;
 use rand_core::Rng;
 use rand_pcg::Pcg32;
-use std::alloc::{AllocError, Global};
+use std::alloc::{AllocError, Allocator, Global};
 use std::test::Fail;
+
+fn push_two<A: Allocator>(g: &mut Gvec<u32, A>) -> Result<(), AllocError>
+    ensures ok { OnOk result (g.new ≡ (g.old ++ 1 ∷ []) ++ 2 ∷ []) }
+{
+    g.push(1)?;
+    g.push(2)?;
+    Ok(())
+}
+
+#[test]
+fn two_items_are_pushed(rt: HostRuntime) -> Result<(), Fail> {
+    let mut g = Gvec::new(rt.alloc());
+    push_two(&mut g)?;
+    assert!(rt; g.as_slice() == [1, 2].as_slice());
+    Ok(())
+}
+
+#[test]
+fn made_from_an_iterator(rt: HostRuntime) -> Result<(), Fail> {
+    let iterator = Gvec::from_iter(rt.alloc(), 1u32..3)?;
+    assert!(rt; iterator.as_slice() == [1, 2].as_slice());
+    Ok(())
+}
 
 fn into_vec(alloc: Global, g: Gvec<u8>) -> Result<Vec<u8>, AllocError>
     ensures { IfOk result (λ v. v.items ≡ g) }
