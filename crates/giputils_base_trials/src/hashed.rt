@@ -44,16 +44,25 @@ fn is_map_cloned(memory: &Refusing) -> bool {
     map.insert(4, 16).is_ok() && is_map_copied(&map)
 }
 
-// Whether the work of this name was served.
-pub(crate) fn is_served(work: &str, memory: &Refusing) -> bool {
+// Work that asks for memory: calls of a set or of a map.
+pub(crate) enum Work {
+    CollectSet,
+    CollectMap,
+    InsertMember,
+    InsertValue,
+    CloneSet,
+    CloneMap,
+}
+
+// Whether the work was served.
+pub(crate) fn is_served(work: &Work, memory: &Refusing) -> bool {
     match work {
-        "GHashSet::from_iter" => is_set_collected(memory),
-        "GHashMap::from_iter" => is_map_collected(memory),
-        "GHashSet::insert" => is_member_put(memory),
-        "GHashMap::insert" => is_value_put(memory),
-        "GHashSet::clone" => is_set_cloned(memory),
-        "GHashMap::clone" => is_map_cloned(memory),
-        _ => false,
+        Work::CollectSet => is_set_collected(memory),
+        Work::CollectMap => is_map_collected(memory),
+        Work::InsertMember => is_member_put(memory),
+        Work::InsertValue => is_value_put(memory),
+        Work::CloneSet => is_set_cloned(memory),
+        Work::CloneMap => is_map_cloned(memory),
     }
 }
 

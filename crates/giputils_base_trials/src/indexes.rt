@@ -137,15 +137,23 @@ fn refused_calls(replies: &[Reply<'_>]) -> usize {
     refused
 }
 
-// Whether the work of this name was served.
-pub(crate) fn is_served(work: &str, memory: &Refusing) -> bool {
+// Work that asks for memory: calls of an allocator, or a list of them.
+pub(crate) enum Work {
+    Alloc,
+    Gc,
+    GcTable,
+    Reserve,
+    Run,
+}
+
+// Whether the work was served.
+pub(crate) fn is_served(work: &Work, memory: &Refusing) -> bool {
     match work {
-        "alloc" => are_allocated(memory),
-        "gc" => are_collected(memory),
-        "gc_table" => are_tabled(memory),
-        "reserve" => is_room_made(memory),
-        "galloc_run" => is_run(memory),
-        _ => false,
+        Work::Alloc => are_allocated(memory),
+        Work::Gc => are_collected(memory),
+        Work::GcTable => are_tabled(memory),
+        Work::Reserve => is_room_made(memory),
+        Work::Run => is_run(memory),
     }
 }
 

@@ -48,16 +48,25 @@ fn is_shared(memory: &Refusing) -> bool {
     Grc::new(memory, 8u32).is_ok()
 }
 
-// Whether the work of this name was served.
-pub(crate) fn is_served(work: &str, memory: &Refusing) -> bool {
+// Work that asks for memory: calls of a vector, or a value that is shared.
+pub(crate) enum Work {
+    FromArray,
+    FromIter,
+    Reserve,
+    Clone,
+    NewRand,
+    Share,
+}
+
+// Whether the work was served.
+pub(crate) fn is_served(work: &Work, memory: &Refusing) -> bool {
     match work {
-        "Gvec::from_array" => is_made(memory),
-        "Gvec::from_iter" => is_collected(memory),
-        "Gvec::reserve" => is_filled_up(memory),
-        "Gvec::clone" => is_cloned(memory),
-        "Gvec::new_rand" => are_drawn(memory, 3),
-        "Grc::new" => is_shared(memory),
-        _ => false,
+        Work::FromArray => is_made(memory),
+        Work::FromIter => is_collected(memory),
+        Work::Reserve => is_filled_up(memory),
+        Work::Clone => is_cloned(memory),
+        Work::NewRand => are_drawn(memory, 3),
+        Work::Share => is_shared(memory),
     }
 }
 
