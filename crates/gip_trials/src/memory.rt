@@ -27,9 +27,17 @@ const BITS: &[u8] =
 const TEXTS: &[u8] =
     b"10000000000000000000000000000000000000000000000000000000000000000 0x10000000000000000 65\n[] [] 0\n01101 0xd 5\n";
 
-// How a run ends: with the output where nothing is refused (`served`), with the replies to a script that is refused one
-// key (`without a key`), with want of memory and nothing written (`unwritten`), or otherwise (`other`).
-type Ending = &'static str;
+// How a run ends.
+#[derive(Drop)]
+enum Ending {
+    // With the output where nothing is refused.
+    Served,
+    // With the replies to a script that is refused one key.
+    WithoutKey,
+    // With want of memory, and nothing written.
+    Unwritten,
+    Other,
+}
 
 // Runs the script. Its replies are written to memory that is not refused.
 fn ending_of(alloc: Global, memory: &Refusing) -> Ending {
@@ -42,10 +50,10 @@ fn ending_of(alloc: Global, memory: &Refusing) -> Ending {
 // How a run ends that had this outcome and wrote this, where that is written if nothing is refused.
 fn ending_as(outcome: Result<(), GipFault>, written: &[u8], wanted: &[u8]) -> Ending {
     match outcome {
-        Ok(()) if written == wanted => "served",
-        Ok(()) if is_without_key(written) => "without a key",
-        Err(GipFault::Memory) if written.is_empty() => "unwritten",
-        _ => "other",
+        Ok(()) if written == wanted => Ending::Served,
+        Ok(()) if is_without_key(written) => Ending::WithoutKey,
+        Err(GipFault::Memory) if written.is_empty() => Ending::Unwritten,
+        _ => Ending::Other,
     }
 }
 
@@ -61,15 +69,18 @@ fn is_without_key(written: &[u8]) -> bool {
 #[test]
 fn a_refusal_stops_a_script_unwritten_or_costs_one_key(rt: HostRuntime) -> Result<(), Fail> {
     let alloc = rt.alloc();
-    let refused = refuse_each(alloc, |memory| ending_of(alloc, memory) == "served")?;
+    let refused = refuse_each(
+        alloc,
+        |memory| matches!(ending_of(alloc, memory), Ending::Served),
+    )?;
     let (mut costs_a_key, mut stops) = (false, false);
     for n in 1..=refused {
         let ending = ending_of(alloc, &Refusing::nth(alloc, n));
-        costs_a_key = costs_a_key || ending == "without a key";
-        stops = stops || ending == "unwritten";
+        costs_a_key = costs_a_key || matches!(ending, Ending::WithoutKey);
+        stops = stops || matches!(ending, Ending::Unwritten);
         assert!(rt;
-            ending != "served" && ending != "other",
-            "request {n}: {ending}"
+            matches!(ending, Ending::WithoutKey | Ending::Unwritten),
+            "request {n}"
         );
     }
     assert!(rt; costs_a_key && stops);
@@ -88,14 +99,17 @@ fn ending_of_bits(alloc: Global, memory: &Refusing) -> Ending {
 #[test]
 fn a_refusal_stops_bits_unwritten(rt: HostRuntime) -> Result<(), Fail> {
     let alloc = rt.alloc();
-    let refused = refuse_from_each(alloc, |memory| ending_of_bits(alloc, memory) == "served")?;
+    let refused = refuse_from_each(
+        alloc,
+        |memory| matches!(ending_of_bits(alloc, memory), Ending::Served),
+    )?;
     for n in 1..=refused {
         let ending = ending_of_bits(alloc, &Refusing::from(alloc, n));
-        assert!(rt; ending == "unwritten", "from request {n} on");
+        assert!(rt; matches!(ending, Ending::Unwritten), "from request {n} on");
         let ending = ending_of_bits(alloc, &Refusing::nth(alloc, n));
         assert!(rt;
-            ending == "unwritten" || ending == "served",
-            "request {n}: {ending}"
+            matches!(ending, Ending::Unwritten | Ending::Served),
+            "request {n}"
         );
     }
     assert!(rt; refused > 0);
