@@ -39,7 +39,15 @@ fn is_made(memory: &Refusing, call: &Call) -> bool {
         Call::One => BitVec::one(memory, 65),
         Call::FromUsize => BitVec::from_usize(memory, 70, 5),
         Call::From => BitVec::from(memory, [true; 300]),
-        _ => return is_read_or_drawn(memory, call),
+        Call::NewRand
+        | Call::FromBinaryText
+        | Call::WithCapacity
+        | Call::Clone
+        | Call::Not
+        | Call::Append => return is_read_or_drawn(memory, call),
+        Call::Reserve | Call::Extend | Call::Push | Call::PushWord | Call::Resize => {
+            return is_grown(&mut BitVec::new(memory), call);
+        }
     };
     made.is_ok()
 }
@@ -51,7 +59,7 @@ fn is_read_or_drawn(memory: &Refusing, call: &Call) -> bool {
         Call::WithCapacity => is_made_with_room(memory),
         Call::Clone | Call::Not => is_copied(memory, call),
         Call::Append => is_appended(memory),
-        _ => is_grown(&mut BitVec::new(memory), call),
+        _ => false,
     }
 }
 
@@ -78,8 +86,9 @@ fn is_copied(memory: &Refusing, call: &Call) -> bool {
 
 fn is_copied_by(bits: &BitVec<&Refusing>, call: &Call) -> bool {
     match call {
+        Call::Clone => bits.clone().is_ok(),
         Call::Not => bits.not().is_ok(),
-        _ => bits.clone().is_ok(),
+        _ => false,
     }
 }
 
@@ -95,15 +104,16 @@ fn is_appended_twice<'m>(bits: &mut BitVec<&'m Refusing>, more: &BitVec<&'m Refu
     bits.append(more).is_ok() && bits.append(more).is_ok()
 }
 
-// Lets a vector grow that is empty at first: by what was reserved behind a bit, by more bits or a bit behind a full
-// word, by a word behind a bit, or to greater lengths.
+// Lets a vector grow that is empty at first: by what was reserved after a bit, by more bits or a bit after a full
+// word, by a word after a bit, or to greater lengths.
 fn is_grown(bits: &mut BitVec<&Refusing>, call: &Call) -> bool {
     match call {
         Call::Reserve => is_reserved(bits),
         Call::Extend => bits.push_word(7).is_ok() && bits.extend([true; 200]).is_ok(),
         Call::Push => bits.push_word(7).is_ok() && bits.push(true).is_ok(),
         Call::PushWord => bits.push(true).is_ok() && bits.push_word(7).is_ok(),
-        _ => is_resized(bits),
+        Call::Resize => is_resized(bits),
+        _ => false,
     }
 }
 
