@@ -62,12 +62,6 @@ fn costs_less_again(memory: &Refusing, solver: &mut Solver<&Refusing>) -> Result
     Ok(is_whole && second.core == 2 && second.propagations <= 4 && second.requests <= 8)
 }
 
-#[test]
-fn a_second_call_costs_its_search_alone(rt: HostRuntime) {
-    let memory = Refusing::none(rt.alloc());
-    assert!(rt; costs_less_again(&memory, &mut Solver::new(&memory)) == Ok(true));
-}
-
 // Whether a call after one more clause costs no more than the clause and its search.
 fn costs_its_clause(memory: &Refusing, solver: &mut Solver<&Refusing>) -> Result<bool, AllocError> {
     add_beside_a_chain(solver)?;
@@ -78,10 +72,32 @@ fn costs_its_clause(memory: &Refusing, solver: &mut Solver<&Refusing>) -> Result
     Ok(cost.core == 2 && cost.propagations <= 4 && cost.requests <= 20)
 }
 
+// Whether a second call costs little, after one more clause or without.
+fn is_cheap_again(alloc: Global, has_more: bool) -> Result<bool, AllocError> {
+    let memory = Refusing::none(alloc);
+    costs_little(&memory, &mut Solver::new(&memory), has_more)
+}
+
+fn costs_little(
+    memory: &Refusing,
+    solver: &mut Solver<&Refusing>,
+    has_more: bool,
+) -> Result<bool, AllocError> {
+    if has_more {
+        costs_its_clause(memory, solver)
+    } else {
+        costs_less_again(memory, solver)
+    }
+}
+
+#[test]
+fn a_second_call_costs_its_search_alone(rt: HostRuntime) {
+    assert!(rt; is_cheap_again(rt.alloc(), false) == Ok(true));
+}
+
 #[test]
 fn a_clause_more_costs_itself_alone(rt: HostRuntime) {
-    let memory = Refusing::none(rt.alloc());
-    assert!(rt; costs_its_clause(&memory, &mut Solver::new(&memory)) == Ok(true));
+    assert!(rt; is_cheap_again(rt.alloc(), true) == Ok(true));
 }
 
 // Adds clauses that hold while a variable is true, takes them back, and simplifies: how many clauses are known then.

@@ -74,25 +74,6 @@ pub(crate) fn say<A: Allocator + Copy>(
     })
 }
 
-// What is said of a formula within so many conflicts.
-pub(crate) fn said_of<A: Allocator + Copy>(
-    alloc: A,
-    formula: &[i32],
-    limit: usize,
-) -> Result<Said, AllocError> {
-    add_and_say(alloc, &mut Solver::new(alloc), formula, limit)
-}
-
-fn add_and_say<A: Allocator + Copy>(
-    alloc: A,
-    solver: &mut Solver<A>,
-    formula: &[i32],
-    limit: usize,
-) -> Result<Said, AllocError> {
-    add_all(alloc, solver, formula)?;
-    say(solver, formula, limit)
-}
-
 // What is found by the solver, whose clauses are those of the formula, with no limit.
 pub(crate) fn find<A: Allocator + Copy>(
     solver: &mut Solver<A>,
@@ -107,18 +88,4 @@ pub(crate) fn find<A: Allocator + Copy>(
         Some(_) => Said::WrongModel,
         None => Said::Unsat,
     })
-}
-
-// What is found of a formula.
-pub(crate) fn found_of<A: Allocator + Copy>(alloc: A, formula: &[i32]) -> Result<Said, AllocError> {
-    add_and_find(alloc, &mut Solver::new(alloc), formula)
-}
-
-fn add_and_find<A: Allocator + Copy>(
-    alloc: A,
-    solver: &mut Solver<A>,
-    formula: &[i32],
-) -> Result<Said, AllocError> {
-    add_all(alloc, solver, formula)?;
-    find(solver, formula)
 }

@@ -1,6 +1,6 @@
 //! Solvers that are refused memory.
 
-use crate::formulas::{Said, add_all, found_of, literal, said_of, say};
+use crate::formulas::{Said, add_all, find, literal, say};
 use gipsat_solver::{Answer, AnswerUnder, Literal, Solver};
 use giputils_refusing::{Refusing, refuse_each, refuse_from_each};
 use std::alloc::AllocError;
@@ -48,84 +48,97 @@ fn answers_at_last(solver: &mut Solver<&Refusing>) -> bool {
     !(right && says_unsat(solver))
 }
 
+// What is asked of a solver.
+#[derive(Clone, Copy)]
+enum Question {
+    Plain,
+    WithNoLimit,
+    // Under assumptions, and then under the core alone.
+    Assumed,
+    // Once more where the database is compacted after the first conflict, or the formula simplified.
+    Compacted,
+    Simplified,
+}
+
+// What a solver says of a formula.
+fn said_of(memory: &Refusing, formula: &[i32], question: Question) -> Result<Said, AllocError> {
+    ask(memory, &mut Solver::new(memory), formula, question)
+}
+
+// Asks a solver that has no clause yet.
+fn ask<'a>(
+    memory: &'a Refusing,
+    solver: &mut Solver<&'a Refusing>,
+    formula: &[i32],
+    question: Question,
+) -> Result<Said, AllocError> {
+    add_all(memory, solver, formula)?;
+    match question {
+        Question::Plain => say(solver, formula, 100),
+        Question::WithNoLimit => find(solver, formula),
+        Question::Assumed => say_assumed(solver),
+        Question::Compacted => {
+            say(solver, formula, 1)?;
+            solver.compact()?;
+            say(solver, formula, 100)
+        }
+        Question::Simplified => {
+            say(solver, formula, 1)?;
+            solver.simplify()?;
+            say(solver, formula, 100)
+        }
+    }
+}
+
+// What is said of a core of two assumptions.
+fn say_assumed(solver: &mut Solver<&Refusing>) -> Result<Said, AllocError> {
+    match solver.solve_under(&[literal(8), literal(9)], 100)? {
+        AnswerUnder::Unsat(core) => say_of_core(solver, &core),
+        _ => Ok(Said::Unknown),
+    }
+}
+
+fn say_of_core(solver: &mut Solver<&Refusing>, core: &[Literal]) -> Result<Said, AllocError> {
+    Ok(match solver.solve_under(core, 100)? {
+        AnswerUnder::Unsat(_) => Said::Unsat,
+        _ => Said::Unknown,
+    })
+}
+
+fn is_unsat(memory: &Refusing, formula: &[i32], question: Question) -> bool {
+    matches!(said_of(memory, formula, question), Ok(Said::Unsat))
+}
+
 // Two variables, which are both true.
 fn is_found_satisfied(memory: &Refusing) -> bool {
-    matches!(
-        said_of(memory, &[1, 2, 0, -1, 2, 0, 1, -2, 0], 100),
-        Ok(Said::Sat)
-    )
+    let formula = [1, 2, 0, -1, 2, 0, 1, -2, 0];
+    matches!(said_of(memory, &formula, Question::Plain), Ok(Said::Sat))
 }
 
 fn is_found_unsatisfied(memory: &Refusing) -> bool {
-    matches!(said_of(memory, &CLASHING, 100), Ok(Said::Unsat))
+    is_unsat(memory, &CLASHING, Question::Plain)
 }
 
 fn is_found_with_no_limit(memory: &Refusing) -> bool {
-    matches!(found_of(memory, &CLASHING), Ok(Said::Unsat))
+    is_unsat(memory, &CLASHING, Question::WithNoLimit)
 }
 
-// What is said of no model where the database is compacted after the first conflict.
-fn said_when_compacted(memory: &Refusing) -> Result<Said, AllocError> {
-    let formula = [1, 2, 3, 0, 1, 2, -3, 0, -1, 2, 0, 1, -2, 0, -1, -2, 0];
-    compact_amid(memory, &mut Solver::new(memory), &formula)
-}
-
-fn compact_amid<'a>(
-    memory: &'a Refusing,
-    solver: &mut Solver<&'a Refusing>,
-    formula: &[i32],
-) -> Result<Said, AllocError> {
-    add_all(memory, solver, formula)?;
-    say(solver, formula, 1)?;
-    solver.compact()?;
-    say(solver, formula, 100)
+fn is_answered_under(memory: &Refusing) -> bool {
+    let formula = [1, 2, -9, 0, -1, 2, 0, 1, -2, 0, -1, -2, 0];
+    is_unsat(memory, &formula, Question::Assumed)
 }
 
 fn is_answered_when_compacted(memory: &Refusing) -> bool {
-    matches!(said_when_compacted(memory), Ok(Said::Unsat))
+    let formula = [1, 2, 3, 0, 1, 2, -3, 0, -1, 2, 0, 1, -2, 0, -1, -2, 0];
+    is_unsat(memory, &formula, Question::Compacted)
 }
 
-// What is said of no model where the formula is simplified after the first conflict. The variable 4 has to be true.
-fn said_when_simplified(memory: &Refusing) -> Result<Said, AllocError> {
+// The variable 4 has to be true.
+fn is_answered_when_simplified(memory: &Refusing) -> bool {
     let formula = [
         1, 2, 3, 0, 1, 2, -3, 0, -1, 2, 0, 1, -2, 0, -1, -2, 0, 4, 0, 4, 1, 0,
     ];
-    simplify_amid(memory, &mut Solver::new(memory), &formula)
-}
-
-fn simplify_amid<'a>(
-    memory: &'a Refusing,
-    solver: &mut Solver<&'a Refusing>,
-    formula: &[i32],
-) -> Result<Said, AllocError> {
-    add_all(memory, solver, formula)?;
-    say(solver, formula, 1)?;
-    solver.simplify()?;
-    say(solver, formula, 100)
-}
-
-fn is_answered_when_simplified(memory: &Refusing) -> bool {
-    matches!(said_when_simplified(memory), Ok(Said::Unsat))
-}
-
-// Whether it is answered under assumptions, and then under the core alone; a wrong answer is no refusal.
-fn is_answered_under(memory: &Refusing) -> bool {
-    ask_twice(memory, &mut Solver::new(memory)).is_ok()
-}
-
-fn ask_twice<'a>(
-    memory: &'a Refusing,
-    solver: &mut Solver<&'a Refusing>,
-) -> Result<(), AllocError> {
-    add_all(
-        memory,
-        solver,
-        &[1, 2, -9, 0, -1, 2, 0, 1, -2, 0, -1, -2, 0],
-    )?;
-    if let AnswerUnder::Unsat(core) = solver.solve_under(&[literal(8), literal(9)], 100)? {
-        solver.solve_under(&core, 100)?;
-    }
-    Ok(())
+    is_unsat(memory, &formula, Question::Simplified)
 }
 
 // How many requests an answer takes is open. A model is collected, and `collect` asks again.
