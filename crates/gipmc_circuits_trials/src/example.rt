@@ -1,5 +1,6 @@
 //! A bad literal that becomes true, and one that never does.
 ghost use Rattle.std.specs.Prelude.{IfOk, IfSome, IsTrue};
+ghost use Rattle.gipmc_circuits.specs.Certificate.{is_certified};
 ghost use Rattle.gipmc_circuits.specs.Circuit.{IsSafe};
 ghost use Rattle.gipmc_circuits.specs.Traces.{FailsBy};
 
@@ -21,6 +22,17 @@ pub fn two_latches<A: Allocator + Copy>(alloc: A) -> Result<Circuit<A>, AllocErr
     Ok(circuit)
 }
 
+// The values of the input, one moment after another: it is 1, and then 0.
+fn inputs<A: Allocator + Copy>(alloc: A) -> Result<Vec<Vec<bool, A>, A>, AllocError> {
+    let mut rows = Vec::with_capacity(alloc, 2)?;
+    for &input in &[true, false] {
+        let row = Vec::from_array(alloc, [input])?;
+        rows.reserve(1)?;
+        rows.push_reserved(row);
+    }
+    Ok(rows)
+}
+
 /// A trace at whose end the bad literal is true, if this one is: the input is 1, and then 0.
 pub fn counterexample<A: Allocator + Copy>(
     alloc: A,
@@ -29,10 +41,9 @@ pub fn counterexample<A: Allocator + Copy>(
 ) -> Result<Option<Trace<A>>, AllocError>
     ensures { IfOk result (λ found. IfSome found (FailsBy circuit.now bad)) }
 {
-    let trace = Trace {
-        latches: vec![in alloc; false, false]?,
-        inputs: vec![in alloc; vec![in alloc; true]?, vec![in alloc; false]?]?,
-    };
+    let inputs = inputs(alloc)?;
+    let latches = Vec::from_array(alloc, [false, false])?;
+    let trace = Trace { latches, inputs };
     if replay(alloc, circuit, bad, &trace)? {
         Ok(Some(trace))
     } else {
@@ -40,18 +51,27 @@ pub fn counterexample<A: Allocator + Copy>(
     }
 }
 
-/// Whether the invariant that the bad literal is false, a list of one clause, shows that it never becomes true.
-pub fn is_safe<A: Allocator + Copy>(
+// One clause: the bad literal is false.
+fn invariant<A: Allocator + Copy>(
+    alloc: A,
+    bad: Literal,
+) -> Result<Vec<Vec<Literal, A>, A>, AllocError> {
+    let clause = Vec::from_array(alloc, [bad.negated()])?;
+    let mut clauses = Vec::with_capacity(alloc, 1)?;
+    clauses.push_reserved(clause);
+    Ok(clauses)
+}
+
+/// What is said of the invariant that the bad literal is false. If it is certified, the bad literal never becomes true.
+pub fn judged<A: Allocator + Copy>(
     alloc: A,
     circuit: &Circuit<A>,
     bad: Literal,
-) -> Result<bool, AllocError>
-    ensures { IfOk result (λ safe. IsTrue safe → IsSafe circuit.now bad) }
+) -> Result<Verdict, AllocError>
+    ensures { IfOk result (λ verdict. IsTrue (is_certified verdict) → IsSafe circuit.now bad) }
 {
-    let clause = vec![in alloc; bad.negated()]?;
-    let invariant = vec![in alloc; clause]?;
-    let verdict = certify(alloc, circuit, bad, &invariant, 1000)?;
-    Ok(matches!(verdict, Verdict::Certified))
+    let invariant = invariant(alloc, bad)?;
+    certify(alloc, circuit, bad, &invariant, 1000)
 }
 
 #[test]
@@ -60,7 +80,7 @@ fn one_latch_becomes_true(rt: HostRuntime) -> Result<(), AllocError> {
     let (second, third) = (Literal::new(2, true), Literal::new(3, true));
     assert!(rt; counterexample(rt.alloc(), &circuit, second)?.is_some());
     assert!(rt; counterexample(rt.alloc(), &circuit, third)?.is_none());
-    assert!(rt; is_safe(rt.alloc(), &circuit, third)?);
-    assert!(rt; !is_safe(rt.alloc(), &circuit, second)?);
+    assert!(rt; judged(rt.alloc(), &circuit, third)? == Verdict::Certified);
+    assert!(rt; judged(rt.alloc(), &circuit, second)? != Verdict::Certified);
     Ok(())
 }
