@@ -284,7 +284,9 @@ fn write_in_each_way<'m>(bits: &mut BitVec<&'m Refusing>, zeros: &BitVec<&'m Ref
     bits.negate();
     bits.set_word(1, 6);
     bits.fill(true);
-    bits.copy_from(zeros);
+    if bits.len() == zeros.len() {
+        bits.copy_from(zeros);
+    }
 }
 
 // Whether a vector that is written to in each way is zero then.
