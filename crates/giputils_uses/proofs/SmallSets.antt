@@ -1,6 +1,6 @@
 -- Sets as lists of truth values, place by place.
 use Rattle.std.proofs.Common.{◌≡◌, ◌↔◌, ℕ, ◌<◌, ◌||◌, ◌&&◌, Bool, true, false, List, length, set, refl, sym, ⊎_elim}
-use Rattle.giputils.specs.Logic.{zip_with, and_of, or_of, not_of}
+use Rattle.giputils.specs.Logic.{and_of, or_of, not_of}
 use Rattle.giputils.specs.Ones.{true_count, true_places}
 use Rattle.giputils.proofs.Logic.{length-zip_with, get_or-zip_with_all}
 use Rattle.giputils.proofs.Sets as sets

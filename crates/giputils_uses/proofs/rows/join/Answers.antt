@@ -1,5 +1,5 @@
 -- The later row stands first in the second part.
-use Rattle.std.proofs.Common.{◌≡◌, ◌<◌, [], length, sym, arith}
+use Rattle.std.proofs.Common.{◌<◌, [], length, arith}
 use Rattle.giputils.proofs.Rows.{set-row, get_or-row, get_or-front}
 use Rattle.giputils_uses.proofs.rows.join.Goals as goal
 

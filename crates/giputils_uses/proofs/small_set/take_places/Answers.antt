@@ -1,5 +1,5 @@
 -- Each place that is taken is the next true one.
-use Rattle.std.proofs.Common.{◌<◌, length, arith}
+use Rattle.std.proofs.Common.{arith}
 use Rattle.std.proofs.lemmas.Grind.{common_steps}
 use Rattle.giputils.proofs.Ones.{true_within}
 use Rattle.giputils_uses.proofs.TakenPlaces.{TakenBelow-none, TakenBelow-next, TakenBelow-fewer, TakenBelow-all, HasNone-taken}

@@ -1,5 +1,5 @@
 -- The places below `start` are taken, and there is room for the rest.
-use Rattle.std.proofs.Common.{ℕ, ◌-◌, ◌≤◌, length}
+use Rattle.std.proofs.Common.{◌-◌, ◌≤◌, length}
 use Rattle.giputils.specs.Ones.{true_count}
 use Rattle.giputils_uses.proofs.TakenPlaces.{TakenBelow}
 use Rattle.giputils_uses.proofs.small_set.take_places.Given as goal
