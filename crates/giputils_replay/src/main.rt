@@ -65,19 +65,58 @@ fn read_lists<R: BufRead + Drop>(alloc: Global, input: R) -> anyhow::Result<Vec<
 // Runs a list, and writes its answers.
 fn replay<W: Write>(alloc: Global, out: &mut W, list: &List) -> anyhow::Result<()> {
     writeln!(out, "{}", list.header)?;
-    let outcome = match list.header.split(' ').nth(1) {
-        Some("bits") => bits::replay(alloc, out, &list.calls),
-        Some("formulas") => formulas::replay(alloc, out, &list.calls),
-        Some("galloc") => galloc::replay(alloc, out, &list.calls),
-        Some("heap") => heap::replay(alloc, out, &list.calls),
-        Some("map") => containers::map::replay(alloc, out, &list.calls),
-        Some("set") => containers::set::replay(alloc, out, &list.calls),
-        Some("slots") => containers::slots::replay(alloc, out, &list.calls),
-        Some("solver") => solver::replay(alloc, out, &list.calls),
-        Some("tables") => tables::replay(alloc, out, &list.calls),
-        Some("texts") => texts::replay(alloc, out, &list.calls),
-        Some("vector") => containers::vector::replay(alloc, out, &list.calls),
-        _ => bail!("line {}: no container has this name", list.first),
-    };
+    let outcome = replay_container(alloc, out, name_of(&list.header), list);
     outcome.context(format_args!("the list at line {}", list.first))
+}
+
+// The name of the container of a list, which is the second word of its first line.
+fn name_of(header: &str) -> &str {
+    header.split(' ').nth(1).unwrap_or("")
+}
+
+// Makes the calls of a list on the container of this name.
+fn replay_container<W: Write>(
+    alloc: Global,
+    out: &mut W,
+    name: &str,
+    list: &List,
+) -> anyhow::Result<()> {
+    match name {
+        "bits" => bits::replay(alloc, out, &list.calls),
+        "galloc" => galloc::replay(alloc, out, &list.calls),
+        "heap" => heap::replay(alloc, out, &list.calls),
+        "texts" => texts::replay(alloc, out, &list.calls),
+        _ => replay_small(alloc, out, name, list),
+    }
+}
+
+// The same of the small containers.
+fn replay_small<W: Write>(
+    alloc: Global,
+    out: &mut W,
+    name: &str,
+    list: &List,
+) -> anyhow::Result<()> {
+    match name {
+        "map" => containers::map::replay(alloc, out, &list.calls),
+        "set" => containers::set::replay(alloc, out, &list.calls),
+        "slots" => containers::slots::replay(alloc, out, &list.calls),
+        "vector" => containers::vector::replay(alloc, out, &list.calls),
+        _ => replay_formulas(alloc, out, name, list),
+    }
+}
+
+// The same of what is asked of a solver.
+fn replay_formulas<W: Write>(
+    alloc: Global,
+    out: &mut W,
+    name: &str,
+    list: &List,
+) -> anyhow::Result<()> {
+    match name {
+        "formulas" => formulas::replay(alloc, out, &list.calls),
+        "solver" => solver::replay(alloc, out, &list.calls),
+        "tables" => tables::replay(alloc, out, &list.calls),
+        _ => bail!("line {}: no container has this name", list.first),
+    }
 }
