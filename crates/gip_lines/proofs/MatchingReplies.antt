@@ -1,4 +1,7 @@
 -- A reply that a heap may give, comparing by rank and number, is the script's.
+--
+-- How it is proved: both definitions build the list of held keys in the same way, so the lists are equal, and nothing
+-- is said of sets.
 use Rattle.std.proofs.Common.{◌≡◌, ℕ, ◌≤◌, Bool, true, false, not, nat_lt, List, [], ◌∷◌, length, refl, ap, arith, Some, None, leb-true, eqb-true, decimal}
 use Rattle.std.proofs.lemmas.Bool.{and_parts, and_right, or_right}
 use Rattle.std.proofs.Math.Bool.{or-false}

@@ -1,4 +1,9 @@
 //! What the lines of a text say.
+
+// How it is proved: the parser's loop has the invariant `readings text ≡ map Some lines ++ readings rest`. Several
+// forms share it by a private trait with a ghost member `form`. `position` on a slice is read by
+// `position_from_yields_List` and `YieldsList-from_slice` (`proofs/Readings`).
+
 ghost use Rattle.std.specs.Prelude.{◌≡◌, ℕ, List, Option, map, IfOk, IfErr};
 ghost use Rattle.gip_lines.specs.Fault.{StopsParsing};
 ghost use Rattle.gip_lines.specs.Texts.{readings};

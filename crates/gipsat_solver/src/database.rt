@@ -1,4 +1,8 @@
 //! The clause database: original clauses, and learned ones that follow from them.
+
+// How it is proved: a law of an invariant is the contract of a private function over `&self` whose body reads a field
+// (`Database::all_follow`, and with an answer `all_original`).
+
 ghost use Rattle.std.specs.Prelude.{◌≡◌, ◌++◌, ◌∷◌, ◌+◌, ◌^◌, ◌<◌, ◌≤◌, [], Some, length, slice_get, IsTrue, IfOk, IfSome, IfNone, OnOk, OnErr};
 ghost use Rattle.std.specs.Bool.{OnFalse, OnTrue};
 ghost use Rattle.gipsat_solver.specs.Formulas.{AreBelow, Implies};

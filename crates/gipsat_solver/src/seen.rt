@@ -1,4 +1,9 @@
 //! The literals that conflict analysis has seen.
+
+// How it is proved: an item of a loop over a slice, of a type with a model, is read by `c.l-item.is` and
+// `slice_get_read items (length items) ..`; over a lent `Vec` `c.deref-l-items.ensures.value` comes first. An item that
+// is read by its index is `c.index-..is` (`proofs/seen/taken`).
+
 ghost use Rattle.std.specs.Prelude.{◌≡◌, ◌*◌, ◌^◌, ◌<◌, true, length, IfOk, OnOk};
 ghost use Rattle.gipsat_solver.specs.Literals.{code};
 ghost use Rattle.gipsat_solver.specs.Seen.{AddsAtMost, AreListed, Grows, KeepsBut, LosesAtLeast, NoneSeen, is_seen};

@@ -5,6 +5,8 @@
 // How it is proved: several vectors of one length. A function that resizes them takes the struct by
 // value and builds it again, with one answer (`grown`). If a call moves a struct out by
 // `mem::replace`, it needs no contract for a failure.
+// How it is proved: a test in place of a proof. Where a fact needs a count that nothing proves, the code looks a hint
+// up and checks it (`is_true_before`). The branch of a failed test has its own proof (`src/learned_clause.rt`).
 
 ghost use Rattle.std.specs.Prelude.{◌≡◌, ◌++◌, ◌∷◌, ◌+◌, ◌^◌, ◌<◌, ◌≤◌, [], None, Some, length, replicate, take, IfOk, IfSome, OnOk};
 ghost use Rattle.std.specs.Bool.{OnTrue};

@@ -1,4 +1,7 @@
 -- What a refused request becomes.
+--
+-- How it is proved: after a `?` with `From<AllocError>`, `c.from_residual.ensures` is `IsErr × IsErrAnd`, which
+-- `memory_from` turns into an equation.
 use Rattle.std.proofs.Common.{◌≡◌, Result, Ok, Err, ap, sym, ◌∙◌}
 use Rattle.std.specs.Prelude.{IsErr, IsErrAnd, OnErr, OnOk, is_err, false}
 use Rattle.giputils_bits.specs.declared.bitvec.error.BitVecError.{BitVecError}

@@ -1,4 +1,9 @@
 //! Fractions of whole numbers, written with a fixed number of decimals.
+
+// How it is proved: `write!(f, "{whole}.{decimals:0places$}")` closes, since `c.laid_out.ensures` gives `format_spec 32
+// 0 4 places ..`, and `unfolding padded_integral char_count` opens it. A branch before a long `write!` leaves goals, so
+// it stands in a small type with its own `Display`, and a number in a long text in a private function with clauses.
+
 ghost use Rattle.std.specs.Prelude.{◌≡◌, ℕ, ◌+◌, ◌*◌, ◌^◌, ◌<◌, ◌≤◌, Some};
 ghost use Rattle.giputils_stat.specs.Decimals.{IsNearest, rounded, decimal, ratio, seconds};
 

@@ -1,4 +1,7 @@
 -- What is known of an outcome that is handed on.
+--
+-- How it is proved: std has `IfOk-weaker`, `on_ok_weaker`, `IfSome_then`, and for `if b then Some x else None`
+-- `if_some` and `if_none`.
 use Rattle.std.proofs.Common.{Result, Ok, Err}
 use Rattle.std.specs.Prelude.{Option, Some, None, IfNone, IfSome}
 use Rattle.std.specs.Result.{IfOk}

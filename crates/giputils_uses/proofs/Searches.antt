@@ -1,5 +1,8 @@
 -- A search for shortest paths: what is known of the edges and of the distances so far.
 --
+-- How it is proved: cases on two numbers are taken by `eqb_tells`. The invariant of an inner loop begins with the state
+-- at its beginning, `(was : S) × (n : ℕ) × ..`, which saves the step from its end to the outer loop.
+--
 -- How it is proved: shortest distances. The invariant is: if the start of an edge does not wait, the distance of its
 -- end is at most that of its start plus the weight. The measure is twice the sum of the distances plus the number of
 -- waiting nodes.

@@ -1,4 +1,8 @@
 //! The words of a bit vector: one in the value itself, or several in a `Gvec`.
+
+// How it is proved: the value of a storage is the list of its words, so its functions close, and all code that uses it
+// is about lists of words. To show that a word is word k, compare digits (`word_of_is`, `proofs/Words`).
+
 ghost use Rattle.std.specs.Prelude.{◌≡◌, ◌+◌, ◌-◌, ◌*◌, ◌/◌, ◌<◌, ◌≤◌, [], ◌∷◌, ◌++◌, length, map, replicate, slice_index, slice_set, take, OnErr, OnOk, IfOk, IsOk};
 ghost use Rattle.std.specs.Int.{bit_not, w64};
 ghost use Rattle.giputils_bits.specs.Places.{common_digits, Overlays, Rewrites};
