@@ -15,6 +15,9 @@ giputils_bench runs twice. The noise is how far the least of its first runs is f
 ratio of every other turn from that of the rest, whichever is more. A ratio is worse than the stored one if it is above
 it by more than both noises together; then the status is 1. It is better likewise.
 
+Where valgrind is installed, a ratio at the lesser size has that of instructions beside it, which no other work on the
+machine changes. They are the difference between 40 and 20 runs of the workload, so that no program's start counts.
+
 With --write, the ratios of a workload replace the stored ones as soon as they are measured, and the table of
 crates/giputils_bench/README.md is made of all that are stored.
 """
@@ -22,6 +25,7 @@ import argparse
 import os
 import pathlib
 import re
+import shutil
 import subprocess
 import sys
 
@@ -50,6 +54,8 @@ REPS = {
     "bits_subset": 10,
     "bits_get": 5,
 }
+# Instructions are counted between so many runs of a workload.
+COUNTED = (20, 40)
 # The other workload that does the same in another way.
 TWINS = {
     "rebuild": ("rebuild_by_update", "rebuild_std"),
@@ -83,6 +89,27 @@ def run(program, workload, size, reps):
     if status:
         sys.exit(f"speed.py: {program} {workload} {size} {SEED} {reps} ended with status {status}")
     return max(usage.ru_utime, SHORTEST), said
+
+
+def instructions(program, workload, size):
+    """How many instructions the runs of a workload take between the two counts."""
+    few, many = (collected(program, workload, size, reps) for reps in COUNTED)
+    return many - few
+
+
+def collected(program, workload, size, reps):
+    """The instructions of a process, as valgrind counts them."""
+    words = ["valgrind", "--tool=callgrind", "--callgrind-out-file=/dev/null", program, workload, str(size), SEED, str(reps)]
+    process = subprocess.run(words, stdout=subprocess.DEVNULL, stderr=subprocess.PIPE, text=True, check=True)
+    return int(re.search(r"Collected : (\d+)", process.stderr)[1])
+
+
+def counted(program, others, workload, size):
+    """For each other, the ratio of instructions, or none where they are not counted."""
+    if size != min(SIZES) or workload.startswith("calls") or not shutil.which("valgrind"):
+        return {}
+    ours = instructions(program, workload, size)
+    return {name: ours / instructions(path, twin, size) for name, (path, twin) in others.items()}
 
 
 def rivals(program, peers, workload, size, reps):
@@ -191,6 +218,7 @@ def main():
             if not others:
                 continue
             found = measured(said.program, others, workload, size, reps, said.turns)
+            by_count = counted(said.program, others, workload, size)
             new = {(workload, size, name): (reps, *it) for name, it in found.items()}
             if said.write:
                 kept = {CRATE, best(new, workload, size), *TWINS.get(workload, ())}
@@ -205,7 +233,8 @@ def main():
                     word = "WORSE" if ratio > old * margin else "better" if ratio * margin < old else "as stored"
                 worse += word == "WORSE"
                 stored = f", stored {old:.2f} ± {old_noise:.2f}: {word}" if word else ""
-                print(f"{workload} {size} to {name}: {ratio:.2f} ± {noise:.2f}{stored}", flush=True)
+                count = f", {by_count[name]:.2f} of its instructions" if name in by_count else ""
+                print(f"{workload} {size} to {name}: {ratio:.2f} ± {noise:.2f}{stored}{count}", flush=True)
     if worse:
         sys.exit(f"speed.py: ratios that are worse than the stored ones: {worse}")
 
