@@ -9,9 +9,9 @@
     tools/formulas.py --check FORMULAS GIPSAT [CADICAL]    has each formula that GIPSAT refutes checked with the proof
                                                   that it writes; GIPSAT checks the proofs of CADICAL, if that is given
 
-FORMULAS is a folder of DIMACS files, or the name of a list: `tuning`, on which the settings of gipsat were chosen, or
-`report`, whose formulas have other sizes and seeds, and in part other families. Of FORMULAS these take a part, and they
-stand behind all other words:
+FORMULAS is a folder of DIMACS files, or the name of a list: `tuning`, on which the settings of gipsat were chosen;
+`report`, whose formulas have other sizes and seeds, and in part other families; or `fresh`, which has other families
+alone. No setting is chosen on these two. Of FORMULAS these take a part, and they stand behind all other words:
 
     --family NAME,..    the formulas of these families (how their names begin)
     --sample N          N formulas, spread over the list
@@ -49,7 +49,7 @@ import tempfile
 from pathlib import Path
 from typing import NamedTuple
 
-from lib import families
+from lib import families, fresh
 from lib.families import colouring, mixed, one_model, parity, parity_chains, pigeonhole, random_clauses, units
 
 SECONDS = 100
@@ -70,7 +70,8 @@ class Row(NamedTuple):
     sizes: tuple
 
     def write(self, path):
-        made = getattr(families, self.family)(random.Random(self.seed), *self.sizes)
+        module = fresh if hasattr(fresh, self.family) else families
+        made = getattr(module, self.family)(random.Random(self.seed), *self.sizes)
         with path.open("w") as file:
             file.writelines(made if self.family == "easy_text" else lines_of(made))
 
@@ -228,7 +229,80 @@ REPORT = [
     *rows("easy_text", "sat", (1200000, 2700000)),
 ]
 
-LISTS = {"tuning": TUNING, "report": REPORT}
+FRESH = [
+    # Circuits that are built in two ways.
+    *rows("shifters", "unsat", (6,), (7,), seeds=(2,)),
+    *rows("carry_save", "unsat", (5, 8), (8, 3)),
+    *rows("prefix_adders", "unsat", (5, 16)),
+    *rows("crc", "unsat", (30, 20, 5)),
+    *rows("leading_zeros", "unsat", (6,)),
+    *rows("booth", "unsat", (7, False)),
+    *rows("booth", "sat", (16, True)),
+    *rows("karatsuba", "unsat", (7,)),
+    *rows("square_roots", "unsat", (11,)),
+    *rows("decimals", "unsat", (18,), (20,)),
+    *rows("hamming", "unsat", (14, 1), (16, 1)),
+    # Protocols and controllers.
+    *rows("filter_lock", "unsat", (3, 20, False)),
+    *rows("elevator", "unsat", (16, 60)),
+    *rows("elevator", "sat", (16, 50)),
+    *rows("token_ring", "sat", (8, 3, 42)),
+    *rows("crossing", "sat", (4, 3, 40, 12)),
+    *rows("cache", "unsat", (4, 4, 4, 6, False)),
+    *rows("cache", "sat", (8, 4, 8, 30, True)),
+    *rows("philosophers", "sat", (30, 90, True)),
+    # Plans.
+    *rows("hanoi", "sat", (6, 3, 63)),
+    *rows("solitaire", "sat", (6, 20, False)),
+    *rows("lights_out", "sat", (11, 40, 40)),
+    *rows("blocks_world", "unsat", (24, 21)),
+    *rows("cube", "unsat", (20, 7)),
+    # Puzzles and designs.
+    *rows("quasigroups", "unsat", (9, 3)),
+    *rows("quasigroups", "sat", (13, 7)),
+    *rows("steiner", "sat", (14, 4, 3), (16, 4, 2)),
+    *rows("golfers", "unsat", (4, 3, 5)),
+    *rows("golfers", "sat", (8, 4, 6)),
+    *rows("nonograms", "sat", (25, 25, 0.5)),
+    *rows("magic_squares", "sat", (5, 0)),
+    *rows("magic_squares", "sat", (5, 6), seeds=(2,)),
+    *rows("knights_tours", "unsat", (7, 7)),
+    *rows("knights_tours", "sat", (8, 8)),
+    *rows("life", "sat", (16, 0.4, 1), (22, 0.4, 1), (10, 0.4, 2)),
+    *rows("still_life", "unsat", (7, 29)),
+    *rows("still_life", "sat", (8, 36)),
+    *rows("discrepancy", "sat", (400, 2), (600, 2)),
+    *rows("pythagoras", "sat", (5200,)),
+    # Counting and parity.
+    *rows("ramsey", "unsat", (10, 3, 4)),
+    *rows("relativised", "unsat", (7, 9)),
+    *rows("onto_holes", "unsat", (8, 1), (5, 2)),
+    *rows("even_colouring", "unsat", (26, 4, True)),
+    *rows("torus", "unsat", (4, 7, True)),
+    *rows("triples", "unsat", (46, 10)),
+    *rows("two_counts", "unsat", (22, 11)),
+    *rows("small_groups", "unsat", (17,), (20,)),
+    *rows("one_of_five", "sat", (24,)),
+    # Schedules and packing.
+    *rows("bins", "sat", (5, 20, 50, 0), (6, 20, 100, 0)),
+    *rows("bins", "unsat", (4, 12, 30, -1)),
+    *rows("subset_sums", "unsat", (16, 16, 1)),
+    *rows("timetables", "", (8, 8, 6, 12, 60)),
+    *rows("rosters", "sat", (14, 21, 3, 3, 2)),
+    *rows("car_sequences", "unsat", (40, 5, 10), seeds=(2,)),
+    # Ciphers.
+    *rows("present", "sat", (16, 6, 16, 2), (16, 8, 18, 2)),
+    *rows("trivium", "sat", (48, 80, 200)),
+    *rows("combiner", "sat", (100, 15, 17, 19), (120, 17, 19, 21)),
+    *rows("sponge", "sat", (8, 2, 44)),
+    *rows("feistel", "unsat", (16, 4, False)),
+    *rows("feistel", "sat", (24, 6, True)),
+    # Things that are learned.
+    *rows("exact_synthesis", "sat", (5, 8, 12)),
+    *rows("automata", "sat", (11, 11, 400, 16)),
+]
+
+LISTS = {"tuning": TUNING, "report": REPORT, "fresh": FRESH}
 
 
 def count_of(clauses):
@@ -560,7 +634,7 @@ def parse(words):
     parser.add_argument("--keep", type=Path, metavar="FILE")
     found = parser.parse_intermixed_args(words)
     if (found.write or found.time or found.check) and not found.formulas:
-        parser.error("FORMULAS are wanted: a folder, tuning or report")
+        parser.error(f"FORMULAS are wanted: a folder, or one of {', '.join(LISTS)}")
     if found.formulas and found.formulas not in LISTS and not Path(found.formulas).is_dir():
         parser.error(f"'{found.formulas}' is neither a folder nor one of {', '.join(LISTS)}")
     least, most = (1, None) if found.time else (1, 2) if found.check else (0, 0)
