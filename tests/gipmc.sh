@@ -67,7 +67,7 @@ try "the first bad literal" 0 "" "$(open 3)" "$two" --bad 0 --engine bmc --depth
 try "the first bad literal, by all engines" 20 "" "$safe" "$two" --bad 0
 try "the second bad literal" 10 "" "$(printf '1\nb1\n00\n1\n0\n.')" "$two" --bad=1 --engine bmc
 try "a bad literal that is not there" 1 "<stdin>: no bad literal 2, of 2" "" "$two" --bad 2
-try "no bad literal at all" 20 "" "" 'aag 1 1 0 0 0\n2\n'
+try "no bad literal at all" 20 "c <stdin>: no bad literal" "" 'aag 1 1 0 0 0\n2\n'
 try "an output in place of a bad literal" 10 "" "$fails" 'aag 2 1 1 1 0\n2\n4 2\n4\n' --engine bmc
 try "a bad literal that is true" 10 "" "$(printf '1\nb0\n\n\n.')" 'aag 0 0 0 0 0 1\n1\n' --engine bmc
 try "a latch that begins at 1" 10 "" "$(printf '1\nb0\n1\n\n.')" 'aag 1 0 1 0 0 1\n2 2 1\n2\n' --engine bmc
@@ -103,6 +103,10 @@ try "a witness of a literal that is not there" 1 \
     "wit: it names bad literal 3, and the circuit has 1" "" "$held" --replay wit
 try "a witness of a literal that is not there, from standard input" 1 \
     "<stdin>: it names bad literal 3, and the circuit has 1" "" '1\nb3\n0\n1\n0\n.\n' --replay - held.aag
+witness '1\nb1\n00\n1\n0\n.\n'
+try "a witness of the literal that is asked for" 0 "" "s VERIFIED" "$two" --replay wit --bad 1
+try "a witness of another literal than is asked for" 1 \
+    "wit: it names bad literal 1, and '--bad' asks for 0" "" "$two" --replay wit --bad 0
 witness '2\nb0\n.\n'
 # shellcheck disable=SC2016
 try "no witness" 1 'wit: line 1: no line `1`, with which a witness begins' "" "$held" --replay wit
@@ -119,6 +123,8 @@ invariant 'p cnf 2 1\n-1 0\n'
 try "an invariant of one bad literal, asked about it" 0 "" "s VERIFIED" "$two" --certify inv --bad 0
 try "an invariant of one bad literal, asked about both" 1 "" "s NOT VERIFIED" "$two" --certify inv
 try "an invariant, and a literal that is not there" 1 "<stdin>: no bad literal 9, of 2" "" "$two" --certify inv --bad 9
+invariant 'p cnf 0 0\n'
+try "an invariant, and no bad literal at all" 1 "<stdin>: no bad literal" "" 'aag 1 1 0 0 0\n2\n' --certify inv
 invariant 'p cnf 9 1\n-1 0\n'
 # shellcheck disable=SC2016
 try "an invariant of another circuit" 1 \
@@ -193,6 +199,13 @@ try "no certificate of a literal that is not there" 1 \
     "two.aag: no bad literal 2, of 2" "" "" --bad 2 --certificate cert two.aag
 [ ! -e cert ]
 told "no file is left where nothing is answered" $?
+printf '%b' 'aag 1 1 0 0 0\n2\n' > none.aag
+"$gipmc" --certificate cert none.aag > out 2> err
+status=$?
+[ "$status" = 1 ] && [ ! -s out ] && [ ! -e cert ] &&
+    grep -qx "cert: not written, since the circuit has no bad literal" err
+told "no certificate where there is no bad literal" $?
+rm none.aag
 "$gipmc" --certificate ./- --bad 0 two.aag > out 2> err
 status=$?
 [ "$status" = 20 ] && [ "$("$gipmc" --certify ./- --bad 0 two.aag)" = "s VERIFIED" ]

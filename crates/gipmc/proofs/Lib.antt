@@ -1,3 +1,4 @@
+mod Ended
 mod Examples
 mod Shown
 mod Told

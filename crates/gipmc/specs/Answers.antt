@@ -1,5 +1,5 @@
 -- Texts of answers, and when they are right.
-use Rattle.std.specs.Prelude.{◌≡◌, ℕ, zero, suc, List, [], ◌++◌, length, slice_get, codes, decimal, Option, Some, None}
+use Rattle.std.specs.Prelude.{◌≡◌, ℕ, zero, suc, List, [], ◌++◌, length, slice_get, codes, decimal, Option, Some, None, IsTrue, ⊤}
 use Rattle.gipsat_solver.specs.Literals.{Lit}
 use Rattle.gipmc_aiger.specs.Circuits.{Writes}
 use Rattle.gipmc_aiger.specs.Traces.{witness_text, witness_view}
@@ -8,6 +8,7 @@ use Rattle.gipmc_aiger.specs.declared.witness.Witness.{Witness}
 use Rattle.gipmc_circuits.specs.declared.circuit.Circuit.{Circuit}
 use Rattle.gipmc_circuits.specs.declared.trace.Trace.{Trace}
 use Rattle.gipmc_circuits.specs.Traces.{FailsBy}
+use Rattle.gipmc_circuits.specs.WellFormed.{is_well_formed}
 use Rattle.gipmc_engines.specs.Verdicts.{IsRightVerdict}
 use Rattle.gipmc_engines.specs.declared.verdict.Verdict.{Verdict}
 use Rattle.gipmc_engines.specs.declared.verdict.Verdict.TheVariants as verdict
@@ -59,19 +60,38 @@ abbrev pub TellsAsked : {A : Type 0} → Circuit A → Option ℕ → Outcome �
 TellsAsked c None outcome text = TellsFirst c (length c.bads.items) outcome text
 TellsAsked c (Some place) outcome text = Tells c place outcome text
 
+-- the bytes write the circuit, and it is well-formed
+abbrev pub IsCircuitIn : {A : Type 0} → List ℕ → Circuit A → Type 0
+IsCircuitIn bytes c = Writes bytes c × IsTrue (is_well_formed c)
+
 -- the bytes write a circuit of which the text tells so
 abbrev pub Answers : (A : Type 0) → List ℕ → Option ℕ → Outcome → List ℕ → Type 0
-Answers A bytes asked outcome text = (c : Circuit A) × Writes bytes c × TellsAsked c asked outcome text
+Answers A bytes asked outcome text = (c : Circuit A) × IsCircuitIn bytes c × TellsAsked c asked outcome text
+
+-- some text answers so about the circuit that some bytes write
+abbrev pub IsAnswered : (A : Type 0) → Option ℕ → Outcome → Type 0
+IsAnswered A asked outcome = (bytes : List ℕ) × (text : List ℕ) × Answers A bytes asked outcome text
 
 -- the text writes the witness for the circuit
 abbrev pub IsWitnessIn : {A B : Type 0} → Circuit A → List ℕ → Witness B → Type 0
 IsWitnessIn c text w = witness_of (length c.latches.items) (length c.inputs.items) text ≡ Some (witness_view w)
 
+-- the bad literal at the place is the one that is asked for, or any
+abbrev pub IsAsked : Option ℕ → ℕ → Type 0
+IsAsked None place = ⊤
+IsAsked (Some asked) place = place ≡ asked
+
 -- the circuit fails by the trace, at the bad literal at a place
 abbrev pub FailsAt : {A B : Type 0} → Circuit A → ℕ → Trace B → Type 0
 FailsAt c place trace = (bad : Lit) × (slice_get c.bads.items place ≡ Some bad) × FailsBy c bad trace
 
--- the bytes write a circuit, and a witness for it of a trace by which it fails
-abbrev pub Replays : (A : Type 0) → List ℕ → List ℕ → Type 0
-Replays A bytes witness =
-    (c : Circuit A) × Writes bytes c × (w : Witness A) × IsWitnessIn c witness w × FailsAt c w.property w.trace
+-- the bytes write a circuit, and a witness for it of a trace by which it fails, at the bad literal that is asked for or
+-- at any
+abbrev pub Replays : (A : Type 0) → List ℕ → List ℕ → Option ℕ → Type 0
+Replays A bytes witness asked =
+    (c : Circuit A) × IsCircuitIn bytes c × (w : Witness A) × IsWitnessIn c witness w × IsAsked asked w.property
+    × FailsAt c w.property w.trace
+
+-- some witness replays so on the circuit that some bytes write
+abbrev pub IsReplayed : (A : Type 0) → Option ℕ → Type 0
+IsReplayed A asked = (bytes : List ℕ) × (witness : List ℕ) × Replays A bytes witness asked

@@ -7,6 +7,7 @@ use Rattle.gipmc_circuits.specs.Certificate.{IsSafeByClauses}
 use Rattle.gipmc_circuits.specs.Circuit.{IsSafe}
 use Rattle.gipmc_circuits.specs.Extension.{IsCertifiedBy}
 use Rattle.gipmc_circuits.specs.declared.circuit.Circuit.{Circuit}
+use Rattle.gipmc.specs.Answers.{IsCircuitIn}
 use Rattle.gipmc.specs.declared.certificates.Certificate.{Certificate}
 use Rattle.gipmc.specs.declared.certificates.Certificate.TheVariants as certificate
 
@@ -28,17 +29,25 @@ ShowsSafe c (certificate.Circuit other) bad = IsSafeByCircuit c other bad
 abbrev pub ShowsSafeAt : {A B : Type 0} → Circuit A → Certificate B → ℕ → Type 0
 ShowsSafeAt c shown place = (bad : Lit) × (slice_get c.bads.items place ≡ Some bad) × ShowsSafe c shown bad
 
--- by the certificate it is safe as to each of its bad literals
+-- the circuit has bad literals, and by the certificate it is safe as to each of them
 abbrev pub ShowsSafeAll : {A B : Type 0} → Circuit A → Certificate B → Type 0
-ShowsSafeAll c shown = (place : ℕ) → place < length c.bads.items → ShowsSafeAt c shown place
+ShowsSafeAll c shown =
+    (0 < length c.bads.items) × ((place : ℕ) → place < length c.bads.items → ShowsSafeAt c shown place)
 
 -- by the certificate it is safe as to the bad literal that is asked for, which it has, or as to all
 abbrev pub ShowsSafeAsked : {A B : Type 0} → Circuit A → Certificate B → Option ℕ → Type 0
 ShowsSafeAsked c shown None = ShowsSafeAll c shown
 ShowsSafeAsked c shown (Some place) = ShowsSafeAt c shown place
 
+-- the text writes a certificate by which the circuit is safe so
+abbrev pub CertifiesCircuit : {A : Type 0} → Circuit A → List ℕ → Option ℕ → Type 0
+CertifiesCircuit {A} c text asked =
+    (shown : Certificate A) × IsCertificateIn c text shown × ShowsSafeAsked c shown asked
+
 -- the bytes write a circuit, and the text a certificate by which it is safe so
 abbrev pub Certifies : (A : Type 0) → List ℕ → List ℕ → Option ℕ → Type 0
-Certifies A bytes text asked =
-    (c : Circuit A) × Writes bytes c × (shown : Certificate A) × IsCertificateIn c text shown
-    × ShowsSafeAsked c shown asked
+Certifies A bytes text asked = (c : Circuit A) × IsCircuitIn bytes c × CertifiesCircuit c text asked
+
+-- some text certifies the circuit that some bytes write
+abbrev pub IsCertified : (A : Type 0) → Option ℕ → Type 0
+IsCertified A asked = (bytes : List ℕ) × (text : List ℕ) × Certifies A bytes text asked

@@ -1,7 +1,7 @@
 //! The tasks, from the bytes of texts to the bytes of an answer.
 ghost use Rattle.std.specs.Prelude.{◌≡◌, ℕ, ◌<◌, ◌++◌, codes, length, decimal, IfOk, IfSome, IsTrue, OnOk};
-ghost use Rattle.gipmc.specs.Answers.{Answers, FailsAt, IsWitnessIn, Replays, Tells, TellsAsked, TellsFirst, both, named, outcome_of, verdict_text};
-ghost use Rattle.gipmc_aiger.specs.Circuits.{Writes};
+ghost use Rattle.gipmc.specs.Answers.{Answers, FailsAt, IsAsked, IsCircuitIn, IsWitnessIn, Replays, Tells, TellsAsked, TellsFirst};
+ghost use Rattle.gipmc.specs.Answers.{both, named, outcome_of, verdict_text};
 
 use crate::errors::TaskError;
 use crate::progress::Listener;
@@ -51,6 +51,15 @@ pub struct Said<A: Allocator = Global> {
     pub invariant: Vec<Vec<Literal, A>, A>,
 }
 
+/// A circuit, and what is said of it.
+#[derive(Drop)]
+pub struct Answered<A: Allocator = Global> {
+    /// The circuit.
+    pub circuit: Circuit<A>,
+    /// What is said of its bad literals.
+    pub said: Said<A>,
+}
+
 /// Answers about the circuit that a text writes: about the bad literal at the place that is asked for, or about all.
 ///
 /// # Errors
@@ -63,11 +72,13 @@ pub fn answer<A: Allocator + Copy, L: Listener>(
     asked: Option<usize>,
     plan: &Plan,
     listener: &mut L,
-) -> Result<Said<A>, TaskError>
-    ensures { IfOk result (λ said. Answers A bytes.now asked said.outcome said.text.items) }
+) -> Result<Answered<A>, TaskError>
+    ensures circuit { IfOk result (λ a. IsCircuitIn bytes.now a.circuit) }
+    ensures answers { IfOk result (λ a. Answers A bytes.now asked a.said.outcome a.said.text.items) }
 {
     let circuit = circuit_in(alloc, bytes)?;
-    answer_asked(alloc, &circuit, asked, plan, listener)
+    let said = answer_asked(alloc, &circuit, asked, plan, listener)?;
+    Ok(Answered { circuit, said })
 }
 
 // The circuit that a text writes.
@@ -75,7 +86,7 @@ pub(crate) fn circuit_in<A: Allocator + Copy>(
     alloc: A,
     bytes: &[u8],
 ) -> Result<Circuit<A>, TaskError>
-    ensures { IfOk result (Writes bytes.now) }
+    ensures { IfOk result (IsCircuitIn bytes.now) }
 {
     match read_circuit(alloc, bytes) {
         Ok(circuit) => Ok(circuit),
@@ -235,21 +246,25 @@ fn write_number<A: Allocator>(text: &mut Vec<u8, A>, number: u64) -> Result<(), 
     write!(text, "{number}").map_err(|_| AllocError)
 }
 
-/// Whether the trace that a witness writes is a counterexample to the circuit that a text writes.
+/// Whether the trace that a witness writes is a counterexample to the circuit that a text writes: at the bad literal at
+/// the place that is asked for, or at any.
 ///
 /// # Errors
 /// - [`TaskError::Circuit`] and [`TaskError::Witness`] where a text has another form.
+/// - [`TaskError::NotAsked`] where the witness names another bad literal than the one that is asked for.
 /// - [`TaskError::OtherBad`] where the circuit has no such bad literal.
 /// - [`TaskError::Memory`] where memory is refused.
 pub fn replays<A: Allocator + Copy>(
     alloc: A,
     bytes: &[u8],
     witness: &[u8],
+    asked: Option<usize>,
 ) -> Result<bool, TaskError>
-    ensures { IfOk result (λ fails. IsTrue fails → Replays A bytes.now witness.now) }
+    ensures { IfOk result (λ fails. IsTrue fails → Replays A bytes.now witness.now asked) }
 {
     let circuit = circuit_in(alloc, bytes)?;
     let witness = witness_in(alloc, &circuit, witness)?;
+    is_asked(asked, &witness)?;
     fails_by(alloc, &circuit, &witness)
 }
 
@@ -267,13 +282,25 @@ fn witness_in<A: Allocator + Copy>(
     }
 }
 
+// Tests that the witness names the bad literal that is asked for, if one is.
+fn is_asked<A: Allocator>(asked: Option<usize>, witness: &Witness<A>) -> Result<(), TaskError>
+    ensures { OnOk result (IsAsked asked witness.now.property) }
+{
+    let named = witness.property as usize;
+    match asked {
+        Some(place) if named != place => Err(TaskError::NotAsked(named, place)),
+        _ => Ok(()),
+    }
+}
+
 // Whether the trace of a witness is a counterexample, at the bad literal that the witness names.
 fn fails_by<A: Allocator + Copy>(
     alloc: A,
     circuit: &Circuit<A>,
     witness: &Witness<A>,
 ) -> Result<bool, TaskError>
-    ensures { IfOk result (λ fails. IsTrue fails → FailsAt circuit.now witness.now.property witness.now.trace) }
+    ensures { IfOk result (λ fails. IsTrue fails →
+        FailsAt circuit.now witness.now.property witness.now.trace) }
 {
     let place = witness.property as usize;
     if place >= circuit.bads.len() {

@@ -1,6 +1,6 @@
 //! Certificates that a circuit is safe, from the bytes of texts to the answer.
 ghost use Rattle.std.specs.Prelude.{◌<◌, length, IfOk, IsTrue};
-ghost use Rattle.gipmc.specs.Certificates.{Certifies, IsCertificateIn, ShowsSafeAll, ShowsSafeAsked, ShowsSafeAt};
+ghost use Rattle.gipmc.specs.Certificates.{Certifies, CertifiesCircuit, IsCertificateIn, ShowsSafeAll, ShowsSafeAsked, ShowsSafeAt};
 ghost use Rattle.gipmc.specs.declared.certificates.Certificate.TheVariants as certificate;
 
 use crate::answers::circuit_in;
@@ -28,6 +28,7 @@ pub enum Certificate<A: Allocator> {
 /// - [`TaskError::Circuit`] and [`TaskError::Certificate`] where a text has another form.
 /// - [`TaskError::OtherShape`] where the certificate is a circuit with another number of inputs or latches.
 /// - [`TaskError::NoBad`] where there is no bad literal at the place.
+/// - [`TaskError::NoBads`] where there is none at all.
 /// - [`TaskError::Memory`] where memory is refused.
 pub fn certifies<A: Allocator + Copy>(
     alloc: A,
@@ -39,41 +40,53 @@ pub fn certifies<A: Allocator + Copy>(
     ensures { IfOk result (λ safe. IsTrue safe → Certifies A bytes.now text.now asked) }
 {
     let circuit = circuit_in(alloc, bytes)?;
-    let certificate = certificate_in(alloc, &circuit, text)?;
-    certifies_asked(alloc, &circuit, &certificate, asked, limit)
+    certifies_circuit(alloc, &circuit, text, asked, limit)
 }
 
-/// The text of a certificate that the circuit of another text is safe: as to the bad literal at the place that is asked
-/// for, or as to all. It writes the clauses of this invariant, which are over the circuit's variables. They are read
-/// back, and certify the circuit again. Each question to the solver may learn `limit` clauses.
+// Whether the certificate that a text writes shows that the circuit is safe.
+fn certifies_circuit<A: Allocator + Copy>(
+    alloc: A,
+    circuit: &Circuit<A>,
+    text: &[u8],
+    asked: Option<usize>,
+    limit: usize,
+) -> Result<bool, TaskError>
+    ensures { IfOk result (λ safe. IsTrue safe → CertifiesCircuit circuit.now text.now asked) }
+{
+    let certificate = certificate_in(alloc, circuit, text)?;
+    certifies_asked(alloc, circuit, &certificate, asked, limit)
+}
+
+/// The text of a certificate that the circuit is safe: as to the bad literal at the place that is asked for, or as to
+/// all. It writes the clauses of this invariant, which are over the circuit's variables. They are read back, and certify
+/// the circuit again. Each question to the solver may learn `limit` clauses.
 ///
 /// # Errors
 /// - [`TaskError::Uncertified`] where the clauses do not show it.
 /// - Those of [`certifies`].
 pub fn certificate_of<A: Allocator + Copy>(
     alloc: A,
-    bytes: &[u8],
+    circuit: &Circuit<A>,
     invariant: &[Vec<Literal, A>],
     asked: Option<usize>,
     limit: usize,
 ) -> Result<Vec<u8, A>, TaskError>
-    ensures { IfOk result (λ text. Certifies A bytes.now text.items asked) }
+    ensures { IfOk result (λ text. CertifiesCircuit circuit.now text.items asked) }
 {
-    let text = invariant_text(alloc, bytes, invariant)?;
-    if !certifies(alloc, bytes, &text, asked, limit)? {
+    let text = invariant_text(alloc, circuit, invariant)?;
+    if !certifies_circuit(alloc, circuit, &text, asked, limit)? {
         return Err(TaskError::Uncertified);
     }
     Ok(text)
 }
 
-// The text of some clauses over the latches of the circuit that a text writes.
+// The text of some clauses over the latches of the circuit.
 fn invariant_text<A: Allocator + Copy>(
     alloc: A,
-    bytes: &[u8],
+    circuit: &Circuit<A>,
     invariant: &[Vec<Literal, A>],
 ) -> Result<Vec<u8, A>, TaskError> {
-    let circuit = circuit_in(alloc, bytes)?;
-    let places = places_of(alloc, &circuit)?;
+    let places = places_of(alloc, circuit)?;
     let mut clauses = Vec::new(alloc);
     for clause in invariant {
         let clause = over_places(alloc, &places, clause)?;
@@ -139,7 +152,7 @@ fn certifies_asked<A: Allocator + Copy>(
     }
 }
 
-// Whether the circuit is safe as to all its bad literals.
+// Whether the circuit is safe as to all its bad literals, of which it has to have one.
 fn certifies_all<A: Allocator + Copy>(
     alloc: A,
     circuit: &Circuit<A>,
@@ -148,6 +161,9 @@ fn certifies_all<A: Allocator + Copy>(
 ) -> Result<bool, TaskError>
     ensures { IfOk result (λ safe. IsTrue safe → ShowsSafeAll circuit.now certificate.now) }
 {
+    if circuit.bads.is_empty() {
+        return Err(TaskError::NoBads);
+    }
     for place in 0..circuit.bads.len() {
         if !certifies_at(alloc, circuit, certificate, place, limit)? {
             return Ok(false);

@@ -93,8 +93,12 @@ pub enum TaskError {
     OtherShape,
     /// There is no bad literal at this place; there are so many.
     NoBad(usize, usize),
+    /// There is no bad literal at all.
+    NoBads,
     /// The witness names the bad literal at this place; there are so many.
     OtherBad(usize, usize),
+    /// The witness names the bad literal at the first place; that at the second one is asked for.
+    NotAsked(usize, usize),
     /// The clauses that were found do not certify the circuit.
     Uncertified,
     /// Memory was refused.
@@ -128,8 +132,12 @@ pub enum Failure<'a> {
     Form(Option<&'a str>, AigerError),
     /// The circuit in this input has no bad literal at this place; it has so many.
     NoBad(Option<&'a str>, usize, usize),
+    /// The circuit in this input has no bad literal at all.
+    NoBads(Option<&'a str>),
     /// The witness in this input names the bad literal at this place; the circuit has so many.
     OtherBad(Option<&'a str>, usize, usize),
+    /// The witness in this input names the bad literal at the first place; that at the second one is asked for.
+    NotAsked(Option<&'a str>, usize, usize),
     /// The circuit in this input has another number of inputs or latches than the one that it is to certify.
     OtherShape(Option<&'a str>),
     /// Memory was refused.
@@ -161,6 +169,11 @@ impl Display for Failure<'_> {
                 "{}: cannot be written: memory refused",
                 name.unwrap_or("<stdout>")
             ),
+            Failure::NoCertificate(name, TaskError::NoBads) => write!(
+                f,
+                "{}: not written, since the circuit has no bad literal",
+                name.unwrap_or("<stdout>")
+            ),
             Failure::NoCertificate(name, _) => write!(
                 f,
                 "{}: not written, since what was found does not certify the circuit",
@@ -171,6 +184,12 @@ impl Display for Failure<'_> {
             Failure::NoBad(name, place, count) => write!(
                 f,
                 "{}: no bad literal {place}, of {count}",
+                name.unwrap_or("<stdin>")
+            ),
+            Failure::NoBads(name) => { write!(f, "{}: no bad literal", name.unwrap_or("<stdin>")) }
+            Failure::NotAsked(name, named, asked) => write!(
+                f,
+                "{}: it names bad literal {named}, and '--bad' asks for {asked}",
                 name.unwrap_or("<stdin>")
             ),
             Failure::OtherBad(name, place, count) => write!(

@@ -10,7 +10,7 @@ Reads a circuit in the ascii or the binary form of AIGER 1.9 from FILE, or from 
 its name is -, and searches for each bad literal in turn. At the end it writes for each what it found: the lines `1`,
 `b` with the literal's place (from 0 on), a witness and `.`; or `0` in place of `1` where no bad state is reachable, and
 `2` where that is open. A line `u` with a number before a `2` says that no counterexample has so many transitions or
-fewer. Where the circuit has no bad literals, its outputs are taken for them.
+fewer. Where the circuit has no bad literals, its outputs are taken for them; where it has neither, nothing is written.
 
 Input:
       --bad I           only the bad literal at place I
@@ -24,7 +24,8 @@ Search:
       --seed N          the seed of random simulation (0)
 
 Answers of other programs:
-      --replay WITNESS  write `s VERIFIED` if the trace in the file WITNESS is a counterexample, or `s NOT VERIFIED`
+      --replay WITNESS  write `s VERIFIED` if the trace in the file WITNESS is a counterexample, or `s NOT VERIFIED`. With
+                        --bad, WITNESS has to name this literal
       --certify FILE    write `s VERIFIED` if the certificate in FILE shows that no bad state is reachable, or `s NOT
                         VERIFIED`, also where a question is left open by --limit. A certificate is clauses over latches
                         in the DIMACS form, or a circuit in a form of AIGER with as many inputs and latches, whose bad

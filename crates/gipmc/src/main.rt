@@ -5,8 +5,12 @@
 //! error.
 #![tactic(auto)]
 
-ghost use Rattle.std.specs.Prelude.{◌≡◌};
+ghost use Rattle.std.specs.Prelude.{◌≡◌, IfOk, IsTrue};
 ghost use Rattle.std.specs.Process.{exit_status};
+ghost use Rattle.std.specs.declared.alloc.Global.{Global};
+ghost use Rattle.gipmc.specs.Answers.{Answers, IsAnswered, IsReplayed};
+ghost use Rattle.gipmc.specs.Certificates.{CertifiesCircuit, IsCertified};
+ghost use Rattle.gipmc.specs.declared.answers.Outcome.TheVariants.{Fails, Safe};
 ghost use Rattle.gipmc.specs.Statuses.{outcome_status, refused_status, search_status, telling_status, usage_status, verified_status};
 
 mod answers;
@@ -17,7 +21,7 @@ mod help;
 mod options;
 mod progress;
 
-use answers::{Outcome, Said, answer, replays};
+use answers::{Answered, Outcome, answer, replays};
 use certificates::{certificate_of, certifies};
 use errors::{Cause, Failure, TaskError, UsageError};
 use files::{NewFile, bytes_of};
@@ -52,11 +56,33 @@ fn main(rt: HostRuntime) -> ExitCode {
     match Task::parse(&words) {
         Ok(Task::Help) => tell(&rt, HELP),
         Ok(Task::Version) => tell(&rt, VERSION),
-        Ok(Task::Search(options)) => end_search(&rt, search_file(&rt, &options)),
-        Ok(Task::Replay(options, witness)) => end_check(&rt, replay_file(&rt, &options, witness)),
-        Ok(Task::Certify(options, name)) => { end_check(&rt, certify_file(&rt, &options, name)) }
+        Ok(Task::Search(options)) => run_search(&rt, &options),
+        Ok(Task::Replay(options, witness)) => run_replay(&rt, &options, witness),
+        Ok(Task::Certify(options, name)) => run_certify(&rt, &options, name),
         Err(error) => explain(&rt, &error),
     }
+}
+
+// The status of a search.
+fn run_search(rt: &HostRuntime, options: &Options) -> ExitCode
+    ensures safe { exit_status result ≡ 20 → IsAnswered Global options.now.bad Safe }
+    ensures fails { exit_status result ≡ 10 → IsAnswered Global options.now.bad Fails }
+{
+    end_search(rt, search_file(rt, options))
+}
+
+// The status of a replay of the witness in the file of this name, or in standard input.
+fn run_replay(rt: &HostRuntime, options: &Options, name: Option<&str>) -> ExitCode
+    ensures { exit_status result ≡ 0 → IsReplayed Global options.now.bad }
+{
+    end_check(rt, replay_file(rt, options, name))
+}
+
+// The status of a certification by the certificate in the file of this name, or in standard input.
+fn run_certify(rt: &HostRuntime, options: &Options, name: Option<&str>) -> ExitCode
+    ensures { exit_status result ≡ 0 → IsCertified Global options.now.bad }
+{
+    end_check(rt, certify_file(rt, options, name))
 }
 
 // The arguments behind the program's name.
@@ -134,7 +160,9 @@ fn failure<'a>(circuit: Option<&'a str>, beside: Option<&'a str>, error: TaskErr
         TaskError::Certificate(error) => Failure::Form(beside, error),
         TaskError::OtherShape => Failure::OtherShape(beside),
         TaskError::NoBad(place, count) => Failure::NoBad(circuit, place, count),
+        TaskError::NoBads => Failure::NoBads(circuit),
         TaskError::OtherBad(place, count) => Failure::OtherBad(beside, place, count),
+        TaskError::NotAsked(named, asked) => Failure::NotAsked(beside, named, asked),
         TaskError::Uncertified => Failure::NoCertificate(beside, error),
         TaskError::Memory => Failure::Memory,
     }
@@ -175,25 +203,43 @@ fn depth_of(options: &Options) -> usize {
 
 // Answers about the circuit of the file that the options name, or of standard input, and writes the answer and then the
 // certificate, if one is wanted and was found.
-fn search_file<'a>(rt: &HostRuntime, options: &Options<'a>) -> Result<Outcome, Failure<'a>> {
+fn search_file<'a>(rt: &HostRuntime, options: &Options<'a>) -> Result<Outcome, Failure<'a>>
+    ensures { IfOk result (IsAnswered Global options.now.bad) }
+{
     let bytes = bytes_of(rt, options.file)?;
     match options.certificate {
         Some(name) => certified_search(rt, options, &bytes, NewFile::create(rt, name)?),
         None => {
-            let said = search(rt, options, &bytes)?;
-            write_out(rt, &said.text)?;
-            Ok(said.outcome)
+            let answer = search(rt, options, &bytes)?;
+            write_out(rt, &answer.said.text)?;
+            Ok(answer.said.outcome)
         }
     }
 }
 
 // Answers about a circuit.
-fn search<'a>(rt: &HostRuntime, options: &Options<'a>, bytes: &[u8]) -> Result<Said, Failure<'a>> {
+fn search<'a>(
+    rt: &HostRuntime,
+    options: &Options<'a>,
+    bytes: &[u8],
+) -> Result<Answered, Failure<'a>>
+    ensures { IfOk result (λ a. Answers Global bytes.now options.now.bad a.said.outcome a.said.text.items) }
+{
     let plan = plan_of(options);
     let mut teller = Teller::new(rt, options);
     match answer(rt.alloc(), bytes, options.bad, &plan, &mut teller) {
-        Ok(said) => Ok(said),
+        Ok(answer) => {
+            tell_of_none(rt, options, &answer);
+            Ok(answer)
+        }
         Err(error) => Err(failure(options.file, None, error)),
+    }
+}
+
+// Tells where a circuit has no bad literal: nothing was asked then.
+fn tell_of_none(rt: &HostRuntime, options: &Options, answer: &Answered) {
+    if answer.circuit.bads.is_empty() {
+        let _ = eprintln!(rt; "c {}", Failure::NoBads(options.file));
     }
 }
 
@@ -204,33 +250,52 @@ fn certified_search<'a>(
     options: &Options<'a>,
     bytes: &[u8],
     file: NewFile<'a>,
-) -> Result<Outcome, Failure<'a>> {
-    let said = match search(rt, options, bytes) {
-        Ok(said) => said,
+) -> Result<Outcome, Failure<'a>>
+    ensures { IfOk result (IsAnswered Global options.now.bad) }
+{
+    let answer = match search(rt, options, bytes) {
+        Ok(answer) => answer,
         Err(error) => {
             let _ = file.remove(rt);
             return Err(error);
         }
     };
-    let told = write_out(rt, &said.text);
-    let kept = match said.outcome {
-        Outcome::Safe => write_certificate(rt, options, bytes, &said, file),
+    let told = write_out(rt, &answer.said.text);
+    let kept = match answer.said.outcome {
+        Outcome::Safe => write_certificate(rt, options, &answer, file),
         _ => file.remove(rt),
     };
     told?;
     kept?;
-    Ok(said.outcome)
+    Ok(answer.said.outcome)
+}
+
+// The text of the certificate that was found.
+fn certificate_text(
+    rt: &HostRuntime,
+    options: &Options,
+    answer: &Answered,
+) -> Result<Vec<u8>, TaskError>
+    ensures { IfOk result (λ text. CertifiesCircuit answer.now.circuit text.items options.now.bad) }
+{
+    let invariant = &answer.said.invariant;
+    certificate_of(
+        rt.alloc(),
+        &answer.circuit,
+        invariant,
+        options.bad,
+        usize::MAX,
+    )
 }
 
 // Writes the certificate that was found to the file. The file is removed where that fails.
 fn write_certificate<'a>(
     rt: &HostRuntime,
     options: &Options<'a>,
-    bytes: &[u8],
-    said: &Said,
+    answer: &Answered,
     file: NewFile<'a>,
 ) -> Result<(), Failure<'a>> {
-    match certificate_of(rt.alloc(), bytes, &said.invariant, options.bad, usize::MAX) {
+    match certificate_text(rt, options, answer) {
         Ok(text) => file.write(rt, &text),
         Err(error) => {
             let name = file.name();
@@ -245,10 +310,12 @@ fn replay_file<'a>(
     rt: &HostRuntime,
     options: &Options<'a>,
     name: Option<&'a str>,
-) -> Result<bool, Failure<'a>> {
+) -> Result<bool, Failure<'a>>
+    ensures { IfOk result (λ verified. IsTrue verified → IsReplayed Global options.now.bad) }
+{
     let bytes = bytes_of(rt, options.file)?;
     let witness = bytes_of(rt, name)?;
-    match replays(rt.alloc(), &bytes, &witness) {
+    match replays(rt.alloc(), &bytes, &witness, options.bad) {
         Ok(verified) => verified_text(rt, verified),
         Err(error) => Err(failure(options.file, name, error)),
     }
@@ -259,7 +326,9 @@ fn certify_file<'a>(
     rt: &HostRuntime,
     options: &Options<'a>,
     name: Option<&'a str>,
-) -> Result<bool, Failure<'a>> {
+) -> Result<bool, Failure<'a>>
+    ensures { IfOk result (λ verified. IsTrue verified → IsCertified Global options.now.bad) }
+{
     let bytes = bytes_of(rt, options.file)?;
     let certificate = bytes_of(rt, name)?;
     match certifies(rt.alloc(), &bytes, &certificate, options.bad, options.limit) {
@@ -269,7 +338,9 @@ fn certify_file<'a>(
 }
 
 // Writes whether an answer is verified.
-fn verified_text<'a>(rt: &HostRuntime, verified: bool) -> Result<bool, Failure<'a>> {
+fn verified_text<'a>(rt: &HostRuntime, verified: bool) -> Result<bool, Failure<'a>>
+    ensures { IfOk result (λ told. told ≡ verified) }
+{
     if verified {
         write_out(rt, b"s VERIFIED\n")?;
     } else {

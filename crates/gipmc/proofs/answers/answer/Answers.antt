@@ -1,8 +1,5 @@
 -- What is told of the circuit is told of the one that the text writes.
-use Rattle.std.proofs.lemmas.Result.{IfOk-weaker}
 use Rattle.gipmc.proofs.answers.answer.Goals as goal
 
-pub returns : goal.returns
-returns g c =
-    IfOk-weaker c.answer_asked.result _ _ (λ said tells. (c.in_ok-circuit.circuit, c.in_ok-circuit.ensures, tells))
-    c.answer_asked.ensures
+pub returns-clause-answers : goal.returns-clause-answers
+returns-clause-answers g c = (c.in_ok-circuit.circuit, c.in_ok-circuit.ensures, c.in_ok-said.ensures)

@@ -5,6 +5,12 @@ use Rattle.gipmc.proofs.answers.replays.Goals as goal
 pub returns : goal.returns
 returns g c =
     IfOk-weaker c.fails_by.result _ _
-    (λ fails so is.
-    (c.in_ok-circuit.circuit, c.in_ok-circuit.ensures, c.in_ok-witness.witness, c.in_ok-witness.ensures, so is))
+    (λ fails so is. (
+      c.in_ok-circuit.circuit,
+      c.in_ok-circuit.ensures,
+      c.in_ok-witness.witness,
+      c.in_ok-witness.ensures,
+      c.in_ok-is_asked.ensures,
+      so is,
+    ))
     c.fails_by.ensures

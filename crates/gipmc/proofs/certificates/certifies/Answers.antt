@@ -4,7 +4,5 @@ use Rattle.gipmc.proofs.certificates.certifies.Goals as goal
 
 pub returns : goal.returns
 returns g c =
-    IfOk-weaker c.certifies_asked.result _ _
-    (λ safe so is.
-    (c.in_ok-circuit.circuit, c.in_ok-circuit.ensures, c.in_ok-certificate.certificate, c.in_ok-certificate.ensures, so is))
-    c.certifies_asked.ensures
+    IfOk-weaker c.certifies_circuit.result _ _
+    (λ safe so is. (c.in_ok-circuit.circuit, c.in_ok-circuit.ensures, so is)) c.certifies_circuit.ensures

@@ -1,5 +1,5 @@
 -- One more place is safe.
-use Rattle.std.proofs.Common.{◌≡◌, length, arith}
+use Rattle.std.proofs.Common.{◌≡◌, ◌<◌, length, arith}
 use Rattle.std.proofs.lemmas.Grind.{common_steps}
 use Rattle.gipmc.proofs.Shown.{ShowsSafeAt-more}
 use Rattle.gipmc.proofs.certificates.certifies_all.Goals as goal
@@ -12,4 +12,5 @@ loop-place-preserved g c =
 pub returns : goal.returns
 returns g c safe =
     let all : c.loop-place.place ≡ length c.args.circuit.now.bads.items = grind (arith, common_steps) in
-    rw all at c.loop-place.invariant
+    let some : 0 < length c.args.circuit.now.bads.items = grind (arith, common_steps) in
+    (some, rw all at c.loop-place.invariant)

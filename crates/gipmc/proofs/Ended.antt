@@ -1,0 +1,27 @@
+-- What the status of a run says.
+use Rattle.std.proofs.Common.{◌≡◌, ℕ, Bool, true, false, Ok, Err, IsTrue, refl}
+use Rattle.std.specs.Prelude.{Result, IfOk}
+use Rattle.gipmc.specs.Statuses.{search_status, verified_status}
+use Rattle.gipmc.specs.declared.answers.Outcome.{Outcome}
+use Rattle.gipmc.specs.declared.answers.Outcome.TheVariants.{Fails, Safe, Open}
+
+-- a search ends with 20 only where the outcome is safe
+pub safe_ended : {E : Type 0} (P : Outcome → Type 0) (r : Result Outcome E) → IfOk r P → search_status r ≡ 20 → P Safe
+safe_ended P (Ok Safe) is status = is
+safe_ended P (Ok Fails) is status = absurd cc
+safe_ended P (Ok Open) is status = absurd cc
+safe_ended P (Err error) is status = absurd cc
+
+-- it ends with 10 only where the circuit fails
+pub fails_ended : {E : Type 0} (P : Outcome → Type 0) (r : Result Outcome E) → IfOk r P → search_status r ≡ 10 → P Fails
+fails_ended P (Ok Safe) is status = absurd cc
+fails_ended P (Ok Fails) is status = is
+fails_ended P (Ok Open) is status = absurd cc
+fails_ended P (Err error) is status = absurd cc
+
+-- a check ends with 0 only where the answer is verified
+pub verified_ended : {E : Type 0} (P : Type 0) (r : Result Bool E) → IfOk r (λ verified. IsTrue verified → P)
+    → verified_status r ≡ 0 → P
+verified_ended P (Ok true) is status = is refl
+verified_ended P (Ok false) is status = absurd cc
+verified_ended P (Err error) is status = absurd cc
