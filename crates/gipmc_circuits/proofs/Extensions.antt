@@ -41,7 +41,7 @@ one_more n v =
     past v n more other = ⊎_elim (λ less. absurd (other (omega (arith, more, less)))) (λ is. is) (cases_lt v (n + 1))
 
 -- gates that are stacked are in order behind all that is below them
-stacked-in_order : (gates : List And) (n : ℕ) → IsTrue (are_stacked gates n) → IsTrue (are_in_order gates (λ v. ltb v n))
+pub stacked-in_order : (gates : List And) (n : ℕ) → IsTrue (are_stacked gates n) → IsTrue (are_in_order gates (λ v. ltb v n))
 stacked-in_order [] n is = refl
 stacked-in_order (g ∷ gates) n is =
     let (operands, others) = and_parts (literal_below n g.left && literal_below n g.right) (eqb g.output n && are_stacked gates (g.output + 1)) is in

@@ -6,6 +6,8 @@ mod Examples
 pub mod Encoded
 pub mod Extensions
 mod Rows
+pub mod Runs
 pub mod Traces
 pub mod Unrolled
 pub mod Valuations
+pub mod Widened

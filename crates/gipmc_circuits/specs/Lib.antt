@@ -4,3 +4,4 @@ pub mod Certificate
 pub mod Extension
 pub mod Traces
 pub mod WellFormed
+pub mod Widened
