@@ -9,3 +9,5 @@ mod Stacks
 mod Tables
 pub mod WitnessRereads
 mod Words
+pub mod Writable
+pub mod Written

@@ -18,7 +18,7 @@ fn invariant_refusal(alloc: Global, text: &[u8]) -> Option<AigerError> {
     read_invariant(alloc, 2, text).err()
 }
 
-const CIRCUITS: [(&[u8], AigerError); 32] = [
+const CIRCUITS: [(&[u8], AigerError); 35] = [
     (b"", AigerError::Refused(Place::Line(1), Reason::Format)),
     (
         b"abg 0 0 0 0 0\n",
@@ -118,6 +118,9 @@ const CIRCUITS: [(&[u8], AigerError); 32] = [
     ),
     (b"aag 2 2 0 0 0\n2\n2\n", AigerError::Twice(1)),
     (b"aag 2 1 0 1 0\n2\n4\n", AigerError::Undefined(2)),
+    (b"aag 2 0 1 0 0\n2 4\n", AigerError::Undefined(2)),
+    (b"aag 2 0 0 0 1\n2 4 0\n", AigerError::Undefined(2)),
+    (b"aag 1 0 0 0 1\n2 2 0\n", AigerError::Cycle(1)),
     (b"aag 2 0 0 0 2\n2 4 4\n4 2 2\n", AigerError::Cycle(1)),
     (
         b"aig 1 0 0 0 1\n\x00\x00",
