@@ -10,7 +10,6 @@ pub mod Encodings
 mod Examples
 mod ImpliedLemmas
 pub mod Formulas
-mod GrowthLemmas
 mod TrailMeasureLemmas
 mod BackjumpLemmas
 pub mod LiteralLemmas

@@ -120,6 +120,16 @@ IsTrail-resized clauses old new steps back is = record {
   reasons = is.reasons;
 }
 
+-- a trail without literals is one over any clauses
+pub IsTrail-none : (clauses : List Clause) (n : ℕ) (values : List (Option Bool)) (steps : List Step)
+    → values ≡ replicate n None → steps ≡ [] → IsTrail clauses values steps
+IsTrail-none clauses n values steps unset empty =
+    rw (unset, empty)
+    (record {
+      stand = λ l yes. absurd (some_value (get_or (replicate n None) l.variable None) l.positive true yes (get_none n l.variable));
+      reasons = λ k s r at. let within = slice_get_within [] k s at in absurd (omega (arith, within));
+    })
+
 -- a literal with a reason
 pub IsTrail-implied : (clauses : List Clause) (values : List (Option Bool)) (steps : List Step) (l : Lit) (r : ℕ)
     → l.variable < length values → HasReason clauses steps (length steps) l r → IsTrail clauses values steps

@@ -13,4 +13,5 @@ pub mod Trail
 pub mod Assumptions
 pub mod Backjump
 pub mod Obstacles
+pub mod Scores
 pub mod Simplifying

@@ -1,81 +1,50 @@
 //! The order in which variables are decided: the most active first.
-ghost use Rattle.std.specs.Prelude.{◌≡◌, [], IfOk};
 
 use crate::domain::Domain;
-use giputils_heap::{BoundedHeap, ByRank};
+use crate::scores::ByScore;
+use giputils_heap::BoundedHeap;
 use std::alloc::{AllocError, Allocator, Global};
-use std::marker::Model;
 
-// What the first bump adds to a score.
-const FIRST_INCREMENT: u32 = 0x1000;
+// Once a bump would add as much, all scores are scaled down.
+const GREATEST_INCREMENT: f64 = 1e100;
 
-// By how many binary digits all scores are shifted down once the increment has grown by as many.
-const SHIFT: u32 = 14;
-
-// The decision queue: variables in a heap by their scores (VSIDS). It is seen as the list of its variables.
+// The decision queue: variables in a heap by their scores (VSIDS).
 #[derive(Drop)]
 pub(crate) struct Activity<A: Allocator = Global> {
     queue: BoundedHeap<u32, A>,
-    scores: Vec<u32, A>,
+    scores: Vec<f64, A>,
     // What a bump adds. It grows, so that recent bumps count more.
-    increment: u32,
+    increment: f64,
     domain: Domain<A>,
     // For each variable whether it is taken out: it is not queued then, and passed over if it is queued already.
     is_out: Vec<bool, A>,
 }
 
-impl<A: Allocator> Model for Activity<A> {
-    ghost use Rattle.std.specs.Prelude.{List, ℕ};
-    ghost use Rattle.giputils_heap.specs.Comparers.{by_rank};
-    ghost use Rattle.giputils_heap.specs.InOrder.{IsInOrder};
-
-    ghost Value = { List ℕ };
-
-    ghost view = { λ a. a.queue.keys };
-
-    ghost invariant = { λ a. IsInOrder (by_rank (λ k. k) a.scores.items) a.queue.keys };
-}
-
 impl<A: Allocator + Copy> Activity<A> {
     // No variable.
-    pub(crate) fn new(alloc: A) -> Result<Self, AllocError>
-        ensures { IfOk result (λ a. a ≡ []) }
-    {
+    pub(crate) fn new(alloc: A) -> Result<Self, AllocError> {
         Ok(Activity {
             queue: BoundedHeap::with_bound(alloc, 0)?,
             scores: Vec::new(alloc),
-            increment: FIRST_INCREMENT,
+            increment: 1.0,
             domain: Domain::new(alloc)?,
             is_out: Vec::new(alloc),
         })
     }
 
-    // The same with room for so many variables; new ones are queued. Only this takes memory.
-    pub(crate) fn grown(self, variables: usize) -> Result<Self, AllocError> {
-        let Activity {
-            mut queue,
-            mut scores,
-            increment,
-            domain,
-            mut is_out,
-        } = self;
-        let old = scores.len();
-        scores.resize(old.max(variables), 0)?;
-        is_out.resize(old.max(variables), false)?;
-        queue.raise_bound(u32::try_from(variables).unwrap_or(u32::MAX))?;
-        let mut activity = Activity {
-            queue,
-            scores,
-            increment,
-            domain,
-            is_out,
-        };
+    // Makes room for so many variables; new ones are queued. Only this and a domain take memory.
+    pub(crate) fn grow(&mut self, variables: usize) -> Result<(), AllocError> {
+        let old = self.scores.len();
+        self.scores.resize(old.max(variables), 0.0)?;
+        self.is_out.resize(old.max(variables), false)?;
+        self.queue
+            .raise_bound(u32::try_from(variables).unwrap_or(u32::MAX))?;
         for variable in old..variables {
             if let Ok(variable) = u32::try_from(variable) {
-                activity.put_back(variable);
+                self.put_back(variable);
             }
         }
-        Ok(activity)
+        Ok(())
     }
 
     // Lets only these variables be decided, or all where there is no domain.
@@ -98,6 +67,11 @@ impl<A: Allocator + Copy> Activity<A> {
         }
     }
 
+    // Whether a variable may not be assigned above the root, since it is none of the domain.
+    pub(crate) fn excludes(&self, variable: u32) -> bool {
+        self.domain.excludes(variable)
+    }
+
     // Queues a variable, unless it is taken out.
     pub(crate) fn put_back(&mut self, variable: u32) {
         if self.is_out(variable) {
@@ -105,7 +79,7 @@ impl<A: Allocator + Copy> Activity<A> {
         }
         self.domain.put_back(variable, &self.scores);
         if variable < self.queue.bound() {
-            self.queue.push(variable, &ByRank(&self.scores));
+            self.queue.push(variable, &ByScore(&self.scores));
         }
     }
 
@@ -141,25 +115,30 @@ impl<A: Allocator + Copy> Activity<A> {
         }
     }
 
+    // The score of a variable.
+    pub(crate) fn score(&self, variable: u32) -> f64 {
+        ByScore(&self.scores).score(variable)
+    }
+
     // Raises the score of a variable.
     pub(crate) fn bump(&mut self, variable: u32) {
-        if (variable as usize) < self.scores.len() {
-            let score = self.scores[variable as usize].saturating_add(self.increment);
-            self.scores[variable as usize] = score;
-            self.queue.up(variable, &ByRank(&self.scores));
+        if let Some(score) = self.scores.get_mut(variable as usize) {
+            *score += self.increment;
+            self.queue.up(variable, &ByScore(&self.scores));
             self.domain.up(variable, &self.scores);
         }
     }
 
-    // Lets later bumps count more than earlier ones.
-    pub(crate) fn decay(&mut self) {
-        self.increment = self.increment.saturating_add(self.increment / 16);
-        if self.increment >= FIRST_INCREMENT << SHIFT {
-            self.increment = FIRST_INCREMENT;
+    // A conflict was met: later bumps count more than earlier ones, by this part.
+    pub(crate) fn decay(&mut self, growth: f64) {
+        self.domain.note_conflict(&self.scores);
+        self.increment += self.increment * growth;
+        if self.increment >= GREATEST_INCREMENT {
+            self.increment /= GREATEST_INCREMENT;
             for score in self.scores.iter_mut() {
-                *score >>= SHIFT;
+                *score /= GREATEST_INCREMENT;
             }
-            self.queue.rebuild(&ByRank(&self.scores));
+            self.queue.rebuild(&ByScore(&self.scores));
             self.domain.rebuild(&self.scores);
         }
     }
@@ -169,6 +148,18 @@ impl<A: Allocator + Copy> Activity<A> {
         if self.domain.is_set() {
             return self.domain.pick(&self.scores);
         }
-        self.queue.pop(&ByRank(&self.scores))
+        self.queue.pop(&ByScore(&self.scores))
+    }
+
+    // A variable of greatest score that has no value and is not taken out. Those before it leave the queue.
+    pub(crate) fn next(&mut self, values: &[Option<bool>]) -> Option<u32> {
+        for _ in 0..self.queue.len() {
+            let variable = self.queue.peek()?;
+            if matches!(values.get(variable as usize), Some(None)) && !self.is_out(variable) {
+                return Some(variable);
+            }
+            self.queue.pop(&ByScore(&self.scores));
+        }
+        None
     }
 }

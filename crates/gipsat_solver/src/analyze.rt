@@ -3,12 +3,14 @@ ghost use Rattle.std.specs.Prelude.{◌≡◌, ◌≢◌, ◌<◌, true, length,
 ghost use Rattle.gipsat_solver.specs.Formulas.{Has, HasBut};
 ghost use Rattle.gipsat_solver.specs.Literals.{code};
 ghost use Rattle.gipsat_solver.specs.Seen.{AddsAtMost, AreSeen, AreSeenBut, Grows, HaveFlags, IsResolvent, is_seen};
-ghost use Rattle.gipsat_solver.specs.Trail.{IsConflictOf, IsReady, IsTrailOf, ResolvesAt};
+ghost use Rattle.gipsat_solver.specs.Trail.{IsConflictOf, IsReady, ResolvesAt};
 
 use crate::activity::Activity;
 use crate::database::Database;
 use crate::heuristics::Heuristics;
 use crate::literal::Literal;
+use crate::minimize::minimize;
+use crate::resolve::drop_root;
 use crate::seen::Seen;
 use crate::trail::{Step, Trail};
 use std::alloc::{AllocError, Allocator};
@@ -160,77 +162,8 @@ fn resolve_to_first_uip<A: Allocator + Copy>(
     Ok(())
 }
 
-// Whether each literal of a reason but one is marked, or false at the root.
-fn is_redundant<A: Allocator + Copy>(
-    trail: &Trail<A>,
-    seen: &Seen<A>,
-    clause: &[Literal],
-    but: Literal,
-) -> bool {
-    clause.iter().all(|l| l.code() == but.code() || seen.has(*l) || trail.level_of(*l) == 0)
-}
-
-// Resolves the literal at a place of the trail away, if its reason adds no literal that is not marked.
-fn minimize_literal<A: Allocator + Copy>(
-    database: &Database<A>,
-    trail: &Trail<A>,
-    heuristics: &mut Heuristics<A>,
-    seen: &mut Seen<A>,
-    place: usize,
-) -> Result<(), AllocError>
-    requires resolvent { IsResolvent database.now seen.old }
-    ensures resolvent { OnOk result (IsResolvent database.now seen.new) }
-{
-    let Some(step) = trail.steps.get(place) else {
-        return Ok(());
-    };
-    let Some(reason) = step.reason else {
-        return Ok(());
-    };
-    if reason < database.len() && is_redundant(trail, seen, database.clause(reason), step.literal) {
-        resolve_with_reason(database, trail, heuristics, seen, *step, 0)?;
-    }
-    Ok(())
-}
-
-// Minimizes the marked clause: resolves redundant literals below the conflict level away, the latest first.
-fn minimize<A: Allocator + Copy>(
-    alloc: A,
-    database: &Database<A>,
-    trail: &Trail<A>,
-    heuristics: &mut Heuristics<A>,
-    seen: &mut Seen<A>,
-) -> Result<(), AllocError>
-    requires resolvent { IsResolvent database.now seen.old }
-    ensures resolvent { OnOk result (IsResolvent database.now seen.new) }
-{
-    let mut places = places_of(alloc, trail, seen.to_clear())?;
-    places.sort_unstable();
-    for place in places.iter().rev() {
-        minimize_literal(database, trail, heuristics, seen, *place)?;
-    }
-    Ok(())
-}
-
-// The places in the trail of the literals below the conflict level, but for root literals.
-fn places_of<A: Allocator + Copy>(
-    alloc: A,
-    trail: &Trail<A>,
-    literals: &[Literal],
-) -> Result<Vec<usize, A>, AllocError> {
-    let mut places: Vec<usize, A> = Vec::new(alloc);
-    for l in literals {
-        let level = trail.level_of(*l);
-        if 0 < level && level < trail.level() {
-            places.push(trail.place_of(*l))?;
-        }
-    }
-    Ok(places)
-}
-
-// Resolves the marked clause to the first UIP and minimizes it, unless the conflict is at the root.
+// Resolves the marked clause to the first UIP, minimizes it, and bumps its reasons, unless the conflict is at the root.
 fn resolve_and_minimize<A: Allocator + Copy>(
-    alloc: A,
     database: &Database<A>,
     trail: &Trail<A>,
     heuristics: &mut Heuristics<A>,
@@ -244,50 +177,13 @@ fn resolve_and_minimize<A: Allocator + Copy>(
         return Ok(());
     }
     resolve_to_first_uip(database, trail, heuristics, seen, pending)?;
-    minimize(alloc, database, trail, heuristics, seen)
-}
-
-// Drops the mark of a literal that is false at the root: it can't be true.
-fn drop_at_root<A: Allocator + Copy>(
-    database: &Database<A>,
-    trail: &Trail<A>,
-    seen: &mut Seen<A>,
-    l: Literal,
-)
-    requires trail { IsTrailOf database.now.clauses trail.now }
-    requires resolvent { IsResolvent database.now seen.old }
-    ensures only { Grows seen.new seen.old }
-    ensures resolvent { IsResolvent database.now seen.new }
-{
-    if trail.is_true_before(l.negated(), trail.first_start()) {
-        database.all_follow();
-        seen.remove(l);
-    }
-}
-
-// Drops the marks of all literals that are false at the root.
-pub(crate) fn drop_root<A: Allocator + Copy>(
-    database: &Database<A>,
-    trail: &Trail<A>,
-    seen: &mut Seen<A>,
-)
-    requires trail { IsTrailOf database.now.clauses trail.now }
-    requires resolvent { IsResolvent database.now seen.old }
-    ensures only { Grows seen.new seen.old }
-    ensures resolvent { IsResolvent database.now seen.new }
-{
-    for place in 0..seen.to_clear().len() {
-        let Some(l) = seen.to_clear().get(place) else {
-            return;
-        };
-        let l = *l;
-        drop_at_root(database, trail, seen, l);
-    }
+    let analyzed = seen.to_clear().len();
+    minimize(database, trail, &mut heuristics.chains, seen)?;
+    heuristics.bump_reason_sides(database, trail, seen, analyzed)
 }
 
 // Analyzes a conflict: the marked literals are an implied clause then, of which none is false at the root.
 pub(crate) fn analyze<A: Allocator + Copy>(
-    alloc: A,
     database: &Database<A>,
     trail: &Trail<A>,
     heuristics: &mut Heuristics<A>,
@@ -305,7 +201,7 @@ pub(crate) fn analyze<A: Allocator + Copy>(
         database.clause(conflict),
     )?;
     heuristics.note_use(trail, conflict, database.clause(conflict));
-    resolve_and_minimize(alloc, database, trail, heuristics, seen, pending)?;
+    resolve_and_minimize(database, trail, heuristics, seen, pending)?;
     drop_root(database, trail, seen);
     Ok(())
 }

@@ -12,11 +12,12 @@ ghost use Rattle.gipsat_solver.specs.Obstacles.{AreDecidedAmong, AreDecidedBut, 
 ghost use Rattle.gipsat_solver.specs.Trail.{Advances, IsReady, IsTrailFor, IsTrailOf, progress};
 ghost use Rattle.gipsat_solver.specs.Values.{AreTrue, value_of};
 
-use crate::analyze::{drop_root, resolve_with_reason};
+use crate::analyze::resolve_with_reason;
 use crate::database::Database;
 use crate::heuristics::Heuristics;
 use crate::literal::Literal;
 use crate::propagate::propagate;
+use crate::resolve::drop_root;
 use crate::seen::Seen;
 use crate::trail::Trail;
 use std::alloc::{AllocError, Allocator};

@@ -11,16 +11,11 @@ use crate::occurrences::Occurrences;
 use crate::propagate::propagate;
 use crate::resolve::{Resolution, add_resolvents};
 use crate::seen::Seen;
+use crate::settings::SETTINGS;
 use crate::subsume::{Marks, Subsumption, find_subsumed};
 use crate::trail::Trail;
 use crate::watches::{ClauseStatus, Watches, short};
 use std::alloc::{AllocError, Allocator, Global};
-
-// A literal that more clauses have is not eliminated.
-const OCCURRENCES: usize = 100;
-
-// A variable is not eliminated if one of its resolvents has more literals.
-const LITERALS: usize = 100;
 
 // An elimination: the clauses that take part, and the queue of those that may subsume others.
 #[derive(Drop)]
@@ -36,8 +31,8 @@ struct Elimination<A: Allocator = Global> {
 }
 
 impl<A: Allocator + Copy> Elimination<A> {
-    // Of no clause yet and so many variables, up to so many steps.
-    fn new(alloc: A, variables: usize, steps: u64) -> Result<Self, AllocError>
+    // Of no clause yet and so many variables, with no steps.
+    fn new(alloc: A, variables: usize) -> Result<Self, AllocError>
         requires { variables < 2 ^ 40 }
     {
         let marks = Marks::new(alloc, variables)?;
@@ -46,7 +41,7 @@ impl<A: Allocator + Copy> Elimination<A> {
             marks,
             waiting: Vec::new(alloc),
             known: 0,
-            steps,
+            steps: 0,
         })
     }
 
@@ -67,6 +62,7 @@ impl<A: Allocator + Copy> Elimination<A> {
                 self.freeze(clause);
             }
             if !has_twice {
+                self.spend(clause.len().saturating_mul(SETTINGS.occurrence_steps));
                 self.occurrences.connect(trail, clause, place)?;
                 self.waiting.push(short(place))?;
             }
@@ -106,6 +102,7 @@ impl<A: Allocator + Copy> Elimination<A> {
         if (place as usize) < database.len() {
             watches.set_status(place as usize, status);
             let clause = database.clause(place as usize);
+            self.spend(clause.len().saturating_mul(SETTINGS.occurrence_steps));
             self.occurrences.disconnect(trail, clause, place);
         }
     }
@@ -182,7 +179,9 @@ impl<A: Allocator + Copy> Elimination<A> {
             let Some(more) = self.literals_more(trail, clause, literal.negated()) else {
                 continue;
             };
-            if resolutions.len() >= most || size.saturating_add(more) > LITERALS {
+            if resolutions.len() >= most
+                || size.saturating_add(more) > SETTINGS.resolvent_literals
+            {
                 return Ok(false);
             }
             resolutions.push(Resolution {
@@ -240,7 +239,7 @@ fn find_replacement<A: Allocator + Copy>(
 ) -> Result<bool, AllocError> {
     let count = elimination.occurrences.count(l);
     let negated = elimination.occurrences.count(l.negated());
-    if trail.value(l).is_some() || count > OCCURRENCES || negated > OCCURRENCES {
+    if trail.value(l).is_some() || count > SETTINGS.occurrences || negated > SETTINGS.occurrences {
         return Ok(false);
     }
     elimination.list(l, &mut found.positive)?;
@@ -434,6 +433,7 @@ fn replace<A: Allocator + Copy>(
     heuristics.eliminated.push(l, &found.positive)?;
     heuristics.activity.take_out(l.variable());
     elimination.occurrences.freeze(l.variable());
+    elimination.steps = elimination.steps.saturating_add(SETTINGS.variable_steps);
     let watches = &mut heuristics.watches;
     for place in &found.positive {
         elimination.take_out(database, trail, watches, *place, ClauseStatus::Eliminated);
@@ -465,6 +465,7 @@ fn eliminate_each<A: Allocator + Copy>(
         if elimination.steps == 0 {
             return Ok(());
         }
+        elimination.spend(SETTINGS.occurrence_steps);
         let Some(variable) = elimination.occurrences.next_candidate() else {
             return Ok(());
         };
@@ -518,7 +519,7 @@ pub(crate) fn eliminate<A: Allocator + Copy>(
         return Ok(());
     }
     heuristics.eliminated.tidy(alloc)?;
-    let mut elimination = Elimination::new(alloc, database.variables(), steps)?;
+    let mut elimination = Elimination::new(alloc, database.variables())?;
     eliminate_but(
         alloc,
         database,
@@ -527,10 +528,11 @@ pub(crate) fn eliminate<A: Allocator + Copy>(
         seen,
         &mut elimination,
         frozen,
+        steps,
     )
 }
 
-// Eliminates variables but for the frozen ones, in an elimination in which no clause takes part yet.
+// Eliminates variables but for the frozen ones, in so many steps. No clause takes part in the elimination yet.
 #[tactic(auto, using(crate::proofs::DerivesLemmas::Derives_same, crate::proofs::DerivesLemmas::Derives_then))]
 fn eliminate_but<A: Allocator + Copy>(
     alloc: A,
@@ -540,6 +542,7 @@ fn eliminate_but<A: Allocator + Copy>(
     seen: &mut Seen<A>,
     elimination: &mut Elimination<A>,
     frozen: &[u32],
+    steps: u64,
 ) -> Result<(), AllocError>
     requires ready { IsReady database.old trail.now seen.old }
     ensures ready { OnOk result (IsReady database.new trail.now seen.new) }
@@ -549,6 +552,7 @@ fn eliminate_but<A: Allocator + Copy>(
         elimination.occurrences.freeze(*variable);
     }
     elimination.connect_new(database, trail, &heuristics.watches)?;
+    elimination.steps = steps;
     heuristics.watches.detach_all();
     eliminate_each(alloc, database, trail, heuristics, seen, elimination)?;
     delete_learned(database, heuristics);

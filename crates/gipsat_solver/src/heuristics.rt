@@ -3,14 +3,18 @@ ghost use Rattle.std.specs.Prelude.{◌≡◌, ◌^◌, ◌<◌};
 ghost use Rattle.gipsat_solver.specs.Trail.{KeepsTrail};
 
 use crate::activity::Activity;
+use crate::chains::Chains;
 use crate::database::Database;
 use crate::eliminated::Eliminated;
 use crate::glue::Glue;
 use crate::literal::Literal;
 use crate::phases::Phases;
+use crate::reason_sides::ReasonSides;
 use crate::restart_policy::RestartPolicy;
+use crate::seen::Seen;
+use crate::settings::SETTINGS;
 use crate::trail::Trail;
-use crate::watches::{ClauseStatus, SAFE_GLUE, Watches};
+use crate::watches::{ClauseStatus, Watches};
 use std::alloc::{AllocError, Allocator, Global};
 
 /// How much a solver did since it was made. After a call that was refused memory the counts are those of before it.
@@ -22,7 +26,7 @@ pub struct Stats {
     pub decisions: u64,
     /// Literals whose clauses were looked at.
     pub propagations: u64,
-    /// How often all decisions were taken back to begin anew.
+    /// How often the search restarted: took decisions back that another one comes before now.
     pub restarts: u64,
     /// Learned clauses and resolvents that are not looked at any more.
     pub deleted: u64,
@@ -50,6 +54,8 @@ pub(crate) struct Heuristics<A: Allocator = Global> {
     pub activity: Activity<A>,
     pub watches: Watches<A>,
     pub glue: Glue<A>,
+    pub chains: Chains<A>,
+    pub reason_sides: ReasonSides<A>,
     pub restart_policy: RestartPolicy,
     pub phases: Phases<A>,
     pub eliminated: Eliminated<A>,
@@ -68,6 +74,8 @@ impl<A: Allocator + Copy> Heuristics<A> {
             activity: Activity::new(alloc)?,
             watches: Watches::new(alloc),
             glue: Glue::new(alloc),
+            chains: Chains::new(alloc),
+            reason_sides: ReasonSides::new(alloc),
             restart_policy: RestartPolicy::new(),
             phases: Phases::new(alloc),
             eliminated: Eliminated::new(alloc),
@@ -93,7 +101,7 @@ impl<A: Allocator + Copy> Heuristics<A> {
     // The same with room for so many variables, for a search that guesses or not, among all variables or in a domain.
     // Eliminated variables that are assumed, in the domain or in a new clause are restored.
     pub(crate) fn begun(
-        self,
+        mut self,
         alloc: A,
         database: &Database<A>,
         variables: usize,
@@ -103,28 +111,22 @@ impl<A: Allocator + Copy> Heuristics<A> {
     ) -> Result<Self, AllocError>
         requires { variables < 2 ^ 40 }
     {
-        let mut heuristics = self.grown(alloc, variables)?;
-        heuristics.begin(database, is_guess, assumptions, domain)?;
-        Ok(heuristics)
+        self.grow(alloc, variables)?;
+        self.begin(database, is_guess, assumptions, domain)?;
+        Ok(self)
     }
 
-    // The same with room for so many variables.
-    fn grown(mut self, alloc: A, variables: usize) -> Result<Self, AllocError>
-        requires { variables < 2 ^ 40 }
-    {
-        self.grow_tables(alloc, variables)?;
-        let activity = self.activity.grown(variables)?;
-        Ok(Heuristics { activity, ..self })
-    }
-
-    // Makes room for so many variables, but for their scores.
-    fn grow_tables(&mut self, alloc: A, variables: usize) -> Result<(), AllocError>
+    // Makes room for so many variables.
+    fn grow(&mut self, alloc: A, variables: usize) -> Result<(), AllocError>
         requires { variables < 2 ^ 40 }
     {
         self.watches.grow(alloc, variables)?;
         self.glue.grow(variables)?;
+        self.chains.grow(variables)?;
+        self.reason_sides.grow(variables)?;
         self.phases.grow(variables)?;
-        self.eliminated.grow(variables)
+        self.eliminated.grow(variables)?;
+        self.activity.grow(variables)
     }
 
     // A search begins. It may be stable only if nothing is assumed and there is no domain.
@@ -153,7 +155,7 @@ impl<A: Allocator + Copy> Heuristics<A> {
     // A conflict was met.
     pub(crate) fn count_conflict(&mut self) {
         self.stats.conflicts = self.stats.conflicts.saturating_add(1);
-        self.activity.decay();
+        self.activity.decay(self.restart_policy.modes.growth());
         self.watches.decay();
     }
 
@@ -170,13 +172,32 @@ impl<A: Allocator + Copy> Heuristics<A> {
     // A conflict was resolved with the clause at a place.
     pub(crate) fn note_use(&mut self, trail: &Trail<A>, place: usize, clause: &[Literal]) {
         if let Some(old) = self.watches.glue(place) {
-            let glue = if old > SAFE_GLUE {
+            let glue = if old > SETTINGS.safe_glue {
                 self.glue.of(trail, clause)
             } else {
                 old
             };
             self.watches.use_clause(place, glue);
         }
+    }
+
+    // Bumps the variables in the reasons of the marked literals in the stable mode, but for so many that analysis has
+    // seen first.
+    pub(crate) fn bump_reason_sides(
+        &mut self,
+        database: &Database<A>,
+        trail: &Trail<A>,
+        seen: &Seen<A>,
+        analyzed: usize,
+    ) -> Result<(), AllocError> {
+        if !self.restart_policy.modes.is_stable() {
+            return Ok(());
+        }
+        self.reason_sides.collect(database, trail, seen, analyzed)?;
+        for variable in self.reason_sides.variables() {
+            self.activity.bump(*variable);
+        }
+        Ok(())
     }
 
     // The phase with which a variable is decided: in the stable mode that of the longest trail, else the saved one.
@@ -189,8 +210,39 @@ impl<A: Allocator + Copy> Heuristics<A> {
         }
     }
 
+    // The level to which a restart backtracks: the root where a turn begins or phases are reset, and else as many levels
+    // stay as have decisions that come before the next one.
+    pub(crate) fn restart_level(&mut self, trail: &Trail<A>) -> usize {
+        if self.activity.is_limited() || self.begins_anew() {
+            return 0;
+        }
+        let Some(next) = self.activity.next(&trail.values) else {
+            return 0;
+        };
+        let score = self.activity.score(next);
+        for (level, start) in trail.level_starts.iter().enumerate() {
+            match trail.steps.get(*start) {
+                Some(step) if self.activity.score(step.literal.variable()) > score => {}
+                _ => return level,
+            }
+        }
+        trail.level()
+    }
+
+    // Whether a turn begins at the next restart, or phases are reset.
+    fn begins_anew(&self) -> bool {
+        let modes = self.restart_policy.modes;
+        modes.has_ended(self.stats.conflicts, self.stats.propagations)
+            || modes.is_allowed() && self.phases.reset_is_due(self.stats.conflicts)
+    }
+
     // The search has restarted: begins the next turn and resets the saved phases, if that is due.
-    pub(crate) fn note_restart(&mut self, alloc: A, trail: &mut Trail<A>) -> Result<(), AllocError>
+    pub(crate) fn note_restart(
+        &mut self,
+        alloc: A,
+        database: &Database<A>,
+        trail: &mut Trail<A>,
+    ) -> Result<(), AllocError>
         ensures values { trail.new.values ≡ trail.old.values }
         ensures trail { KeepsTrail trail.old trail.new }
     {
@@ -203,7 +255,8 @@ impl<A: Allocator + Copy> Heuristics<A> {
             return Ok(());
         }
         if let Some(phases) = self.phases.reset(alloc, trail, conflicts)? {
-            trail.set_phases(phases);
+            let mut walk = self.phases.walk(alloc, phases, self.stats.propagations);
+            trail.set_phases(walk.phases(alloc, database, trail, &self.watches)?);
         }
         Ok(())
     }

@@ -140,7 +140,7 @@ pub(crate) fn clause_of_conflict<A: Allocator + Copy>(
     ensures some { IfOk result (λ found. IfSome found (IsLearnedClause database.now trail.now)) }
     ensures none { IfOk result (λ found. IfNone found (Implies database.now.formula [])) }
 {
-    analyze(alloc, database, trail, heuristics, seen, conflict)?;
+    analyze(database, trail, heuristics, seen, conflict)?;
     let clause = seen.take(alloc)?;
     if clause.is_empty() {
         return Ok(None);

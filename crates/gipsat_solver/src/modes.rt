@@ -1,10 +1,6 @@
 //! The modes of a search, by turns: the focused one restarts often, the stable one seldom.
 
-// How many conflicts the first turn lasts. It is focused.
-const FIRST_TURN: u64 = 1_000;
-
-// How many conflicts the shortest interval between two restarts has in the stable mode.
-const UNIT: u64 = 1_024;
+use crate::settings::SETTINGS;
 
 // Whose turn it is, and when it ends.
 #[derive(Clone, Copy)]
@@ -51,6 +47,15 @@ impl Modes {
         self.is_stable && self.is_allowed
     }
 
+    // By which part of itself a bump of a variable grows at a conflict.
+    pub(crate) fn growth(&self) -> f64 {
+        if self.is_stable() {
+            SETTINGS.stable_growth
+        } else {
+            SETTINGS.focused_growth
+        }
+    }
+
     // Begins the next turn, if the present one has ended after so many conflicts and propagations. Whether it has.
     pub(crate) fn turn(&mut self, conflicts: u64, propagations: u64) -> bool {
         if !self.has_ended(conflicts, propagations) {
@@ -68,24 +73,28 @@ impl Modes {
     }
 
     // Whether the present turn has ended after so many conflicts and propagations.
-    fn has_ended(&self, conflicts: u64, propagations: u64) -> bool {
+    pub(crate) fn has_ended(&self, conflicts: u64, propagations: u64) -> bool {
         if self.turns == 0 {
-            conflicts >= FIRST_TURN
+            conflicts >= SETTINGS.first_turn
         } else {
             propagations >= self.end
         }
     }
 
-    // How many literals the present turn propagates: a stable one half as many as the focused one behind it.
+    // How many literals the present turn propagates: a stable one fewer than the focused one behind it.
     fn work(&self) -> u64 {
         let pair = self.turns.saturating_add(1) / 2;
         let work = self.first.saturating_mul(pair.saturating_mul(pair));
-        if self.is_stable { work / 2 } else { work }
+        if self.is_stable {
+            work / SETTINGS.stable_share
+        } else {
+            work
+        }
     }
 
     // The interval until the next restart in the stable mode.
     pub(crate) fn interval(&mut self) -> u64 {
-        let interval = self.units.saturating_mul(UNIT);
+        let interval = self.units.saturating_mul(SETTINGS.stable_interval);
         let lowest_digit = self.intervals ^ (self.intervals & self.intervals.saturating_sub(1));
         if self.units == lowest_digit {
             self.intervals = self.intervals.saturating_add(1);

@@ -1,10 +1,9 @@
 //! The phases with which variables are decided: those of the longest trails without a conflict.
 
+use crate::settings::SETTINGS;
 use crate::trail::Trail;
+use crate::walk::Walk;
 use std::alloc::{AllocError, Allocator, Global};
-
-// How many conflicts there are before the saved phases are reset for the first time. The intervals grow by as many.
-const INTERVAL: u64 = 1_000;
 
 // Where the pseudo-random numbers begin.
 const SEED: u64 = 0x9e37_79b9_7f4a_7c15;
@@ -22,6 +21,8 @@ pub(crate) struct Phases<A: Allocator = Global> {
     resets: u64,
     next: u64,
     random: u64,
+    // How many literals were propagated at the last walk.
+    propagations: u64,
 }
 
 impl<A: Allocator + Copy> Phases<A> {
@@ -33,8 +34,9 @@ impl<A: Allocator + Copy> Phases<A> {
             best: Vec::new(alloc),
             best_len: 0,
             resets: 0,
-            next: INTERVAL,
+            next: SETTINGS.phase_interval,
             random: SEED,
+            propagations: 0,
         }
     }
 
@@ -73,6 +75,11 @@ impl<A: Allocator + Copy> Phases<A> {
         self.target_len = 0;
     }
 
+    // Whether the saved phases are to be reset after so many conflicts.
+    pub(crate) fn reset_is_due(&self, conflicts: u64) -> bool {
+        conflicts >= self.next
+    }
+
     // The phases that are to be saved in the place of those of a trail, if that is due after so many conflicts.
     pub(crate) fn reset(
         &mut self,
@@ -80,11 +87,11 @@ impl<A: Allocator + Copy> Phases<A> {
         trail: &Trail<A>,
         conflicts: u64,
     ) -> Result<Option<Vec<bool, A>>, AllocError> {
-        if conflicts < self.next {
+        if !self.reset_is_due(conflicts) {
             return Ok(None);
         }
         self.resets = self.resets.saturating_add(1);
-        self.next = conflicts.saturating_add(INTERVAL.saturating_mul(self.resets));
+        self.next = conflicts.saturating_add(SETTINGS.phase_interval.saturating_mul(self.resets));
         let mut phases = Vec::new(alloc);
         for (variable, phase) in trail.phases.iter().enumerate() {
             phases.push(self.new_phase(variable, *phase))?;
@@ -95,6 +102,18 @@ impl<A: Allocator + Copy> Phases<A> {
             self.best_len = 0;
         }
         Ok(Some(phases))
+    }
+
+    // The walk that is due after a reset, after so many propagations: from these phases on, if they are the best ones.
+    pub(crate) fn walk(&mut self, alloc: A, phases: Vec<bool, A>, propagations: u64) -> Walk<A> {
+        let propagated = propagations.saturating_sub(self.propagations);
+        let steps = if self.resets % 2 == 0 {
+            self.propagations = propagations;
+            (propagated / SETTINGS.walk_share).min(SETTINGS.walk_steps)
+        } else {
+            0
+        };
+        Walk::new(alloc, phases, steps, self.random ^ propagations)
     }
 
     // The new phase of a variable: in turn false, true, or one in eight by chance; and between these the best one.

@@ -4,24 +4,10 @@ ghost use Rattle.std.specs.ControlFlow.{break_value};
 ghost use Rattle.gipsat_solver.specs.Answers.{IsRight, IsRightAtAnyLimit};
 ghost use Rattle.gipsat_solver.specs.Database.{HasUpTo, Learns};
 
+use crate::settings::SETTINGS;
 use crate::solver::{Answer, AnswerUnder, Budget, Solver};
 use std::alloc::{AllocError, Allocator};
 use std::ops::ControlFlow;
-
-// How many clauses a slice learns at most.
-const CLAUSES: usize = 2_000;
-
-// How many literals a slice propagates at first. It is doubled where a slice meets no conflict.
-const PROPAGATIONS: u64 = 4_000_000;
-
-// About how many literals an elimination of variables looks at.
-const STEPS: u64 = 100_000_000;
-
-// The search propagates so many literals for each one that the shortening of clauses may propagate.
-const SHARE: u64 = 5;
-
-// The database is compacted once one clause of so many was deleted.
-const PARTS: u64 = 4;
 
 /// A listener: it is told how far a search is, and may stop it.
 pub trait Progress<A: Allocator> {
@@ -127,12 +113,12 @@ fn solve_on<A: Allocator + Copy, P: Progress<A>>(
     ensures formula { solver.new.formula ≡ solver.old.formula }
 {
     let mut left = limit;
-    let mut propagations = PROPAGATIONS;
+    let mut propagations = SETTINGS.slice_propagations;
     let mut compacted = solver.stats().deleted;
     for slice in 0..usize::MAX {
         progress.begin(solver);
         let start = Start::of(solver);
-        if let Some(answer) = solve_slice(solver, left.min(CLAUSES), propagations)? {
+        if let Some(answer) = solve_slice(solver, left.min(SETTINGS.slice_clauses), propagations)? {
             return Ok(Some(answer));
         }
         let learned = solver.learned() - start.learned;
@@ -234,9 +220,19 @@ fn inprocess<A: Allocator + Copy>(
         .propagations
         .saturating_sub(start.propagations);
     if is_first {
-        solver.eliminate(&[], STEPS)?;
+        let more = literals(solver).saturating_mul(SETTINGS.literal_steps);
+        solver.eliminate(&[], SETTINGS.elimination_steps.saturating_add(more))?;
     }
-    solver.vivify(start.clauses, propagations / SHARE)
+    solver.vivify(start.clauses, propagations / SETTINGS.vivification_share)
+}
+
+// How many literals the clauses have.
+fn literals<A: Allocator + Copy>(solver: &Solver<A>) -> u64 {
+    let mut literals = 0u64;
+    for place in 0..solver.len() {
+        literals = literals.saturating_add(solver.clause(place).len() as u64);
+    }
+    literals
 }
 
 // Compacts once a quarter of the clauses were deleted since the last compaction. The deletion count then, or None where
@@ -251,7 +247,7 @@ fn compact<A: Allocator + Copy, P: Progress<A>>(
     ensures learned { solver.new.learned ≡ solver.old.learned }
 {
     let deleted = solver.stats().deleted;
-    if deleted.saturating_sub(compacted) < solver.len() as u64 / PARTS {
+    if deleted.saturating_sub(compacted) < solver.len() as u64 / SETTINGS.compaction_share {
         return Ok(Some(compacted));
     }
     if progress.forget(solver).is_break() {

@@ -3,6 +3,7 @@ ghost use Rattle.std.specs.Prelude.{◌≡◌, ◌<◌, None, length, IfOk, IfSo
 ghost use Rattle.gipsat_solver.specs.Trail.{IsTrailFor, MeetsConflict, Propagates};
 ghost use Rattle.gipsat_solver.specs.Values.{AreFalseBetween, AreFalseBut};
 
+use crate::activity::Activity;
 use crate::database::Database;
 use crate::heuristics::Heuristics;
 use crate::literal::Literal;
@@ -69,11 +70,21 @@ pub(crate) fn non_false_place<A: Allocator + Copy>(
     }
 }
 
+// Whether a literal gets no value, though its clause is unit: above the root, where it is not of the domain.
+fn is_passed_over<A: Allocator + Copy>(
+    trail: &Trail<A>,
+    activity: &Activity<A>,
+    l: Literal,
+) -> bool {
+    trail.level() > 0 && activity.excludes(l.variable()) && trail.value(l).is_none()
+}
+
 // Visits a clause one of whose watched literals has become false.
 fn visit_clause<A: Allocator + Copy>(
     database: &Database<A>,
     trail: &mut Trail<A>,
     watches: &mut Watches<A>,
+    activity: &Activity<A>,
     watch: Watch,
     falsified: Literal,
 ) -> Result<Visit, AllocError>
@@ -119,6 +130,9 @@ fn visit_clause<A: Allocator + Copy>(
         watches.add(clause[place], watch)?;
         return Ok(no_conflict(short, unit, false));
     }
+    if is_passed_over(trail, activity, unit) {
+        return Ok(no_conflict(short, unit, true));
+    }
     match trail.value(unit) {
         Some(false) => Ok(Visit {
             clause: short,
@@ -140,6 +154,7 @@ fn visit_watches<A: Allocator + Copy>(
     database: &Database<A>,
     trail: &mut Trail<A>,
     watches: &mut Watches<A>,
+    activity: &Activity<A>,
     falsified: Literal,
 ) -> Result<Option<usize>, AllocError>
     requires trail { IsTrailFor database.now trail.old }
@@ -151,7 +166,7 @@ fn visit_watches<A: Allocator + Copy>(
     let mut kept = 0;
     let mut conflict = None;
     for place in 0..list.len() {
-        let visit = visit_clause(database, trail, watches, list[place], falsified)?;
+        let visit = visit_clause(database, trail, watches, activity, list[place], falsified)?;
         list[kept] = Watch {
             clause: visit.clause,
             blocker: visit.blocker,
@@ -177,7 +192,14 @@ pub(crate) fn propagate<A: Allocator + Copy>(
 {
     while let Some(l) = trail.next() {
         heuristics.count_propagation();
-        let conflict = visit_watches(alloc, database, trail, &mut heuristics.watches, l.negated())?;
+        let conflict = visit_watches(
+            alloc,
+            database,
+            trail,
+            &mut heuristics.watches,
+            &heuristics.activity,
+            l.negated(),
+        )?;
         if let Some(_) = conflict {
             return Ok(conflict);
         }

@@ -3,11 +3,12 @@
 use crate::database::Database;
 use crate::heuristics::Heuristics;
 use crate::literal::Literal;
+use crate::settings::SETTINGS;
 use crate::trail::Trail;
-use crate::watches::{ClauseStatus, Rating, SAFE_GLUE, Watches};
+use crate::watches::{ClauseStatus, Rating, Watches};
 use std::alloc::{AllocError, Allocator};
 
-// Deletes three quarters of the learned clauses that were not used of late, once the policy says so.
+// Deletes most of the learned clauses that were not used of late, once the policy says so.
 pub(crate) fn reduce<A: Allocator + Copy>(
     alloc: A,
     database: &Database<A>,
@@ -41,7 +42,7 @@ pub(crate) fn reduce<A: Allocator + Copy>(
 
 // Whether a learned clause stays whatever it is worth: its glue is low, or it was used of late.
 fn is_safe(rating: Rating) -> bool {
-    rating.glue <= SAFE_GLUE || rating.turns > 0
+    rating.glue <= SETTINGS.safe_glue || rating.turns > 0
 }
 
 // What a learned clause is worth: by its glue, and then by its activity.
@@ -50,7 +51,7 @@ fn worth(rating: Rating) -> u64 {
     (glue << 32) | (rating.activity >> 20).min(0xffff_ffff)
 }
 
-// What a clause has to be worth to be among the best quarter of those that may go.
+// What a clause has to be worth to be among the best of those that may go, which stay.
 fn least_worth<A: Allocator + Copy>(alloc: A, watches: &Watches<A>) -> Result<u64, AllocError> {
     let mut worths: Vec<u64, A> = Vec::new(alloc);
     for place in 0..watches.len() {
@@ -61,10 +62,12 @@ fn least_worth<A: Allocator + Copy>(alloc: A, watches: &Watches<A>) -> Result<u6
         }
     }
     worths.sort_unstable();
-    Ok(match worths.get(worths.len() - worths.len() / 4) {
-        Some(worth) => *worth,
-        None => 0,
-    })
+    Ok(
+        match worths.get(worths.len() - worths.len() / SETTINGS.staying_share) {
+            Some(worth) => *worth,
+            None => 0,
+        },
+    )
 }
 
 // Watches a clause again, or deletes it if it is satisfied at the root, or learned and worth less. Whether it is learned

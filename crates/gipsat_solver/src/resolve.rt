@@ -2,11 +2,10 @@
 ghost use Rattle.std.specs.Prelude.{◌≡◌, ◌≢◌, ◌<◌, true, length, IfOk, OnOk};
 ghost use Rattle.gipsat_solver.specs.Formulas.{AreBelow, Has, HasBut, Implies};
 ghost use Rattle.gipsat_solver.specs.Literals.{code};
-ghost use Rattle.gipsat_solver.specs.Seen.{AreSeen, AreSeenBut, Grows, HaveFlags, IsResolvent};
+ghost use Rattle.gipsat_solver.specs.Seen.{AreSeen, AreSeenBut, Grows, HaveFlags, IsResolvent, is_seen};
 ghost use Rattle.gipsat_solver.specs.Database.{Derives};
-ghost use Rattle.gipsat_solver.specs.Trail.{IsReady};
+ghost use Rattle.gipsat_solver.specs.Trail.{IsReady, IsTrailOf};
 
-use crate::analyze::drop_root;
 use crate::database::Database;
 use crate::literal::Literal;
 use crate::seen::Seen;
@@ -19,6 +18,19 @@ pub(crate) struct Resolution {
     pub first: u32,
     pub second: u32,
     pub literal: Literal,
+}
+
+// Marks a literal as seen, unless it is.
+fn mark<A: Allocator + Copy>(seen: &mut Seen<A>, l: Literal) -> Result<(), AllocError>
+    requires { code l < length seen.old }
+    ensures len { length seen.new ≡ length seen.old }
+    ensures grows { OnOk result (Grows seen.old seen.new) }
+    ensures marked { OnOk result (is_seen seen.new l ≡ true) }
+{
+    if seen.has(l) {
+        return Ok(());
+    }
+    seen.add(l)
 }
 
 // Marks the literals of a clause but one as seen.
@@ -34,7 +46,7 @@ fn mark_but<A: Allocator + Copy>(
 {
     for l in clause {
         if l.code() != but.code() {
-            seen.add(*l)?;
+            mark(seen, *l)?;
         }
     }
     Ok(())
@@ -59,6 +71,47 @@ pub(crate) fn resolve_with<A: Allocator + Copy>(
     seen.remove(l.negated());
     mark_but(seen, database.clause(reason), l)?;
     Ok(())
+}
+
+// Drops the mark of a literal that is false at the root: it can't be true.
+fn drop_at_root<A: Allocator + Copy>(
+    database: &Database<A>,
+    trail: &Trail<A>,
+    seen: &mut Seen<A>,
+    l: Literal,
+)
+    requires trail { IsTrailOf database.now.clauses trail.now }
+    requires resolvent { IsResolvent database.now seen.old }
+    ensures only { Grows seen.new seen.old }
+    ensures resolvent { IsResolvent database.now seen.new }
+{
+    if trail.level_of(l) > 0 {
+        return;
+    }
+    if trail.is_true_before(l.negated(), trail.first_start()) {
+        database.all_follow();
+        seen.remove(l);
+    }
+}
+
+// Drops the marks of all literals that are false at the root.
+pub(crate) fn drop_root<A: Allocator + Copy>(
+    database: &Database<A>,
+    trail: &Trail<A>,
+    seen: &mut Seen<A>,
+)
+    requires trail { IsTrailOf database.now.clauses trail.now }
+    requires resolvent { IsResolvent database.now seen.old }
+    ensures only { Grows seen.new seen.old }
+    ensures resolvent { IsResolvent database.now seen.new }
+{
+    for place in 0..seen.to_clear().len() {
+        let Some(l) = seen.to_clear().get(place) else {
+            return;
+        };
+        let l = *l;
+        drop_at_root(database, trail, seen, l);
+    }
 }
 
 // The resolvent of two clauses, without the literals that are false at the root.

@@ -1,36 +1,49 @@
 //! When to restart, and when to delete learned clauses.
 
 use crate::modes::Modes;
+use crate::settings::SETTINGS;
 
-// The least number of conflicts between two restarts in the focused mode.
-const LEAST_INTERVAL: u64 = 50;
+// An average in which each value counts by a rate: recent values count most. The first ones count alike.
+#[derive(Clone, Copy)]
+struct Average {
+    value: f64,
+    count: f64,
+    rate: f64,
+}
 
-// Over how many learned clauses the fast average of glue runs.
-const LAST: u64 = 32;
+impl Average {
+    // Of no value.
+    fn new(rate: f64) -> Self {
+        Average {
+            value: 0.0,
+            count: 0.0,
+            rate,
+        }
+    }
 
-// The binary digits behind the point of the fast average.
-const DIGITS: u32 = 16;
+    // The average with one value more.
+    fn with(&self, value: f64) -> Self {
+        let count = self.count + 1.0;
+        let equal = 1.0 / count;
+        let share = if equal > self.rate { equal } else { self.rate };
+        Average {
+            value: self.value + (value - self.value) * share,
+            count,
+            rate: self.rate,
+        }
+    }
+}
 
-// How many conflicts there are before the first reduction.
-const FIRST_REDUCTION: u64 = 2_000;
-
-// The intervals between two reductions are this number times the square root of how many there were.
-const REDUCTION_INTERVAL: u64 = 350;
-
-// For so many clauses in the database an interval between two reductions has at least one conflict.
-const CLAUSES: usize = 500;
-
-// Restart policy: in the focused mode the fast average of glue against the average of all learned clauses.
+// Restart policy: in the focused mode the fast average of glue against the slow one.
 #[derive(Clone, Copy)]
 pub(crate) struct RestartPolicy {
     pub modes: Modes,
-    // How many conflicts there are at least until the next restart.
+    // How many conflicts there are at least until the next restart, and how many propagations there were at the last.
     left: u64,
-    // The glue of the clauses that were learned in the focused mode in sum, and the fast average.
-    glue_sum: u64,
-    fast_glue: u64,
-    // How many clauses the sum is of.
-    clauses: u64,
+    last_restart: u64,
+    // The glue of the clauses that were learned in the focused mode.
+    fast_glue: Average,
+    slow_glue: Average,
     // How many learned clauses are watched.
     pub learned: usize,
     // How many reductions there were, the root of that number, and at how many conflicts the next one is due.
@@ -44,38 +57,42 @@ impl RestartPolicy {
     pub(crate) fn new() -> Self {
         RestartPolicy {
             modes: Modes::new(),
-            left: LEAST_INTERVAL,
-            glue_sum: 0,
-            fast_glue: 0,
-            clauses: 0,
+            left: SETTINGS.focused_interval,
+            last_restart: 0,
+            fast_glue: Average::new(SETTINGS.fast_rate),
+            slow_glue: Average::new(SETTINGS.slow_rate),
             learned: 0,
             reductions: 0,
             root: 0,
-            next_reduction: FIRST_REDUCTION,
+            next_reduction: SETTINGS.first_reduction,
         }
     }
 
     // A clause of this glue was learned.
     pub(crate) fn add(&mut self, glue: u32) {
         self.learned = self.learned.saturating_add(1);
-        if self.modes.is_stable() {
-            return;
+        if !self.modes.is_stable() {
+            self.fast_glue = self.fast_glue.with(f64::from(glue));
+            self.slow_glue = self.slow_glue.with(f64::from(glue));
         }
-        let glue = u64::from(glue) << DIGITS;
-        self.clauses = self.clauses.saturating_add(1);
-        self.glue_sum = self.glue_sum.saturating_add(glue);
-        let older = self.fast_glue - self.fast_glue / LAST;
-        self.fast_glue = older.saturating_add(glue / LAST);
     }
 
-    // One conflict more. Whether a restart is due.
-    pub(crate) fn restart_is_due(&mut self) -> bool {
+    // One conflict more, after so many propagations, with so many literals on the trail. Whether a restart is due: not
+    // before as many literals were propagated since the last one, since that is what it costs.
+    pub(crate) fn restart_is_due(&mut self, propagations: u64, literals: usize) -> bool {
         self.left = self.left.saturating_sub(1);
-        if self.left > 0 || !(self.modes.is_stable() || self.glue_is_high()) {
+        let propagated = propagations.saturating_sub(self.last_restart);
+        if self.left > 0 || propagated < literals as u64 || !self.wants_restart() {
             return false;
         }
         self.left = self.interval();
+        self.last_restart = propagations;
         true
+    }
+
+    // Whether the mode asks for a restart, apart from how far away the last one is.
+    fn wants_restart(&self) -> bool {
+        self.modes.is_stable() || self.glue_is_high()
     }
 
     // The least number of conflicts until the restart after the next one.
@@ -83,7 +100,7 @@ impl RestartPolicy {
         if self.modes.is_stable() {
             self.modes.interval()
         } else {
-            LEAST_INTERVAL
+            SETTINGS.focused_interval
         }
     }
 
@@ -96,9 +113,9 @@ impl RestartPolicy {
         has_ended
     }
 
-    // Whether the fast average of glue is above 5/4 of the average.
+    // Whether recent glue is above the average.
     fn glue_is_high(&self) -> bool {
-        self.fast_glue - self.fast_glue / 5 > self.glue_sum / self.clauses.max(1)
+        self.fast_glue.value > SETTINGS.restart_factor * self.slow_glue.value
     }
 
     // Whether a reduction is due, with so many clauses in the database after so many conflicts.
@@ -111,8 +128,8 @@ impl RestartPolicy {
         if next_root.saturating_mul(next_root) <= self.reductions {
             self.root = next_root;
         }
-        let interval = REDUCTION_INTERVAL.saturating_mul(self.root);
-        let interval = interval.max((clauses / CLAUSES) as u64);
+        let interval = SETTINGS.reduction_interval.saturating_mul(self.root);
+        let interval = interval.max(clauses as u64 / SETTINGS.reduction_clauses);
         self.next_reduction = conflicts.saturating_add(interval);
         true
     }

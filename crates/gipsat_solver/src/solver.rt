@@ -260,9 +260,9 @@ impl<A: Allocator + Copy> Solver<A> {
 
     /// What [`Solver::guess_under`] does, where only the variables of a domain are decided, apart from the assumptions.
     ///
-    /// At `Sat` each variable of the domain has a value, and propagation from these values met no conflict. They can be
-    /// extended to a model if the domain is closed, as that of a circuit's gates is with all that they read: nothing is
-    /// proved of it. A number of the domain that the formula and the assumptions don't have is passed over.
+    /// At `Sat` each variable of the domain has a value, and propagation within the domain met no conflict. These values
+    /// can be extended to a model if the domain is closed, as that of a circuit's gates is with all that they read:
+    /// nothing is proved of it. A number of the domain that the formula and the assumptions don't have is passed over.
     ///
     /// # Errors
     /// Those of [`Solver::guess_under`].
@@ -469,8 +469,9 @@ impl<A: Allocator + Copy> Solver<A> {
 
     /// Eliminates variables: the clauses of a variable give way to their resolvents, which become clauses of the solver,
     /// if these are not more than the clauses and not long. It also drops clauses that follow from others. Besides a
-    /// walk over all clauses it takes about `steps` steps at most, each of which looks at a literal. The `frozen`
-    /// variables are not eliminated; one that was eliminated before is not brought back.
+    /// walk over all clauses it takes about `steps` steps, and some thousands more for each variable that it eliminates;
+    /// a step looks at a literal. The `frozen` variables are not eliminated; one that was eliminated before is not
+    /// brought back.
     ///
     /// The formula is the same as before, and each answer is right as before: only the search no longer looks at the
     /// clauses of an eliminated variable, and decides it last. If such a variable is assumed, or a clause with it is
@@ -640,15 +641,20 @@ fn restart<A: Allocator + Copy>(
     ensures left { OneLessOr left.old left.new (progress trail.new ≡ progress trail.old) }
 {
     reduce(alloc, database, trail, heuristics)?;
-    if !heuristics.restart_policy.restart_is_due() {
+    let propagations = heuristics.stats.propagations;
+    if !heuristics
+        .restart_policy
+        .restart_is_due(propagations, trail.steps.len())
+    {
         return Ok(());
     }
     let Some(fewer) = left.checked_sub(1) else {
         return Ok(());
     };
     *left = fewer;
-    trail.backtrack(0, &mut heuristics.activity);
-    heuristics.note_restart(alloc, trail)
+    let level = heuristics.restart_level(trail);
+    trail.backtrack(level, &mut heuristics.activity);
+    heuristics.note_restart(alloc, database, trail)
 }
 
 // Searches until a model is found, a conflict is met or the budget is spent, and learns from a conflict. None if a

@@ -136,6 +136,7 @@ pub(crate) fn find_subsumed<A: Allocator + Copy>(
         return Ok(());
     }
     let clause = database.clause(place as usize);
+    *steps = steps.saturating_sub(clause.len() as u64);
     let Some(l) = rarest(trail, occurrences, clause) else {
         return Ok(());
     };

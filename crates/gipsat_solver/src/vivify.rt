@@ -5,21 +5,18 @@ ghost use Rattle.gipsat_solver.specs.Formulas.{AreBelow, Implies};
 ghost use Rattle.gipsat_solver.specs.Seen.{IsResolvent};
 ghost use Rattle.gipsat_solver.specs.Trail.{IsReady, IsTrailFor};
 
-use crate::analyze::drop_root;
 use crate::assumptions::{Obstacle, assume_one};
 use crate::attach::attach_all;
 use crate::database::Database;
 use crate::heuristics::Heuristics;
 use crate::literal::Literal;
 use crate::propagate::propagate;
-use crate::resolve::resolve_with;
+use crate::resolve::{drop_root, resolve_with};
 use crate::seen::Seen;
+use crate::settings::SETTINGS;
 use crate::trail::{Step, Trail};
 use crate::watches::Watches;
 use std::alloc::{AllocError, Allocator};
-
-// Clauses of a greater glue are not tried.
-const GREATEST_GLUE: u32 = 6;
 
 // Tries to shorten the learned clauses of low glue from a place on, the latest first, until about so many literals were
 // propagated. Statistics stay as they are, but for the number of deleted clauses.
@@ -88,7 +85,7 @@ fn is_worthwhile<A: Allocator + Copy>(
     place: usize,
 ) -> bool {
     match watches.glue(place) {
-        Some(glue) => glue <= GREATEST_GLUE && clause.len() > 2,
+        Some(glue) => glue <= SETTINGS.vivified_glue && clause.len() > 2,
         None => false,
     }
 }

@@ -2,6 +2,7 @@
 ghost use Rattle.std.specs.Prelude.{◌^◌, ◌<◌};
 
 use crate::literal::Literal;
+use crate::settings::SETTINGS;
 use std::alloc::{AllocError, Allocator, Global};
 use std::mem;
 
@@ -93,15 +94,9 @@ const FIRST_INCREMENT: u64 = 0x10_0000;
 // By how many binary digits all activities are shifted down once the increment has grown by as many.
 const SHIFT: u32 = 24;
 
-// Clauses of at most this glue stay for good.
-pub(crate) const SAFE_GLUE: u32 = 2;
-
-// Clauses of at most this glue stay for two reductions after each use, and others for one.
-const LOW_GLUE: u32 = 6;
-
 // For how many reductions a clause of this glue stays after its use.
 fn turns_of(glue: u32) -> u8 {
-    if glue <= LOW_GLUE { 2 } else { 1 }
+    if glue <= SETTINGS.low_glue { 2 } else { 1 }
 }
 
 impl<A: Allocator + Copy> Watches<A> {
@@ -323,7 +318,9 @@ impl<A: Allocator + Copy> Watches<A> {
 
     // Lets later bumps count more than earlier ones.
     pub(crate) fn decay(&mut self) {
-        self.increment = self.increment.saturating_add(self.increment / 1024);
+        self.increment = self
+            .increment
+            .saturating_add(self.increment / SETTINGS.clause_growth);
         if self.increment >= FIRST_INCREMENT << SHIFT {
             self.increment = FIRST_INCREMENT;
             for status in self.statuses.iter_mut() {

@@ -3,7 +3,7 @@ use Rattle.std.proofs.lemmas.Bool.{OnTrue_at}
 use Rattle.gipsat_solver.specs.Literals.{Lit}
 use Rattle.gipsat_solver.specs.TrailLists.{IsTrueBefore}
 use Rattle.gipsat_solver.proofs.UnitLemmas.{ImpliesSeen-dropped}
-use Rattle.gipsat_solver.proofs.analyze.drop_at_root.Goals as goal
+use Rattle.gipsat_solver.proofs.resolve.drop_at_root.Goals as goal
 
 pub returns-then-is_true_before-clause-resolvent : goal.returns-then-is_true_before-clause-resolvent
 returns-then-is_true_before-clause-resolvent g c =

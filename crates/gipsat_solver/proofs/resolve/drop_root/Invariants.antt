@@ -1,5 +1,5 @@
 use Rattle.gipsat_solver.specs.Seen.{Grows, IsResolvent}
-use Rattle.gipsat_solver.proofs.analyze.drop_root.Given as goal
+use Rattle.gipsat_solver.proofs.resolve.drop_root.Given as goal
 
 abbrev pub invariant-loop-place : goal.invariant-loop-place
 invariant-loop-place g l = record {
