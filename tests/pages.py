@@ -61,6 +61,8 @@ PARTS = {
     "giputils_stat": ALL,
     "giputils_text": (PROVED, TESTED, CHOICES),
     "giputils_refusing": (EXAMPLE, PROVED, TESTED, CHOICES),
+    "gipsat_cnf": (EXAMPLE, PROVED, TESTED, CHOICES),
+    "gipsat_kernel": (EXAMPLE, PROVED, TESTED, CHOICES, COST),
     "gipsat_solver": (EXAMPLE, PEER + "MiniSat", PROVED, TESTED, CHOICES, COST),
     "gipsat_dimacs": (EXAMPLE, PEER + "CaDiCaL", PROVED, TESTED, CHOICES, COST),
     "gipsat_answers": (EXAMPLE, PROVED, TESTED, CHOICES, COST),

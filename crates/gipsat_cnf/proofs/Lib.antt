@@ -1,0 +1,14 @@
+pub mod Places
+pub mod LiteralLemmas
+pub mod Formulas
+pub mod MakesTrue
+pub mod Cores
+pub mod Simplifying
+pub mod Encodings
+mod LayoutLemmas
+mod Swaps
+mod Tests
+pub mod Retaining
+mod Counting
+mod Examples
+mod EncodingExamples

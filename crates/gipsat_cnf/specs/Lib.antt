@@ -1,0 +1,10 @@
+pub mod Literals
+pub mod Coding
+pub mod Formulas
+pub mod Models
+pub mod Assumptions
+pub mod Simplifying
+pub mod Encodings
+pub mod Lists
+pub mod Layout
+pub mod Numbers

@@ -1,0 +1,7 @@
+mod Marking
+mod Resolution
+mod Originals
+mod Kernels
+mod Verdicts
+mod Staying
+mod Examples

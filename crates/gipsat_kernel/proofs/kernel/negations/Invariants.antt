@@ -1,0 +1,6 @@
+use Rattle.std.proofs.Common.{◌≡◌, map, take}
+use Rattle.gipsat_cnf.specs.Literals.{negated}
+use Rattle.gipsat_kernel.proofs.kernel.negations.Given as goal
+
+abbrev pub invariant-loop-l : goal.invariant-loop-l
+invariant-loop-l g l = l.negations.items ≡ map negated (take l.l-index l.clause)
