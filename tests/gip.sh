@@ -70,6 +70,23 @@ echo pop | "$gip" > /dev/full 2> "$work/err"
 status=$?
 expect "a write that fails" 1 "output: failed" ""
 
+# Standard streams that are closed.
+try "no standard input" 2 "input: refused" "" <&-
+: > "$work/out"
+echo pop | "$gip" >&- 2> "$work/err"
+status=$?
+expect "no standard output" 1 "output: failed" ""
+: > "$work/err"
+echo pop | "$gip" > "$work/out" 2>&-
+status=$?
+expect "no standard error" 0 "" none
+echo other | "$gip" > "$work/out" 2>&-
+status=$?
+expect "no standard error, and a line of another form" 2 "" ""
+"$gip" <&- >&- 2>&-
+status=$?
+expect "no standard stream" 2 "" ""
+
 # The program is loaded, but has no room for its input: at which limit that is so depends on the system.
 status=0
 for limit in $(seq 2000 50 8000); do
