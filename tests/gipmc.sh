@@ -218,6 +218,89 @@ status=$?
 told "a certificate of two literals" $?
 rm -f cert
 
+# A certificate appears when it is whole, and what came there meanwhile stays.
+endless=(--engine bmc --depth 999999999)
+printf '%b' "$kept" > kept.aag
+rm -f cert
+"$gipmc" "${endless[@]}" -t 2 --certificate cert kept.aag > out 2> err &
+sleep 1
+[ ! -e cert ]
+told "a certificate has no name before it is whole" $?
+echo precious > cert
+wait $!
+status=$?
+[ "$status" = 0 ] && [ "$(cat cert)" = precious ] && [ ! -s err ]
+told "a file that came meanwhile stays" $?
+rm cert
+timeout -s KILL 1 "$gipmc" "${endless[@]}" --certificate killed kept.aag > out 2> err
+[ -z "$(ls killed* 2> /dev/null)" ]
+told "a run that is killed leaves no file" $?
+
+# Answers are written as they are found, also where a later one is not: for want of time, or of memory.
+printf '%b' 'aag 3 1 2 0 0 2\n2\n4 4\n6 2\n6\n4\n' > swapped.aag
+first=$(printf '1\nb0\n00\n1\n0\n.')
+timeout -s KILL 2 "$gipmc" "${endless[@]}" swapped.aag > out 2> err
+[ "$(cat out)" = "$first" ]
+told "an answer is written when it is found" $?
+SECONDS=0
+"$gipmc" "${endless[@]}" --time 1 swapped.aag > out 2> err
+status=$?
+[ "$status" = 10 ] && [ "$SECONDS" -lt 20 ] && [ "$(head -n 6 out)" = "$first" ] && [ ! -s err ] &&
+    [ "$(sed 1,6d out | tr '\n' '#' | sed 's/u[0-9]*/u/')" = 'u#2#b1#.#' ]
+told "an answer before the time is over" $?
+(ulimit -v 200000; exec "$gipmc" "${endless[@]}" swapped.aag) > out 2> err
+status=$?
+[ "$status" = 10 ] && [ "$(cat err)" = "memory: refused (b1 is left open)" ] &&
+    [ "$(cat out)" = "$first"$'\n'"$(printf '2\nb1\n.')" ]
+told "an answer before memory is refused" $?
+"$gipmc" -t 0 swapped.aag > out 2> err
+status=$?
+[ "$status" = 0 ] && [ "$(cat out)" = "$(printf '2\nb0\n.\n2\nb1\n.')" ]
+told "no time" $?
+"$gipmc" "${endless[@]}" -v -t 6 kept.aag > out 2> err
+grep -q '^c b0: depth [0-9]*, [0-9]* clauses, [0-9]* learned; [0-9]*[.][0-9][0-9][0-9] s$' err
+told "progress in a file" $?
+
+# Standard streams that are closed. No file that is opened takes their place.
+unheard='<stdout>: cannot be written: it is closed'
+"$gipmc" --bad 0 --certificate cert two.aag > out 2> err <&-
+status=$?
+[ "$status" = 20 ] && [ "$(cat out)" = "$safe" ] && [ "$("$gipmc" --certify cert --bad 0 two.aag)" = "s VERIFIED" ]
+told "no standard input, beside a circuit in a file" $?
+for words in "" "--certify - kept.aag" "--replay - kept.aag"; do
+    # shellcheck disable=SC2086
+    "$gipmc" $words > out 2> err <&-
+    status=$?
+    [ "$status" = 1 ] && [ ! -s out ] && [ "$(cat err)" = "<stdin>: cannot be read: it is closed" ]
+    told "no standard input, arguments $words" $?
+done
+for circuit in two.aag -; do
+    rm -f cert
+    "$gipmc" --bad 0 --certificate cert "$circuit" < two.aag >&- 2> err
+    status=$?
+    [ "$status" = 1 ] && [ "$(cat err)" = "$unheard" ] && [ "$("$gipmc" --certify cert --bad 0 two.aag)" = "s VERIFIED" ]
+    told "no standard output, circuit $circuit" $?
+    rm -f cert
+    "$gipmc" --bad 0 --stats --certificate cert "$circuit" < two.aag > out 2>&-
+    status=$?
+    [ "$status" = 20 ] && [ "$(cat out)" = "$safe" ] && [ "$("$gipmc" --certify cert --bad 0 two.aag)" = "s VERIFIED" ]
+    told "no standard error, circuit $circuit" $?
+done
+rm -f cert
+"$gipmc" --bad 0 --certificate cert two.aag <&- >&- 2>&-
+status=$?
+[ "$status" = 1 ] && [ "$("$gipmc" --certify cert --bad 0 two.aag)" = "s VERIFIED" ]
+told "no standard stream" $?
+cp cert held
+for words in "--certify cert --bad 0 two.aag" two.aag --help --version; do
+    # shellcheck disable=SC2086
+    "$gipmc" $words >&- 2> err
+    status=$?
+    [ "$status" = 1 ] && [ "$(cat err)" = "$unheard" ] && cmp -s cert held
+    told "no standard output, arguments $words" $?
+done
+rm -f cert
+
 # Texts that are refused.
 # shellcheck disable=SC2016
 try "an empty input" 1 '<stdin>: line 1: no header `aag` or `aig`' "" ""
@@ -249,6 +332,9 @@ try "no depth" 2 "gipmc: '--depth' needs a number behind it (try --help)" "" "" 
 try "no witness behind the option" 2 "gipmc: '--replay' needs a file behind it (try --help)" "" "" --replay
 try "no engine" 2 "gipmc: '--engine' needs sim, bmc or ic3 behind it (try --help)" "" "" --engine
 try "another engine" 2 "gipmc: '--engine' takes sim, bmc or ic3, not 'ic4' (try --help)" "" "" --engine ic4
+try "a time that is no number" 2 "gipmc: '--time' takes a number below 2^64, not 'x' (try --help)" "" "" -t x
+try "no time behind the option" 2 "gipmc: '--time' needs a number behind it (try --help)" "" "" -t
+try "a short option with = in it" 2 "gipmc: unknown option '-t=9' (try --help)" "" "" -t=9
 try "a depth that is no number" 2 "gipmc: '--depth' takes a number below 2^64, not 'x' (try --help)" "" "" --depth x
 try "two files" 2 "gipmc: one file too many, 'b' (try --help)" "" "" a b
 try "a witness and a certificate" 2 \
@@ -270,6 +356,8 @@ try "a minus for standard input" 10 "" "$fails" "$held" --engine bmc -
 status=$?
 [ "$status" = 0 ] && grep -q "^usage: gipmc" out && [ ! -s err ]
 told "help" $?
+! grep -q '.\{81\}' out
+told "the help fits into 80 columns" $?
 
 # Summaries: a line for each bad literal, with the parts that ran.
 # NAME STATUS LINES [ARGUMENT..]: runs the program, and expects these lines on standard error, with `#` behind each.
@@ -288,6 +376,9 @@ printf '%b' "$kept" > kept.aag
 summary "a summary" 0 "c b0: $bmc$took" --engine bmc --depth 5 kept.aag
 summary "a summary of simulation" 0 "c b0: round [0-9]*; $took" --engine sim kept.aag
 summary "a summary of IC3 where its first calls decide" 20 "c b0: $ic3$took" --engine ic3 kept.aag
+printf '%b' 'aag 0 0 0 0 0 1\n0\n' > constant.aag
+summary "a summary of IC3 without a lemma" 20 \
+    "c b0: frame [0-9]*, [0-9]* calls, [0-9]* obligations; $took" --engine ic3 constant.aag
 # `tools/pdr.py --family queue_length 4` made it.
 summary "a summary of IC3" 20 "c b0: $ic3$took" --engine ic3 "$top/tests/queue.aag"
 summary "a summary of two literals" 10 "c b0: $bmc${took}c b1: $bmc$took" --engine bmc --depth 3 two.aag

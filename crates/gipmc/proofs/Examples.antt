@@ -17,9 +17,17 @@ settings = refl
 engine : work_asked (codes "--engine" ∷ codes "bmc" ∷ []) ≡ Ok (Search (record no_request { engine = Bounded }))
 engine = refl
 
-switches : work_asked (codes "a" ∷ codes "-q" ∷ codes "--stats" ∷ [])
-    ≡ Ok (Search (record no_request { quiet = true; stats = true; file = Some (codes "a") }))
+switches : work_asked (codes "a" ∷ codes "-q" ∷ codes "--stats" ∷ codes "-v" ∷ [])
+    ≡ Ok (Search (record no_request { quiet = true; stats = true; verbose = true; file = Some (codes "a") }))
 switches = refl
+
+time : work_asked (codes "-t" ∷ codes "5" ∷ codes "--verbose" ∷ codes "--time=9" ∷ [])
+    ≡ Ok (Search (record no_request { time = Some 9; verbose = true }))
+time = refl
+
+-- a value is joined to a long name alone
+refused-joined_short : work_asked (codes "-t=9" ∷ []) ≡ Err (UnknownOption (codes "-t=9"))
+refused-joined_short = refl
 
 certificate : work_asked (codes "--certificate" ∷ codes "c" ∷ codes "a" ∷ [])
     ≡ Ok (Search (record no_request { certificate = Some (codes "c"); file = Some (codes "a") }))

@@ -6,11 +6,11 @@ use Rattle.gipmc_engines.specs.declared.engines.Engine.{Engine}
 use Rattle.gipmc_engines.specs.declared.engines.Engine.TheVariants.{Simulation, Bounded, Ic3, All}
 use Rattle.gipmc.specs.declared.options.Options.{Options}
 use Rattle.gipmc.specs.declared.options.Switch.{Switch}
-use Rattle.gipmc.specs.declared.options.Switch.TheVariants.{Quiet, Stats}
+use Rattle.gipmc.specs.declared.options.Switch.TheVariants.{Quiet, Stats, Verbose}
 
 -- the file of the circuit, if not standard input, the place of its bad literal, if not all, what searches, the most
--- transitions, if that is said, the most clauses or calls, the seed, what to write, and where to write a certificate, if
--- one is wanted
+-- transitions, if that is said, the most clauses or calls, the seed, the limit in seconds, if there is one, what to
+-- write, and where to write a certificate, if one is wanted
 pub record Request : Type 0 where
   pub file : Option (List ℕ)
   pub bad : Option ℕ
@@ -18,7 +18,9 @@ pub record Request : Type 0 where
   pub depth : Option ℕ
   pub limit : ℕ
   pub seed : ℕ
+  pub time : Option ℕ
   pub quiet : Bool
+  pub verbose : Bool
   pub stats : Bool
   pub certificate : Option (List ℕ)
 
@@ -31,7 +33,9 @@ no_request = record {
   depth = None;
   limit = 2 ^ 64 - 1;
   seed = 0;
+  time = None;
   quiet = false;
+  verbose = false;
   stats = false;
   certificate = None;
 }
@@ -48,6 +52,7 @@ engine_of word =
 abbrev pub switched : Switch → Request → Request
 switched Quiet r = record r { quiet = true }
 switched Stats r = record r { stats = true }
+switched Verbose r = record r { verbose = true }
 
 -- what options ask for
 abbrev pub request_of : Options → Request
@@ -58,7 +63,9 @@ request_of o = record {
   depth = o.depth;
   limit = o.limit;
   seed = o.seed;
+  time = o.time;
   quiet = o.quiet;
+  verbose = o.verbose;
   stats = o.stats;
   certificate = option_map (λ name. name.now) o.certificate;
 }

@@ -20,9 +20,9 @@ use Rattle.gipmc.specs.declared.options.Switch.TheVariants as switch
 use Rattle.gipmc.specs.declared.options.Task.{Task}
 use Rattle.gipmc.specs.declared.options.Task.TheVariants as task
 
--- the setting of this name
-abbrev pub setting_of : List ℕ → Option Setting
-setting_of word =
+-- the setting of this long name
+abbrev pub long_setting_of : List ℕ → Option Setting
+long_setting_of word =
     if bytes_eq word (codes "--bad") then Some setting.Bad
     else if bytes_eq word (codes "--certificate") then Some setting.Certificate
     else if bytes_eq word (codes "--certify") then Some setting.Certify
@@ -31,14 +31,19 @@ setting_of word =
     else if bytes_eq word (codes "--limit") then Some setting.Limit
     else if bytes_eq word (codes "--replay") then Some setting.Replay
     else if bytes_eq word (codes "--seed") then Some setting.Seed
+    else if bytes_eq word (codes "--time") then Some setting.Time
     else None
 
--- a setting and its value, where the word is the setting's name, an equals sign and the value
+-- the setting of this name
+abbrev pub setting_of : List ℕ → Option Setting
+setting_of word = if bytes_eq word (codes "-t") then Some setting.Time else long_setting_of word
+
+-- a setting and its value, where the word is the setting's long name, an equals sign and the value
 abbrev pub joined_of : List ℕ → Option (Setting × List ℕ)
 joined_of word =
     if nat_lt (position_or_len (λ b. b == byte "=") word) (length word)
     then option_map (λ s. (s, after_first (λ b. b == byte "=") word))
-    (setting_of (before_first (λ b. b == byte "=") word))
+    (long_setting_of (before_first (λ b. b == byte "=") word))
     else None
 
 -- the switch of this name
@@ -47,6 +52,8 @@ switch_of word =
     if bytes_eq word (codes "--quiet") then Some switch.Quiet
     else if bytes_eq word (codes "-q") then Some switch.Quiet
     else if bytes_eq word (codes "--stats") then Some switch.Stats
+    else if bytes_eq word (codes "--verbose") then Some switch.Verbose
+    else if bytes_eq word (codes "-v") then Some switch.Verbose
     else None
 
 -- the option of this name that is neither
@@ -94,6 +101,7 @@ with_value setting.Bad s word = with_number setting.Bad s word (λ n. record s.r
 with_value setting.Depth s word = with_number setting.Depth s word (λ n. record s.request { depth = Some n })
 with_value setting.Limit s word = with_number setting.Limit s word (λ n. record s.request { limit = n })
 with_value setting.Seed s word = with_number setting.Seed s word (λ n. record s.request { seed = n })
+with_value setting.Time s word = with_number setting.Time s word (λ n. record s.request { time = Some n })
 with_value setting.Engine s word =
     asking s (ok_or (option_map (λ e. record s.request { engine = e }) (engine_of word)) (NoEngine word))
 with_value setting.Certificate s word =

@@ -2,8 +2,10 @@
 ghost use Rattle.std.specs.Prelude.{◌≡◌, ℕ, ◌<◌, ◌++◌, codes, length, decimal, IfOk, IfSome, IsTrue, OnOk};
 ghost use Rattle.gipmc.specs.Answers.{Answers, FailsAt, IsAsked, IsCircuitIn, IsWitnessIn, Replays, Tells, TellsAsked, TellsFirst};
 ghost use Rattle.gipmc.specs.Answers.{both, named, outcome_of, verdict_text};
+ghost use Rattle.gipmc_engines.specs.Verdicts.{IsRightVerdict};
 
 use crate::errors::TaskError;
+use crate::output::Output;
 use crate::progress::Listener;
 use gipmc_aiger::{Witness, read_circuit, read_witness, write_witness};
 use gipmc_circuits::{Circuit, Trace, replay};
@@ -61,23 +63,25 @@ pub struct Answered<A: Allocator = Global> {
 }
 
 /// Answers about the circuit that a text writes: about the bad literal at the place that is asked for, or about all.
+/// Each answer is written as soon as it is found. Where a write fails the search goes on, and no more is written.
 ///
 /// # Errors
 /// - [`TaskError::Circuit`] where the text writes no circuit.
 /// - [`TaskError::NoBad`] where there is no bad literal at the place.
 /// - [`TaskError::Memory`] where memory is refused.
-pub fn answer<A: Allocator + Copy, L: Listener>(
+pub fn answer<A: Allocator + Copy, L: Listener, W: Write>(
     alloc: A,
     bytes: &[u8],
     asked: Option<usize>,
     plan: &Plan,
     listener: &mut L,
+    output: &mut Output<W>,
 ) -> Result<Answered<A>, TaskError>
     ensures circuit { IfOk result (λ a. IsCircuitIn bytes.now a.circuit) }
     ensures answers { IfOk result (λ a. Answers A bytes.now asked a.said.outcome a.said.text.items) }
 {
     let circuit = circuit_in(alloc, bytes)?;
-    let said = answer_asked(alloc, &circuit, asked, plan, listener)?;
+    let said = answer_asked(alloc, &circuit, asked, plan, listener, output)?;
     Ok(Answered { circuit, said })
 }
 
@@ -95,30 +99,32 @@ pub(crate) fn circuit_in<A: Allocator + Copy>(
 }
 
 // Answers about a circuit.
-fn answer_asked<A: Allocator + Copy, L: Listener>(
+fn answer_asked<A: Allocator + Copy, L: Listener, W: Write>(
     alloc: A,
     circuit: &Circuit<A>,
     asked: Option<usize>,
     plan: &Plan,
     listener: &mut L,
+    output: &mut Output<W>,
 ) -> Result<Said<A>, TaskError>
     ensures { IfOk result (λ said. TellsAsked circuit.now asked said.outcome said.text.items) }
 {
     match asked {
-        None => Ok(answer_all(alloc, circuit, plan, listener)?),
+        None => Ok(answer_all(alloc, circuit, plan, listener, output)?),
         Some(place) if place < circuit.bads.len() => {
-            Ok(answer_at(alloc, circuit, place, plan, listener)?)
+            Ok(answer_at(alloc, circuit, place, plan, listener, output)?)
         }
         Some(place) => Err(TaskError::NoBad(place, circuit.bads.len())),
     }
 }
 
 // Answers about all bad literals of a circuit.
-fn answer_all<A: Allocator + Copy, L: Listener>(
+fn answer_all<A: Allocator + Copy, L: Listener, W: Write>(
     alloc: A,
     circuit: &Circuit<A>,
     plan: &Plan,
     listener: &mut L,
+    output: &mut Output<W>,
 ) -> Result<Said<A>, AllocError>
     ensures { IfOk result (λ said.
         TellsFirst circuit.now (length circuit.now.bads.items) said.outcome said.text.items) }
@@ -127,7 +133,7 @@ fn answer_all<A: Allocator + Copy, L: Listener>(
     let mut outcome = Outcome::Safe;
     let mut invariant = Vec::new(alloc);
     for place in 0..circuit.bads.len() {
-        let mut said = answer_at(alloc, circuit, place, plan, listener)?;
+        let mut said = answer_at(alloc, circuit, place, plan, listener, output)?;
         text.extend_from_slice(&said.text)?;
         outcome = outcome.and(said.outcome);
         invariant.append(&mut said.invariant)?;
@@ -140,28 +146,53 @@ fn answer_all<A: Allocator + Copy, L: Listener>(
 }
 
 // Answers about the bad literal at a place.
-fn answer_at<A: Allocator + Copy, L: Listener>(
+fn answer_at<A: Allocator + Copy, L: Listener, W: Write>(
     alloc: A,
     circuit: &Circuit<A>,
     place: usize,
     plan: &Plan,
     listener: &mut L,
+    output: &mut Output<W>,
 ) -> Result<Said<A>, AllocError>
     requires { place < length circuit.now.bads.items }
     ensures { IfOk result (λ said. Tells circuit.now place said.outcome said.text.items) }
 {
     let bad = circuit.bads[place];
-    listener.begin(place);
-    let verdict = check(alloc, circuit, bad, plan, listener);
-    listener.end();
-    let verdict = verdict?;
+    let verdict = find_out(alloc, circuit, place, bad, plan, listener);
     let text = verdict_text(alloc, place, &verdict)?;
+    output.tell(&text);
     let outcome = outcome_of(&verdict);
     Ok(Said {
         text,
         outcome,
         invariant: invariant_of(alloc, verdict),
     })
+}
+
+// What is found out about the bad literal at a place: nothing where the time is over, or memory is refused.
+fn find_out<A: Allocator + Copy, L: Listener>(
+    alloc: A,
+    circuit: &Circuit<A>,
+    place: usize,
+    bad: Literal,
+    plan: &Plan,
+    listener: &mut L,
+) -> Verdict<A>
+    ensures { IsRightVerdict circuit.now bad result }
+{
+    if listener.begin(place).is_break() {
+        return Verdict::Unknown;
+    }
+    match check(alloc, circuit, bad, plan, listener) {
+        Ok(verdict) => {
+            listener.end(false);
+            verdict
+        }
+        Err(_) => {
+            listener.end(true);
+            Verdict::Unknown
+        }
+    }
 }
 
 // What a verdict says of its literal.

@@ -1,9 +1,10 @@
 //! Why nothing is answered, as it is told.
 use crate::options::Setting;
+use gip_program::{Cause, FinishError};
 use gipmc_aiger::AigerError;
 use std::alloc::AllocError;
 use std::fmt::{self, Display};
-use std::io::{self, ErrorKind};
+use std::io;
 
 /// Why the arguments have no meaning.
 #[derive(Clone, Copy)]
@@ -76,6 +77,7 @@ impl Display for Setting {
             Setting::Limit => "--limit",
             Setting::Replay => "--replay",
             Setting::Seed => "--seed",
+            Setting::Time => "--time",
         })
     }
 }
@@ -124,8 +126,8 @@ pub enum Failure<'a> {
     Create(&'a str, io::Error),
     /// A write to the file of this name failed.
     WriteFile(&'a str, io::Error),
-    /// The file of this name could not be removed.
-    Remove(&'a str, io::Error),
+    /// A file was written, and did not get its name.
+    Finish(FinishError<'a>),
     /// No certificate was written to this file.
     NoCertificate(Option<&'a str>, TaskError),
     /// The text in this input has another form.
@@ -147,23 +149,25 @@ pub enum Failure<'a> {
 impl Display for Failure<'_> {
     fn fmt<W: fmt::Write>(&self, f: &mut fmt::Formatter<W>) -> fmt::Result {
         match *self {
-            Failure::Open(name, error) => write!(f, "{name}: {}", Cause(error)),
+            Failure::Open(name, error) => write!(f, "{name}: {}", Cause(Some(error))),
             Failure::Read(name, error) => write!(
                 f,
                 "{}: cannot be read: {}",
                 name.unwrap_or("<stdin>"),
-                Cause(error)
+                Cause(Some(error))
             ),
-            Failure::Write(error) => write!(f, "<stdout>: cannot be written: {}", Cause(error)),
+            Failure::Write(error) => write!(
+                f,
+                "<stdout>: cannot be written: {}",
+                Cause(Some(error))
+            ),
             Failure::Create(name, error) => {
-                write!(f, "{name}: cannot be made: {}", Cause(error))
+                write!(f, "{name}: cannot be made: {}", Cause(Some(error)))
             }
             Failure::WriteFile(name, error) => {
-                write!(f, "{name}: cannot be written: {}", Cause(error))
+                write!(f, "{name}: cannot be written: {}", Cause(Some(error)))
             }
-            Failure::Remove(name, error) => {
-                write!(f, "{name}: cannot be removed: {}", Cause(error))
-            }
+            Failure::Finish(error) => Display::fmt(&error, f),
             Failure::NoCertificate(name, TaskError::Memory) => write!(
                 f,
                 "{}: cannot be written: memory refused",
@@ -203,21 +207,6 @@ impl Display for Failure<'_> {
                 name.unwrap_or("<stdin>")
             ),
             Failure::Memory => f.write_str("memory: refused"),
-        }
-    }
-}
-
-/// Why the system refused a call.
-#[derive(Clone, Copy)]
-pub struct Cause(pub io::Error);
-
-impl Display for Cause {
-    fn fmt<W: fmt::Write>(&self, f: &mut fmt::Formatter<W>) -> fmt::Result {
-        match self.0.kind() {
-            ErrorKind::NotFound => f.write_str("no such file"),
-            ErrorKind::StorageFull => f.write_str("no space left"),
-            ErrorKind::Uncategorized => Display::fmt(&self.0, f),
-            kind => Display::fmt(&kind, f),
         }
     }
 }

@@ -19,19 +19,22 @@ mod errors;
 mod files;
 mod help;
 mod options;
+mod output;
 mod progress;
 
 use answers::{Answered, Outcome, answer, replays};
 use certificates::{certificate_of, certifies};
-use errors::{Cause, Failure, TaskError, UsageError};
-use files::{NewFile, bytes_of};
+use errors::{Failure, TaskError, UsageError};
+use files::bytes_of;
+use gip_program::{Cause, Existing, NewFile, hold_standard_streams};
 use gipmc_engines::{Bounds, Engine, Plan, Tries};
 use help::{HELP, VERSION};
 use options::{Options, Task};
+use output::Output;
 use progress::Teller;
 use std::env;
 use std::fmt::Display;
-use std::io::{self, Write};
+use std::io::{self, Stdout, Write};
 use std::process::ExitCode;
 
 // The exit status where nothing is answered, or an answer is not verified.
@@ -49,9 +52,12 @@ const MOMENTS: usize = 256;
 const DEPTH: usize = 100;
 
 fn main(rt: HostRuntime) -> ExitCode {
+    if let Err(error) = hold_standard_streams(&rt) {
+        return refuse(&rt, &format_args!("/dev/null: {}", Cause(Some(error))));
+    }
     let words = match words_of(&rt) {
         Ok(words) => words,
-        Err(error) => return refuse(&rt, &format_args!("arguments: {}", Cause(error))),
+        Err(error) => return refuse(&rt, &format_args!("arguments: {}", Cause(Some(error)))),
     };
     match Task::parse(&words) {
         Ok(Task::Help) => tell(&rt, HELP),
@@ -201,33 +207,35 @@ fn depth_of(options: &Options) -> usize {
     }
 }
 
-// Answers about the circuit of the file that the options name, or of standard input, and writes the answer and then the
-// certificate, if one is wanted and was found.
+// Answers about the circuit of the file that the options name, or of standard input: writes each answer when it is
+// found, and then the certificate, if one is wanted and was found.
 fn search_file<'a>(rt: &HostRuntime, options: &Options<'a>) -> Result<Outcome, Failure<'a>>
     ensures { IfOk result (IsAnswered Global options.now.bad) }
 {
     let bytes = bytes_of(rt, options.file)?;
     match options.certificate {
-        Some(name) => certified_search(rt, options, &bytes, NewFile::create(rt, name)?),
+        Some(name) => certified_search(rt, options, &bytes, new_file(rt, name)?),
         None => {
-            let answer = search(rt, options, &bytes)?;
-            write_out(rt, &answer.said.text)?;
+            let mut output = Output::new(rt.stdout());
+            let answer = search(rt, options, &bytes, &mut output)?;
+            written(&output)?;
             Ok(answer.said.outcome)
         }
     }
 }
 
-// Answers about a circuit.
+// Answers about a circuit, and writes each answer when it is found.
 fn search<'a>(
     rt: &HostRuntime,
     options: &Options<'a>,
     bytes: &[u8],
+    output: &mut Output<Stdout>,
 ) -> Result<Answered, Failure<'a>>
     ensures { IfOk result (λ a. Answers Global bytes.now options.now.bad a.said.outcome a.said.text.items) }
 {
     let plan = plan_of(options);
     let mut teller = Teller::new(rt, options);
-    match answer(rt.alloc(), bytes, options.bad, &plan, &mut teller) {
+    match answer(rt.alloc(), bytes, options.bad, &plan, &mut teller, output) {
         Ok(answer) => {
             tell_of_none(rt, options, &answer);
             Ok(answer)
@@ -243,8 +251,23 @@ fn tell_of_none(rt: &HostRuntime, options: &Options, answer: &Answered) {
     }
 }
 
-// Answers about a circuit, writes the answer, and then the certificate to the file. The file is removed where there is
-// none.
+// Whether all was written to standard output.
+fn written<'a>(output: &Output<Stdout>) -> Result<(), Failure<'a>> {
+    match output.failure {
+        None => Ok(()),
+        Some(error) => Err(Failure::Write(error)),
+    }
+}
+
+// A file for a certificate. Nothing has its name yet.
+fn new_file<'a>(rt: &HostRuntime, name: &'a str) -> Result<NewFile<'a>, Failure<'a>> {
+    match NewFile::begin(rt, name, Existing::Refuse) {
+        Ok(file) => Ok(file),
+        Err(error) => Err(Failure::Create(name, error)),
+    }
+}
+
+// Answers about a circuit, writes each answer when it is found, and then the certificate to the file, if there is one.
 fn certified_search<'a>(
     rt: &HostRuntime,
     options: &Options<'a>,
@@ -253,19 +276,13 @@ fn certified_search<'a>(
 ) -> Result<Outcome, Failure<'a>>
     ensures { IfOk result (IsAnswered Global options.now.bad) }
 {
-    let answer = match search(rt, options, bytes) {
-        Ok(answer) => answer,
-        Err(error) => {
-            let _ = file.remove(rt);
-            return Err(error);
-        }
-    };
-    let told = write_out(rt, &answer.said.text);
+    let mut output = Output::new(rt.stdout());
+    let answer = search(rt, options, bytes, &mut output)?;
     let kept = match answer.said.outcome {
         Outcome::Safe => write_certificate(rt, options, &answer, file),
-        _ => file.remove(rt),
+        _ => Ok(()),
     };
-    told?;
+    written(&output)?;
     kept?;
     Ok(answer.said.outcome)
 }
@@ -288,7 +305,7 @@ fn certificate_text(
     )
 }
 
-// Writes the certificate that was found to the file. The file is removed where that fails.
+// Writes the certificate that was found to the file.
 fn write_certificate<'a>(
     rt: &HostRuntime,
     options: &Options<'a>,
@@ -296,12 +313,19 @@ fn write_certificate<'a>(
     file: NewFile<'a>,
 ) -> Result<(), Failure<'a>> {
     match certificate_text(rt, options, answer) {
-        Ok(text) => file.write(rt, &text),
-        Err(error) => {
-            let name = file.name();
-            let _ = file.remove(rt);
-            Err(Failure::NoCertificate(Some(name), error))
-        }
+        Ok(text) => write_whole(file, &text),
+        Err(error) => Err(Failure::NoCertificate(Some(file.name()), error)),
+    }
+}
+
+// Writes a text to a new file, and gives it its name.
+fn write_whole<'a>(mut file: NewFile<'a>, text: &[u8]) -> Result<(), Failure<'a>> {
+    if let Err(error) = file.write_all(text) {
+        return Err(Failure::WriteFile(file.name(), error));
+    }
+    match file.finish() {
+        Ok(()) => Ok(()),
+        Err(error) => Err(Failure::Finish(error)),
     }
 }
 

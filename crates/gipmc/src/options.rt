@@ -6,8 +6,8 @@ ghost use Rattle.giputils_text.specs.Numbers.{number_of};
 ghost use Rattle.gipmc.specs.Misuses.{misuse_of, NoEngine, NoNumber};
 ghost use Rattle.gipmc.specs.Options.{engine_of, no_request, request_of, switched};
 ghost use Rattle.gipmc.specs.Words.{after_file, after_named, after_option, after_word, after_words, answer_of};
-ghost use Rattle.gipmc.specs.Words.{asked_for, input_of, joined_of, no_words, option_of, output_of, setting_of};
-ghost use Rattle.gipmc.specs.Words.{state_of, switch_of, task_asked, with_value, work_asked, work_of};
+ghost use Rattle.gipmc.specs.Words.{asked_for, input_of, joined_of, long_setting_of, no_words, option_of, output_of};
+ghost use Rattle.gipmc.specs.Words.{setting_of, state_of, switch_of, task_asked, with_value, work_asked, work_of};
 
 use crate::errors::UsageError;
 use gipmc_engines::Engine;
@@ -55,8 +55,12 @@ pub struct Options<'a> {
     pub limit: usize,
     /// The seed of simulation.
     pub seed: u64,
+    /// After how many seconds to give up, if after any.
+    pub time: Option<u64>,
     /// Whether no progress is written.
     pub quiet: bool,
+    /// Whether progress is written also where standard error is no terminal.
+    pub verbose: bool,
     /// Whether a summary is written.
     pub stats: bool,
     /// The file that a certificate is written to, if one is wanted.
@@ -74,6 +78,7 @@ pub enum Setting {
     Limit,
     Replay,
     Seed,
+    Time,
 }
 
 /// An option of one word.
@@ -81,6 +86,7 @@ pub enum Setting {
 pub enum Switch {
     Quiet,
     Stats,
+    Verbose,
 }
 
 impl<'a> Options<'a> {
@@ -95,7 +101,9 @@ impl<'a> Options<'a> {
             depth: None,
             limit: usize::MAX,
             seed: 0,
+            time: None,
             quiet: false,
+            verbose: false,
             stats: false,
             certificate: None,
         }
@@ -112,6 +120,10 @@ impl<'a> Options<'a> {
             },
             Switch::Stats => Options {
                 stats: true,
+                ..self
+            },
+            Switch::Verbose => Options {
+                verbose: true,
                 ..self
             },
         }
@@ -215,6 +227,15 @@ fn setting_of(word: &str) -> Option<Setting>
     ensures { result ≡ setting_of word.now }
 {
     match word {
+        "-t" => Some(Setting::Time),
+        _ => long_setting_of(word),
+    }
+}
+
+fn long_setting_of(word: &str) -> Option<Setting>
+    ensures { result ≡ long_setting_of word.now }
+{
+    match word {
         "--bad" => Some(Setting::Bad),
         "--certificate" => Some(Setting::Certificate),
         "--certify" => Some(Setting::Certify),
@@ -223,6 +244,7 @@ fn setting_of(word: &str) -> Option<Setting>
         "--limit" => Some(Setting::Limit),
         "--replay" => Some(Setting::Replay),
         "--seed" => Some(Setting::Seed),
+        "--time" => Some(Setting::Time),
         _ => None,
     }
 }
@@ -232,7 +254,7 @@ fn joined(word: &str) -> Option<(Setting, &str)>
     ensures { option_map (λ joined. (joined.0, joined.1.now)) result ≡ joined_of word.now }
 {
     let (name, value) = word.split_once('=')?;
-    let setting = setting_of(name)?;
+    let setting = long_setting_of(name)?;
     Some((setting, value))
 }
 
@@ -243,6 +265,8 @@ fn switch_of(word: &str) -> Option<Switch>
         "--quiet" => Some(Switch::Quiet),
         "-q" => Some(Switch::Quiet),
         "--stats" => Some(Switch::Stats),
+        "--verbose" => Some(Switch::Verbose),
+        "-v" => Some(Switch::Verbose),
         _ => None,
     }
 }
@@ -374,6 +398,10 @@ impl<'a> Parser<'a> {
             Setting::Seed => {
                 let seed = number(setting, word)? as u64;
                 Ok(self.with(Options { seed, ..options }))
+            }
+            Setting::Time => {
+                let time = Some(number(setting, word)? as u64);
+                Ok(self.with(Options { time, ..options }))
             }
             Setting::Engine => {
                 let engine = engine(word)?;

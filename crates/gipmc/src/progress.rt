@@ -12,24 +12,26 @@ use std::ops::ControlFlow;
 use std::time::{Duration, Instant};
 
 // How many seconds it is at least from one line to the next.
-const INTERVAL_SECONDS: u64 = 1;
+const INTERVAL_SECONDS: u64 = 5;
 
 /// A listener to the searches about some bad literals, one after another.
 pub trait Listener: Watch {
-    /// The search about the bad literal at this place begins.
-    fn begin(&mut self, place: usize);
+    /// The search about the bad literal at this place is to begin. `Break` where there is no time for it.
+    fn begin(&mut self, place: usize) -> ControlFlow<()>;
 
-    /// It ended.
-    fn end(&mut self);
+    /// It ended. Whether that was because memory was refused.
+    fn end(&mut self, is_refused: bool);
 }
 
-/// Writes now and then how far a search is, where standard error is a terminal, and a summary of each, if that is
-/// wanted. It stops none.
+/// Writes now and then how far a search is, where standard error is a terminal or that is asked for, and a summary of
+/// each, if that is wanted. It stops a search when the time is over.
 #[derive(Drop)]
 pub struct Teller<'a> {
     rt: &'a HostRuntime,
     started: Option<Instant>,
     logger: IntervalLogger,
+    // How long all searches may take, if that is said.
+    time: Option<Duration>,
     // Whether lines are written while the search goes on.
     is_told: bool,
     // Whether summaries are written.
@@ -107,14 +109,31 @@ impl Display for Framed {
         match &self.0 {
             Some((frame, statistics)) => write!(
                 f,
-                "frame {frame}, {} calls, {} obligations, {:?} literals in each of {} lemmas; ",
+                "frame {frame}, {} calls, {} obligations{}; ",
                 statistics.calls,
                 statistics.obligations,
-                statistics.lengths,
-                statistics.lengths.count()
+                Lemmas(statistics)
             ),
             None => Ok(()),
         }
+    }
+}
+
+// How many lemmas IC3 has learned, and how long they are, where there are some.
+#[derive(Clone, Copy)]
+struct Lemmas<'a>(&'a Statistics);
+
+impl Display for Lemmas<'_> {
+    fn fmt<W: fmt::Write>(&self, f: &mut fmt::Formatter<W>) -> fmt::Result {
+        let count = self.0.lengths.count();
+        if count == 0 {
+            return Ok(());
+        }
+        write!(
+            f,
+            ", {:?} literals in each of {count} lemmas",
+            self.0.lengths
+        )
     }
 }
 
@@ -161,7 +180,8 @@ impl<'a> Teller<'a> {
                 Duration::from_secs(0),
                 Duration::from_secs(INTERVAL_SECONDS),
             ),
-            is_told: !options.quiet && rt.stderr().is_terminal(),
+            time: options.time.map(Duration::from_secs),
+            is_told: options.verbose || (!options.quiet && rt.stderr().is_terminal()),
             stats: options.stats,
             begun: started,
             snapshot: Snapshot::new(0),
@@ -176,26 +196,39 @@ impl<'a> Teller<'a> {
         }
     }
 
+    // Whether the time goes on.
+    fn go_on(&self, now: Duration) -> ControlFlow<()> {
+        match self.time {
+            Some(time) if now >= time => ControlFlow::Break(()),
+            _ => ControlFlow::Continue(()),
+        }
+    }
+
     // Writes how far it is, where that is due.
     fn tell(&mut self) -> ControlFlow<()> {
+        let now = self.since(self.started);
         if self.is_told {
-            let now = self.since(self.started);
             let took = Seconds(self.since(self.begun));
             let told = format_args!("{}{took}", self.snapshot);
             self.logger
                 .log(&Comments { rt: self.rt }, now, Level::Info, &told);
         }
-        ControlFlow::Continue(())
+        self.go_on(now)
     }
 }
 
 impl Listener for Teller<'_> {
-    fn begin(&mut self, place: usize) {
+    fn begin(&mut self, place: usize) -> ControlFlow<()> {
         self.begun = Instant::now(self.rt).ok();
         self.snapshot = Snapshot::new(place);
+        self.go_on(self.since(self.started))
     }
 
-    fn end(&mut self) {
+    fn end(&mut self, is_refused: bool) {
+        if is_refused {
+            let place = self.snapshot.place;
+            let _ = eprintln!(self.rt; "memory: refused (b{place} is left open)");
+        }
         if self.stats {
             let took = Seconds(self.since(self.begun));
             let _ = eprintln!(self.rt; "c {}{took}", self.snapshot);

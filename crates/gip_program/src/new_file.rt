@@ -1,0 +1,242 @@
+//! Files that appear when they are whole.
+use crate::cause::Cause;
+use std::fmt::{self, Display};
+use std::fs::{self, File, Metadata};
+use std::io::{self, ErrorKind, Write};
+use std::os::unix::fs::MetadataExt;
+use std::process;
+
+// How many names are tried for the file that holds the bytes until it is whole.
+const NAMES: u32 = 64;
+
+/// What is done where something has the name already.
+#[derive(Clone, Copy, PartialEq, Eq)]
+pub enum Existing {
+    /// The file is refused.
+    Refuse,
+    /// A file is replaced when the new one is whole. A device, a pipe and a link are written as they stand.
+    Replace,
+}
+
+/// A file that appears under its name when it is whole.
+///
+/// Until then its bytes are in the file `NAME.NUMBER.part` beside it, which the first write makes. That one is removed
+/// where the new file is dropped before it is whole, and is left where the program is killed.
+pub struct NewFile<'a> {
+    rt: HostRuntime,
+    name: &'a str,
+    // The file that it replaces, if it replaces one.
+    replaced: Option<Identity>,
+    // None before the first write.
+    part: Option<Part>,
+}
+
+// Where bytes are written.
+#[derive(Drop)]
+struct Part {
+    file: File,
+    // The number in its name. None for what is written as it stands.
+    number: Option<u32>,
+}
+
+// By what the system tells files from each other.
+#[derive(Clone, Copy, PartialEq, Eq)]
+struct Identity {
+    device: u64,
+    inode: u64,
+}
+
+/// Why a file did not appear under its name.
+#[derive(Clone, Copy)]
+pub enum FinishError<'a> {
+    /// The file under this name was made or exchanged meanwhile, and stays. What was written is in the file with this
+    /// number.
+    Taken(&'a str, u32),
+    /// The system refused it.
+    Refused(&'a str, io::Error),
+}
+
+impl Display for FinishError<'_> {
+    fn fmt<W: fmt::Write>(&self, f: &mut fmt::Formatter<W>) -> fmt::Result {
+        match *self {
+            FinishError::Taken(name, number) => write!(
+                f,
+                "{name}: another file came there meanwhile (see {name}.{number}.part)"
+            ),
+            FinishError::Refused(name, error) => {
+                write!(f, "{name}: cannot be written: {}", Cause(Some(error)))
+            }
+        }
+    }
+}
+
+impl<'a> NewFile<'a> {
+    /// Prepares a file of this name, and changes nothing yet.
+    ///
+    /// # Errors
+    /// Where something has the name and is not to be replaced or may not be written, and where no file can be made in
+    /// its folder.
+    pub fn begin(rt: &HostRuntime, name: &'a str, existing: Existing) -> io::Result<Self> {
+        let mut file = NewFile {
+            rt: *rt,
+            name,
+            replaced: None,
+            part: None,
+        };
+        match fs::symlink_metadata(rt, name) {
+            Err(error) if error.kind() == ErrorKind::NotFound => {}
+            Err(error) => return Err(error),
+            Ok(_) if existing == Existing::Refuse => {
+                return Err(io::Error::from(ErrorKind::AlreadyExists));
+            }
+            Ok(metadata) if metadata.is_file() => {
+                // A file that may not be written is not replaced.
+                File::options().append(true).open(rt, name)?;
+                file.replaced = Some(Identity::of(&metadata));
+            }
+            Ok(_) => {
+                file.part = Some(Part {
+                    file: File::create(rt, name)?,
+                    number: None,
+                });
+                return Ok(file);
+            }
+        }
+        // A folder that can't be written is told now.
+        remove(rt, name, &file.make_part()?);
+        Ok(file)
+    }
+
+    /// Its name.
+    pub fn name(&self) -> &'a str {
+        self.name
+    }
+
+    /// Gives the file its name. What has the name stays, but for the file that is to be replaced.
+    ///
+    /// # Errors
+    /// Where something else has the name by now, and where the system refuses it.
+    pub fn finish(mut self) -> Result<(), FinishError<'a>> {
+        let name = self.name;
+        let part = match self.part.take() {
+            Some(part) => part,
+            None => match self.make_part() {
+                Ok(part) => part,
+                Err(error) => return Err(FinishError::Refused(name, error)),
+            },
+        };
+        let Some(number) = part.number else {
+            return Ok(());
+        };
+        match self.place(number) {
+            Ok(true) => Ok(()),
+            Ok(false) => Err(FinishError::Taken(name, number)),
+            Err(error) => {
+                self.part = Some(part);
+                Err(FinishError::Refused(name, error))
+            }
+        }
+    }
+
+    // Moves the part with this number to the name. Whether the name was free, or is that of the replaced file.
+    fn place(&self, number: u32) -> io::Result<bool> {
+        let part = part_name(&self.rt, self.name, number)?;
+        let now = match fs::symlink_metadata(&self.rt, self.name) {
+            Ok(metadata) => Some(Identity::of(&metadata)),
+            Err(error) if error.kind() == ErrorKind::NotFound => None,
+            Err(error) => return Err(error),
+        };
+        if now.is_some() {
+            if now != self.replaced {
+                return Ok(false);
+            }
+            fs::rename(&self.rt, part.as_str(), self.name)?;
+            return Ok(true);
+        }
+        // A link is refused where the name was taken since, and a rename is not. Some file systems have no links.
+        match fs::hard_link(&self.rt, part.as_str(), self.name) {
+            Ok(()) => {
+                let _ = fs::remove_file(&self.rt, part.as_str());
+                Ok(true)
+            }
+            Err(error) if error.kind() == ErrorKind::AlreadyExists => Ok(false),
+            Err(_) => {
+                fs::rename(&self.rt, part.as_str(), self.name)?;
+                Ok(true)
+            }
+        }
+    }
+
+    // Makes the file that holds the bytes until it is whole. No other one is written over.
+    fn make_part(&self) -> io::Result<Part> {
+        let first = process::id(self.rt.process());
+        for more in 0..NAMES {
+            let number = first.wrapping_add(more);
+            match File::create_new(&self.rt, part_name(&self.rt, self.name, number)?.as_str()) {
+                Ok(file) => {
+                    return Ok(Part {
+                        file,
+                        number: Some(number),
+                    });
+                }
+                Err(error) if error.kind() == ErrorKind::AlreadyExists => {}
+                Err(error) => return Err(error),
+            }
+        }
+        Err(io::Error::from(ErrorKind::AlreadyExists))
+    }
+}
+
+impl Drop for NewFile<'_> {
+    fn drop(self) {
+        let NewFile {
+            rt,
+            name,
+            replaced: _,
+            part,
+        } = self;
+        if let Some(part) = part {
+            remove(&rt, name, &part);
+        }
+    }
+}
+
+impl Write for NewFile<'_> {
+    fn write(&mut self, buf: &[u8]) -> io::Result<usize> {
+        if self.part.is_none() {
+            self.part = Some(self.make_part()?);
+        }
+        match &mut self.part {
+            Some(part) => part.file.write(buf),
+            None => Ok(0),
+        }
+    }
+
+    fn flush(&mut self) -> io::Result<()> {
+        Ok(())
+    }
+}
+
+impl Identity {
+    fn of(metadata: &Metadata) -> Self {
+        Identity {
+            device: metadata.dev(),
+            inode: metadata.ino(),
+        }
+    }
+}
+
+// Removes the part of a new file, where it is one.
+fn remove(rt: &HostRuntime, name: &str, part: &Part) {
+    let Some(number) = part.number else {
+        return;
+    };
+    if let Ok(part) = part_name(rt, name, number) {
+        let _ = fs::remove_file(rt, part.as_str());
+    }
+}
+
+// The name of a part.
+fn part_name(rt: &HostRuntime, name: &str, number: u32) -> io::Result<String> {
+    Ok(format!(in rt.alloc(); "{name}.{number}.part")?)
+}
