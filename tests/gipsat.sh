@@ -35,6 +35,17 @@ try() {
     fi
 }
 
+# NAME STATUS: passes where the status is 0.
+told() {
+    if [ "$2" = 0 ]; then
+        echo "ok: $1"
+        passed=$((passed + 1))
+    else
+        echo "FAILED: $1 ($(head -c 200 "$work/err"), $(head -c 200 "$work/out"))"
+        failed=$((failed + 1))
+    fi
+}
+
 clash='p cnf 1 2\n1 0\n-1 0\n'
 # shellcheck disable=SC2016
 none='<stdin>:1: no header `p cnf VARIABLES CLAUSES`'
@@ -114,6 +125,8 @@ try "the version" 0 "" "gipsat 0.1.0" "" --version
 try "the version behind other words" 0 "" "gipsat 0.1.0" "" a --stats --version --other
 help=$("$gipsat" --help)
 try "the help" 0 "" "$help" "" -h
+[ -z "$(printf '%s\n' "$help" | grep '.\{81\}')" ]
+told "the help fits into 80 columns" $?
 for option in --conflicts -t --time -n --no-witness -q --quiet --stats --proof --binary -f --force --relaxed --no-simplify --check -h --help --version --; do
     if printf '%s\n' "$help" | grep -qE -- "^ *([^ ]+ )?${option}[ ,]"; then
         echo "ok: the help tells of $option"
@@ -140,6 +153,8 @@ try_usage "'--conflicts' takes a number below 2^64, not 'x'" --conflicts x
 try_usage "'--conflicts' takes a number below 2^64, not 'x'" --conflicts=x
 try_usage "'--time' takes a number below 2^64, not ''" --time=
 try_usage "unknown option '-t=9'" -t=9
+try_usage "'--proof' takes the name of a file, since standard output has the answer" --proof -
+try_usage "'--proof' takes the name of a file, since standard output has the answer" --proof=-
 try_usage "unknown option '--stats=9'" --stats=9
 try_usage "unknown option '--=9'" --=9
 try_usage "'--conflicts' takes a number below 2^64, not '18446744073709551616'" --conflicts 18446744073709551616
@@ -419,6 +434,13 @@ cp "$kept" "$work/forced.cnf"
 try "a formula is written over by force" 20 "" "s UNSATISFIABLE" "" --force --proof "$work/forced.cnf" "$kept"
 try "that proof is checked as well" 0 "" "s VERIFIED" "" --check "$kept" "$work/forced.cnf"
 
+if [ "$(id -u)" != 0 ]; then
+    printf '0\n' > "$work/guarded"
+    chmod a-w "$work/guarded"
+    try_kept "an old proof that may not be written" 1 "$work/guarded: permission denied" "" "$work/guarded" "" \
+        --proof "$work/guarded" "$kept"
+fi
+
 try "a proof's file beside a formula that is satisfied" 10 "" "$two" 'p cnf 2 2\n1 0\n-1 2 0\n' --proof "$work/unneeded"
 if [ -e "$work/unneeded" ]; then
     echo "ok: that file is written whatever the answer is"
@@ -428,8 +450,75 @@ else
     failed=$((failed + 1))
 fi
 
-# A proof that can't be written further ends the search, which would take hours.
+# Standard streams that are closed. No file that is opened takes their place.
+unheard='<stdout>: cannot be written: it is closed'
+"$gipsat" --proof "$work/closed" "$kept" > "$work/out" 2> "$work/err" <&-
+[ "$?" = 20 ] && [ "$(cat "$work/out")" = "s UNSATISFIABLE" ] && [ ! -s "$work/err" ] &&
+    [ "$("$gipsat" --check "$kept" "$work/closed")" = "s VERIFIED" ]
+told "no standard input, beside a formula in a file" $?
+"$gipsat" --relaxed > "$work/out" 2> "$work/err" <&-
+[ "$?" = 1 ] && [ ! -s "$work/out" ] && [ "$(cat "$work/err")" = "<stdin>: cannot be read: it is closed" ]
+told "no standard input, where the formula comes from there" $?
+"$gipsat" --check "$kept" - > "$work/out" 2> "$work/err" <&-
+[ "$?" = 1 ] && [ ! -s "$work/out" ] && [ "$(cat "$work/err")" = "<stdin>: cannot be read: it is closed" ]
+told "no standard input, where the proof comes from there" $?
+: > "$work/out"
+for formula in "$kept" -; do
+    for format in --quiet --binary; do
+        rm -f "$work/closed"
+        "$gipsat" "$format" --proof "$work/closed" "$formula" < "$kept" >&- 2> "$work/err"
+        [ "$?" = 1 ] && [ "$(cat "$work/err")" = "$unheard" ] &&
+            [ "$("$gipsat" --check "$kept" "$work/closed")" = "s VERIFIED" ]
+        told "no standard output, formula $formula, $format" $?
+        rm -f "$work/closed"
+        "$gipsat" --stats "$format" --proof "$work/closed" "$formula" < "$kept" > "$work/out" 2>&-
+        [ "$?" = 20 ] && [ "$(cat "$work/out")" = "s UNSATISFIABLE" ] &&
+            [ "$("$gipsat" --check "$kept" "$work/closed")" = "s VERIFIED" ]
+        told "no standard error, formula $formula, $format" $?
+    done
+done
+: > "$work/err"
+rm -f "$work/closed"
+"$gipsat" --proof "$work/closed" "$kept" <&- >&- 2>&-
+[ "$?" = 1 ] && [ "$("$gipsat" --check "$kept" "$work/closed")" = "s VERIFIED" ]
+told "no standard stream" $?
+cp "$work/closed" "$work/held"
+for words in "--check $kept $work/closed" "$kept" --help --version; do
+    # shellcheck disable=SC2086
+    "$gipsat" $words >&- 2> "$work/err"
+    [ "$?" = 1 ] && [ "$(cat "$work/err")" = "$unheard" ] && cmp -s "$work/closed" "$work/held"
+    told "no standard output, arguments $words" $?
+done
+
+# A proof appears under its name when it is whole, and what came there meanwhile stays.
 pigeons 11 > "$work/many"
+printf '0\n' > "$work/late"
+"$gipsat" -q --time 2 --proof "$work/late" "$work/many" > "$work/out" 2> "$work/err" &
+sleep 1
+[ "$(cat "$work/late")" = 0 ]
+told "an old proof is there until the new one is whole" $?
+wait
+[ "$(cat "$work/out")" = "s UNKNOWN" ] && [ "$(wc -l < "$work/late")" -gt 100 ] && [ -z "$(ls "$work"/late.* 2> /dev/null)" ]
+told "an old proof is replaced at the end" $?
+rm "$work/late"
+"$gipsat" -q --time 2 --proof "$work/late" "$work/many" > "$work/out" 2> "$work/err" &
+sleep 1
+[ ! -e "$work/late" ]
+told "a proof has no name before it is whole" $?
+echo precious > "$work/late"
+wait $!
+[ "$?" = 1 ] && [ ! -s "$work/out" ] && [ "$(cat "$work/late")" = precious ] &&
+    [ "$(cat "$work/err")" = "$work/late: another file came there meanwhile (see $(ls "$work"/late.*.part))" ]
+told "a file that came meanwhile stays" $?
+rm "$work"/late.*.part
+timeout -s KILL 1 "$gipsat" -q --proof "$work/killed" "$work/many" > "$work/out" 2> "$work/err"
+[ ! -e "$work/killed" ] && [ -z "$(find "$work" -name 'killed.*' -empty)" ]
+told "a run that is killed leaves no empty file" $?
+(trap '' XFSZ; ulimit -f 0; exec "$gipsat" -q --proof "$work/limited" "$kept" 2>&1) | cat > "$work/out"
+[ "$(cat "$work/out")" = "$work/limited: cannot be written: file too large" ] && [ -z "$(ls "$work"/limited* 2> /dev/null)" ]
+told "a proof that cannot be written leaves no file" $?
+
+# A proof that can't be written further ends the search, which would take hours.
 timeout 60 "$gipsat" -q --proof /dev/full "$work/many" > "$work/out" 2> "$work/err"
 status=$?
 if [ "$status" = 1 ] && [ ! -s "$work/out" ] && [ "$(cat "$work/err")" = "/dev/full: cannot be written: no space left" ]; then

@@ -6,7 +6,7 @@ use Rattle.gipsat_answers.specs.declared.answers.Verdict.TheVariants.{Satisfiabl
 use Rattle.gipsat_drat.specs.declared.error.Flaw.TheVariants.{NotShown}
 use Rattle.gipsat_drat.specs.declared.error.Outcome.TheVariants.{Verified, Refused}
 use Rattle.gipsat_drat.specs.declared.error.Place.TheVariants.{Line}
-use Rattle.gipsat.specs.Misuses.{UnknownOption, NoValue, NoNumber, ExtraFile, MissingFile, NotForCheck, InputTwice}
+use Rattle.gipsat.specs.Misuses.{UnknownOption, NoValue, NoNumber, ExtraFile, MissingFile, NotForCheck, InputTwice, OutputTwice}
 use Rattle.gipsat.specs.Options.{no_request}
 use Rattle.gipsat.specs.Words.{work_asked, Help, Version, Solve, Check}
 use Rattle.gipsat.specs.declared.options.Setting.TheVariants.{Conflicts, Time, Proof}
@@ -75,6 +75,9 @@ version = refl
 
 refused-option : work_asked (codes "--stat" ∷ []) ≡ Err (UnknownOption (codes "--stat"))
 refused-option = refl
+
+refused-output_twice : work_asked (codes "--proof=-" ∷ codes "a" ∷ []) ≡ Err OutputTwice
+refused-output_twice = refl
 
 refused-no_value : work_asked (codes "a" ∷ codes "--proof" ∷ []) ≡ Err (NoValue Proof)
 refused-no_value = refl

@@ -5,7 +5,7 @@ use Rattle.gipsat.specs.declared.errors.UsageError.TheVariants as error
 use Rattle.gipsat.specs.declared.options.Setting.{Setting}
 
 -- an option of no such name, one without its value or with one that is no number, a file too many or too few, an option
--- that a check does not take, and standard input as both of its files
+-- that a check does not take, standard input as both of its files, and standard output for a proof
 pub data Misuse : Type 0 where
   UnknownOption : List ℕ → Misuse
   NoValue : Setting → Misuse
@@ -14,6 +14,7 @@ pub data Misuse : Type 0 where
   MissingFile : Misuse
   NotForCheck : List ℕ → Misuse
   InputTwice : Misuse
+  OutputTwice : Misuse
 
 -- what an error tells
 abbrev pub misuse_of : UsageError → Misuse
@@ -24,3 +25,4 @@ misuse_of (error.ExtraFile name) = ExtraFile name.now
 misuse_of error.MissingFile = MissingFile
 misuse_of (error.NotForCheck word) = NotForCheck word.now
 misuse_of error.InputTwice = InputTwice
+misuse_of error.OutputTwice = OutputTwice

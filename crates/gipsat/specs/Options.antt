@@ -1,11 +1,12 @@
 -- What the options of a search ask for.
-use Rattle.std.specs.Prelude.{ℕ, ◌^◌, ◌-◌, Bool, true, false, List, if◌then◌else◌, Option, Some, None, Result, Ok}
+use Rattle.std.specs.Prelude.{ℕ, ◌^◌, ◌-◌, Bool, true, false, List, if◌then◌else◌, codes, Option, Some, None, Result, Ok, Err}
 use Rattle.std.specs.Option.{ok_or, option_map, option_map_or}
+use Rattle.std.specs.Result.{result_map_both}
 use Rattle.std.specs.Str.{bytes_eq}
 use Rattle.giputils_text.specs.Numbers.{number_of}
 use Rattle.gipsat_dimacs.specs.declared.rule.HeaderRule.{HeaderRule}
 use Rattle.gipsat_dimacs.specs.declared.rule.HeaderRule.TheVariants as rule
-use Rattle.gipsat.specs.Misuses.{Misuse, NoNumber}
+use Rattle.gipsat.specs.Misuses.{Misuse, NoNumber, OutputTwice}
 use Rattle.gipsat.specs.declared.options.Options.{Options}
 use Rattle.gipsat.specs.declared.options.Setting.{Setting}
 use Rattle.gipsat.specs.declared.options.Setting.TheVariants.{Conflicts, Time, Proof}
@@ -44,12 +45,16 @@ no_request = record {
   file = None;
 }
 
+-- the file of this name for a proof: it is no minus, since standard output has the answer
+abbrev pub output_of : List ℕ → Result (List ℕ) Misuse
+output_of name = if bytes_eq name (codes "-") then Err OutputTwice else Ok name
+
 -- with this value of a setting: a number, or the name of a file
 abbrev pub with_value : Setting → Request → List ℕ → Result Request Misuse
 with_value Conflicts r word =
     ok_or (option_map (λ n. record r { conflicts = n }) (number_of word)) (NoNumber Conflicts word)
 with_value Time r word = ok_or (option_map (λ n. record r { time = Some n }) (number_of word)) (NoNumber Time word)
-with_value Proof r word = Ok (record r { proof = Some word })
+with_value Proof r word = result_map_both (λ name. record r { proof = Some name }) (λ e. e) (output_of word)
 
 -- with what a switch turns on or off
 abbrev pub switched : Switch → Request → Request

@@ -1,10 +1,11 @@
 //! Why nothing was answered, as it is told.
 use crate::options::Setting;
 use crate::proof_file::ProofError;
+use gip_program::Cause;
 use gipsat_dimacs::{Compression, Reason};
 use gipsat_drat::error::{OtherForm, Place, Refusal};
 use std::fmt::{self, Display};
-use std::io::{self, ErrorKind};
+use std::io;
 
 /// Why the arguments have no meaning.
 #[derive(Clone, Copy)]
@@ -23,6 +24,8 @@ pub enum UsageError<'a> {
     NotForCheck(&'a str),
     /// Standard input is named as the formula and as the proof.
     InputTwice,
+    /// A proof is to be written to standard output.
+    OutputTwice,
 }
 
 impl Display for UsageError<'_> {
@@ -40,6 +43,9 @@ impl Display for UsageError<'_> {
             UsageError::InputTwice => {
                 f.write_str("'--check' takes one file at most from standard input")
             }
+            UsageError::OutputTwice => f.write_str(
+                "'--proof' takes the name of a file, since standard output has the answer",
+            ),
         }
     }
 }
@@ -126,24 +132,5 @@ fn tool_of(compression: Compression) -> &'static str {
         Compression::Gzip => "gzip",
         Compression::Xz => "xz",
         Compression::Bzip2 => "bzip2",
-    }
-}
-
-/// Why the system refused a call, where it told that.
-#[derive(Clone, Copy)]
-pub struct Cause(pub Option<io::Error>);
-
-impl Display for Cause {
-    fn fmt<W: fmt::Write>(&self, f: &mut fmt::Formatter<W>) -> fmt::Result {
-        let Some(error) = self.0 else {
-            return f.write_str("no cause told");
-        };
-        match error.kind() {
-            ErrorKind::NotFound => f.write_str("no such file"),
-            ErrorKind::InvalidData => f.write_str("not UTF-8 text"),
-            ErrorKind::StorageFull => f.write_str("no space left"),
-            ErrorKind::Uncategorized => Display::fmt(&error, f),
-            kind => Display::fmt(&kind, f),
-        }
     }
 }

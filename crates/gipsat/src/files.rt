@@ -1,9 +1,10 @@
 //! What is read and written, with the cause where that failed.
 use crate::errors::Failure;
+use gip_program::open_file;
 use gipsat_dimacs::{DimacsError, Reason};
 use gipsat_drat::error::DratError;
 use std::fs::File;
-use std::io::{self, ErrorKind, IsTerminal, Read, Stdin, Stdout, Write};
+use std::io::{self, IsTerminal, Read, Stdin, Stdout, Write};
 
 /// A file that is read, or standard input.
 #[derive(Drop)]
@@ -30,7 +31,10 @@ impl<'a> Source<'a> {
     /// `Open` where the file can't be opened, or is a directory.
     pub fn open(rt: &HostRuntime, name: Option<&'a str>) -> Result<Self, Failure<'a>> {
         let stream = match name {
-            Some(name) => Stream::File(open(rt, name)?),
+            Some(name) => match open_file(rt, name) {
+                Ok(file) => Stream::File(file),
+                Err(error) => return Err(Failure::Open(name, error)),
+            },
             None => Stream::Stdin(rt.stdin()),
         };
         Ok(Source {
@@ -88,25 +92,6 @@ impl Read for Source<'_> {
             self.error = Some(error);
         }
         done
-    }
-}
-
-// Opens a file, which is no directory.
-fn open<'a>(rt: &HostRuntime, name: &'a str) -> Result<File, Failure<'a>> {
-    match File::open(rt, name) {
-        Ok(file) if is_directory(&file) => {
-            Err(Failure::Open(name, io::Error::from(ErrorKind::IsADirectory)))
-        }
-        Ok(file) => Ok(file),
-        Err(error) => Err(Failure::Open(name, error)),
-    }
-}
-
-// Whether an open file is a directory, as far as the system tells.
-fn is_directory(file: &File) -> bool {
-    match file.metadata() {
-        Ok(metadata) => metadata.is_dir(),
-        Err(_) => false,
     }
 }
 

@@ -22,8 +22,9 @@ mod proof_file;
 mod solve;
 mod watch;
 
-use errors::{Cause, Failure, UsageError};
+use errors::{Failure, UsageError};
 use files::{Output, Source};
+use gip_program::{Cause, hold_standard_streams};
 use gipsat_answers::Verdict;
 use gipsat_dimacs::{DimacsError, Reason};
 use gipsat_drat::error::{DratError, Outcome};
@@ -44,6 +45,9 @@ const REFUSED: u8 = 1;
 const USAGE: u8 = 2;
 
 fn main(rt: HostRuntime) -> ExitCode {
+    if let Err(error) = hold_standard_streams(&rt) {
+        return refuse(&rt, &format_args!("/dev/null: {}", Cause(Some(error))));
+    }
     let words = match words_of(&rt) {
         Ok(words) => words,
         Err(error) => return refuse(&rt, &format_args!("arguments: {}", Cause(Some(error)))),

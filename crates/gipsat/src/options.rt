@@ -4,7 +4,7 @@ ghost use Rattle.std.specs.Option.{ok_or, option_map};
 ghost use Rattle.std.specs.Result.{result_map_both};
 ghost use Rattle.giputils_text.specs.Numbers.{number_of};
 ghost use Rattle.gipsat.specs.Misuses.{misuse_of, NoNumber};
-ghost use Rattle.gipsat.specs.Options.{no_request, request_of, switched, with_value};
+ghost use Rattle.gipsat.specs.Options.{no_request, output_of, request_of, switched, with_value};
 ghost use Rattle.gipsat.specs.Words.{after_file, after_joined, after_named, after_option, after_word, after_words};
 ghost use Rattle.gipsat.specs.Words.{asked_for, check_asked, input_of, joined_of, long_setting_of, no_words, option_of};
 ghost use Rattle.gipsat.specs.Words.{search_asked, setting_of, state_of, switch_of, work_asked, work_of};
@@ -119,10 +119,10 @@ impl<'a> Options<'a> {
                 let time = Some(number(setting, word)? as u64);
                 Ok(Options { time, ..self })
             }
-            Setting::Proof => Ok(Options {
-                proof: Some(word),
-                ..self
-            }),
+            Setting::Proof => {
+                let proof = Some(output(word)?);
+                Ok(Options { proof, ..self })
+            }
         }
     }
 
@@ -171,6 +171,16 @@ fn number<'a>(setting: Setting, word: &'a str) -> Result<usize, UsageError<'a>>
         Ok(number) => Ok(number),
         Err(_) => Err(UsageError::NoNumber(setting, word)),
     }
+}
+
+// The file of this name, to which a proof is written: not standard output.
+fn output<'a>(name: &'a str) -> Result<&'a str, UsageError<'a>>
+    ensures { result_map_both (λ name. name.now) misuse_of result ≡ output_of name.now }
+{
+    if name == "-" {
+        return Err(UsageError::OutputTwice);
+    }
+    Ok(name)
 }
 
 /// What is told in place of an answer.

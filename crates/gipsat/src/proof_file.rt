@@ -3,8 +3,8 @@ ghost use Rattle.std.specs.Prelude.{◌≡◌, false, IsErr, IsTrue};
 ghost use Rattle.std.specs.Io.KnownBytes.{IsAtEnd};
 ghost use Rattle.gipsat.specs.Options.{reads, request_of};
 
-use crate::errors::Cause;
 use crate::options::Options;
+use gip_program::{Cause, Existing, FinishError, NewFile};
 use gipsat_dimacs::HeaderRule;
 use std::fmt::{self, Display};
 use std::fs::{self, File};
@@ -24,6 +24,8 @@ pub enum ProofError<'a> {
     Open(&'a str, io::Error),
     /// The file could not be written.
     Write(&'a str, io::Error),
+    /// The file was written, and did not get its name.
+    Finish(FinishError<'a>),
 }
 
 impl Display for ProofError<'_> {
@@ -45,11 +47,12 @@ impl Display for ProofError<'_> {
             ProofError::Write(path, error) => {
                 write!(f, "{path}: cannot be written: {}", Cause(Some(error)))
             }
+            ProofError::Finish(error) => Display::fmt(&error, f),
         }
     }
 }
 
-/// Makes the file of a proof, once the formula was read to its end from this reader.
+/// Begins the file of a proof, once the formula was read to its end from this reader. It appears when it is whole.
 ///
 /// Where it is not forced, a file that begins as a formula does is left as it is, and so is any that is not empty where
 /// no file of a formula was named, or where a formula may have no header.
@@ -61,14 +64,14 @@ pub fn create<'a, R: Read>(
     options: &Options<'a>,
     path: &'a str,
     _reader: &R,
-) -> Result<File, ProofError<'a>>
+) -> Result<NewFile<'a>, ProofError<'a>>
     requires read_to_end { IsAtEnd (R.remaining _reader.now) }
     ensures other_file { IsTrue (reads (request_of options.now) path.now) → options.now.force ≡ false → IsErr result }
 {
     if !options.force {
         guard(rt, options, path)?;
     }
-    match File::create(rt, path) {
+    match NewFile::begin(rt, path, Existing::Replace) {
         Ok(file) => Ok(file),
         Err(error) => Err(ProofError::Open(path, error)),
     }

@@ -10,12 +10,12 @@ ghost use Rattle.gipsat.specs.declared.solve.SolveError.TheVariants as solve_err
 use crate::options::Options;
 use crate::proof_file::{self, ProofError};
 use crate::watch::{TimeLimit, Watch};
+use gip_program::NewFile;
 use gipsat_answers::{Solved, Verdict, solve_instance};
 use gipsat_dimacs::{DimacsError, Instance, Reason, read_instance_by};
 use gipsat_drat::writer::{Fault, Format, ProofWriter};
 use gipsat_solver::progress::{Both, Progress};
 use std::alloc::{AllocError, Global};
-use std::fs::File;
 use std::io::{Read, Write};
 
 /// Why a formula was not solved.
@@ -37,7 +37,7 @@ impl From<AllocError> for SolveError<'_> {
 
 /// Solves as `solve_text` does, within as many conflicts as the options allow, and writes a proof where they say so.
 ///
-/// The proof's file is made once the whole formula was read. The answer is written where the proof is whole.
+/// The proof's file is begun once the whole formula was read. The answer is written where the proof is whole.
 pub fn solve<'a, R: Read, W: Write>(
     rt: &HostRuntime,
     options: &Options<'a>,
@@ -92,12 +92,12 @@ fn read_formula<'a, R: Read>(
     }
 }
 
-// The file of the proof, if one is wanted, and its name. It is made once the formula was read to its end.
+// The file of the proof, if one is wanted. It is begun once the formula was read to its end.
 fn open_proof<'a, R: Read>(
     rt: &HostRuntime,
     options: &Options<'a>,
     reader: &R,
-) -> Result<Option<(&'a str, File)>, SolveError<'a>>
+) -> Result<Option<NewFile<'a>>, SolveError<'a>>
     requires read_to_end { IsAtEnd (R.remaining reader.now) }
     ensures other { (error : DimacsError) → ¬ (IsErrOf result (SolveError.Task error)) }
 {
@@ -105,7 +105,7 @@ fn open_proof<'a, R: Read>(
         return Ok(None);
     };
     match proof_file::create(rt, options, path, reader) {
-        Ok(file) => Ok(Some((path, file))),
+        Ok(file) => Ok(Some(file)),
         Err(error) => Err(SolveError::Proof(error)),
     }
 }
@@ -115,7 +115,7 @@ fn answer<'a, W: Write>(
     rt: &HostRuntime,
     options: &Options<'a>,
     instance: Instance,
-    proof: Option<(&'a str, File)>,
+    proof: Option<NewFile<'a>>,
     watch: Watch,
     writer: &mut W,
 ) -> Result<Solved, SolveError<'a>>
@@ -153,7 +153,7 @@ fn answer_told<'a, W: Write, P: Progress<Global> + Drop>(
     rt: &HostRuntime,
     options: &Options<'a>,
     instance: Instance,
-    proof: Option<(&'a str, File)>,
+    proof: Option<NewFile<'a>>,
     mut progress: P,
     writer: &mut W,
 ) -> Result<Told<P>, SolveError<'a>>
@@ -167,8 +167,8 @@ fn answer_told<'a, W: Write, P: Progress<Global> + Drop>(
         ¬ (IsErrOf result (SolveError.Task (DimacsError.Line line reason))) }
     ensures unwritten { IfErr result (λ error. error ≢ SolveError.Task DimacsError.Output → writer.new ≡ writer.old) }
 {
-    if let Some((path, file)) = proof {
-        return prove(rt, options, instance, path, file, progress, writer);
+    if let Some(file) = proof {
+        return prove(rt, options, instance, file, progress, writer);
     }
     match solve_instance(
         rt.alloc(),
@@ -188,8 +188,7 @@ fn prove<'a, W: Write, P: Progress<Global> + Drop>(
     rt: &HostRuntime,
     options: &Options<'a>,
     instance: Instance,
-    path: &'a str,
-    file: File,
+    mut file: NewFile<'a>,
     progress: P,
     writer: &mut W,
 ) -> Result<Told<P>, SolveError<'a>>
@@ -203,6 +202,39 @@ fn prove<'a, W: Write, P: Progress<Global> + Drop>(
         ¬ (IsErrOf result (SolveError.Task (DimacsError.Line line reason))) }
     ensures unwritten { IfErr result (λ error. error ≢ SolveError.Task DimacsError.Output → writer.new ≡ writer.old) }
 {
+    let mut text = Vec::new(rt.alloc());
+    let told = match prove_to(rt, options, instance, &mut file, progress, &mut text) {
+        Ok(told) => told,
+        Err(error) => return Err(error),
+    };
+    if let Err(error) = file.finish() {
+        return Err(SolveError::Proof(ProofError::Finish(error)));
+    }
+    match writer.write_all(&text) {
+        Ok(()) => Ok(told),
+        Err(_) => Err(SolveError::Task(DimacsError::Output)),
+    }
+}
+
+// Solves a formula that was read, writes a proof to a file, and the answer.
+fn prove_to<'a, W: Write, P: Progress<Global> + Drop>(
+    rt: &HostRuntime,
+    options: &Options<'a>,
+    instance: Instance,
+    file: &mut NewFile<'a>,
+    progress: P,
+    writer: &mut W,
+) -> Result<Told<P>, SolveError<'a>>
+    requires fresh { HasLearnedNone instance.solver }
+    ensures written { IfOk result (λ told. WritesAnswerWith options.now.witness (problem_in instance)
+        options.now.conflicts told.solved (W.contents writer.old) (W.contents writer.new)) }
+    ensures formula { IfOk result (λ told. told.solved.solver.formula ≡ instance.solver.formula) }
+    ensures stopped { IfOk result (λ told.
+        told.solved.verdict ≡ Verdict.Stopped → IsTrue (P.wants_stop told.progress)) }
+    ensures other { (line : ℕ) (reason : Reason) →
+        ¬ (IsErrOf result (SolveError.Task (DimacsError.Line line reason))) }
+{
+    let path = file.name();
     let format = if options.binary {
         Format::Binary
     } else {
@@ -212,11 +244,10 @@ fn prove<'a, W: Write, P: Progress<Global> + Drop>(
         first: progress,
         second: ProofWriter::new(rt.alloc(), file, format),
     };
-    let mut text = Vec::new(rt.alloc());
     let solved = match solve_instance(
         rt.alloc(),
         instance,
-        &mut text,
+        writer,
         options.witness,
         options.conflicts,
         &mut both,
@@ -229,12 +260,8 @@ fn prove<'a, W: Write, P: Progress<Global> + Drop>(
         second: mut proof,
     } = both;
     match proof.finish(solved.verdict == Verdict::Unsatisfiable) {
-        Ok(()) => {}
-        Err(Fault::Memory) => return Err(SolveError::Task(DimacsError::Memory)),
-        Err(Fault::Output(error)) => return Err(SolveError::Proof(ProofError::Write(path, error))),
-    }
-    match writer.write_all(&text) {
         Ok(()) => Ok(Told { solved, progress }),
-        Err(_) => Err(SolveError::Task(DimacsError::Output)),
+        Err(Fault::Memory) => Err(SolveError::Task(DimacsError::Memory)),
+        Err(Fault::Output(error)) => Err(SolveError::Proof(ProofError::Write(path, error))),
     }
 }
