@@ -1,0 +1,9 @@
+# Completion of gipmc for bash. Made by tests/manuals.py from its help.
+_gipmc() {
+    local word=${COMP_WORDS[COMP_CWORD]}
+    COMPREPLY=()
+    if [[ $word == -* ]]; then
+        mapfile -t COMPREPLY < <(compgen -W '--bad --engine --depth --limit -t --time --seed --replay --certify --certificate -q --quiet -v --verbose --stats -h --help --version --' -- "$word")
+    fi
+}
+complete -o default -F _gipmc gipmc
