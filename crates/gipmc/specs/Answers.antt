@@ -68,9 +68,9 @@ IsCircuitIn bytes c = Writes bytes c × IsTrue (is_well_formed c)
 abbrev pub Answers : (A : Type 0) → List ℕ → Option ℕ → Outcome → List ℕ → Type 0
 Answers A bytes asked outcome text = (c : Circuit A) × IsCircuitIn bytes c × TellsAsked c asked outcome text
 
--- some text answers so about the circuit that some bytes write
-abbrev pub IsAnswered : (A : Type 0) → Option ℕ → Outcome → Type 0
-IsAnswered A asked outcome = (bytes : List ℕ) × (text : List ℕ) × Answers A bytes asked outcome text
+-- some text answers so about the circuit that the bytes write
+abbrev pub IsAnswered : (A : Type 0) → List ℕ → Option ℕ → Outcome → Type 0
+IsAnswered A bytes asked outcome = (text : List ℕ) × Answers A bytes asked outcome text
 
 -- the text writes the witness for the circuit
 abbrev pub IsWitnessIn : {A B : Type 0} → Circuit A → List ℕ → Witness B → Type 0
@@ -91,7 +91,3 @@ abbrev pub Replays : (A : Type 0) → List ℕ → List ℕ → Option ℕ → T
 Replays A bytes witness asked =
     (c : Circuit A) × IsCircuitIn bytes c × (w : Witness A) × IsWitnessIn c witness w × IsAsked asked w.property
     × FailsAt c w.property w.trace
-
--- some witness replays so on the circuit that some bytes write
-abbrev pub IsReplayed : (A : Type 0) → Option ℕ → Type 0
-IsReplayed A asked = (bytes : List ℕ) × (witness : List ℕ) × Replays A bytes witness asked

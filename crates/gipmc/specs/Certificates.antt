@@ -47,7 +47,3 @@ CertifiesCircuit {A} c text asked =
 -- the bytes write a circuit, and the text a certificate by which it is safe so
 abbrev pub Certifies : (A : Type 0) → List ℕ → List ℕ → Option ℕ → Type 0
 Certifies A bytes text asked = (c : Circuit A) × IsCircuitIn bytes c × CertifiesCircuit c text asked
-
--- some text certifies the circuit that some bytes write
-abbrev pub IsCertified : (A : Type 0) → Option ℕ → Type 0
-IsCertified A asked = (bytes : List ℕ) × (text : List ℕ) × Certifies A bytes text asked

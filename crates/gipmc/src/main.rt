@@ -8,8 +8,8 @@
 ghost use Rattle.std.specs.Prelude.{◌≡◌, IfOk, IsTrue};
 ghost use Rattle.std.specs.Process.{exit_status};
 ghost use Rattle.std.specs.declared.alloc.Global.{Global};
-ghost use Rattle.gipmc.specs.Answers.{Answers, IsAnswered, IsReplayed};
-ghost use Rattle.gipmc.specs.Certificates.{CertifiesCircuit, IsCertified};
+ghost use Rattle.gipmc.specs.Answers.{Answers, IsAnswered, Replays};
+ghost use Rattle.gipmc.specs.Certificates.{Certifies, CertifiesCircuit};
 ghost use Rattle.gipmc.specs.declared.answers.Outcome.TheVariants.{Fails, Safe};
 ghost use Rattle.gipmc.specs.Statuses.{outcome_status, refused_status, search_status, telling_status, usage_status, verified_status};
 
@@ -69,26 +69,73 @@ fn main(rt: HostRuntime) -> ExitCode {
     }
 }
 
-// The status of a search.
-fn run_search(rt: &HostRuntime, options: &Options) -> ExitCode
-    ensures safe { exit_status result ≡ 20 → IsAnswered Global options.now.bad Safe }
-    ensures fails { exit_status result ≡ 10 → IsAnswered Global options.now.bad Fails }
+// The status of a search in the circuit of the file that the options name, or of standard input.
+fn run_search(rt: &HostRuntime, options: &Options) -> ExitCode {
+    match bytes_of(rt, options.file) {
+        Ok(bytes) => search_in(rt, options, &bytes),
+        Err(error) => refuse(rt, &error),
+    }
+}
+
+// The status of a search in the circuit that the bytes write.
+fn search_in(rt: &HostRuntime, options: &Options, bytes: &[u8]) -> ExitCode
+    ensures safe { exit_status result ≡ 20 → IsAnswered Global bytes.now options.now.bad Safe }
+    ensures fails { exit_status result ≡ 10 → IsAnswered Global bytes.now options.now.bad Fails }
 {
-    end_search(rt, search_file(rt, options))
+    end_search(rt, search_circuit(rt, options, bytes))
 }
 
 // The status of a replay of the witness in the file of this name, or in standard input.
-fn run_replay(rt: &HostRuntime, options: &Options, name: Option<&str>) -> ExitCode
-    ensures { exit_status result ≡ 0 → IsReplayed Global options.now.bad }
+fn run_replay(rt: &HostRuntime, options: &Options, name: Option<&str>) -> ExitCode {
+    match texts_of(rt, options, name) {
+        Ok((bytes, witness)) => replay_in(rt, options, name, &bytes, &witness),
+        Err(error) => refuse(rt, &error),
+    }
+}
+
+// The status of a replay of this witness on the circuit that the bytes write.
+fn replay_in(
+    rt: &HostRuntime,
+    options: &Options,
+    name: Option<&str>,
+    bytes: &[u8],
+    witness: &[u8],
+) -> ExitCode
+    ensures { exit_status result ≡ 0 → Replays Global bytes.now witness.now options.now.bad }
 {
-    end_check(rt, replay_file(rt, options, name))
+    end_check(rt, replay(rt, options, name, bytes, witness))
 }
 
 // The status of a certification by the certificate in the file of this name, or in standard input.
-fn run_certify(rt: &HostRuntime, options: &Options, name: Option<&str>) -> ExitCode
-    ensures { exit_status result ≡ 0 → IsCertified Global options.now.bad }
+fn run_certify(rt: &HostRuntime, options: &Options, name: Option<&str>) -> ExitCode {
+    match texts_of(rt, options, name) {
+        Ok((bytes, text)) => certify_in(rt, options, name, &bytes, &text),
+        Err(error) => refuse(rt, &error),
+    }
+}
+
+// The status of a certification of the circuit that the bytes write, by this certificate.
+fn certify_in(
+    rt: &HostRuntime,
+    options: &Options,
+    name: Option<&str>,
+    bytes: &[u8],
+    text: &[u8],
+) -> ExitCode
+    ensures { exit_status result ≡ 0 → Certifies Global bytes.now text.now options.now.bad }
 {
-    end_check(rt, certify_file(rt, options, name))
+    end_check(rt, certify(rt, options, name, bytes, text))
+}
+
+// The texts of the circuit that the options name and of the file of this name, each or standard input.
+fn texts_of<'a>(
+    rt: &HostRuntime,
+    options: &Options<'a>,
+    name: Option<&'a str>,
+) -> Result<(Vec<u8>, Vec<u8>), Failure<'a>> {
+    let bytes = bytes_of(rt, options.file)?;
+    let text = bytes_of(rt, name)?;
+    Ok((bytes, text))
 }
 
 // The arguments behind the program's name.
@@ -207,17 +254,20 @@ fn depth_of(options: &Options) -> usize {
     }
 }
 
-// Answers about the circuit of the file that the options name, or of standard input: writes each answer when it is
-// found, and then the certificate, if one is wanted and was found.
-fn search_file<'a>(rt: &HostRuntime, options: &Options<'a>) -> Result<Outcome, Failure<'a>>
-    ensures { IfOk result (IsAnswered Global options.now.bad) }
+// Answers about a circuit: writes each answer when it is found, and then the certificate, if one is wanted and was
+// found.
+fn search_circuit<'a>(
+    rt: &HostRuntime,
+    options: &Options<'a>,
+    bytes: &[u8],
+) -> Result<Outcome, Failure<'a>>
+    ensures { IfOk result (IsAnswered Global bytes.now options.now.bad) }
 {
-    let bytes = bytes_of(rt, options.file)?;
     match options.certificate {
-        Some(name) => certified_search(rt, options, &bytes, new_file(rt, name)?),
+        Some(name) => certified_search(rt, options, bytes, new_file(rt, name)?),
         None => {
             let mut output = Output::new(rt.stdout());
-            let answer = search(rt, options, &bytes, &mut output)?;
+            let answer = search(rt, options, bytes, &mut output)?;
             written(&output)?;
             Ok(answer.said.outcome)
         }
@@ -274,7 +324,7 @@ fn certified_search<'a>(
     bytes: &[u8],
     file: NewFile<'a>,
 ) -> Result<Outcome, Failure<'a>>
-    ensures { IfOk result (IsAnswered Global options.now.bad) }
+    ensures { IfOk result (IsAnswered Global bytes.now options.now.bad) }
 {
     let mut output = Output::new(rt.stdout());
     let answer = search(rt, options, bytes, &mut output)?;
@@ -329,33 +379,33 @@ fn write_whole<'a>(mut file: NewFile<'a>, text: &[u8]) -> Result<(), Failure<'a>
     }
 }
 
-// Replays the witness in the file of this name, or in standard input.
-fn replay_file<'a>(
+// Replays a witness, which the file of this name has, or standard input.
+fn replay<'a>(
     rt: &HostRuntime,
     options: &Options<'a>,
     name: Option<&'a str>,
+    bytes: &[u8],
+    witness: &[u8],
 ) -> Result<bool, Failure<'a>>
-    ensures { IfOk result (λ verified. IsTrue verified → IsReplayed Global options.now.bad) }
+    ensures { IfOk result (λ verified. IsTrue verified → Replays Global bytes.now witness.now options.now.bad) }
 {
-    let bytes = bytes_of(rt, options.file)?;
-    let witness = bytes_of(rt, name)?;
-    match replays(rt.alloc(), &bytes, &witness, options.bad) {
+    match replays(rt.alloc(), bytes, witness, options.bad) {
         Ok(verified) => verified_text(rt, verified),
         Err(error) => Err(failure(options.file, name, error)),
     }
 }
 
-// Certifies by the certificate in the file of this name, or in standard input.
-fn certify_file<'a>(
+// Certifies by a certificate, which the file of this name has, or standard input.
+fn certify<'a>(
     rt: &HostRuntime,
     options: &Options<'a>,
     name: Option<&'a str>,
+    bytes: &[u8],
+    text: &[u8],
 ) -> Result<bool, Failure<'a>>
-    ensures { IfOk result (λ verified. IsTrue verified → IsCertified Global options.now.bad) }
+    ensures { IfOk result (λ verified. IsTrue verified → Certifies Global bytes.now text.now options.now.bad) }
 {
-    let bytes = bytes_of(rt, options.file)?;
-    let certificate = bytes_of(rt, name)?;
-    match certifies(rt.alloc(), &bytes, &certificate, options.bad, options.limit) {
+    match certifies(rt.alloc(), bytes, text, options.bad, options.limit) {
         Ok(verified) => verified_text(rt, verified),
         Err(error) => Err(failure(options.file, name, error)),
     }

@@ -1,11 +1,11 @@
 -- The certificate is verified.
 use Rattle.std.proofs.Common.{sym, ◌∙◌}
 use Rattle.std.specs.declared.alloc.Global.{Global}
-use Rattle.gipmc.specs.Certificates.{IsCertified}
+use Rattle.gipmc.specs.Certificates.{Certifies}
 use Rattle.gipmc.proofs.Ended.{verified_ended}
-use Rattle.gipmc.proofs.run_certify.Goals as goal
+use Rattle.gipmc.proofs.certify_in.Goals as goal
 
 pub returns : goal.returns
 returns c is =
-    verified_ended (IsCertified Global c.args.options.now.bad) c.certify_file.result c.certify_file.ensures
+    verified_ended (Certifies Global c.args.bytes.now c.args.text.now c.args.options.now.bad) c.certify.result c.certify.ensures
     (sym c.end_check.ensures ∙ is)
