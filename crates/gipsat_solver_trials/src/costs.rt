@@ -69,7 +69,7 @@ fn costs_its_clause(memory: &Refusing, solver: &mut Solver<&Refusing>) -> Result
     let _ = cost_of_a_call(memory, solver, &assumptions)?;
     solver.add_clause(&[literal(2001), literal(2003)])?;
     let cost = cost_of_a_call(memory, solver, &assumptions)?;
-    Ok(cost.core == 2 && cost.propagations <= 4 && cost.requests <= 20)
+    Ok(cost.core == 2 && cost.propagations <= 4 && cost.requests <= 22)
 }
 
 // Whether a second call costs little, after one more clause or without.
