@@ -16,7 +16,8 @@ ratio of every other turn from that of the rest, whichever is more. A ratio is w
 it by more than both noises together; then the status is 1. It is better likewise.
 
 Where valgrind is installed, a ratio at the lesser size has that of instructions beside it, which no other work on the
-machine changes. They are the difference between 40 and 20 runs of the workload, so that no program's start counts.
+machine changes. They are the difference between 40 and 20 runs of the workload, so that no program's start counts. The
+workloads of the solver, which take long, have none.
 
 With --write, the ratios of a workload replace the stored ones as soon as they are measured, and the table of
 crates/giputils_bench/README.md is made of all that are stored.
