@@ -1,6 +1,7 @@
 //! The order in which variables are decided: the most active first.
 
 use crate::domain::Domain;
+use crate::literal::Literal;
 use crate::scores::ByScore;
 use giputils_heap::BoundedHeap;
 use std::alloc::{AllocError, Allocator, Global};
@@ -47,10 +48,17 @@ impl<A: Allocator + Copy> Activity<A> {
         Ok(())
     }
 
-    // Lets only these variables be decided, or all where there is no domain.
-    pub(crate) fn limit_to(&mut self, domain: Option<&[u32]>) -> Result<(), AllocError> {
+    // Lets only these variables and those that are assumed be decided, or all where there is no domain.
+    pub(crate) fn limit_to(
+        &mut self,
+        domain: Option<&[u32]>,
+        assumptions: &[Literal],
+    ) -> Result<(), AllocError> {
         match domain {
-            Some(domain) => self.domain.set(self.scores.len(), domain, &self.scores),
+            Some(domain) => {
+                self.domain
+                    .set(self.scores.len(), domain, assumptions, &self.scores)
+            }
             None => {
                 self.domain.unset();
                 Ok(())

@@ -1,5 +1,6 @@
 //! A domain: the variables that a search may decide, where not all may.
 
+use crate::literal::Literal;
 use crate::scores::ByScore;
 use crate::settings::SETTINGS;
 use giputils_heap::BoundedHeap;
@@ -91,6 +92,7 @@ impl<A: Allocator + Copy> Domain<A> {
         &mut self,
         variables: usize,
         domain: &[u32],
+        assumptions: &[Literal],
         scores: &[f64],
     ) -> Result<(), AllocError> {
         self.unset();
@@ -101,6 +103,9 @@ impl<A: Allocator + Copy> Domain<A> {
         for variable in domain {
             self.add(*variable, scores)?;
         }
+        for l in assumptions {
+            self.add(l.variable(), scores)?;
+        }
         self.members.sort_unstable();
         for (place, member) in self.members.iter().enumerate() {
             if let Some(home) = self.places.get_mut(member.variable as usize) {
@@ -110,9 +115,12 @@ impl<A: Allocator + Copy> Domain<A> {
         Ok(())
     }
 
-    // Adds a variable, if there is one of this number.
+    // Adds a variable, if there is one of this number, and it is none of the domain yet.
     fn add(&mut self, variable: u32, scores: &[f64]) -> Result<(), AllocError> {
         if let Some(is_member) = self.is_member.get_mut(variable as usize) {
+            if *is_member {
+                return Ok(());
+            }
             *is_member = true;
             let score = ByScore(scores).score(variable);
             self.members.push(Member {

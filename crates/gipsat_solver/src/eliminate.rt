@@ -401,7 +401,8 @@ fn eliminate_variable<A: Allocator + Copy>(
     )
 }
 
-// Puts resolvents in the place of the clauses of a variable, unless they are too many or too long. Nothing is found yet.
+// Puts resolvents in the place of the clauses of a variable, unless they are too many or too long. Nothing is found
+// yet.
 #[tactic(auto, using(crate::proofs::DerivesLemmas::Derives_same, crate::proofs::DerivesLemmas::Derives_then))]
 fn replace<A: Allocator + Copy>(
     alloc: A,
@@ -433,7 +434,7 @@ fn replace<A: Allocator + Copy>(
     heuristics.eliminated.push(l, &found.positive)?;
     heuristics.activity.take_out(l.variable());
     elimination.occurrences.freeze(l.variable());
-    elimination.steps = elimination.steps.saturating_add(SETTINGS.variable_steps);
+    elimination.steps = elimination.steps.max(SETTINGS.variable_steps);
     let watches = &mut heuristics.watches;
     for place in &found.positive {
         elimination.take_out(database, trail, watches, *place, ClauseStatus::Eliminated);

@@ -26,7 +26,7 @@ pub struct Stats {
     pub decisions: u64,
     /// Literals whose clauses were looked at.
     pub propagations: u64,
-    /// How often the search restarted: took decisions back that another one comes before now.
+    /// How often the search restarted. It keeps the first decisions that it would make again.
     pub restarts: u64,
     /// Learned clauses and resolvents that are not looked at any more.
     pub deleted: u64,
@@ -149,7 +149,7 @@ impl<A: Allocator + Copy> Heuristics<A> {
         self.is_guess = is_guess;
         self.has_guessed = false;
         self.eliminated.rewind();
-        self.activity.limit_to(domain)
+        self.activity.limit_to(domain, assumptions)
     }
 
     // A conflict was met.
@@ -210,8 +210,8 @@ impl<A: Allocator + Copy> Heuristics<A> {
         }
     }
 
-    // The level to which a restart backtracks: the root where a turn begins or phases are reset, and else as many levels
-    // stay as have decisions that come before the next one.
+    // The level to which a restart backtracks: the root in a domain, and where a turn begins or phases are reset. Else
+    // the first levels stay, as far as their decisions come before the next one.
     pub(crate) fn restart_level(&mut self, trail: &Trail<A>) -> usize {
         if self.activity.is_limited() || self.begins_anew() {
             return 0;

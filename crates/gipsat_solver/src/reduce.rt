@@ -70,8 +70,8 @@ fn least_worth<A: Allocator + Copy>(alloc: A, watches: &Watches<A>) -> Result<u6
     )
 }
 
-// Watches a clause again, or deletes it if it is satisfied at the root, or learned and worth less. Whether it is learned
-// and stays.
+// Watches a clause again, or deletes it if it is satisfied at the root, or learned and worth less. Whether it is
+// learned and stays.
 fn keep<A: Allocator + Copy>(
     watches: &mut Watches<A>,
     trail: &Trail<A>,

@@ -56,8 +56,9 @@ pub(crate) struct Settings {
     // vivification may propagate.
     pub vivified_glue: u32,
     pub vivification_share: u64,
-    // How many steps an elimination takes: so many, so many for each literal of the formula, and so many for each
-    // variable that was eliminated. A step looks at a literal; one that comes or goes costs `occurrence_steps`.
+    // How many steps an elimination takes: `elimination_steps`, and `literal_steps` for each literal of the database;
+    // behind each variable that it eliminates, `variable_steps` are left at least. A step looks at a literal; one that
+    // comes or goes costs `occurrence_steps`.
     pub elimination_steps: u64,
     pub literal_steps: u64,
     pub variable_steps: u64,
@@ -67,7 +68,7 @@ pub(crate) struct Settings {
     pub resolvent_literals: usize,
 }
 
-// The settings of each search. They were chosen together, on the list `tuning` of `tools/formulas.py`.
+// The settings of each search. None was chosen on the lists `report` and `fresh` of `tools/formulas.py`.
 pub(crate) const SETTINGS: Settings = Settings {
     // The focused mode stays with the variables of the last conflicts; the stable one remembers older conflicts.
     focused_growth: 1.0 / 8.0,
@@ -85,7 +86,7 @@ pub(crate) const SETTINGS: Settings = Settings {
     focused_interval: 2,
     // It is multiplied with Luby's sequence: the stable mode searches for long around one assignment.
     stable_interval: 1_024,
-    // The fast average is that of the last restarts, and the slow one that of the whole search.
+    // The fast average is that of the last conflicts, and the slow one that of the whole search.
     fast_rate: 1.0 / 20.0,
     slow_rate: 1.0 / 100_000.0,
     // With 1.05 and with 1.20 there are as many conflicts, or more.

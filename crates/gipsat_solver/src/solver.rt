@@ -238,9 +238,9 @@ impl<A: Allocator + Copy> Solver<A> {
     }
 
     /// Looks for a contradiction between the assumptions and the formula, as [`Solver::solve_under`] does, but does
-    /// not read the formula once more before it answers `Sat`, and makes no list of values: [`Solver::value`] tells them
-    /// one by one until the solver is called again. So a call costs no more than its search, however large the formula
-    /// is.
+    /// not read the formula once more before it answers `Sat`, and makes no list of values: [`Solver::value`] tells
+    /// them one by one until the solver is called again. So a call costs no more than its search, however large the
+    /// formula is.
     ///
     /// `Unsat` is as sure as that of `solve_under`, and so is its core. Of `Sat` nothing is proved: each variable that
     /// a clause has was assigned and no conflict was met. Who needs a model asks `solve_under`, or tries the values.
@@ -260,9 +260,10 @@ impl<A: Allocator + Copy> Solver<A> {
 
     /// What [`Solver::guess_under`] does, where only the variables of a domain are decided, apart from the assumptions.
     ///
-    /// At `Sat` each variable of the domain has a value, and propagation within the domain met no conflict. These values
-    /// can be extended to a model if the domain is closed, as that of a circuit's gates is with all that they read:
-    /// nothing is proved of it. A number of the domain that the formula and the assumptions don't have is passed over.
+    /// At `Sat` each variable of the domain has a value, and propagation within the domain met no conflict. These
+    /// values can be extended to a model if the domain is closed, as that of a circuit's gates is with all that they
+    /// read: nothing is proved of it. What is assumed counts as of the domain. A number of the domain that the formula
+    /// and the assumptions don't have is passed over.
     ///
     /// # Errors
     /// Those of [`Solver::guess_under`].
@@ -469,7 +470,7 @@ impl<A: Allocator + Copy> Solver<A> {
 
     /// Eliminates variables: the clauses of a variable give way to their resolvents, which become clauses of the solver,
     /// if these are not more than the clauses and not long. It also drops clauses that follow from others. Besides a
-    /// walk over all clauses it takes about `steps` steps, and some thousands more for each variable that it eliminates;
+    /// walk over all clauses it takes about `steps` steps, and goes on while some thousand steps eliminate a variable;
     /// a step looks at a literal. The `frozen` variables are not eliminated; one that was eliminated before is not
     /// brought back.
     ///

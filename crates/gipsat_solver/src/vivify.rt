@@ -168,7 +168,7 @@ fn clause_of_obstacle<A: Allocator + Copy>(
     Ok(Some(clause))
 }
 
-// An obstacle as a step: a literal of a falsified clause, with the clause as its reason, or an assumption that is false.
+// An obstacle as a step: a literal of a falsified clause, with the clause as its reason, or a false assumption.
 fn last_step<A: Allocator + Copy>(database: &Database<A>, obstacle: Obstacle) -> Option<Step>
     ensures { IfSome result (λ step. step.literal.variable < database.now.variables) }
 {

@@ -33,9 +33,8 @@ pub(crate) struct Walk<A: Allocator = Global> {
     // For each variable how many clauses would be falsified if it were flipped.
     breaks: Vec<u32, A>,
     falsified: Vec<u32, A>,
-    // The variables that were flipped, how many of them led to the fewest falsified clauses, and how many these were.
+    // The variables that were flipped since the fewest clauses were falsified, and how many these were.
     flips: Vec<u32, A>,
-    best_flips: usize,
     fewest: usize,
     // How likely a variable is flipped, by the number of clauses that it would falsify.
     chances: Vec<f64, A>,
@@ -55,7 +54,6 @@ impl<A: Allocator + Copy> Walk<A> {
             breaks: Vec::new(alloc),
             falsified: Vec::new(alloc),
             flips: Vec::new(alloc),
-            best_flips: 0,
             fewest: usize::MAX,
             chances: Vec::new(alloc),
             random: random | 1,
@@ -80,7 +78,8 @@ impl<A: Allocator + Copy> Walk<A> {
         Ok(mem::replace(&mut self.values, Vec::new(alloc)))
     }
 
-    // Collects the clauses that no root literal satisfies. If they have more literals than there are steps, none is left.
+    // Collects the clauses that no root literal satisfies. If they have more literals than there are steps, no step is
+    // left.
     fn collect(
         &mut self,
         alloc: A,
@@ -205,7 +204,7 @@ impl<A: Allocator + Copy> Walk<A> {
         for _ in 0..usize::MAX {
             if self.falsified.len() < self.fewest {
                 self.fewest = self.falsified.len();
-                self.best_flips = self.flips.len();
+                self.flips.clear();
             }
             if self.steps == 0 || self.falsified.is_empty() {
                 return Ok(());
@@ -221,6 +220,8 @@ impl<A: Allocator + Copy> Walk<A> {
     // A literal of a falsified clause, by chance.
     fn pick(&mut self) -> Option<Literal> {
         let clause = self.any_falsified()?;
+        let literals = clause.end.saturating_sub(clause.start);
+        self.steps = self.steps.saturating_sub(literals as u64);
         let mut sum = 0.0;
         for place in clause.start..clause.end {
             sum += self.chance(place);
@@ -346,11 +347,9 @@ impl<A: Allocator + Copy> Walk<A> {
 
     // Flips variables back to the best phases.
     fn go_back(&mut self) {
-        for _ in self.best_flips..self.flips.len() {
-            if let Some(variable) = self.flips.pop() {
-                if let Some(value) = self.values.get_mut(variable as usize) {
-                    *value = !*value;
-                }
+        for variable in &self.flips {
+            if let Some(value) = self.values.get_mut(*variable as usize) {
+                *value = !*value;
             }
         }
     }
@@ -377,7 +376,7 @@ impl<A: Allocator + Copy> Walk<A> {
     }
 }
 
-// How many times less likely a variable is flipped for each clause more that it would falsify, by the length of clauses.
+// How many times less likely a variable is flipped for each clause more that it would falsify, by clauses' length.
 fn base_for(length: usize) -> f64 {
     match length {
         0..=3 => 2.5,
