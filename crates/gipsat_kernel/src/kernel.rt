@@ -247,7 +247,7 @@ impl<A: Allocator + Copy> Kernel<A> {
     }
 
     /// Drops the working clauses that do not stay, by a flag for each id, and moves the others up. It sets the flags of
-    /// the clauses of the formula, which stay all, and clauses past the flags stay too. So the new id of a clause that
+    /// the clauses of the formula, which all stay, and clauses past the flags stay too. So the new id of a clause that
     /// stays is the number of set flags before it. It takes the memory of what stays, and then frees what was held
     /// before.
     ///
@@ -266,7 +266,8 @@ impl<A: Allocator + Copy> Kernel<A> {
 
     /// Lets one clause stand for another in the formula, if it has only literals of the other. So the other one is no
     /// more a clause of the formula, and a collection may drop it. False, and the formula stays, if it has other
-    /// literals, or if there are not two such clauses. A derivation that was begun is dropped.
+    /// literals, or if there are not two such clauses. True, and nothing changes, if it was no clause of the formula. A
+    /// derivation that was begun is dropped.
     pub fn subsume(&mut self, id: usize, by: usize) -> bool
         ensures { SaysSame self.old self.new }
     {

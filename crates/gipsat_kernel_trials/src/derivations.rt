@@ -1,7 +1,7 @@
 //! Derivations: what each call says, and the clause that is derived.
 
 use crate::examples::derive_b;
-use crate::formulas::{add_all, literal, number_of};
+use crate::formulas::{add_all, literal, number_of, numbers_at};
 use gipsat_kernel::Kernel;
 use std::alloc::{AllocError, Global};
 
@@ -200,6 +200,56 @@ fn each_step_says_what_it_did(rt: HostRuntime) -> Result<(), AllocError> {
     for row in ROWS {
         let found = run(rt.alloc(), row)?;
         assert!(rt; found.is_some_and(|last| last.as_slice() == row.last));
+    }
+    Ok(())
+}
+
+// Derives `2 or 3` from `1 or 2` and `not 1 or 3`, and does not conclude.
+fn derive_open(alloc: Global, kernel: &mut Kernel) -> Result<(), AllocError> {
+    add_all(alloc, kernel, &[1, 2, 0, -1, 3, 0])?;
+    take(kernel, Step::Begin(0))?;
+    take(kernel, Step::Resolve(-1, 1))?;
+    Ok(())
+}
+
+// The numbers of the literals that the clause had at any time.
+fn marked(alloc: Global, kernel: &Kernel) -> Result<Vec<i32>, AllocError> {
+    let mut numbers = Vec::new(alloc);
+    for l in kernel.marked() {
+        numbers.push(number_of(*l))?;
+    }
+    Ok(numbers)
+}
+
+#[test]
+fn the_marks_are_the_literals_of_the_clause(rt: HostRuntime) -> Result<(), AllocError> {
+    let mut kernel = Kernel::new(rt.alloc());
+    derive_open(rt.alloc(), &mut kernel)?;
+    let rows: &[(i32, bool)] = &[
+        (1, false),
+        (-1, false),
+        (2, true),
+        (-2, false),
+        (3, true),
+        (4, false),
+    ];
+    for (number, wanted) in rows {
+        assert!(rt; kernel.is_marked(literal(*number)) == *wanted);
+    }
+    let numbers = marked(rt.alloc(), &kernel)?;
+    assert!(rt; numbers.as_slice() == [1, 2, 3].as_slice());
+    Ok(())
+}
+
+#[test]
+fn a_span_leads_to_the_literals_of_its_clause(rt: HostRuntime) -> Result<(), AllocError> {
+    let mut kernel = Kernel::new(rt.alloc());
+    derive_open(rt.alloc(), &mut kernel)?;
+    take(&mut kernel, Step::Conclude)?;
+    let rows: &[(usize, &[i32])] = &[(0, &[1, 2]), (1, &[-1, 3]), (2, &[2, 3]), (3, &[])];
+    for (id, wanted) in rows {
+        let numbers = numbers_at(rt.alloc(), kernel.literals(), kernel.span(*id))?;
+        assert!(rt; numbers.as_slice() == *wanted);
     }
     Ok(())
 }

@@ -3,7 +3,7 @@
 use crate::examples::either_with;
 use gipsat_cnf::enumerate::find_model;
 use gipsat_cnf::values::{is_true, makes_true, satisfies_clause};
-use gipsat_cnf::{ClauseSink, Cnf, Literal};
+use gipsat_cnf::{ClauseSink, Cnf, Literal, Span};
 use std::alloc::{AllocError, Allocator, Global};
 
 // The literal of a number.
@@ -59,6 +59,23 @@ fn numbers_of(alloc: Global, formula: &Cnf) -> Result<Vec<i32>, AllocError> {
             numbers.push(number_of(*l))?;
         }
         numbers.push(0)?;
+    }
+    Ok(numbers)
+}
+
+// The numbers of the literals at a span.
+pub(crate) fn numbers_at(
+    alloc: Global,
+    literals: &[Literal],
+    span: Option<Span>,
+) -> Result<Vec<i32>, AllocError> {
+    let mut numbers = Vec::new(alloc);
+    if let Some(span) = span {
+        for place in span.start..span.end {
+            if let Some(l) = literals.get(place as usize) {
+                numbers.push(number_of(*l))?;
+            }
+        }
     }
     Ok(numbers)
 }
@@ -123,6 +140,19 @@ fn a_formula_tells_its_size(rt: HostRuntime) -> Result<(), AllocError> {
     assert!(rt; formula.len() == 3 && formula.variables() == 4);
     assert!(rt; formula.literals().len() == 3);
     assert!(rt; formula.span(3).is_none());
+    Ok(())
+}
+
+#[test]
+fn a_span_leads_to_the_literals_of_its_clause(rt: HostRuntime) -> Result<(), AllocError> {
+    let alloc = rt.alloc();
+    let mut formula = Cnf::new(alloc);
+    add_all(alloc, &mut formula, &[1, -2, 0, 0, 3, 0])?;
+    let rows: &[(usize, &[i32])] = &[(0, &[1, -2]), (1, &[]), (2, &[3]), (3, &[])];
+    for (place, wanted) in rows {
+        let numbers = numbers_at(alloc, formula.literals(), formula.span(*place))?;
+        assert!(rt; numbers.as_slice() == *wanted);
+    }
     Ok(())
 }
 
