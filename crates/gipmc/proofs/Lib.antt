@@ -2,3 +2,4 @@ mod Ended
 mod Examples
 mod Shown
 mod Told
+mod Witnessed

@@ -1,5 +1,5 @@
 -- Texts of answers, and when they are right.
-use Rattle.std.specs.Prelude.{◌≡◌, ℕ, zero, suc, List, [], ◌++◌, length, slice_get, codes, decimal, Option, Some, None, IsTrue, ⊤}
+use Rattle.std.specs.Prelude.{◌≡◌, ℕ, zero, suc, ◌<◌, ◌^◌, List, [], ◌++◌, length, slice_get, codes, decimal, Option, Some, None, IsTrue, ⊤}
 use Rattle.gipsat_solver.specs.Literals.{Lit}
 use Rattle.gipmc_aiger.specs.Circuits.{Writes}
 use Rattle.gipmc_aiger.specs.Traces.{witness_text, witness_view}
@@ -42,11 +42,11 @@ both Open Fails = Fails
 both Open Safe = Open
 both Open Open = Open
 
--- the text is that of a right verdict on the bad literal at a place
+-- the text is that of a right verdict on the bad literal at a place, which a text may name
 abbrev pub Tells : {A : Type 0} → Circuit A → ℕ → Outcome → List ℕ → Type 0
 Tells {A} c place outcome text =
     (bad : Lit) × (slice_get c.bads.items place ≡ Some bad) × (v : Verdict A) × IsRightVerdict c bad v
-    × (text ≡ verdict_text place v) × (outcome ≡ outcome_of v)
+    × (text ≡ verdict_text place v) × (outcome ≡ outcome_of v) × (place < 2 ^ 31)
 
 -- the text tells of each of the first n bad literals in turn
 abbrev pub TellsFirst : {A : Type 0} → Circuit A → ℕ → Outcome → List ℕ → Type 0

@@ -14,7 +14,7 @@ use Rattle.gipmc.specs.declared.certificates.Certificate.TheVariants as certific
 -- the text writes the certificate: clauses over the latches of the circuit, or another circuit
 abbrev pub IsCertificateIn : {A B : Type 0} → Circuit A → List ℕ → Certificate B → Type 0
 IsCertificateIn c text (certificate.Clauses clauses) = invariant_for c text ≡ Some (clauses_view clauses.items)
-IsCertificateIn c text (certificate.Circuit other) = Writes text other
+IsCertificateIn c text (certificate.Circuit other) = Writes text other.circuit
 
 -- by the other circuit it is safe as to the literal
 abbrev pub IsSafeByCircuit : {A B : Type 0} → Circuit A → Circuit B → Lit → Type 0
@@ -23,7 +23,7 @@ IsSafeByCircuit c other bad = IsCertifiedBy c bad other × IsSafe c bad
 -- by the certificate the circuit is safe as to the literal
 abbrev pub ShowsSafe : {A B : Type 0} → Circuit A → Certificate B → Lit → Type 0
 ShowsSafe c (certificate.Clauses clauses) bad = IsSafeByClauses c clauses.items bad
-ShowsSafe c (certificate.Circuit other) bad = IsSafeByCircuit c other bad
+ShowsSafe c (certificate.Circuit other) bad = IsSafeByCircuit c other.circuit bad
 
 -- the circuit has a bad literal at the place, and by the certificate it is safe as to it
 abbrev pub ShowsSafeAt : {A B : Type 0} → Circuit A → Certificate B → ℕ → Type 0

@@ -1,14 +1,15 @@
 //! The tasks, from the bytes of texts to the bytes of an answer.
-ghost use Rattle.std.specs.Prelude.{◌≡◌, ℕ, ◌<◌, ◌++◌, codes, length, decimal, IfOk, IfSome, IsTrue, OnOk};
+ghost use Rattle.std.specs.Prelude.{◌≡◌, ℕ, ◌<◌, ◌^◌, ◌++◌, codes, length, decimal, Some, IfOk, IfSome, IsTrue, OnOk};
 ghost use Rattle.gipmc.specs.Answers.{Answers, FailsAt, IsAsked, IsCircuitIn, IsWitnessIn, Replays, Tells, TellsAsked, TellsFirst};
 ghost use Rattle.gipmc.specs.Answers.{both, named, outcome_of, verdict_text};
+ghost use Rattle.gipmc.specs.declared.answers.Outcome.TheVariants.{Fails};
 ghost use Rattle.gipmc_engines.specs.Verdicts.{IsRightVerdict};
 
 use crate::errors::TaskError;
 use crate::output::Output;
 use crate::progress::Listener;
 use gipmc_aiger::{Witness, read_circuit, read_witness, write_witness};
-use gipmc_circuits::{Circuit, Trace, replay};
+use gipmc_circuits::{Netlist, Trace, replay};
 use gipmc_engines::{Plan, Verdict, check};
 use gipsat_solver::Literal;
 use std::alloc::{AllocError, Allocator, Global};
@@ -57,7 +58,7 @@ pub struct Said<A: Allocator = Global> {
 #[derive(Drop)]
 pub struct Answered<A: Allocator = Global> {
     /// The circuit.
-    pub circuit: Circuit<A>,
+    pub netlist: Netlist<A>,
     /// What is said of its bad literals.
     pub said: Said<A>,
 }
@@ -77,23 +78,25 @@ pub fn answer<A: Allocator + Copy, L: Listener, W: Write>(
     listener: &mut L,
     output: &mut Output<W>,
 ) -> Result<Answered<A>, TaskError>
-    ensures circuit { IfOk result (λ a. IsCircuitIn bytes.now a.circuit) }
+    ensures circuit { IfOk result (λ a. IsCircuitIn bytes.now a.netlist.circuit) }
     ensures answers { IfOk result (λ a. Answers A bytes.now asked a.said.outcome a.said.text.items) }
+    ensures witness { (place : ℕ) → asked ≡ Some place →
+        IfOk result (λ a. a.said.outcome ≡ Fails → Replays A bytes.now a.said.text.items asked) }
 {
-    let circuit = circuit_in(alloc, bytes)?;
-    let said = answer_asked(alloc, &circuit, asked, plan, listener, output)?;
-    Ok(Answered { circuit, said })
+    let netlist = netlist_in(alloc, bytes)?;
+    let said = answer_asked(alloc, &netlist, asked, plan, listener, output)?;
+    Ok(Answered { netlist, said })
 }
 
 // The circuit that a text writes.
-pub(crate) fn circuit_in<A: Allocator + Copy>(
+pub(crate) fn netlist_in<A: Allocator + Copy>(
     alloc: A,
     bytes: &[u8],
-) -> Result<Circuit<A>, TaskError>
-    ensures { IfOk result (IsCircuitIn bytes.now) }
+) -> Result<Netlist<A>, TaskError>
+    ensures { IfOk result (λ n. IsCircuitIn bytes.now n.circuit) }
 {
     match read_circuit(alloc, bytes) {
-        Ok(circuit) => Ok(circuit),
+        Ok(netlist) => Ok(netlist),
         Err(error) => Err(TaskError::Circuit(error)),
     }
 }
@@ -101,39 +104,39 @@ pub(crate) fn circuit_in<A: Allocator + Copy>(
 // Answers about a circuit.
 fn answer_asked<A: Allocator + Copy, L: Listener, W: Write>(
     alloc: A,
-    circuit: &Circuit<A>,
+    netlist: &Netlist<A>,
     asked: Option<usize>,
     plan: &Plan,
     listener: &mut L,
     output: &mut Output<W>,
 ) -> Result<Said<A>, TaskError>
-    ensures { IfOk result (λ said. TellsAsked circuit.now asked said.outcome said.text.items) }
+    ensures { IfOk result (λ said. TellsAsked netlist.now.circuit asked said.outcome said.text.items) }
 {
     match asked {
-        None => Ok(answer_all(alloc, circuit, plan, listener, output)?),
-        Some(place) if place < circuit.bads.len() => {
-            Ok(answer_at(alloc, circuit, place, plan, listener, output)?)
+        None => Ok(answer_all(alloc, netlist, plan, listener, output)?),
+        Some(place) if place < netlist.circuit.bads.len() => {
+            Ok(answer_at(alloc, netlist, place, plan, listener, output)?)
         }
-        Some(place) => Err(TaskError::NoBad(place, circuit.bads.len())),
+        Some(place) => Err(TaskError::NoBad(place, netlist.circuit.bads.len())),
     }
 }
 
 // Answers about all bad literals of a circuit.
 fn answer_all<A: Allocator + Copy, L: Listener, W: Write>(
     alloc: A,
-    circuit: &Circuit<A>,
+    netlist: &Netlist<A>,
     plan: &Plan,
     listener: &mut L,
     output: &mut Output<W>,
 ) -> Result<Said<A>, AllocError>
     ensures { IfOk result (λ said.
-        TellsFirst circuit.now (length circuit.now.bads.items) said.outcome said.text.items) }
+        TellsFirst netlist.now.circuit (length netlist.now.circuit.bads.items) said.outcome said.text.items) }
 {
     let mut text = Vec::new(alloc);
     let mut outcome = Outcome::Safe;
     let mut invariant = Vec::new(alloc);
-    for place in 0..circuit.bads.len() {
-        let mut said = answer_at(alloc, circuit, place, plan, listener, output)?;
+    for place in 0..netlist.circuit.bads.len() {
+        let mut said = answer_at(alloc, netlist, place, plan, listener, output)?;
         text.extend_from_slice(&said.text)?;
         outcome = outcome.and(said.outcome);
         invariant.append(&mut said.invariant)?;
@@ -148,17 +151,17 @@ fn answer_all<A: Allocator + Copy, L: Listener, W: Write>(
 // Answers about the bad literal at a place.
 fn answer_at<A: Allocator + Copy, L: Listener, W: Write>(
     alloc: A,
-    circuit: &Circuit<A>,
+    netlist: &Netlist<A>,
     place: usize,
     plan: &Plan,
     listener: &mut L,
     output: &mut Output<W>,
 ) -> Result<Said<A>, AllocError>
-    requires { place < length circuit.now.bads.items }
-    ensures { IfOk result (λ said. Tells circuit.now place said.outcome said.text.items) }
+    requires { place < length netlist.now.circuit.bads.items }
+    ensures { IfOk result (λ said. Tells netlist.now.circuit place said.outcome said.text.items) }
 {
-    let bad = circuit.bads[place];
-    let verdict = find_out(alloc, circuit, place, bad, plan, listener);
+    let bad = netlist.circuit.bads[place];
+    let verdict = find_out(alloc, netlist, place, bad, plan, listener);
     let text = verdict_text(alloc, place, &verdict)?;
     output.tell(&text);
     let outcome = outcome_of(&verdict);
@@ -172,18 +175,18 @@ fn answer_at<A: Allocator + Copy, L: Listener, W: Write>(
 // What is found out about the bad literal at a place: nothing where the time is over, or memory is refused.
 fn find_out<A: Allocator + Copy, L: Listener>(
     alloc: A,
-    circuit: &Circuit<A>,
+    netlist: &Netlist<A>,
     place: usize,
     bad: Literal,
     plan: &Plan,
     listener: &mut L,
 ) -> Verdict<A>
-    ensures { IsRightVerdict circuit.now bad result }
+    ensures { IsRightVerdict netlist.now.circuit bad result }
 {
     if listener.begin(place).is_break() {
         return Verdict::Unknown;
     }
-    match check(alloc, circuit, bad, plan, listener) {
+    match check(alloc, netlist, bad, plan, listener) {
         Ok(verdict) => {
             listener.end(false);
             verdict
@@ -221,7 +224,8 @@ fn verdict_text<A: Allocator + Copy>(
     place: usize,
     verdict: &Verdict<A>,
 ) -> Result<Vec<u8, A>, AllocError>
-    ensures { IfOk result (λ text. text.items ≡ verdict_text place verdict.now) }
+    ensures text { IfOk result (λ text. text.items ≡ verdict_text place verdict.now) }
+    ensures small { IfOk result (λ text. place < 2 ^ 31) }
 {
     if place > GREATEST {
         return Err(AllocError);
@@ -293,20 +297,21 @@ pub fn replays<A: Allocator + Copy>(
 ) -> Result<bool, TaskError>
     ensures { IfOk result (λ fails. IsTrue fails → Replays A bytes.now witness.now asked) }
 {
-    let circuit = circuit_in(alloc, bytes)?;
-    let witness = witness_in(alloc, &circuit, witness)?;
+    let netlist = netlist_in(alloc, bytes)?;
+    let witness = witness_in(alloc, &netlist, witness)?;
     is_asked(asked, &witness)?;
-    fails_by(alloc, &circuit, &witness)
+    fails_by(alloc, &netlist, &witness)
 }
 
 // The witness that a text writes for a circuit.
 fn witness_in<A: Allocator + Copy>(
     alloc: A,
-    circuit: &Circuit<A>,
+    netlist: &Netlist<A>,
     text: &[u8],
 ) -> Result<Witness<A>, TaskError>
-    ensures { IfOk result (IsWitnessIn circuit.now text.now) }
+    ensures { IfOk result (IsWitnessIn netlist.now.circuit text.now) }
 {
+    let circuit = &netlist.circuit;
     match read_witness(alloc, circuit.latches.len(), circuit.inputs.len(), text) {
         Ok(witness) => Ok(witness),
         Err(error) => Err(TaskError::Witness(error)),
@@ -327,28 +332,28 @@ fn is_asked<A: Allocator>(asked: Option<usize>, witness: &Witness<A>) -> Result<
 // Whether the trace of a witness is a counterexample, at the bad literal that the witness names.
 fn fails_by<A: Allocator + Copy>(
     alloc: A,
-    circuit: &Circuit<A>,
+    netlist: &Netlist<A>,
     witness: &Witness<A>,
 ) -> Result<bool, TaskError>
     ensures { IfOk result (λ fails. IsTrue fails →
-        FailsAt circuit.now witness.now.property witness.now.trace) }
+        FailsAt netlist.now.circuit witness.now.property witness.now.trace) }
 {
     let place = witness.property as usize;
-    if place >= circuit.bads.len() {
-        return Err(TaskError::OtherBad(place, circuit.bads.len()));
+    if place >= netlist.circuit.bads.len() {
+        return Err(TaskError::OtherBad(place, netlist.circuit.bads.len()));
     }
-    Ok(fails_at(alloc, circuit, place, &witness.trace)?)
+    Ok(fails_at(alloc, netlist, place, &witness.trace)?)
 }
 
 // Whether a trace is a counterexample, at the bad literal at a place.
 fn fails_at<A: Allocator + Copy>(
     alloc: A,
-    circuit: &Circuit<A>,
+    netlist: &Netlist<A>,
     place: usize,
     trace: &Trace<A>,
 ) -> Result<bool, AllocError>
-    requires { place < length circuit.now.bads.items }
-    ensures { IfOk result (λ fails. IsTrue fails → FailsAt circuit.now place trace.now) }
+    requires { place < length netlist.now.circuit.bads.items }
+    ensures { IfOk result (λ fails. IsTrue fails → FailsAt netlist.now.circuit place trace.now) }
 {
-    replay(alloc, circuit, circuit.bads[place], trace)
+    replay(alloc, netlist, netlist.circuit.bads[place], trace)
 }

@@ -3,12 +3,11 @@ ghost use Rattle.std.specs.Prelude.{◌<◌, length, IfOk, IsTrue};
 ghost use Rattle.gipmc.specs.Certificates.{Certifies, CertifiesCircuit, IsCertificateIn, ShowsSafeAll, ShowsSafeAsked, ShowsSafeAt};
 ghost use Rattle.gipmc.specs.declared.certificates.Certificate.TheVariants as certificate;
 
-use crate::answers::circuit_in;
+use crate::answers::netlist_in;
 use crate::errors::TaskError;
 use gipmc_aiger::{read_circuit, read_invariant_for, write_invariant};
 use gipmc_circuits::certificate::Verdict;
-use gipmc_circuits::encoding::variables;
-use gipmc_circuits::{Circuit, certify, certify_by};
+use gipmc_circuits::{Circuit, Netlist, certify, certify_by};
 use gipsat_solver::Literal;
 use std::alloc::{AllocError, Allocator};
 
@@ -18,7 +17,7 @@ pub enum Certificate<A: Allocator> {
     /// The clauses of an invariant, over the circuit's variables.
     Clauses(Vec<Vec<Literal, A>, A>),
     /// A circuit that tells where an invariant holds.
-    Circuit(Circuit<A>),
+    Circuit(Netlist<A>),
 }
 
 /// Whether the certificate that a text writes shows that the circuit of another text is safe: as to the bad literal at
@@ -39,22 +38,22 @@ pub fn certifies<A: Allocator + Copy>(
 ) -> Result<bool, TaskError>
     ensures { IfOk result (λ safe. IsTrue safe → Certifies A bytes.now text.now asked) }
 {
-    let circuit = circuit_in(alloc, bytes)?;
-    certifies_circuit(alloc, &circuit, text, asked, limit)
+    let netlist = netlist_in(alloc, bytes)?;
+    certifies_circuit(alloc, &netlist, text, asked, limit)
 }
 
 // Whether the certificate that a text writes shows that the circuit is safe.
 fn certifies_circuit<A: Allocator + Copy>(
     alloc: A,
-    circuit: &Circuit<A>,
+    netlist: &Netlist<A>,
     text: &[u8],
     asked: Option<usize>,
     limit: usize,
 ) -> Result<bool, TaskError>
-    ensures { IfOk result (λ safe. IsTrue safe → CertifiesCircuit circuit.now text.now asked) }
+    ensures { IfOk result (λ safe. IsTrue safe → CertifiesCircuit netlist.now.circuit text.now asked) }
 {
-    let certificate = certificate_in(alloc, circuit, text)?;
-    certifies_asked(alloc, circuit, &certificate, asked, limit)
+    let certificate = certificate_in(alloc, &netlist.circuit, text)?;
+    certifies_asked(alloc, netlist, &certificate, asked, limit)
 }
 
 /// The text of a certificate that the circuit is safe: as to the bad literal at the place that is asked for, or as to
@@ -66,15 +65,15 @@ fn certifies_circuit<A: Allocator + Copy>(
 /// - Those of [`certifies`].
 pub fn certificate_of<A: Allocator + Copy>(
     alloc: A,
-    circuit: &Circuit<A>,
+    netlist: &Netlist<A>,
     invariant: &[Vec<Literal, A>],
     asked: Option<usize>,
     limit: usize,
 ) -> Result<Vec<u8, A>, TaskError>
-    ensures { IfOk result (λ text. CertifiesCircuit circuit.now text.items asked) }
+    ensures { IfOk result (λ text. CertifiesCircuit netlist.now.circuit text.items asked) }
 {
-    let text = invariant_text(alloc, circuit, invariant)?;
-    if !certifies_circuit(alloc, circuit, &text, asked, limit)? {
+    let text = invariant_text(alloc, netlist, invariant)?;
+    if !certifies_circuit(alloc, netlist, &text, asked, limit)? {
         return Err(TaskError::Uncertified);
     }
     Ok(text)
@@ -83,27 +82,27 @@ pub fn certificate_of<A: Allocator + Copy>(
 // The text of some clauses over the latches of the circuit.
 fn invariant_text<A: Allocator + Copy>(
     alloc: A,
-    circuit: &Circuit<A>,
+    netlist: &Netlist<A>,
     invariant: &[Vec<Literal, A>],
 ) -> Result<Vec<u8, A>, TaskError> {
-    let places = places_of(alloc, circuit)?;
+    let places = places_of(alloc, netlist)?;
     let mut clauses = Vec::new(alloc);
     for clause in invariant {
         let clause = over_places(alloc, &places, clause)?;
         clauses.reserve(1)?;
         clauses.push_reserved(clause);
     }
-    Ok(write_invariant(alloc, circuit.latches.len(), &clauses)?)
+    Ok(write_invariant(alloc, netlist.circuit.latches.len(), &clauses)?)
 }
 
 // The place of the latch of each variable that is a latch's.
 fn places_of<A: Allocator + Copy>(
     alloc: A,
-    circuit: &Circuit<A>,
+    netlist: &Netlist<A>,
 ) -> Result<Vec<Option<u32>, A>, AllocError> {
     let mut places = Vec::new(alloc);
-    places.resize(variables(circuit), None)?;
-    for (place, latch) in circuit.latches.iter().enumerate() {
+    places.resize(netlist.variables, None)?;
+    for (place, latch) in netlist.circuit.latches.iter().enumerate() {
         if let Some(entry) = places.get_mut(latch.variable as usize) {
             *entry = u32::try_from(place).ok();
         }
@@ -136,36 +135,36 @@ const LATCHES: u32 = 2_147_483_647;
 // Whether the circuit is safe by a certificate.
 fn certifies_asked<A: Allocator + Copy>(
     alloc: A,
-    circuit: &Circuit<A>,
+    netlist: &Netlist<A>,
     certificate: &Certificate<A>,
     asked: Option<usize>,
     limit: usize,
 ) -> Result<bool, TaskError>
-    ensures { IfOk result (λ safe. IsTrue safe → ShowsSafeAsked circuit.now certificate.now asked) }
+    ensures { IfOk result (λ safe. IsTrue safe → ShowsSafeAsked netlist.now.circuit certificate.now asked) }
 {
     match asked {
-        None => certifies_all(alloc, circuit, certificate, limit),
-        Some(place) if place < circuit.bads.len() => {
-            certifies_at(alloc, circuit, certificate, place, limit)
+        None => certifies_all(alloc, netlist, certificate, limit),
+        Some(place) if place < netlist.circuit.bads.len() => {
+            certifies_at(alloc, netlist, certificate, place, limit)
         }
-        Some(place) => Err(TaskError::NoBad(place, circuit.bads.len())),
+        Some(place) => Err(TaskError::NoBad(place, netlist.circuit.bads.len())),
     }
 }
 
 // Whether the circuit is safe as to all its bad literals, of which it has to have one.
 fn certifies_all<A: Allocator + Copy>(
     alloc: A,
-    circuit: &Circuit<A>,
+    netlist: &Netlist<A>,
     certificate: &Certificate<A>,
     limit: usize,
 ) -> Result<bool, TaskError>
-    ensures { IfOk result (λ safe. IsTrue safe → ShowsSafeAll circuit.now certificate.now) }
+    ensures { IfOk result (λ safe. IsTrue safe → ShowsSafeAll netlist.now.circuit certificate.now) }
 {
-    if circuit.bads.is_empty() {
+    if netlist.circuit.bads.is_empty() {
         return Err(TaskError::NoBads);
     }
-    for place in 0..circuit.bads.len() {
-        if !certifies_at(alloc, circuit, certificate, place, limit)? {
+    for place in 0..netlist.circuit.bads.len() {
+        if !certifies_at(alloc, netlist, certificate, place, limit)? {
             return Ok(false);
         }
     }
@@ -175,32 +174,32 @@ fn certifies_all<A: Allocator + Copy>(
 // Whether the circuit is safe as to the bad literal at a place.
 fn certifies_at<A: Allocator + Copy>(
     alloc: A,
-    circuit: &Circuit<A>,
+    netlist: &Netlist<A>,
     certificate: &Certificate<A>,
     place: usize,
     limit: usize,
 ) -> Result<bool, TaskError>
-    requires { place < length circuit.now.bads.items }
-    ensures { IfOk result (λ safe. IsTrue safe → ShowsSafeAt circuit.now certificate.now place) }
+    requires { place < length netlist.now.circuit.bads.items }
+    ensures { IfOk result (λ safe. IsTrue safe → ShowsSafeAt netlist.now.circuit certificate.now place) }
 {
     match certificate {
-        Certificate::Clauses(clauses) => by_clauses(alloc, circuit, clauses, place, limit),
-        Certificate::Circuit(other) => by_circuit(alloc, circuit, other, place, limit),
+        Certificate::Clauses(clauses) => by_clauses(alloc, netlist, clauses, place, limit),
+        Certificate::Circuit(other) => by_circuit(alloc, netlist, other, place, limit),
     }
 }
 
 // Whether the circuit is safe by the clauses of an invariant.
 fn by_clauses<A: Allocator + Copy>(
     alloc: A,
-    circuit: &Circuit<A>,
+    netlist: &Netlist<A>,
     clauses: &Vec<Vec<Literal, A>, A>,
     place: usize,
     limit: usize,
 ) -> Result<bool, TaskError>
-    requires { place < length circuit.now.bads.items }
-    ensures { IfOk result (λ safe. IsTrue safe → ShowsSafeAt circuit.now (certificate.Clauses clauses.now) place) }
+    requires { place < length netlist.now.circuit.bads.items }
+    ensures { IfOk result (λ safe. IsTrue safe → ShowsSafeAt netlist.now.circuit (certificate.Clauses clauses.now) place) }
 {
-    match certify(alloc, circuit, circuit.bads[place], clauses, limit)? {
+    match certify(alloc, netlist, netlist.circuit.bads[place], clauses, limit)? {
         Verdict::Certified => Ok(true),
         _ => Ok(false),
     }
@@ -209,15 +208,15 @@ fn by_clauses<A: Allocator + Copy>(
 // Whether the circuit is safe by another one.
 fn by_circuit<A: Allocator + Copy>(
     alloc: A,
-    circuit: &Circuit<A>,
-    other: &Circuit<A>,
+    netlist: &Netlist<A>,
+    other: &Netlist<A>,
     place: usize,
     limit: usize,
 ) -> Result<bool, TaskError>
-    requires { place < length circuit.now.bads.items }
-    ensures { IfOk result (λ safe. IsTrue safe → ShowsSafeAt circuit.now (certificate.Circuit other.now) place) }
+    requires { place < length netlist.now.circuit.bads.items }
+    ensures { IfOk result (λ safe. IsTrue safe → ShowsSafeAt netlist.now.circuit (certificate.Circuit other.now) place) }
 {
-    let said = certify_by(alloc, circuit, circuit.bads[place], other, limit)?;
+    let said = certify_by(alloc, netlist, netlist.circuit.bads[place], other, limit)?;
     let Some(verdict) = said else {
         return Err(TaskError::OtherShape);
     };

@@ -296,7 +296,7 @@ fn search<'a>(
 
 // Tells where a circuit has no bad literal: nothing was asked then.
 fn tell_of_none(rt: &HostRuntime, options: &Options, answer: &Answered) {
-    if answer.circuit.bads.is_empty() {
+    if answer.netlist.circuit.bads.is_empty() {
         let _ = eprintln!(rt; "c {}", Failure::NoBads(options.file));
     }
 }
@@ -343,12 +343,12 @@ fn certificate_text(
     options: &Options,
     answer: &Answered,
 ) -> Result<Vec<u8>, TaskError>
-    ensures { IfOk result (λ text. CertifiesCircuit answer.now.circuit text.items options.now.bad) }
+    ensures { IfOk result (λ text. CertifiesCircuit answer.now.netlist.circuit text.items options.now.bad) }
 {
     let invariant = &answer.said.invariant;
     certificate_of(
         rt.alloc(),
-        &answer.circuit,
+        &answer.netlist,
         invariant,
         options.bad,
         usize::MAX,

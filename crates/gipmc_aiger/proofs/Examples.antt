@@ -4,7 +4,7 @@ use Rattle.std.specs.Fmt.{digits}
 use Rattle.gipsat_solver.specs.Literals.{Lit}
 use Rattle.gipmc_circuits.specs.declared.circuit.And.{And}
 use Rattle.gipmc_circuits.specs.declared.circuit.Circuit.{Circuit}
-use Rattle.gipmc_aiger.specs.Circuits.{Netlist, body_at, circuit_of, gate_at, header_at, latch_at, netlist_of, packed_operands_at, properties_at, sizes_at, written_operands_at}
+use Rattle.gipmc_aiger.specs.Circuits.{Rows, body_at, circuit_of, gate_at, header_at, latch_at, rows_of, packed_operands_at, properties_at, sizes_at, written_operands_at}
 use Rattle.gipmc_aiger.specs.CircuitTexts.{aig_text, greater_first}
 use Rattle.gipmc_aiger.specs.Witnesses.{stimulus_of, witness_of}
 
@@ -16,7 +16,7 @@ abbrev no_of : ℕ → Lit
 no_of variable = record { variable = variable; positive = false }
 
 -- an input whose negation is bad
-abbrev negated_input : Netlist
+abbrev negated_input : Rows
 negated_input = record { inputs = 1 ∷ []; latches = []; gates = []; bads = no_of 1 ∷ []; constraints = [] }
 
 -- an output is bad where there is no bad literal
@@ -30,7 +30,7 @@ unfolding circuit_of body_at header_at sizes_at properties_at
 output_is_dropped = refl
 
 -- a latch of each reset: none given, 0, 1, and free
-abbrev resets : Netlist
+abbrev resets : Rows
 resets = record {
   inputs = [];
   latches =
@@ -50,7 +50,7 @@ unfolding circuit_of body_at header_at sizes_at properties_at latch_at
 resets_in_binary = refl
 
 -- two gates, the first of which is an operand of the second
-abbrev two_gates : Netlist
+abbrev two_gates : Rows
 two_gates = record {
   inputs = 1 ∷ [];
   latches = [];
@@ -69,7 +69,7 @@ unfolding circuit_of body_at header_at sizes_at properties_at gate_at packed_ope
 gates_in_binary = refl
 
 -- the same gates with the lesser operand first
-abbrev turned_gates : Netlist
+abbrev turned_gates : Rows
 turned_gates = record {
   inputs = 1 ∷ [];
   latches = [];
@@ -80,7 +80,7 @@ turned_gates = record {
 }
 
 -- the binary form turns them again
-turned_gates_in_binary : {A : Type 0} (c : Circuit A) → netlist_of c ≡ turned_gates
+turned_gates_in_binary : {A : Type 0} (c : Circuit A) → rows_of c ≡ turned_gates
     → circuit_of (aig_text c) ≡ Some two_gates
 unfolding circuit_of body_at header_at sizes_at properties_at gate_at packed_operands_at digits
 turned_gates_in_binary c same =

@@ -21,7 +21,7 @@ use Rattle.gipmc_aiger.specs.CircuitTexts.{aig_text, are_above, greater_first, g
 use Rattle.gipmc_aiger.specs.CircuitTexts.{greatest_output, greatest_variable, is_above, is_numbered, literal_lines}
 use Rattle.gipmc_aiger.specs.CircuitTexts.{literal_number, number_text, numbered_behind, packed_and, packed_ands}
 use Rattle.gipmc_aiger.specs.CircuitTexts.{packed_header_line, packed_latch_line, packed_latch_lines}
-use Rattle.gipmc_aiger.specs.CircuitTexts.{packed_netlist_of, reset_number}
+use Rattle.gipmc_aiger.specs.CircuitTexts.{packed_rows_of, reset_number}
 use Rattle.gipmc_aiger.specs.Writable.{FitsGate, FitsLatch, FitsLiteral, FitsVariable, IsWritable}
 use Rattle.gipmc_aiger.proofs.Rereads.{bads_are, header-reread, header_in, latch-behind, limit_is, literal-reread}
 use Rattle.gipmc_aiger.proofs.Rereads.{literals-reread, no_rows, of_eight}
@@ -290,7 +290,7 @@ body-reread : {A : Type 0} (c : Circuit A) (h : Header) (m : ℕ) → m ≡ grea
     (length c.bads.items) (length c.constraints.items)
     → body_at h (packed_latch_lines c.latches.items ++ (literal_lines c.bads.items ++
     (literal_lines c.constraints.items ++ (packed_ands c.gates.items ++ []))))
-    ≡ Some (packed_netlist_of c)
+    ≡ Some (packed_rows_of c)
 unfolding body_at
 body-reread c h m greatest is numbered are header =
     let small : m < 2 ^ 31 = subst (λ x. x < 2 ^ 31) (sym greatest) is.small in
@@ -343,7 +343,7 @@ body-reread c h m greatest is numbered are header =
 
 -- the circuit that the text of a circuit in the binary form writes is that circuit, each gate's greater operand first
 pub aig_rereads : {A : Type 0} (c : Circuit A) → IsWritable c → IsTrue (is_numbered c)
-    → IsTrue (are_above c.gates.items) → circuit_of (aig_text c) ≡ Some (packed_netlist_of c)
+    → IsTrue (are_above c.gates.items) → circuit_of (aig_text c) ≡ Some (packed_rows_of c)
 unfolding circuit_of
 aig_rereads c is numbered are =
     let i = length c.inputs.items in

@@ -20,7 +20,7 @@ use Rattle.gipmc_aiger.specs.declared.header.Header.{Header}
 use Rattle.gipmc_aiger.specs.Reading.{◌>>=◌, digits_at, number_at}
 use Rattle.gipmc_aiger.specs.Circuits.{bads_of, body_at, circuit_of, count_at, defined_at, form_at, gate_at}
 use Rattle.gipmc_aiger.specs.Circuits.{greatest_literal, has_counts, header_at, input_at, latch_at, leading_at}
-use Rattle.gipmc_aiger.specs.Circuits.{literal_at, literal_of, netlist_of, optional_count_at, properties_at, reset_of}
+use Rattle.gipmc_aiger.specs.Circuits.{literal_at, literal_of, rows_of, optional_count_at, properties_at, reset_of}
 use Rattle.gipmc_aiger.specs.Circuits.{rows_at, separated_at, sizes_at, variable_of, written_operands_at}
 use Rattle.gipmc_aiger.specs.CircuitTexts.{aag_text, and_line, and_lines, greatest_variable, header_line, input_lines}
 use Rattle.gipmc_aiger.specs.CircuitTexts.{latch_line, latch_lines, literal_lines, literal_number, number_text}
@@ -331,7 +331,7 @@ body-reread : {A : Type 0} (c : Circuit A) (h : Header) (m : ℕ) → m ≡ grea
     (length c.bads.items) (length c.constraints.items)
     → body_at h (input_lines c.inputs.items ++ (latch_lines c.latches.items ++ (literal_lines c.bads.items ++
     (literal_lines c.constraints.items ++ (and_lines c.gates.items ++ [])))))
-    ≡ Some (netlist_of c)
+    ≡ Some (rows_of c)
 unfolding body_at
 body-reread c h m greatest is header =
     let small : m < 2 ^ 31 = subst (λ x. x < 2 ^ 31) (sym greatest) is.small in
@@ -362,7 +362,7 @@ body-reread c h m greatest is header =
     refl
 
 -- the circuit that the text of a circuit writes is that circuit
-pub aag_rereads : {A : Type 0} (c : Circuit A) → IsWritable c → circuit_of (aag_text c) ≡ Some (netlist_of c)
+pub aag_rereads : {A : Type 0} (c : Circuit A) → IsWritable c → circuit_of (aag_text c) ≡ Some (rows_of c)
 unfolding circuit_of
 aag_rereads c is =
     let m = greatest_variable c in

@@ -8,7 +8,7 @@ use Rattle.gipsat_solver.specs.Literals.{Lit}
 use Rattle.gipsat_solver.proofs.Places.{same_some}
 use Rattle.gipmc_circuits.specs.declared.circuit.Circuit.{Circuit}
 use Rattle.gipmc_circuits.specs.Circuit.{FailsAfter, IsSafe, IsTrace, has_value, holds_next, holds_reset, is_moment}
-use Rattle.gipmc_aiger.specs.Circuits.{IsReordering, Netlist, Writes, netlist_of}
+use Rattle.gipmc_aiger.specs.Circuits.{IsReordering, Rows, Writes, rows_of}
 
 all_unless_any : {X : Type 0} (p : X → Bool) (xs : List X) → list_all p xs ≡ not (list_any (λ x. not (p x)) xs)
 all_unless_any p [] = refl
@@ -24,8 +24,8 @@ list_all-permuted p xs ys same =
     all_unless_any p xs ∙ ap not (list_any-IsPermutation (λ x. not (p x)) xs ys same) ∙ sym (all_unless_any p ys)
 
 -- circuits with the same rows have the same moments
-moments-reordered : {A B : Type 0} (c : Circuit A) (d : Circuit B) (n : Netlist) (a : Assignment)
-    → IsReordering n (netlist_of c) → IsReordering n (netlist_of d) → is_moment c a ≡ is_moment d a
+moments-reordered : {A B : Type 0} (c : Circuit A) (d : Circuit B) (n : Rows) (a : Assignment)
+    → IsReordering n (rows_of c) → IsReordering n (rows_of d) → is_moment c a ≡ is_moment d a
 moments-reordered c d n a first second =
     let gates : list_all (has_value a) c.gates.items ≡ list_all (has_value a) d.gates.items =
     sym (list_all-permuted (has_value a) n.gates c.gates.items first.gates)
@@ -34,8 +34,8 @@ moments-reordered c d n a first second =
     rw (gates, constraints) refl
 
 -- and the same traces
-IsTrace-reordered : {A B : Type 0} (c : Circuit A) (d : Circuit B) (n : Netlist) (m : ℕ) (t : ℕ → Assignment)
-    → IsReordering n (netlist_of c) → IsReordering n (netlist_of d) → IsTrace c m t → IsTrace d m t
+IsTrace-reordered : {A B : Type 0} (c : Circuit A) (d : Circuit B) (n : Rows) (m : ℕ) (t : ℕ → Assignment)
+    → IsReordering n (rows_of c) → IsReordering n (rows_of d) → IsTrace c m t → IsTrace d m t
 IsTrace-reordered c d n m t first second is =
     let latches : c.latches.items ≡ d.latches.items = first.latches ∙ sym second.latches in record {
       initial = subst (λ ls. IsTrue (list_all (holds_reset (t 0)) ls)) latches is.initial;
@@ -49,7 +49,7 @@ pub FailsAfter-written : {A B : Type 0} (text : List ℕ) (c : Circuit A) (d : C
     → Writes text c → Writes text d → FailsAfter c bad m → FailsAfter d bad m
 FailsAfter-written text c d bad m (n, at, first) (o, other, second) (t, is, fails) =
     let same : o ≡ n = same_some o n (sym other ∙ at) in
-    (t, IsTrace-reordered c d n m t first (subst (λ x. IsReordering x (netlist_of d)) same second) is, fails)
+    (t, IsTrace-reordered c d n m t first (subst (λ x. IsReordering x (rows_of d)) same second) is, fails)
 
 -- where one circuit that a text writes is safe, so is each other one
 pub IsSafe-written : {A B : Type 0} (text : List ℕ) (c : Circuit A) (d : Circuit B) (bad : Lit) → Writes text c

@@ -6,7 +6,7 @@ use Rattle.gipmc_circuits.specs.declared.circuit.And.{And}
 use Rattle.gipmc_circuits.specs.declared.circuit.Latch.{Latch}
 use Rattle.gipmc_circuits.specs.declared.circuit.Circuit.{Circuit}
 use Rattle.gipmc_aiger.specs.Reading.{◌>>=◌}
-use Rattle.gipmc_aiger.specs.Circuits.{Netlist}
+use Rattle.gipmc_aiger.specs.Circuits.{Rows}
 use Rattle.giputils_text.specs.Groups.{groups}
 
 -- the number of a literal: twice its variable, and 1 more for the negation
@@ -147,8 +147,8 @@ greater_first g =
     then record { output = g.output; left = g.right; right = g.left } else g
 
 -- the parts of a circuit as the binary form has them: the greater operand of each gate comes first
-abbrev pub packed_netlist_of : {A : Type 0} → Circuit A → Netlist
-packed_netlist_of c = record {
+abbrev pub packed_rows_of : {A : Type 0} → Circuit A → Rows
+packed_rows_of c = record {
   inputs = c.inputs.items;
   latches = c.latches.items;
   gates = map greater_first c.gates.items;

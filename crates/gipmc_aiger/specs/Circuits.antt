@@ -184,17 +184,17 @@ gate_at h place bytes = do
   operands ← operands_at h output.0 output.1
   Some (record { output = output.0; left = literal_of operands.0; right = literal_of operands.1 }, operands.2)
 
--- a circuit without where it lies in memory
-pub record Netlist : Type 0 where
+-- the rows of a circuit, without where they lie in memory
+pub record Rows : Type 0 where
   pub inputs : List ℕ
   pub latches : List Latch
   pub gates : List And
   pub bads : List Lit
   pub constraints : List Lit
 
--- the parts of a circuit
-abbrev pub netlist_of : {A : Type 0} → Circuit A → Netlist
-netlist_of c = record {
+-- the rows of a circuit
+abbrev pub rows_of : {A : Type 0} → Circuit A → Rows
+rows_of c = record {
   inputs = c.inputs.items;
   latches = c.latches.items;
   gates = c.gates.items;
@@ -207,7 +207,7 @@ abbrev pub bads_of : Header → List Lit → List Lit → List Lit
 bads_of h outputs bads = if h.bads == 0 then outputs else bads
 
 -- the circuit that the rows behind a header write: inputs, latches, outputs, bad literals, constraints, gates
-unfoldable pub body_at : Header → List ℕ → Option Netlist
+unfoldable pub body_at : Header → List ℕ → Option Rows
 body_at h bytes = do
   inputs ← rows_at (input_at h) 0 h.sizes.inputs bytes
   latches ← rows_at (latch_at h) 0 h.sizes.latches inputs.1
@@ -226,13 +226,13 @@ body_at h bytes = do
       else None
 
 -- the circuit that a text writes in either form, if it has one
-unfoldable pub circuit_of : List ℕ → Option Netlist
+unfoldable pub circuit_of : List ℕ → Option Rows
 circuit_of text = do
   header ← header_at text
   body_at header.0 header.1
 
 -- the same circuit with its gates in some order
-pub record IsReordering (old new : Netlist) : Type 0 where
+pub record IsReordering (old new : Rows) : Type 0 where
   pub inputs : new.inputs ≡ old.inputs
   pub latches : new.latches ≡ old.latches
   pub gates : IsPermutation old.gates new.gates
@@ -241,4 +241,4 @@ pub record IsReordering (old new : Netlist) : Type 0 where
 
 -- a text writes a circuit, whose gates may stand in another order
 abbrev pub Writes : {A : Type 0} → List ℕ → Circuit A → Type 0
-Writes text c = (n : Netlist) × (circuit_of text ≡ Some n) × IsReordering n (netlist_of c)
+Writes text c = (n : Rows) × (circuit_of text ≡ Some n) × IsReordering n (rows_of c)

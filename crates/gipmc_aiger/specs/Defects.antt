@@ -6,7 +6,7 @@ use lib.Dec.{eqb}
 use Rattle.gipsat_solver.specs.Literals.{Lit}
 use Rattle.gipmc_circuits.specs.WellFormed.{is_constant, with_variable, with_variables}
 use Rattle.gipmc_circuits.specs.declared.circuit.And.{And}
-use Rattle.gipmc_aiger.specs.Circuits.{Netlist, circuit_of}
+use Rattle.gipmc_aiger.specs.Circuits.{Rows, circuit_of}
 use Rattle.gipmc_aiger.specs.declared.error.AigerError.{AigerError}
 use Rattle.gipmc_aiger.specs.declared.error.AigerError.TheVariants as error
 use Rattle.gipmc_aiger.specs.declared.error.Defect.{Defect}
@@ -16,7 +16,7 @@ use Rattle.gipmc_aiger.specs.declared.order.Visit.{Visit}
 use Rattle.gipmc_aiger.specs.declared.order.Visit.TheVariants as visit
 
 -- the variables that rows define, in turn: inputs, latches, gates
-abbrev pub defined_variables : Netlist → List ℕ
+abbrev pub defined_variables : Rows → List ℕ
 defined_variables n = n.inputs ++ (map (λ l. l.variable) n.latches ++ map (λ g. g.output) n.gates)
 
 -- the variable stands in the list where it is defined already
@@ -25,11 +25,11 @@ comes_twice [] defined v = false
 comes_twice (w ∷ ws) defined v = (eqb w v && defined w) || comes_twice ws (with_variable w defined) v
 
 -- two rows define the variable, or it is 0 and one does
-abbrev pub is_twice : Netlist → ℕ → Bool
+abbrev pub is_twice : Rows → ℕ → Bool
 is_twice n v = comes_twice (defined_variables n) is_constant v
 
 -- a row defines the variable, or it is 0
-abbrev pub defines : Netlist → ℕ → Bool
+abbrev pub defines : Rows → ℕ → Bool
 defines n = with_variables (defined_variables n) is_constant
 
 -- the operands of gates
@@ -38,7 +38,7 @@ operands [] = []
 operands (g ∷ gates) = g.left ∷ g.right ∷ operands gates
 
 -- the literals that rows use
-abbrev pub used_literals : Netlist → List Lit
+abbrev pub used_literals : Rows → List Lit
 used_literals n = map (λ l. l.next) n.latches ++ (operands n.gates ++ (n.bads ++ n.constraints))
 
 -- a literal of the list is of the variable
@@ -46,7 +46,7 @@ abbrev pub has_variable : List Lit → ℕ → Bool
 has_variable literals v = list_any (λ l. eqb l.variable v) literals
 
 -- a row uses the variable, and none defines it
-abbrev pub is_undefined : Netlist → ℕ → Bool
+abbrev pub is_undefined : Rows → ℕ → Bool
 is_undefined n v = has_variable (used_literals n) v && not (defines n v)
 
 -- the gate's output is v, and it has an operand of variable w
@@ -63,12 +63,12 @@ Uses gates zero v w = v ≡ w
 Uses gates (suc n) v w = (u : ℕ) × UsesOnce gates v u × Uses gates n u w
 
 -- the gate of the variable depends on itself
-abbrev pub IsCyclic : Netlist → ℕ → Type 0
+abbrev pub IsCyclic : Rows → ℕ → Type 0
 IsCyclic n v = (more : ℕ) × Uses n.gates (suc more) v v
 
 -- a text writes rows of which this is true
-abbrev pub WritesRows : List ℕ → (Netlist → Type 0) → Type 0
-WritesRows text P = (n : Netlist) × (circuit_of text ≡ Some n) × P n
+abbrev pub WritesRows : List ℕ → (Rows → Type 0) → Type 0
+WritesRows text P = (n : Rows) × (circuit_of text ≡ Some n) × P n
 
 -- a defect of the variables that are listed, behind those that are defined
 abbrev pub IsTwiceIn : List ℕ → (ℕ → Bool) → Defect → Type 0
@@ -89,19 +89,19 @@ IsCycleIn gates (defect.Cycle v) = (more : ℕ) × Uses gates (suc more) v v
 IsCycleIn gates _ = ⊥
 
 -- a defect of rows
-abbrev pub IsDefectOf : Netlist → Defect → Type 0
+abbrev pub IsDefectOf : Rows → Defect → Type 0
 IsDefectOf n defect.Memory = Unit {0}
 IsDefectOf n (defect.Twice v) = IsTrue (is_twice n v)
 IsDefectOf n (defect.Undefined v) = IsTrue (is_undefined n v)
 IsDefectOf n (defect.Cycle v) = IsCyclic n v
 
--- an error of rows; a cycle of variable 0 says nothing
-abbrev pub IsErrorOf : Netlist → AigerError → Type 0
+-- an error of rows
+abbrev pub IsErrorOf : Rows → AigerError → Type 0
 IsErrorOf n error.Memory = Unit {0}
 IsErrorOf n (error.Refused place reason) = ⊥
 IsErrorOf n (error.Twice v) = IsTrue (is_twice n v)
 IsErrorOf n (error.Undefined v) = IsTrue (is_undefined n v)
-IsErrorOf n (error.Cycle v) = 0 < v → IsCyclic n v
+IsErrorOf n (error.Cycle v) = IsCyclic n v
 
 -- the variables that a table has a definition of
 abbrev pub defined_in : List (Option Definition) → ℕ → Bool

@@ -1,8 +1,9 @@
 //! Why a text is refused.
 ghost use Rattle.std.specs.Prelude.{◌≡◌};
-ghost use Rattle.gipmc_aiger.specs.Circuits.{Netlist};
+ghost use Rattle.gipmc_aiger.specs.Circuits.{Rows};
 ghost use Rattle.gipmc_aiger.specs.Defects.{IsDefectOf, IsErrorOf};
 ghost use Rattle.gipmc_aiger.specs.declared.error.Stop.TheVariants.{Memory};
+ghost use Rattle.gipmc_aiger.specs.declared.error.AigerError.TheVariants as refusal;
 ghost use Rattle.gipmc_aiger.specs.declared.error.Defect.TheVariants as defect;
 
 use std::alloc::{AllocError, AllocFailed};
@@ -118,6 +119,14 @@ pub enum AigerError {
     Cycle(u32),
 }
 
+impl From<AllocError> for AigerError {
+    ghost from_gives = { λ _ error. error ≡ refusal.Memory };
+
+    fn from(_refused: AllocError) -> AigerError {
+        AigerError::Memory
+    }
+}
+
 // Why the rows of a text are no circuit.
 #[derive(Clone, Copy)]
 pub(crate) enum Defect {
@@ -130,7 +139,7 @@ pub(crate) enum Defect {
 impl Defect {
     // The error of it.
     pub(crate) fn error(self) -> AigerError
-        ensures { (n : Netlist) → IsDefectOf n self → IsErrorOf n result }
+        ensures { (n : Rows) → IsDefectOf n self → IsErrorOf n result }
     {
         match self {
             Defect::Memory => AigerError::Memory,

@@ -1,7 +1,7 @@
 //! The gates of a circuit in an order in which each stands behind those that it depends on.
 ghost use Rattle.std.specs.Prelude.{◌≡◌, ◌<◌, ◌≤◌, ◌++◌, ◌∷◌, [], length, map, set, slice_get, slice_index_or, None, IfErr, IfOk, IfSome, OnOk};
 ghost use Rattle.gipmc_circuits.specs.WellFormed.{is_constant, with_variable, with_variables};
-ghost use Rattle.gipmc_aiger.specs.Circuits.{IsReordering, netlist_of};
+ghost use Rattle.gipmc_aiger.specs.Circuits.{IsReordering, rows_of};
 ghost use Rattle.gipmc_aiger.specs.Defects.{AddsGateOf, HasOutput, IsCycleIn, IsDefectOf, IsStack, IsTwiceIn};
 ghost use Rattle.gipmc_aiger.specs.Defects.{IsUndefinedIn, MeetsOpen, defined_in, defined_variables, defines};
 ghost use Rattle.gipmc_aiger.specs.Defects.{operands, used_literals, visit_at};
@@ -33,8 +33,8 @@ pub(crate) enum Visit {
 
 // Puts the gates of a circuit in order.
 pub(crate) fn order<A: Allocator + Copy>(alloc: A, circuit: &mut Circuit<A>) -> Result<(), Defect>
-    ensures ok { OnOk result (IsReordering (netlist_of circuit.old) (netlist_of circuit.new)) }
-    ensures defect { IfErr result (IsDefectOf (netlist_of circuit.old)) }
+    ensures ok { OnOk result (IsReordering (rows_of circuit.old) (rows_of circuit.new)) }
+    ensures defect { IfErr result (IsDefectOf (rows_of circuit.old)) }
 {
     let definitions = definitions(alloc, circuit)?;
     are_defined(&definitions, circuit)?;
@@ -71,8 +71,8 @@ fn definitions<A: Allocator + Copy>(
     alloc: A,
     circuit: &Circuit<A>,
 ) -> Result<Vec<Option<Definition>, A>, Defect>
-    ensures ok { IfOk result (λ definitions. defined_in definitions.items ≡ defines (netlist_of circuit.now)) }
-    ensures defect { IfErr result (IsTwiceIn (defined_variables (netlist_of circuit.now)) is_constant) }
+    ensures ok { IfOk result (λ definitions. defined_in definitions.items ≡ defines (rows_of circuit.now)) }
+    ensures defect { IfErr result (IsTwiceIn (defined_variables (rows_of circuit.now)) is_constant) }
 {
     let mut definitions = Vec::new(alloc);
     definitions.push(Some(Definition::Source))?;
@@ -166,7 +166,7 @@ fn are_defined<A: Allocator>(
     definitions: &[Option<Definition>],
     circuit: &Circuit<A>,
 ) -> Result<(), Defect>
-    ensures { IfErr result (IsUndefinedIn (used_literals (netlist_of circuit.now)) (defined_in definitions.now)) }
+    ensures { IfErr result (IsUndefinedIn (used_literals (rows_of circuit.now)) (defined_in definitions.now)) }
 {
     are_next_defined(definitions, &circuit.latches)?;
     are_operands_defined(definitions, &circuit.gates)?;

@@ -14,8 +14,8 @@ fn ascii(alloc: Global, text: &[u8]) -> Option<Vec<u8>> {
 
 // The same in the binary form.
 fn binary(alloc: Global, text: &[u8]) -> Option<Vec<u8>> {
-    let circuit = read_circuit(alloc, text).ok()?;
-    write_aig(alloc, &circuit).ok()
+    let netlist = read_circuit(alloc, text).ok()?;
+    write_aig(alloc, &netlist.circuit).ok()
 }
 
 // The text of the witness that a text writes for one latch and two inputs.
@@ -32,8 +32,8 @@ fn invariant(alloc: Global, text: &[u8]) -> Option<Vec<u8>> {
 
 // The text of the invariant that a text writes for a circuit, over its variables.
 fn invariant_for(alloc: Global, circuit: &[u8], text: &[u8]) -> Option<Vec<u8>> {
-    let circuit = read_circuit(alloc, circuit).ok()?;
-    let clauses = read_invariant_for(alloc, &circuit, text).ok()?;
+    let netlist = read_circuit(alloc, circuit).ok()?;
+    let clauses = read_invariant_for(alloc, &netlist.circuit, text).ok()?;
     write_invariant(alloc, 4, &clauses).ok()
 }
 

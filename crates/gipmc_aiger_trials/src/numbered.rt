@@ -62,7 +62,7 @@ fn is_read_again(alloc: Global, inputs: u16, latch: u16, output: u16) -> Result<
     let Ok(read) = read_circuit(alloc, &text) else {
         return Ok(false);
     };
-    let Some(gate) = read.gates.first() else {
+    let Some(gate) = read.circuit.gates.first() else {
         return Ok(false);
     };
     Ok(

@@ -1,6 +1,6 @@
 -- Worked examples of traces, of circuits that are safe, of certificates, and of circuits that are well-formed and not.
 use Rattle.std.proofs.Common.{◌≡◌, ℕ, ◌+◌, ◌++◌, zero, suc, Bool, true, false, not, List, [], ◌∷◌, Vec, Some, None, eqb, length, map, arith, refl, sym, subst, IsTrue}
-use Rattle.std.specs.Prelude.{◌&&◌, slice_get}
+use Rattle.std.specs.Prelude.{◌==◌, ◌&&◌, slice_get}
 use Rattle.std.proofs.Math.Nat.{le_refl}
 use Rattle.std.specs.Bool.{beq}
 use Rattle.std.specs.List.{list_all}
@@ -15,7 +15,7 @@ use Rattle.gipsat_solver.specs.Values.{assignment_in}
 use Rattle.gipmc_circuits.specs.declared.trace.Trace.{Trace}
 use Rattle.gipmc_circuits.specs.Circuit.{FailsAfter, IsSafe, IsTrace, has_value, is_reset, is_valuation}
 use Rattle.gipmc_circuits.specs.Extension.{Accepts, SharesState, are_stacked}
-use Rattle.gipmc_circuits.specs.Traces.{FailsBy, HoldsRow, HoldsRows}
+use Rattle.gipmc_circuits.specs.Traces.{FailsBy, HoldsRow, HoldsRows, fits, have_width}
 use Rattle.gipmc_circuits.specs.WellFormed.{are_in_order, are_new, is_constant, with_variables}
 
 abbrev yes_of : ℕ → Lit
@@ -78,11 +78,12 @@ no_latches : (row : List Bool) → HoldsRow first [] row
 no_latches row k v at = none_some v at
 
 input_is_true : {A B : Type 0} (c : Circuit A) (trace : Trace B) (row : Vec Bool B) → c.inputs.items ≡ 1 ∷ []
-    → c.latches.items ≡ [] → c.gates.items ≡ [] → c.constraints.items ≡ [] → trace.inputs.items ≡ row ∷ []
-    → row.items ≡ true ∷ [] → FailsBy c (yes_of 1) trace
-input_is_true c trace row inputs latches gates constraints rows is =
+    → c.latches.items ≡ [] → c.gates.items ≡ [] → c.constraints.items ≡ [] → trace.latches.items ≡ []
+    → trace.inputs.items ≡ row ∷ [] → row.items ≡ true ∷ [] → FailsBy c (yes_of 1) trace
+input_is_true c trace row inputs latches gates constraints none rows is =
     let at_latches = subst (λ ls. HoldsRow first (map (λ l. l.variable) ls) trace.latches.items) (sym latches) (no_latches trace.latches.items) in
     let at_inputs = subst (λ vs. HoldsRows (λ i. first) vs (row ∷ [])) (sym inputs) (holds_one row is) in (
+      rw (none, latches, inputs, rows, is) refl,
       0,
       (λ i. first),
       subst (λ xs. length xs ≡ 0 + 1) (sym rows) refl,
@@ -91,20 +92,25 @@ input_is_true c trace row inputs latches gates constraints rows is =
       refl,
     )
 
--- a value that is missing is false
-input_is_missing : {A B : Type 0} (c : Circuit A) (trace : Trace B) (row : Vec Bool B) → c.inputs.items ≡ 1 ∷ []
-    → trace.inputs.items ≡ row ∷ [] → row.items ≡ [] → ¬ (FailsBy c (yes_of 1) trace)
-input_is_missing c trace row inputs rows none (n, t, count, is_trace, (latches, follows), bad) =
-    let one : 1 ≡ n + 1 = subst (λ xs. length xs ≡ n + 1) rows count in
-    let start : n ≡ 0 = omega (arith, one) in
-    let at_row = subst (λ xs. HoldsRows t c.inputs.items xs) rows follows 0 row refl in
-    let input : t 0 1 ≡ assignment_in row.items 0 = subst (λ vs. HoldsRow (t 0) vs row.items) inputs at_row 0 1 refl in
-    let value : t n 1 ≡ false = subst (λ i. t i 1 ≡ false) (sym start) (subst (λ vs. t 0 1 ≡ assignment_in vs 0) none input) in
-    false≢true (subst (λ value_. beq value_ true ≡ true) value bad)
+-- a trace with a value for a latch that the circuit has not
+latch_is_too_many : {A B : Type 0} (c : Circuit A) (bad : Lit) (trace : Trace B) → c.latches.items ≡ []
+    → trace.latches.items ≡ false ∷ [] → ¬ (FailsBy c bad trace)
+latch_is_too_many c bad trace latches one (fit, n, t, count, is_trace, follows, fails) =
+    let (width, rows) = and_parts (length trace.latches.items == length c.latches.items)
+    (have_width (length c.inputs.items) trace.inputs.items) fit in
+    false≢true (rw (latches, one) at width)
+
+-- a row without a value for an input
+input_is_missing : {A B : Type 0} (c : Circuit A) (bad : Lit) (trace : Trace B) (row : Vec Bool B)
+    → c.inputs.items ≡ 1 ∷ [] → trace.inputs.items ≡ row ∷ [] → row.items ≡ [] → ¬ (FailsBy c bad trace)
+input_is_missing c bad trace row inputs rows none (fit, n, t, count, is_trace, follows, fails) =
+    let (width, all) = and_parts (length trace.latches.items == length c.latches.items)
+    (have_width (length c.inputs.items) trace.inputs.items) fit in
+    false≢true (rw (inputs, rows, none) at all)
 
 -- without a row there is no moment, and nothing fails
 no_row : {A B : Type 0} (c : Circuit A) (bad : Lit) (trace : Trace B) → trace.inputs.items ≡ [] → ¬ (FailsBy c bad trace)
-no_row c bad trace none (n, t, count, is_trace, follows, fails) =
+no_row c bad trace none (fit, n, t, count, is_trace, follows, fails) =
     let moments : 0 ≡ n + 1 = subst (λ xs. length xs ≡ n + 1) none count in
     absurd (omega (arith, moments))
 

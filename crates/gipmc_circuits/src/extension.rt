@@ -8,7 +8,7 @@ ghost use Rattle.gipmc_circuits.specs.Encoding.{literal_below};
 ghost use Rattle.gipmc_circuits.specs.Extension.{IsExtension, IsNaming, are_stacked, claims, name_in, renamed, renamed_gate};
 
 use crate::circuit::{And, Circuit, Latch};
-use crate::well_formed::is_well_formed;
+use crate::netlist::Netlist;
 use gipsat_solver::Literal;
 use std::alloc::{AllocError, Allocator};
 
@@ -213,19 +213,17 @@ fn claims<A: Allocator + Copy>(
 }
 
 // Names of the certificate's variables: inputs and latches have those of the circuit, outputs the numbers from one on.
-// None where it has not as many inputs and latches, or is not well-formed.
+// None where it has not as many inputs and latches.
 fn naming<A: Allocator + Copy>(
     alloc: A,
     circuit: &Circuit<A>,
-    certificate: &Circuit<A>,
+    certificate: &Netlist<A>,
     from: usize,
 ) -> Result<Option<Vec<u32, A>>, AllocError>
     ensures { IfOk result (λ found. IfSome found (λ names.
-        IsNaming from circuit.now certificate.now (name_in names.items))) }
+        IsNaming from circuit.now certificate.now.circuit (name_in names.items))) }
 {
-    if !is_well_formed(alloc, certificate)? {
-        return Ok(None);
-    }
+    let certificate = &certificate.circuit;
     let latches = latch_variables(alloc, &circuit.latches)?;
     let named = latch_variables(alloc, &certificate.latches)?;
     let mut names = Vec::new(alloc);
@@ -248,32 +246,48 @@ fn naming<A: Allocator + Copy>(
     Ok(Some(names))
 }
 
+// The circuit with the certificate's gates behind its own, under these names.
+fn extended<A: Allocator + Copy>(
+    alloc: A,
+    circuit: &Circuit<A>,
+    certificate: &Circuit<A>,
+    names: &[u32],
+    from: usize,
+) -> Result<Extension<A>, AllocError>
+    requires { IsNaming from circuit.now certificate.now (name_in names.now) }
+    ensures { IfOk result (λ x. IsExtension from circuit.now certificate.now x.circuit x.invariant.items) }
+{
+    let _ = from;
+    let claims = claims(alloc, certificate)?;
+    let invariant = units(alloc, names, &claims)?;
+    let circuit = Circuit {
+        inputs: circuit.inputs.to_vec(alloc)?,
+        latches: circuit.latches.to_vec(alloc)?,
+        gates: with_gates(alloc, names, &circuit.gates, &certificate.gates)?,
+        bads: circuit.bads.to_vec(alloc)?,
+        constraints: circuit.constraints.to_vec(alloc)?,
+    };
+    Ok(Extension { circuit, invariant })
+}
+
 /// The circuit with the certificate's gates behind its own, their outputs named by the numbers from one on.
 ///
-/// None where the certificate has not as many inputs and latches as the circuit, or is not well-formed.
+/// None where the certificate has not as many inputs and latches as the circuit.
 ///
 /// # Errors
 /// `AllocError` where memory is refused, or where a variable would be 2^31 or more.
 pub(crate) fn extend<A: Allocator + Copy>(
     alloc: A,
     circuit: &Circuit<A>,
-    certificate: &Circuit<A>,
+    certificate: &Netlist<A>,
     from: usize,
 ) -> Result<Option<Extension<A>>, AllocError>
     ensures { IfOk result (λ found. IfSome found (λ x.
-        IsExtension from circuit.now certificate.now x.circuit x.invariant.items)) }
+        IsExtension from circuit.now certificate.now.circuit x.circuit x.invariant.items)) }
 {
     let Some(names) = naming(alloc, circuit, certificate, from)? else {
         return Ok(None);
     };
-    let claims = claims(alloc, certificate)?;
-    let invariant = units(alloc, &names, &claims)?;
-    let circuit = Circuit {
-        inputs: circuit.inputs.to_vec(alloc)?,
-        latches: circuit.latches.to_vec(alloc)?,
-        gates: with_gates(alloc, &names, &circuit.gates, &certificate.gates)?,
-        bads: circuit.bads.to_vec(alloc)?,
-        constraints: circuit.constraints.to_vec(alloc)?,
-    };
-    Ok(Some(Extension { circuit, invariant }))
+    let extension = extended(alloc, circuit, &certificate.circuit, &names, from)?;
+    Ok(Some(extension))
 }

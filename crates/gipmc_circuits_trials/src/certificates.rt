@@ -1,7 +1,7 @@
 //! Invariants that are certified or refused.
 
-use crate::latched::latched;
-use gipmc_circuits::{And, Circuit, Latch, Verdict, certify, certify_by};
+use crate::latched::{latched, netlist};
+use gipmc_circuits::{And, Circuit, Latch, Netlist, Verdict, certify, certify_by};
 use gipsat_solver::Literal;
 use std::alloc::{AllocError, Global};
 
@@ -11,10 +11,10 @@ fn literal((variable, value): (u8, bool)) -> Literal {
 }
 
 // The circuit with the constraint that latch 3 is 0.
-fn constrained(alloc: Global) -> Result<Circuit, AllocError> {
+fn constrained(alloc: Global) -> Result<Netlist, AllocError> {
     let mut circuit = latched(alloc)?;
     circuit.constraints.push(Literal::new(3, false))?;
-    Ok(circuit)
+    netlist(alloc, circuit)
 }
 
 // The invariant of one clause, of one literal.
@@ -27,9 +27,9 @@ fn invariant(alloc: Global, literal: Literal) -> Result<Vec<Vec<Literal>>, Alloc
 
 // What is said of an invariant.
 fn verdict(alloc: Global, clause: Literal, bad: Literal) -> Result<Verdict, AllocError> {
-    let circuit = constrained(alloc)?;
+    let netlist = constrained(alloc)?;
     let invariant = invariant(alloc, clause)?;
-    certify(alloc, &circuit, bad, &invariant, 100)
+    certify(alloc, &netlist, bad, &invariant, 100)
 }
 
 // The literal of an invariant, the bad literal, and what is said.
@@ -64,8 +64,9 @@ fn free_latch(variable: u32) -> Latch {
     }
 }
 
-// A certificate of these inputs and of two latches, other variables than those of the circuit. Its gate 2 is true where
-// latch 5 is and latch 6 has the value, and is bad. Each constraint is that latch 5 is 1.
+// A certificate of these inputs and of two latches, other variables than those of the circuit. Its gate 3 is true where
+// latch 5 is and latch 6 has the value, and gate 2, which is bad, where gate 3 and latch 5 are. Each constraint is that
+// latch 5 is 1.
 fn certificate(alloc: Global, form: Form) -> Result<Circuit, AllocError> {
     let (inputs, value, constraints) = form;
     let mut certificate = Circuit::new(alloc);
@@ -73,9 +74,14 @@ fn certificate(alloc: Global, form: Form) -> Result<Circuit, AllocError> {
     certificate.latches.push(free_latch(5))?;
     certificate.latches.push(free_latch(6))?;
     certificate.gates.push(And {
-        output: 2,
+        output: 3,
         left: Literal::new(5, true),
         right: Literal::new(6, value),
+    })?;
+    certificate.gates.push(And {
+        output: 2,
+        left: Literal::new(3, true),
+        right: Literal::new(5, true),
     })?;
     certificate.bads.push(Literal::new(2, true))?;
     for _ in 0..constraints {
@@ -87,7 +93,7 @@ fn certificate(alloc: Global, form: Form) -> Result<Circuit, AllocError> {
 // What is said of a certificate.
 fn verdict_by(alloc: Global, form: Form) -> Result<Option<Verdict>, AllocError> {
     let circuit = constrained(alloc)?;
-    let certificate = certificate(alloc, form)?;
+    let certificate = netlist(alloc, certificate(alloc, form)?)?;
     certify_by(alloc, &circuit, Literal::new(4, true), &certificate, 100)
 }
 
@@ -98,10 +104,9 @@ const CERTIFICATES: &[(Form, Option<Verdict>)] = &[
     ((&[9], false, 0), Some(Verdict::NotInductive(0))),
     // Latch 2 begins at 0; this is the claim behind that of the bad literal.
     ((&[9], true, 1), Some(Verdict::NotInitial(1))),
-    // No input.
+    // No input, and two.
     ((&[], true, 0), None),
-    // The input is a latch.
-    ((&[5], true, 0), None),
+    ((&[9, 8], true, 0), None),
 ];
 
 #[test]

@@ -4,12 +4,12 @@ ghost use Rattle.gipmc_circuits.specs.Certificate.{is_certified};
 ghost use Rattle.gipmc_circuits.specs.Circuit.{IsSafe};
 ghost use Rattle.gipmc_circuits.specs.Traces.{FailsBy};
 
-use gipmc_circuits::{Circuit, Latch, Trace, Verdict, certify, replay};
+use gipmc_circuits::{Circuit, Latch, Netlist, Trace, Verdict, certify, replay};
 use gipsat_solver::Literal;
 use std::alloc::{AllocError, Allocator};
 
 /// Both latches begin at 0. Latch 2 holds next what input 1 is, and latch 3 keeps its value.
-pub fn two_latches<A: Allocator + Copy>(alloc: A) -> Result<Circuit<A>, AllocError> {
+pub fn two_latches<A: Allocator + Copy>(alloc: A) -> Result<Netlist<A>, AllocError> {
     let mut circuit = Circuit::new(alloc);
     circuit.inputs.push(1)?;
     for &(variable, next) in &[(2, 1), (3, 3)] {
@@ -19,7 +19,7 @@ pub fn two_latches<A: Allocator + Copy>(alloc: A) -> Result<Circuit<A>, AllocErr
             reset: Some(false),
         })?;
     }
-    Ok(circuit)
+    Netlist::new(alloc, circuit)?.ok_or(AllocError)
 }
 
 // The values of the input, one moment after another: it is 1, and then 0.
@@ -36,15 +36,15 @@ fn inputs<A: Allocator + Copy>(alloc: A) -> Result<Vec<Vec<bool, A>, A>, AllocEr
 /// A trace at whose end the bad literal is true, if this one is: the input is 1, and then 0.
 pub fn counterexample<A: Allocator + Copy>(
     alloc: A,
-    circuit: &Circuit<A>,
+    netlist: &Netlist<A>,
     bad: Literal,
 ) -> Result<Option<Trace<A>>, AllocError>
-    ensures { IfOk result (λ found. IfSome found (FailsBy circuit.now bad)) }
+    ensures { IfOk result (λ found. IfSome found (FailsBy netlist.now.circuit bad)) }
 {
     let inputs = inputs(alloc)?;
     let latches = Vec::from_array(alloc, [false, false])?;
     let trace = Trace { latches, inputs };
-    if replay(alloc, circuit, bad, &trace)? {
+    if replay(alloc, netlist, bad, &trace)? {
         Ok(Some(trace))
     } else {
         Ok(None)
@@ -65,22 +65,22 @@ fn invariant<A: Allocator + Copy>(
 /// What is said of the invariant that the bad literal is false. If it is certified, the bad literal never becomes true.
 pub fn judged<A: Allocator + Copy>(
     alloc: A,
-    circuit: &Circuit<A>,
+    netlist: &Netlist<A>,
     bad: Literal,
 ) -> Result<Verdict, AllocError>
-    ensures { IfOk result (λ verdict. IsTrue (is_certified verdict) → IsSafe circuit.now bad) }
+    ensures { IfOk result (λ verdict. IsTrue (is_certified verdict) → IsSafe netlist.now.circuit bad) }
 {
     let invariant = invariant(alloc, bad)?;
-    certify(alloc, circuit, bad, &invariant, 1000)
+    certify(alloc, netlist, bad, &invariant, 1000)
 }
 
 #[test]
 fn one_latch_becomes_true(rt: HostRuntime) -> Result<(), AllocError> {
-    let circuit = two_latches(rt.alloc())?;
+    let netlist = two_latches(rt.alloc())?;
     let (second, third) = (Literal::new(2, true), Literal::new(3, true));
-    assert!(rt; counterexample(rt.alloc(), &circuit, second)?.is_some());
-    assert!(rt; counterexample(rt.alloc(), &circuit, third)?.is_none());
-    assert!(rt; judged(rt.alloc(), &circuit, third)? == Verdict::Certified);
-    assert!(rt; judged(rt.alloc(), &circuit, second)? != Verdict::Certified);
+    assert!(rt; counterexample(rt.alloc(), &netlist, second)?.is_some());
+    assert!(rt; counterexample(rt.alloc(), &netlist, third)?.is_none());
+    assert!(rt; judged(rt.alloc(), &netlist, third)? == Verdict::Certified);
+    assert!(rt; judged(rt.alloc(), &netlist, second)? != Verdict::Certified);
     Ok(())
 }

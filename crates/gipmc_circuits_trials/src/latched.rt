@@ -1,6 +1,6 @@
 //! A circuit of one input, two latches and one gate.
 
-use gipmc_circuits::{And, Circuit, Latch};
+use gipmc_circuits::{And, Circuit, Latch, Netlist};
 use gipsat_solver::Literal;
 use std::alloc::{AllocError, Allocator};
 
@@ -34,4 +34,15 @@ pub fn latched<A: Allocator + Copy>(alloc: A) -> Result<Circuit<A>, AllocError> 
     })?;
     circuit.bads.push(Literal::new(4, true))?;
     Ok(circuit)
+}
+
+/// The netlist of a circuit.
+///
+/// # Errors
+/// `AllocError` where memory is refused, or the circuit is not well-formed.
+pub fn netlist<A: Allocator + Copy>(
+    alloc: A,
+    circuit: Circuit<A>,
+) -> Result<Netlist<A>, AllocError> {
+    Netlist::new(alloc, circuit)?.ok_or(AllocError)
 }

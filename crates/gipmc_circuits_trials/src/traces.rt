@@ -1,7 +1,7 @@
 //! Traces that are replayed.
 
-use crate::latched::latched;
-use gipmc_circuits::{Circuit, Trace, replay};
+use crate::latched::{latched, netlist};
+use gipmc_circuits::{Netlist, Trace, replay};
 use gipsat_solver::Literal;
 use std::alloc::{AllocError, Global};
 
@@ -9,21 +9,21 @@ use std::alloc::{AllocError, Global};
 type Constraint = Option<(u8, bool)>;
 
 // The circuit with a constraint.
-fn constrained(alloc: Global, constraint: Constraint) -> Result<Circuit, AllocError> {
+fn constrained(alloc: Global, constraint: Constraint) -> Result<Netlist, AllocError> {
     let mut circuit = latched(alloc)?;
     if let Some((variable, value)) = constraint {
         circuit
             .constraints
             .push(Literal::new(u32::from(variable), value))?;
     }
-    Ok(circuit)
+    netlist(alloc, circuit)
 }
 
-// The values of the input, one moment after another.
-fn rows(alloc: Global, inputs: &[bool]) -> Result<Vec<Vec<bool>>, AllocError> {
+// A row for each moment.
+fn rows(alloc: Global, inputs: &[&[bool]]) -> Result<Vec<Vec<bool>>, AllocError> {
     let mut rows = Vec::new(alloc);
     for &input in inputs {
-        let row = Vec::from_array(alloc, [input])?;
+        let row = input.to_vec(alloc)?;
         rows.reserve(1)?;
         rows.push_reserved(row);
     }
@@ -31,7 +31,7 @@ fn rows(alloc: Global, inputs: &[bool]) -> Result<Vec<Vec<bool>>, AllocError> {
 }
 
 // The trace that begins with these values of the latches.
-fn trace(alloc: Global, latches: &[bool], inputs: &[bool]) -> Result<Trace, AllocError> {
+fn trace(alloc: Global, latches: &[bool], inputs: &[&[bool]]) -> Result<Trace, AllocError> {
     let inputs = rows(alloc, inputs)?;
     Ok(Trace {
         latches: latches.to_vec(alloc)?,
@@ -44,30 +44,46 @@ fn fails(
     alloc: Global,
     constraint: Constraint,
     latches: &[bool],
-    inputs: &[bool],
+    inputs: &[&[bool]],
 ) -> Result<bool, AllocError> {
-    let circuit = constrained(alloc, constraint)?;
+    let netlist = constrained(alloc, constraint)?;
     let trace = trace(alloc, latches, inputs)?;
-    replay(alloc, &circuit, Literal::new(4, true), &trace)
+    replay(alloc, &netlist, Literal::new(4, true), &trace)
 }
 
-// A constraint, the values of the latches at first and of the input one moment after another, and whether the circuit
-// fails by this trace.
-const TRACES: &[(Constraint, &[bool], &[bool], bool)] = &[
+// A constraint, the values of the latches at first, a row of inputs for each moment, and whether the circuit fails by
+// this trace.
+const TRACES: &[(Constraint, &[bool], &[&[bool]], bool)] = &[
     // Latch 3 may begin at 1, and latch 2 holds the input then.
-    (None, &[false, true], &[true, false], true),
+    (None, &[false, true], &[&[true], &[false]], true),
     // Latch 3 may begin at 0 as well, and the gate is false then.
-    (None, &[false, false], &[true, false], false),
+    (None, &[false, false], &[&[true], &[false]], false),
     // Latch 2 has to begin at 0.
-    (None, &[true, true], &[false], false),
+    (None, &[true, true], &[&[false]], false),
     // No moment at all.
     (None, &[false, true], &[], false),
     // The first moment alone breaks it.
-    (Some((1, false)), &[false, true], &[true, false], false),
+    (
+        Some((1, false)),
+        &[false, true],
+        &[&[true], &[false]],
+        false,
+    ),
     // The last moment alone breaks it.
-    (Some((2, false)), &[false, true], &[true, false], false),
+    (
+        Some((2, false)),
+        &[false, true],
+        &[&[true], &[false]],
+        false,
+    ),
     // None breaks it.
-    (Some((3, true)), &[false, true], &[true, false], true),
+    (Some((3, true)), &[false, true], &[&[true], &[false]], true),
+    // A latch too many, and one too few.
+    (None, &[false, true, false], &[&[true], &[false]], false),
+    (None, &[false], &[&[true], &[false]], false),
+    // An input too many, and one too few.
+    (None, &[false, true], &[&[true, false], &[false]], false),
+    (None, &[false, true], &[&[true], &[]], false),
 ];
 
 #[test]

@@ -3,6 +3,7 @@
 
 pub mod bounded;
 pub mod engines;
+mod property;
 pub mod simulation;
 pub mod turns;
 pub mod verdict;
@@ -12,5 +13,5 @@ pub use bounded::{Bounds, search};
 pub use engines::{Engine, Plan, check};
 pub use simulation::{RUNS, Tries, simulate};
 pub use turns::{decide, decide_by_turns};
-pub use verdict::Verdict;
+pub use verdict::{Verdict, replayed};
 pub use watch::Watch;

@@ -28,13 +28,13 @@ fn found_by(verdict: &Verdict) -> Found {
 
 // What a search to one depth says of the register, where a listener stops it before another.
 fn told(alloc: Global, bad: Literal, depth: usize, stop: usize) -> Result<Found, AllocError> {
-    let circuit = shifter(alloc)?;
+    let netlist = shifter(alloc)?;
     let bounds = Bounds {
         depth,
         limit: 100,
         calls: 0,
     };
-    let verdict = search(alloc, &circuit, bad, bounds, &mut Stopper::new(0, stop))?;
+    let verdict = search(alloc, &netlist, bad, bounds, &mut Stopper::new(0, stop))?;
     Ok(found_by(&verdict))
 }
 

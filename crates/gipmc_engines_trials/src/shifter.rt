@@ -1,6 +1,6 @@
 //! Registers: of two latches, and of many.
 
-use gipmc_circuits::{And, Circuit, Latch};
+use gipmc_circuits::{And, Circuit, Latch, Netlist};
 use gipsat_solver::Literal;
 use std::alloc::{AllocError, Allocator};
 
@@ -17,7 +17,7 @@ pub fn full() -> Literal {
 ///
 /// # Errors
 /// `AllocError` where memory is refused.
-pub fn shifter<A: Allocator + Copy>(alloc: A) -> Result<Circuit<A>, AllocError> {
+pub fn shifter<A: Allocator + Copy>(alloc: A) -> Result<Netlist<A>, AllocError> {
     let (first, second) = (Literal::new(2, true), Literal::new(3, true));
     let mut circuit = Circuit::new(alloc);
     circuit.inputs.push(1)?;
@@ -28,7 +28,7 @@ pub fn shifter<A: Allocator + Copy>(alloc: A) -> Result<Circuit<A>, AllocError> 
         left: first,
         right: second,
     })?;
-    Ok(circuit)
+    netlist(alloc, circuit)
 }
 
 /// Latch 2 is one after a moment at which input 1 was, and each latch behind it once the one before it was. All begin
@@ -36,7 +36,7 @@ pub fn shifter<A: Allocator + Copy>(alloc: A) -> Result<Circuit<A>, AllocError> 
 ///
 /// # Errors
 /// `AllocError` where memory is refused.
-pub fn register<A: Allocator + Copy>(alloc: A, latches: u8) -> Result<Circuit<A>, AllocError> {
+pub fn register<A: Allocator + Copy>(alloc: A, latches: u8) -> Result<Netlist<A>, AllocError> {
     let mut circuit = Circuit::new(alloc);
     circuit.inputs.push(1)?;
     let mut before = Literal::new(1, true);
@@ -45,7 +45,18 @@ pub fn register<A: Allocator + Copy>(alloc: A, latches: u8) -> Result<Circuit<A>
         circuit.latches.push(begins_low(variable, before))?;
         before = Literal::new(variable, true);
     }
-    Ok(circuit)
+    netlist(alloc, circuit)
+}
+
+/// The netlist of a circuit.
+///
+/// # Errors
+/// `AllocError` where memory is refused, or the circuit is not well-formed.
+pub fn netlist<A: Allocator + Copy>(
+    alloc: A,
+    circuit: Circuit<A>,
+) -> Result<Netlist<A>, AllocError> {
+    Netlist::new(alloc, circuit)?.ok_or(AllocError)
 }
 
 // The latch that begins at 0.

@@ -1,8 +1,8 @@
 //! What random simulation finds.
 
-use crate::shifter::{full, shifter};
+use crate::shifter::{full, netlist, shifter};
 use crate::stopper::Stopper;
-use gipmc_circuits::{And, Circuit, Latch};
+use gipmc_circuits::{And, Circuit, Latch, Netlist};
 use gipmc_engines::{Tries, simulate};
 use gipsat_solver::Literal;
 use std::alloc::{AllocError, Global};
@@ -15,14 +15,14 @@ fn found(
     rounds: usize,
     stop: usize,
 ) -> Result<(Option<usize>, usize), AllocError> {
-    let circuit = shifter(alloc)?;
+    let netlist = shifter(alloc)?;
     let tries = Tries {
         seed: 7,
         rounds,
         moments,
     };
     let mut watch = Stopper::new(stop, 0);
-    let trace = simulate(alloc, &circuit, full(), tries, &mut watch)?;
+    let trace = simulate(alloc, &netlist, full(), tries, &mut watch)?;
     Ok((trace.map(|trace| trace.inputs.len()), watch.told))
 }
 
@@ -55,7 +55,7 @@ fn both(output: u8, left: u8, right: u8) -> And {
 }
 
 // Gate 11 is true where latches 1 to 3, which may begin at either value, and inputs 4 to 6 are.
-fn all_at_once(alloc: Global) -> Result<Circuit, AllocError> {
+fn all_at_once(alloc: Global) -> Result<Netlist, AllocError> {
     let mut circuit = Circuit::new(alloc);
     for &variable in &[1u8, 2, 3] {
         circuit.latches.push(Latch {
@@ -70,18 +70,18 @@ fn all_at_once(alloc: Global) -> Result<Circuit, AllocError> {
     for &(output, left, right) in &[(7, 1, 2), (8, 7, 3), (9, 8, 4), (10, 9, 5), (11, 10, 6)] {
         circuit.gates.push(both(output, left, right))?;
     }
-    Ok(circuit)
+    netlist(alloc, circuit)
 }
 
 // How many moments the trace has that one round finds for this circuit.
 fn found_at_once(alloc: Global) -> Result<Option<usize>, AllocError> {
-    let circuit = all_at_once(alloc)?;
+    let netlist = all_at_once(alloc)?;
     let tries = Tries {
         seed: 1,
         rounds: 1,
         moments: 9,
     };
-    let trace = simulate(alloc, &circuit, Literal::new(11, true), tries, &mut ())?;
+    let trace = simulate(alloc, &netlist, Literal::new(11, true), tries, &mut ())?;
     Ok(trace.map(|trace| trace.inputs.len()))
 }
 

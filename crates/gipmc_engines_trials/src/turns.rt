@@ -2,7 +2,7 @@
 
 use crate::shifter::{full, register, shifter};
 use crate::stopper::Stopper;
-use gipmc_circuits::Circuit;
+use gipmc_circuits::Netlist;
 use gipmc_engines::{Bounds, Verdict, decide, decide_by_turns};
 use gipsat_solver::Literal;
 use std::alloc::{AllocError, Global};
@@ -37,8 +37,8 @@ fn never() -> Literal {
 
 // What IC3 says of the register by so many calls.
 fn alone(alloc: Global, bad: Literal, calls: usize) -> Result<Said, AllocError> {
-    let circuit = shifter(alloc)?;
-    let verdict = decide(alloc, &circuit, bad, calls, &mut ())?;
+    let netlist = shifter(alloc)?;
+    let verdict = decide(alloc, &netlist, bad, calls, &mut ())?;
     Ok(said_by(&verdict))
 }
 
@@ -53,17 +53,17 @@ fn bounds(depth: usize, calls: usize) -> Bounds {
 
 // What both say by turns.
 fn by_turns(alloc: Global, bad: Literal, depth: usize, calls: usize) -> Result<Said, AllocError> {
-    let circuit = shifter(alloc)?;
-    said_by_turns(alloc, &circuit, bad, bounds(depth, calls))
+    let netlist = shifter(alloc)?;
+    said_by_turns(alloc, &netlist, bad, bounds(depth, calls))
 }
 
 fn said_by_turns(
     alloc: Global,
-    circuit: &Circuit,
+    netlist: &Netlist,
     bad: Literal,
     bounds: Bounds,
 ) -> Result<Said, AllocError> {
-    let verdict = decide_by_turns(alloc, circuit, bad, bounds, &mut ())?;
+    let verdict = decide_by_turns(alloc, netlist, bad, bounds, &mut ())?;
     Ok(said_by(&verdict))
 }
 
@@ -113,8 +113,8 @@ fn finds_traces_and_invariants(rt: HostRuntime) -> Result<(), AllocError> {
 
 // What both say by turns of a register of 60 latches, which is full after as many transitions, by few calls.
 fn of_a_long_register(alloc: Global, depth: usize) -> Result<Said, AllocError> {
-    let circuit = register(alloc, 60)?;
-    said_by_turns(alloc, &circuit, Literal::new(61, true), bounds(depth, 150))
+    let netlist = register(alloc, 60)?;
+    said_by_turns(alloc, &netlist, Literal::new(61, true), bounds(depth, 150))
 }
 
 #[test]
@@ -126,32 +126,32 @@ fn says_how_far_bounded_model_checking_came(rt: HostRuntime) -> Result<(), Alloc
 // Of how many slices of IC3 a listener is told that stops it behind the first one which finds nothing.
 fn told_alone(
     alloc: Global,
-    circuit: &Circuit,
+    netlist: &Netlist,
     bad: Literal,
     calls: usize,
 ) -> Result<usize, AllocError> {
     let mut watch = Stopper::new(0, 0);
-    let _ = decide(alloc, circuit, bad, calls, &mut watch)?;
+    let _ = decide(alloc, netlist, bad, calls, &mut watch)?;
     Ok(watch.slices)
 }
 
 // The same by turns.
 fn told_by_turns(
     alloc: Global,
-    circuit: &Circuit,
+    netlist: &Netlist,
     bad: Literal,
     calls: usize,
 ) -> Result<usize, AllocError> {
     let mut watch = Stopper::new(0, 0);
-    let _ = decide_by_turns(alloc, circuit, bad, bounds(0, calls), &mut watch)?;
+    let _ = decide_by_turns(alloc, netlist, bad, bounds(0, calls), &mut watch)?;
     Ok(watch.slices)
 }
 
 // Both.
 fn told(alloc: Global, bad: Literal, calls: usize) -> Result<(usize, usize), AllocError> {
-    let circuit = shifter(alloc)?;
-    let alone = told_alone(alloc, &circuit, bad, calls)?;
-    let by_turns = told_by_turns(alloc, &circuit, bad, calls)?;
+    let netlist = shifter(alloc)?;
+    let alone = told_alone(alloc, &netlist, bad, calls)?;
+    let by_turns = told_by_turns(alloc, &netlist, bad, calls)?;
     Ok((alone, by_turns))
 }
 

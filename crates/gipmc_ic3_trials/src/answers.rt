@@ -1,7 +1,7 @@
 //! What a search finds, replayed or certified.
 
 use crate::circuits::{Kind, literal, made};
-use gipmc_circuits::{Circuit, Trace, certificate, certify, replay};
+use gipmc_circuits::{Netlist, Trace, certificate, certify, replay};
 use gipmc_ic3::{Found, Search};
 use gipsat_solver::Literal;
 use std::alloc::{AllocError, Allocator, Global};
@@ -20,35 +20,35 @@ pub(crate) enum Answer {
 // What a search of one slice finds out about a circuit.
 fn answer_of(
     alloc: Global,
-    circuit: &Circuit,
+    netlist: &Netlist,
     bad: Literal,
     calls: u64,
 ) -> Result<Answer, AllocError> {
-    let found = found_in_a_slice(alloc, circuit, bad, calls)?;
-    checked(alloc, circuit, bad, &found)
+    let found = found_in_a_slice(alloc, netlist, bad, calls)?;
+    checked(alloc, netlist, bad, &found)
 }
 
 // What a search of one slice finds.
 fn found_in_a_slice(
     alloc: Global,
-    circuit: &Circuit,
+    netlist: &Netlist,
     bad: Literal,
     calls: u64,
 ) -> Result<Found, AllocError> {
-    let mut search = Search::new(alloc, circuit, bad)?;
+    let mut search = Search::new(alloc, netlist, bad)?;
     search.run(calls)
 }
 
 // What is believed where this was found: a trace is replayed, and an invariant is certified.
 pub(crate) fn checked<A: Allocator + Copy>(
     alloc: A,
-    circuit: &Circuit<A>,
+    netlist: &Netlist<A>,
     bad: Literal,
     found: &Found<A>,
 ) -> Result<Answer, AllocError> {
     match found {
-        Found::Trace(trace) => replayed(alloc, circuit, bad, trace),
-        Found::Invariant(invariant) => certified(alloc, circuit, bad, invariant),
+        Found::Trace(trace) => replayed(alloc, netlist, bad, trace),
+        Found::Invariant(invariant) => certified(alloc, netlist, bad, invariant),
         Found::Open => Ok(Answer::Unknown),
     }
 }
@@ -56,11 +56,11 @@ pub(crate) fn checked<A: Allocator + Copy>(
 // What is believed where this trace was found.
 fn replayed<A: Allocator + Copy>(
     alloc: A,
-    circuit: &Circuit<A>,
+    netlist: &Netlist<A>,
     bad: Literal,
     trace: &Trace<A>,
 ) -> Result<Answer, AllocError> {
-    if replay(alloc, circuit, bad, trace)? {
+    if replay(alloc, netlist, bad, trace)? {
         Ok(Answer::Fails(trace.inputs.len()))
     } else {
         Ok(Answer::Wrong)
@@ -70,11 +70,11 @@ fn replayed<A: Allocator + Copy>(
 // What is believed where this invariant was found.
 fn certified<A: Allocator + Copy>(
     alloc: A,
-    circuit: &Circuit<A>,
+    netlist: &Netlist<A>,
     bad: Literal,
     invariant: &[Vec<Literal, A>],
 ) -> Result<Answer, AllocError> {
-    match certify(alloc, circuit, bad, invariant, 1000)? {
+    match certify(alloc, netlist, bad, invariant, 1000)? {
         certificate::Verdict::Certified => Ok(Answer::Safe),
         _ => Ok(Answer::Wrong),
     }
@@ -121,8 +121,8 @@ const ANSWERS: &[(Kind, (u8, bool), Answer)] = &[
 
 // What a search of one slice finds out about a circuit of this kind.
 fn answer_about(alloc: Global, kind: Kind, bad: (u8, bool)) -> Result<Answer, AllocError> {
-    let circuit = made(alloc, kind)?;
-    answer_of(alloc, &circuit, literal(bad), 1000)
+    let netlist = made(alloc, kind)?;
+    answer_of(alloc, &netlist, literal(bad), 1000)
 }
 
 #[test]

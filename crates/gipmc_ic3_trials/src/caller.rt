@@ -1,6 +1,6 @@
 //! A caller that searches in slices.
 
-use gipmc_circuits::Circuit;
+use gipmc_circuits::Netlist;
 use gipmc_ic3::{Found, Search};
 use gipsat_solver::Literal;
 use std::alloc::{AllocError, Allocator};
@@ -11,12 +11,12 @@ use std::alloc::{AllocError, Allocator};
 /// `AllocError` where memory is refused.
 pub fn found_in_slices<A: Allocator + Copy>(
     alloc: A,
-    circuit: &Circuit<A>,
+    netlist: &Netlist<A>,
     bad: Literal,
     slices: u32,
     calls: u64,
 ) -> Result<Found<A>, AllocError> {
-    let mut search = Search::new(alloc, circuit, bad)?;
+    let mut search = Search::new(alloc, netlist, bad)?;
     run_slices(&mut search, slices, calls)
 }
 

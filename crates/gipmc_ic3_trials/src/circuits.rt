@@ -1,6 +1,6 @@
 //! Circuits of a few latches.
 
-use gipmc_circuits::{And, Circuit, Latch};
+use gipmc_circuits::{And, Circuit, Latch, Netlist};
 use gipsat_solver::Literal;
 use std::alloc::{AllocError, Allocator};
 
@@ -107,12 +107,13 @@ pub fn literal((variable, value): (u8, bool)) -> Literal {
 ///
 /// # Errors
 /// `AllocError` where memory is refused.
-pub fn made<A: Allocator + Copy>(alloc: A, kind: Kind) -> Result<Circuit<A>, AllocError> {
-    match kind {
-        Kind::Register(reset, constraint) => constrained(alloc, reset, literal(constraint)),
-        Kind::Ring => ring(alloc),
-        Kind::Counter => counter(alloc),
-    }
+pub fn made<A: Allocator + Copy>(alloc: A, kind: Kind) -> Result<Netlist<A>, AllocError> {
+    let circuit = match kind {
+        Kind::Register(reset, constraint) => constrained(alloc, reset, literal(constraint))?,
+        Kind::Ring => ring(alloc)?,
+        Kind::Counter => counter(alloc)?,
+    };
+    Netlist::new(alloc, circuit)?.ok_or(AllocError)
 }
 
 // The shift register with a constraint.

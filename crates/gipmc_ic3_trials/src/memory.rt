@@ -2,7 +2,7 @@
 
 use crate::answers::{Answer, checked};
 use crate::circuits::{Kind, made};
-use gipmc_circuits::Circuit;
+use gipmc_circuits::Netlist;
 use gipmc_ic3::{Found, Search};
 use gipsat_solver::Literal;
 use giputils_refusing::Refusing;
@@ -19,20 +19,20 @@ const STEP: u64 = 11;
 // What a search finds out about gate 6, which goes on where it is refused memory.
 fn answer_at_last<'a>(
     memory: &'a Refusing,
-    circuit: &Circuit<&'a Refusing>,
+    netlist: &Netlist<&'a Refusing>,
 ) -> Result<Answer, AllocError> {
     let bad = Literal::new(6, true);
-    let found = found_at_last(memory, circuit, bad)?;
-    checked(memory, circuit, bad, &found)
+    let found = found_at_last(memory, netlist, bad)?;
+    checked(memory, netlist, bad, &found)
 }
 
 // What a search finds that goes on where it is refused memory.
 fn found_at_last<'a>(
     memory: &'a Refusing,
-    circuit: &Circuit<&'a Refusing>,
+    netlist: &Netlist<&'a Refusing>,
     bad: Literal,
 ) -> Result<Found<&'a Refusing>, AllocError> {
-    let mut search = Search::new(memory, circuit, bad)?;
+    let mut search = Search::new(memory, netlist, bad)?;
     match search.run(1000) {
         Ok(found) => Ok(found),
         Err(_) => search.run(1000),
@@ -40,8 +40,8 @@ fn found_at_last<'a>(
 }
 
 fn answer_of(memory: &Refusing, kind: Kind) -> Result<Answer, AllocError> {
-    let circuit = made(memory, kind)?;
-    answer_at_last(memory, &circuit)
+    let netlist = made(memory, kind)?;
+    answer_at_last(memory, &netlist)
 }
 
 // How many searches find out what is wanted. None where another answer is given.

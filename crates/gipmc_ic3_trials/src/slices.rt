@@ -3,21 +3,21 @@
 use crate::answers::{Answer, checked};
 use crate::caller::found_in_slices;
 use crate::circuits::{Kind, made};
-use gipmc_circuits::Circuit;
+use gipmc_circuits::Netlist;
 use gipmc_ic3::{Found, Search};
 use gipsat_solver::Literal;
 use std::alloc::{AllocError, Global};
 
 // What slices of so many calls find out about gate 6.
 fn answer_in_slices(alloc: Global, kind: Kind, calls: u64) -> Result<Answer, AllocError> {
-    let circuit = made(alloc, kind)?;
-    answer_in_slices_of(alloc, &circuit, calls)
+    let netlist = made(alloc, kind)?;
+    answer_in_slices_of(alloc, &netlist, calls)
 }
 
-fn answer_in_slices_of(alloc: Global, circuit: &Circuit, calls: u64) -> Result<Answer, AllocError> {
+fn answer_in_slices_of(alloc: Global, netlist: &Netlist, calls: u64) -> Result<Answer, AllocError> {
     let bad = Literal::new(6, true);
-    let found = found_in_slices(alloc, circuit, bad, 1000, calls)?;
-    checked(alloc, circuit, bad, &found)
+    let found = found_in_slices(alloc, netlist, bad, 1000, calls)?;
+    checked(alloc, netlist, bad, &found)
 }
 
 // A circuit, how many calls a slice has, and what slices find out.
@@ -70,23 +70,23 @@ fn run_twice(
 
 fn search_twice(
     alloc: Global,
-    circuit: &Circuit,
+    netlist: &Netlist,
     first: u64,
     second: u64,
 ) -> Result<(Found, Told), AllocError> {
-    let mut search = Search::new(alloc, circuit, Literal::new(6, true))?;
+    let mut search = Search::new(alloc, netlist, Literal::new(6, true))?;
     run_twice(&mut search, first, second)
 }
 
 // The same of a circuit of this kind.
 fn two_slices_of(
     alloc: Global,
-    circuit: &Circuit,
+    netlist: &Netlist,
     first: u64,
     second: u64,
 ) -> Result<(Answer, Told), AllocError> {
-    let (found, told) = search_twice(alloc, circuit, first, second)?;
-    let answer = checked(alloc, circuit, Literal::new(6, true), &found)?;
+    let (found, told) = search_twice(alloc, netlist, first, second)?;
+    let answer = checked(alloc, netlist, Literal::new(6, true), &found)?;
     Ok((answer, told))
 }
 
@@ -96,8 +96,8 @@ fn two_slices(
     first: u64,
     second: u64,
 ) -> Result<(Answer, Told), AllocError> {
-    let circuit = made(alloc, kind)?;
-    two_slices_of(alloc, &circuit, first, second)
+    let netlist = made(alloc, kind)?;
+    two_slices_of(alloc, &netlist, first, second)
 }
 
 // A circuit, how many calls the first slice has, and what the second finds, which has none.

@@ -7,9 +7,9 @@ use Rattle.gipmc.proofs.answers.answer_all.Goals as goal
 pub loop-place-preserved : goal.loop-place-preserved
 loop-place-preserved g c =
     rw (c.in_ok-extend_from_slice.ensures.items, c.deref.ensures.value, c.and-outcome.ensures)
-    (TellsFirst-more c.args.circuit.now c.loop-place.place _ _ _ _ c.loop-place.invariant c.in_ok-said.ensures)
+    (TellsFirst-more c.args.netlist.now.circuit c.loop-place.place _ _ _ _ c.loop-place.invariant c.in_ok-said.ensures)
 
 pub returns : goal.returns
 returns g c =
-    let all : c.loop-place.place ≡ length c.args.circuit.now.bads.items = grind (arith, common_steps) in
+    let all : c.loop-place.place ≡ length c.args.netlist.now.circuit.bads.items = grind (arith, common_steps) in
     rw all at c.loop-place.invariant

@@ -6,8 +6,8 @@ pub returns : goal.returns
 returns g c =
     IfOk-weaker c.fails_by.result _ _
     (λ fails so is. (
-      c.in_ok-circuit.circuit,
-      c.in_ok-circuit.ensures,
+      c.in_ok-netlist.netlist.circuit,
+      c.in_ok-netlist.ensures,
       c.in_ok-witness.witness,
       c.in_ok-witness.ensures,
       c.in_ok-is_asked.ensures,

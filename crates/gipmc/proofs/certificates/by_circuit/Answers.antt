@@ -5,7 +5,7 @@ use Rattle.gipmc.proofs.certificates.by_circuit.Goals as goal
 
 pub returns-in-Certified : goal.returns-in-Certified
 returns-in-Certified g c said_so =
-    let bads = c.args.circuit.now.bads.items in
+    let bads = c.args.netlist.now.circuit.bads.items in
     let here = slice_get_read bads (length bads) c.args.place c.index.result.now refl c.requires c.index.ensures in
     let said = c.in_ok-said.ensures in
     let certified = (rw (c.in-Some.is, c.in-Certified.is) at said.certified) refl in

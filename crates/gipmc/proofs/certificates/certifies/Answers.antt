@@ -5,4 +5,4 @@ use Rattle.gipmc.proofs.certificates.certifies.Goals as goal
 pub returns : goal.returns
 returns g c =
     IfOk-weaker c.certifies_circuit.result _ _
-    (λ safe so is. (c.in_ok-circuit.circuit, c.in_ok-circuit.ensures, so is)) c.certifies_circuit.ensures
+    (λ safe so is. (c.in_ok-netlist.netlist.circuit, c.in_ok-netlist.ensures, so is)) c.certifies_circuit.ensures

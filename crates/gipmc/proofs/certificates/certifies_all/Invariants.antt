@@ -4,4 +4,4 @@ use Rattle.gipmc.specs.Certificates.{ShowsSafeAt}
 use Rattle.gipmc.proofs.certificates.certifies_all.Given as goal
 
 abbrev pub invariant-loop-place : goal.invariant-loop-place
-invariant-loop-place g l = (k : ℕ) → k < l.place → ShowsSafeAt l.circuit l.certificate k
+invariant-loop-place g l = (k : ℕ) → k < l.place → ShowsSafeAt l.netlist.circuit l.certificate k

@@ -1,7 +1,7 @@
 -- The three questions are answered.
 use Rattle.std.proofs.Common.{refl}
 use Rattle.gipmc_circuits.proofs.Certified.{safe_by_invariant}
-use Rattle.gipmc_circuits.proofs.certificate.certify.Goals as goal
+use Rattle.gipmc_circuits.proofs.certificate.judge.Goals as goal
 
 pub returns-in-Some-true-clause-safe : goal.returns-in-Some-true-clause-safe
 returns-in-Some-true-clause-safe g c sure =
