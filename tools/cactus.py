@@ -25,17 +25,23 @@ GREY = "#888888"
 
 def curves(files):
     """For each program the times of the formulas that it solved, rising; how many formulas there are, and the limit."""
-    rows = [json.loads(line) for path in files for line in path.read_text(encoding="utf-8").splitlines()]
+    rows = [(path, json.loads(line)) for path in files for line in path.read_text(encoding="utf-8").splitlines()]
     if not rows:
         raise SystemExit("cactus.py: no run was kept there")
-    programs = list(rows[0]["runs"])
-    times = {title(program, programs): [] for program in programs}
-    for row in rows:
-        for program in programs:
-            what, seconds = row["runs"][program][:2]
+    first, times = rows[0][0], {program: [] for program in rows[0][1]["runs"]}
+    for path, row in rows:
+        if row["runs"].keys() != times.keys():
+            raise SystemExit(f"cactus.py: {path}: it has runs of other programs than {first}")
+        for program, (what, seconds, *_) in row["runs"].items():
             if what != "none":
-                times[title(program, programs)].append(max(seconds, LEAST))
-    return {name: sorted(found) for name, found in times.items()}, len(rows), max(row["limit"] for row in rows)
+                times[program].append(max(seconds, LEAST))
+    titled = {}
+    for program, found in times.items():
+        name = title(program, times)
+        if name in titled:
+            raise SystemExit(f"cactus.py: two programs would have the title '{name}'")
+        titled[name] = sorted(found)
+    return titled, len(rows), max(row["limit"] for _, row in rows)
 
 
 def text(x, y, words, anchor="middle", colour=GREY):
