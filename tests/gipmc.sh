@@ -226,12 +226,26 @@ rm -f cert
 sleep 1
 [ ! -e cert ]
 told "a certificate has no name before it is whole" $?
-echo precious > cert
 wait $!
 status=$?
-[ "$status" = 0 ] && [ "$(cat cert)" = precious ] && [ ! -s err ]
+[ "$status" = 0 ] && [ ! -e cert ] && [ ! -s err ]
+told "no certificate where the time is over" $?
+# Standard output is a pipe that is full, so the certificate waits behind the answer.
+{
+    head -c 65536 /dev/zero
+    exec "$gipmc" --bad 0 --certificate cert two.aag 2> err
+} | {
+    sleep 2
+    echo precious > cert
+    tr -d '\0' > out
+}
+status=${PIPESTATUS[0]}
+[ "$status" = 1 ] && [ "$(cat out)" = "$safe" ] && [ "$(cat cert)" = precious ] &&
+    [ "$(cat err)" = "cert: another file came there meanwhile (see $(ls cert.*.part))" ] &&
+    [ "$("$gipmc" --certify "$(ls cert.*.part)" --bad 0 two.aag)" = "s VERIFIED" ]
 told "a file that came meanwhile stays" $?
-rm cert
+rm -f cert cert.*.part
+try "a certificate of an empty name" 1 ": cannot be made: no such file" "" "" --certificate "" two.aag
 timeout -s KILL 1 "$gipmc" "${endless[@]}" --certificate killed kept.aag > out 2> err
 [ -z "$(ls killed* 2> /dev/null)" ]
 told "a run that is killed leaves no file" $?
@@ -262,7 +276,7 @@ grep -q '^c b0: depth [0-9]*, [0-9]* clauses, [0-9]* learned; [0-9]*[.][0-9][0-9
 told "progress in a file" $?
 
 # Standard streams that are closed. No file that is opened takes their place.
-unheard='<stdout>: cannot be written: it is closed'
+unheard='<stdout>: cannot be written: closed, or open the other way alone'
 "$gipmc" --bad 0 --certificate cert two.aag > out 2> err <&-
 status=$?
 [ "$status" = 20 ] && [ "$(cat out)" = "$safe" ] && [ "$("$gipmc" --certify cert --bad 0 two.aag)" = "s VERIFIED" ]
@@ -271,7 +285,7 @@ for words in "" "--certify - kept.aag" "--replay - kept.aag"; do
     # shellcheck disable=SC2086
     "$gipmc" $words > out 2> err <&-
     status=$?
-    [ "$status" = 1 ] && [ ! -s out ] && [ "$(cat err)" = "<stdin>: cannot be read: it is closed" ]
+    [ "$status" = 1 ] && [ ! -s out ] && [ "$(cat err)" = "<stdin>: cannot be read: closed, or open the other way alone" ]
     told "no standard input, arguments $words" $?
 done
 for circuit in two.aag -; do

@@ -451,16 +451,16 @@ else
 fi
 
 # Standard streams that are closed. No file that is opened takes their place.
-unheard='<stdout>: cannot be written: it is closed'
+unheard='<stdout>: cannot be written: closed, or open the other way alone'
 "$gipsat" --proof "$work/closed" "$kept" > "$work/out" 2> "$work/err" <&-
 [ "$?" = 20 ] && [ "$(cat "$work/out")" = "s UNSATISFIABLE" ] && [ ! -s "$work/err" ] &&
     [ "$("$gipsat" --check "$kept" "$work/closed")" = "s VERIFIED" ]
 told "no standard input, beside a formula in a file" $?
 "$gipsat" --relaxed > "$work/out" 2> "$work/err" <&-
-[ "$?" = 1 ] && [ ! -s "$work/out" ] && [ "$(cat "$work/err")" = "<stdin>: cannot be read: it is closed" ]
+[ "$?" = 1 ] && [ ! -s "$work/out" ] && [ "$(cat "$work/err")" = "<stdin>: cannot be read: closed, or open the other way alone" ]
 told "no standard input, where the formula comes from there" $?
 "$gipsat" --check "$kept" - > "$work/out" 2> "$work/err" <&-
-[ "$?" = 1 ] && [ ! -s "$work/out" ] && [ "$(cat "$work/err")" = "<stdin>: cannot be read: it is closed" ]
+[ "$?" = 1 ] && [ ! -s "$work/out" ] && [ "$(cat "$work/err")" = "<stdin>: cannot be read: closed, or open the other way alone" ]
 told "no standard input, where the proof comes from there" $?
 : > "$work/out"
 for formula in "$kept" -; do
@@ -511,6 +511,29 @@ wait $!
     [ "$(cat "$work/err")" = "$work/late: another file came there meanwhile (see $(ls "$work"/late.*.part))" ]
 told "a file that came meanwhile stays" $?
 rm "$work"/late.*.part
+"$gipsat" -q --time 2 --force --proof "$work/late" "$work/many" > "$work/out" 2> "$work/err" &
+sleep 1
+rm "$work/late"
+echo precious > "$work/late"
+wait $!
+[ "$?" = 1 ] && [ ! -s "$work/out" ] && [ "$(cat "$work/late")" = precious ] &&
+    [ "$(cat "$work/err")" = "$work/late: another file came there meanwhile (see $(ls "$work"/late.*.part))" ]
+told "an old proof that is exchanged meanwhile stays" $?
+rm "$work"/late.*.part
+# A file that another one is mounted on has a name that the system gives to no other.
+if unshare -rm true 2> /dev/null; then
+    : > "$work/below"
+    # shellcheck disable=SC2016
+    unshare -rm sh -c 'mount --bind "$1" "$2" && exec "$3" -q --force --proof "$2" "$4"' sh \
+        "$work/below" "$work/late" "$gipsat" "$kept" > "$work/out" 2> "$work/err"
+    [ "$?" = 1 ] && [ ! -s "$work/out" ] &&
+        grep -q "late: cannot be written: .* (see $work/late[.][0-9]*[.]part)$" "$work/err" &&
+        [ "$("$gipsat" --check "$kept" "$(ls "$work"/late.*.part)")" = "s VERIFIED" ]
+    told "a proof that cannot get its name stays beside it" $?
+    rm -f "$work"/late.*.part
+fi
+try "a proof of an empty name" 1 ": no such file" "" "" --proof "" "$kept"
+try "a proof of an empty name behind =" 1 ": no such file" "" "" --proof= "$kept"
 timeout -s KILL 1 "$gipsat" -q --proof "$work/killed" "$work/many" > "$work/out" 2> "$work/err"
 [ ! -e "$work/killed" ] && [ -z "$(find "$work" -name 'killed.*' -empty)" ]
 told "a run that is killed leaves no empty file" $?

@@ -1,5 +1,5 @@
 # shellcheck shell=bash
-# Read by the scripts beside it that are no Python: what becomes of their arguments.
+# Read by the scripts here and in tools/ that are no Python: what becomes of their arguments.
 
 # USAGE [ARGUMENT..]: answers --help by the usage and the comment at the head of the script, and refuses an option, or
 # another number of arguments than the usage has words behind the script's name.

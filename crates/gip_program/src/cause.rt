@@ -15,7 +15,7 @@ impl Display for Cause {
             return f.write_str("no cause told");
         };
         if error.raw_os_error() == Some(BAD_DESCRIPTOR) {
-            return f.write_str("it is closed");
+            return f.write_str("closed, or open the other way alone");
         }
         match error.kind() {
             ErrorKind::NotFound => f.write_str("no such file"),

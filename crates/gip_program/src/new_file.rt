@@ -25,8 +25,8 @@ pub enum Existing {
 pub struct NewFile<'a> {
     rt: HostRuntime,
     name: &'a str,
-    // The file that it replaces, if it replaces one.
-    replaced: Option<Identity>,
+    // The file that it replaces, if it replaces one. It stays open, so that no other file gets its inode.
+    replaced: Option<File>,
     // None before the first write.
     part: Option<Part>,
 }
@@ -49,33 +49,42 @@ struct Identity {
 /// Why a file did not appear under its name.
 #[derive(Clone, Copy)]
 pub enum FinishError<'a> {
+    /// Nothing was written to this name, and the system refused to make the file.
+    Unmade(&'a str, io::Error),
     /// The file under this name was made or exchanged meanwhile, and stays. What was written is in the file with this
     /// number.
     Taken(&'a str, u32),
-    /// The system refused it.
-    Refused(&'a str, io::Error),
+    /// The system refused to write the rest, or to give the file this name. What was written is in the file with this
+    /// number.
+    Refused(&'a str, u32, io::Error),
 }
 
 impl Display for FinishError<'_> {
     fn fmt<W: fmt::Write>(&self, f: &mut fmt::Formatter<W>) -> fmt::Result {
         match *self {
+            FinishError::Unmade(name, error) => {
+                write!(f, "{name}: cannot be written: {}", Cause(Some(error)))
+            }
             FinishError::Taken(name, number) => write!(
                 f,
                 "{name}: another file came there meanwhile (see {name}.{number}.part)"
             ),
-            FinishError::Refused(name, error) => {
-                write!(f, "{name}: cannot be written: {}", Cause(Some(error)))
-            }
+            FinishError::Refused(name, number, error) => write!(
+                f,
+                "{name}: cannot be written: {} (see {name}.{number}.part)",
+                Cause(Some(error))
+            ),
         }
     }
 }
 
 impl<'a> NewFile<'a> {
-    /// Prepares a file of this name, and changes nothing yet.
+    /// Prepares a file of this name. A file that is to be replaced stays as it is, but the one that a link leads to is
+    /// emptied.
     ///
     /// # Errors
-    /// Where something has the name and is not to be replaced or may not be written, and where no file can be made in
-    /// its folder.
+    /// Where the name is empty, where something has it and is not to be replaced or may not be written, and where no
+    /// file can be made in its folder.
     pub fn begin(rt: &HostRuntime, name: &'a str, existing: Existing) -> io::Result<Self> {
         let mut file = NewFile {
             rt: *rt,
@@ -83,6 +92,9 @@ impl<'a> NewFile<'a> {
             replaced: None,
             part: None,
         };
+        if name.is_empty() {
+            return Err(io::Error::from(ErrorKind::NotFound));
+        }
         match fs::symlink_metadata(rt, name) {
             Err(error) if error.kind() == ErrorKind::NotFound => {}
             Err(error) => return Err(error),
@@ -91,8 +103,7 @@ impl<'a> NewFile<'a> {
             }
             Ok(metadata) if metadata.is_file() => {
                 // A file that may not be written is not replaced.
-                File::options().append(true).open(rt, name)?;
-                file.replaced = Some(Identity::of(&metadata));
+                file.replaced = Some(File::options().append(true).open(rt, name)?);
             }
             Ok(_) => {
                 file.part = Some(Part {
@@ -115,55 +126,66 @@ impl<'a> NewFile<'a> {
     /// Gives the file its name. What has the name stays, but for the file that is to be replaced.
     ///
     /// # Errors
-    /// Where something else has the name by now, and where the system refuses it.
+    /// Where something else has the name by now, and where the system refuses it. What was written stays then, in the
+    /// file that the error names.
     pub fn finish(mut self) -> Result<(), FinishError<'a>> {
         let name = self.name;
         let part = match self.part.take() {
             Some(part) => part,
             None => match self.make_part() {
                 Ok(part) => part,
-                Err(error) => return Err(FinishError::Refused(name, error)),
+                Err(error) => return Err(FinishError::Unmade(name, error)),
             },
         };
         let Some(number) = part.number else {
             return Ok(());
         };
-        match self.place(number) {
+        match self.place(&part.file, number) {
             Ok(true) => Ok(()),
             Ok(false) => Err(FinishError::Taken(name, number)),
-            Err(error) => {
-                self.part = Some(part);
-                Err(FinishError::Refused(name, error))
-            }
+            Err(error) => Err(FinishError::Refused(name, number, error)),
         }
     }
 
     // Moves the part with this number to the name. Whether the name was free, or is that of the replaced file.
-    fn place(&self, number: u32) -> io::Result<bool> {
+    fn place(&self, file: &File, number: u32) -> io::Result<bool> {
+        // Some systems tell only here that a write failed.
+        file.sync_all()?;
         let part = part_name(&self.rt, self.name, number)?;
-        let now = match fs::symlink_metadata(&self.rt, self.name) {
-            Ok(metadata) => Some(Identity::of(&metadata)),
-            Err(error) if error.kind() == ErrorKind::NotFound => None,
-            Err(error) => return Err(error),
-        };
-        if now.is_some() {
-            if now != self.replaced {
-                return Ok(false);
+        match fs::symlink_metadata(&self.rt, self.name) {
+            Ok(metadata) => {
+                if !self.replaces(Identity::of(&metadata))? {
+                    return Ok(false);
+                }
+                fs::rename(&self.rt, part.as_str(), self.name)?;
+                return Ok(true);
             }
-            fs::rename(&self.rt, part.as_str(), self.name)?;
-            return Ok(true);
+            Err(error) if error.kind() == ErrorKind::NotFound => {}
+            Err(error) => return Err(error),
         }
-        // A link is refused where the name was taken since, and a rename is not. Some file systems have no links.
+        // A link is refused where the name was taken since, and a rename is not.
         match fs::hard_link(&self.rt, part.as_str(), self.name) {
             Ok(()) => {
                 let _ = fs::remove_file(&self.rt, part.as_str());
                 Ok(true)
             }
-            Err(error) if error.kind() == ErrorKind::AlreadyExists => Ok(false),
-            Err(_) => {
-                fs::rename(&self.rt, part.as_str(), self.name)?;
-                Ok(true)
-            }
+            Err(error) => match error.kind() {
+                ErrorKind::AlreadyExists => Ok(false),
+                // What file systems without links answer.
+                ErrorKind::PermissionDenied | ErrorKind::Unsupported => {
+                    fs::rename(&self.rt, part.as_str(), self.name)?;
+                    Ok(true)
+                }
+                _ => Err(error),
+            },
+        }
+    }
+
+    // Whether the file that is to be replaced is the one of this identity.
+    fn replaces(&self, identity: Identity) -> io::Result<bool> {
+        match &self.replaced {
+            Some(file) => Ok(Identity::of(&file.metadata()?) == identity),
+            None => Ok(false),
         }
     }
 

@@ -10,8 +10,8 @@ const BAD_DESCRIPTOR: i32 = 9;
 const NULL: &str = "/dev/null";
 
 /// Opens the null device for each standard stream that is closed, so that no file that is opened later takes its place.
-/// It is open for the other direction: a read of that standard input and a write to that standard output fail, as before.
-/// A write to that standard error is lost.
+/// Standard input is opened for writing and standard output for reading, so a read of the one and a write to the other
+/// fail, as before. Standard error is opened for writing, and what is written to it is lost.
 ///
 /// A program calls it before it opens a file.
 ///
