@@ -186,6 +186,11 @@ if [ -e /dev/full ]; then
         [ "$("$gipmc" --certify cert --bad 0 two.aag)" = "s VERIFIED" ]
     told "a certificate where the answer cannot be written" $?
     rm -f cert
+    printf '%b' 'aag 3 1 2 0 0 2\n2\n4 4\n6 2\n6\n4\n' > swapped.aag
+    timeout -s KILL 20 "$gipmc" --engine bmc --depth 999999999 swapped.aag > /dev/full 2> err
+    status=$?
+    [ "$status" = 1 ] && [ "$(cat err)" = "<stdout>: cannot be written: no space left" ]
+    told "an answer that cannot be written ends the search" $?
 fi
 "$gipmc" --certificate cert two.aag > out 2> err
 status=$?

@@ -64,12 +64,14 @@ pub struct Answered<A: Allocator = Global> {
 }
 
 /// Answers about the circuit that a text writes: about the bad literal at the place that is asked for, or about all.
-/// Each answer is written as soon as it is found. Where a write fails the search goes on, and no more is written.
+/// Each answer is written as soon as it is found. Where a write fails no more is written; the search stops then, and
+/// leaves the other literals open, or goes on, as the output says.
 ///
 /// # Errors
 /// - [`TaskError::Circuit`] where the text writes no circuit.
 /// - [`TaskError::NoBad`] where there is no bad literal at the place.
-/// - [`TaskError::Memory`] where memory is refused.
+/// - [`TaskError::Memory`] where memory is refused for the circuit or a text. A search that is refused memory leaves its
+///   literal open.
 pub fn answer<A: Allocator + Copy, L: Listener, W: Write>(
     alloc: A,
     bytes: &[u8],
@@ -161,7 +163,11 @@ fn answer_at<A: Allocator + Copy, L: Listener, W: Write>(
     ensures { IfOk result (λ said. Tells netlist.now.circuit place said.outcome said.text.items) }
 {
     let bad = netlist.circuit.bads[place];
-    let verdict = find_out(alloc, netlist, place, bad, plan, listener);
+    let verdict = if output.is_over() {
+        Verdict::Unknown
+    } else {
+        find_out(alloc, netlist, place, bad, plan, listener)
+    };
     let text = verdict_text(alloc, place, &verdict)?;
     output.tell(&text);
     let outcome = outcome_of(&verdict);

@@ -13,7 +13,7 @@ literal in turn. As soon as it knows, it writes what it found: the lines `1`,
 `1` where no bad state is reachable, and `2` where that is open. A line `u` with
 a number before a `2` says that no counterexample has so many transitions or
 fewer. Where the circuit has no bad literals, its outputs are taken for them;
-where it has neither, nothing is written.
+where it has neither, no answer is written.
 
 Input:
       --bad I           only the bad literal at place I
@@ -28,8 +28,8 @@ Search:
                         so does --certify; ic3 ends after N calls of its
                         solvers. Without this there is no bound: ic3 goes on
                         until it finds an answer
-  -t, --time N          begin nothing more after N seconds: what is not known
-                        then is open. A step of a search that has begun goes on
+  -t, --time N          stop after N seconds: what is not known then is open.
+                        Each engine may do one step more
       --seed N          the seed of random simulation (0)
 
 Answers of other programs:
@@ -52,10 +52,10 @@ Output:
   -q, --quiet           write no progress; without this it is written where
                         standard error is a terminal
   -v, --verbose         write progress every five seconds, whatever standard
-                        error is
-      --stats           write a summary for each bad literal on standard error
-                        (lines that begin with c): how far each engine that ran
-                        came, and the time
+                        error is, and also with -q
+      --stats           write a summary on standard error for each bad literal
+                        that was searched for (lines that begin with c): how far
+                        each engine that ran came, and the time
 
 Other:
   -h, --help            write this, and do nothing else

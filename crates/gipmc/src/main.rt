@@ -8,8 +8,8 @@
 ghost use Rattle.std.specs.Prelude.{◌≡◌, IfOk, IsTrue};
 ghost use Rattle.std.specs.Process.{exit_status};
 ghost use Rattle.std.specs.declared.alloc.Global.{Global};
-ghost use Rattle.gipmc.specs.Answers.{Answers, IsAnswered, Replays};
-ghost use Rattle.gipmc.specs.Certificates.{Certifies, CertifiesCircuit};
+ghost use Rattle.gipmc.specs.Answers.{Answers, IsAnswered, IsCircuitIn, Replays};
+ghost use Rattle.gipmc.specs.Certificates.{Certifies};
 ghost use Rattle.gipmc.specs.declared.answers.Outcome.TheVariants.{Fails, Safe};
 ghost use Rattle.gipmc.specs.Statuses.{outcome_status, refused_status, search_status, telling_status, usage_status, verified_status};
 
@@ -30,7 +30,7 @@ use gip_program::{Cause, Existing, NewFile, hold_standard_streams};
 use gipmc_engines::{Bounds, Engine, Plan, Tries};
 use help::{HELP, VERSION};
 use options::{Options, Task};
-use output::Output;
+use output::{Lost, Output};
 use progress::Teller;
 use std::env;
 use std::fmt::Display;
@@ -266,7 +266,7 @@ fn search_circuit<'a>(
     match options.certificate {
         Some(name) => certified_search(rt, options, bytes, new_file(rt, name)?),
         None => {
-            let mut output = Output::new(rt.stdout());
+            let mut output = Output::new(rt.stdout(), Lost::Stop);
             let answer = search(rt, options, bytes, &mut output)?;
             written(&output)?;
             Ok(answer.said.outcome)
@@ -281,7 +281,8 @@ fn search<'a>(
     bytes: &[u8],
     output: &mut Output<Stdout>,
 ) -> Result<Answered, Failure<'a>>
-    ensures { IfOk result (λ a. Answers Global bytes.now options.now.bad a.said.outcome a.said.text.items) }
+    ensures circuit { IfOk result (λ a. IsCircuitIn bytes.now a.netlist.circuit) }
+    ensures answers { IfOk result (λ a. Answers Global bytes.now options.now.bad a.said.outcome a.said.text.items) }
 {
     let plan = plan_of(options);
     let mut teller = Teller::new(rt, options);
@@ -326,10 +327,10 @@ fn certified_search<'a>(
 ) -> Result<Outcome, Failure<'a>>
     ensures { IfOk result (IsAnswered Global bytes.now options.now.bad) }
 {
-    let mut output = Output::new(rt.stdout());
+    let mut output = Output::new(rt.stdout(), Lost::GoOn);
     let answer = search(rt, options, bytes, &mut output)?;
     let kept = match answer.said.outcome {
-        Outcome::Safe => write_certificate(rt, options, &answer, file),
+        Outcome::Safe => write_certificate(rt, options, bytes, &answer, file),
         _ => Ok(()),
     };
     written(&output)?;
@@ -337,13 +338,15 @@ fn certified_search<'a>(
     Ok(answer.said.outcome)
 }
 
-// The text of the certificate that was found.
+// The text of the certificate that was found for the circuit that the bytes write.
 fn certificate_text(
     rt: &HostRuntime,
     options: &Options,
+    _bytes: &[u8],
     answer: &Answered,
 ) -> Result<Vec<u8>, TaskError>
-    ensures { IfOk result (λ text. CertifiesCircuit answer.now.netlist.circuit text.items options.now.bad) }
+    requires circuit { IsCircuitIn _bytes.now answer.now.netlist.circuit }
+    ensures { IfOk result (λ text. Certifies Global _bytes.now text.items options.now.bad) }
 {
     let invariant = &answer.said.invariant;
     certificate_of(
@@ -355,14 +358,17 @@ fn certificate_text(
     )
 }
 
-// Writes the certificate that was found to the file.
+// Writes the certificate that was found for the circuit that the bytes write to the file.
 fn write_certificate<'a>(
     rt: &HostRuntime,
     options: &Options<'a>,
+    bytes: &[u8],
     answer: &Answered,
     file: NewFile<'a>,
-) -> Result<(), Failure<'a>> {
-    match certificate_text(rt, options, answer) {
+) -> Result<(), Failure<'a>>
+    requires circuit { IsCircuitIn bytes.now answer.now.netlist.circuit }
+{
+    match certificate_text(rt, options, bytes, answer) {
         Ok(text) => write_whole(file, &text),
         Err(error) => Err(Failure::NoCertificate(Some(file.name()), error)),
     }

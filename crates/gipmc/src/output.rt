@@ -1,6 +1,15 @@
 //! Where answers are written as they are found.
 use std::io::{self, Write};
 
+/// What becomes of a search where an answer could not be written.
+#[derive(Clone, Copy, PartialEq, Eq)]
+pub enum Lost {
+    /// It stops: nothing else is wanted of it.
+    Stop,
+    /// It goes on, for the certificate.
+    GoOn,
+}
+
 /// A writer, and why it failed first. After that it takes nothing more.
 #[derive(Drop)]
 pub struct Output<W: Write> {
@@ -8,15 +17,23 @@ pub struct Output<W: Write> {
     pub writer: W,
     /// Why one was not written.
     pub failure: Option<io::Error>,
+    /// What becomes of the search then.
+    pub lost: Lost,
 }
 
 impl<W: Write> Output<W> {
     /// Before the first text.
-    pub fn new(writer: W) -> Self {
+    pub fn new(writer: W, lost: Lost) -> Self {
         Output {
             writer,
             failure: None,
+            lost,
         }
+    }
+
+    /// Whether the search is to stop.
+    pub fn is_over(&self) -> bool {
+        self.failure.is_some() && self.lost == Lost::Stop
     }
 
     /// Writes a text, if all before it was written.
