@@ -197,7 +197,8 @@ fn by_clauses<A: Allocator + Copy>(
     limit: usize,
 ) -> Result<bool, TaskError>
     requires { place < length netlist.now.circuit.bads.items }
-    ensures { IfOk result (λ safe. IsTrue safe → ShowsSafeAt netlist.now.circuit (certificate.Clauses clauses.now) place) }
+    ensures { IfOk result (λ safe. IsTrue safe →
+        ShowsSafeAt netlist.now.circuit (certificate.Clauses clauses.now) place) }
 {
     match certify(alloc, netlist, netlist.circuit.bads[place], clauses, limit)? {
         Verdict::Certified => Ok(true),
