@@ -331,14 +331,14 @@ impl<T, A: Allocator> Gallocator<T, A> {
         Ok(table)
     }
 
-    // The new index of each unmarked slot. The map has room for half of the slots, and grows where more are unmarked.
+    // The new index of each unmarked slot. The map has room for all of them.
     fn index_map(&self) -> Result<GHashMap<usize, usize, A>, AllocError>
     where
         A: Copy,
         ensures { IfOk result (λ m. IsIndexMap self.now m) }
     {
         let mut indexes = GHashMap::new(*self.slots.allocator());
-        indexes.reserve(self.len() / 2)?;
+        indexes.reserve(self.live)?;
         let mut next = 0usize;
         for (old, slot) in self.slots.iter().enumerate() {
             if !slot.is_removed() {
