@@ -154,11 +154,11 @@ impl<A: Allocator + Copy> Marks<A> {
         cover(&mut self.flags, variables.saturating_mul(2))
     }
 
-    // Makes a flag for each literal of the clause.
+    // Makes a flag for each literal of the clause, and for its negation.
     pub(crate) fn cover_clause(&mut self, clause: &[Literal]) -> Result<(), AllocError> {
         let mut codes: usize = 0;
         for l in clause {
-            codes = codes.max(l.code() + 1);
+            codes = codes.max(l.code() + 2);
         }
         cover(&mut self.flags, codes)
     }

@@ -75,6 +75,7 @@ const ROWS: &[(&[i32], Question, &[i32])] = &[
     (&[1, 2, 0], Question::Core(1, &[-1, -2]), NO),
     (&[0], Question::Core(0, &[]), &[]),
     (&[9, 0], Question::Core(0, &[-9, 12]), &[-9]),
+    (&[-9, 0], Question::Core(0, &[9]), &[9]),
     (&[1, 2, 0], Question::Proves(0, &[2, 3, 1]), YES),
     (&[1, 2, 0], Question::Proves(0, &[1, 3]), NO),
     (&[1, 2, 0], Question::Proves(0, &[1, -2]), NO),
