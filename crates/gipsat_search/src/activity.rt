@@ -1,0 +1,174 @@
+//! The order in which variables are decided: the most active first.
+
+use crate::domain::Domain;
+use crate::scores::ByScore;
+use crate::trail::Trail;
+use gipsat_cnf::Literal;
+use giputils_heap::BoundedHeap;
+use std::alloc::{AllocError, Allocator, Global};
+
+// Once a bump would add as much, all scores are scaled down.
+const GREATEST_INCREMENT: f64 = 1e100;
+
+// The decision queue: variables in a heap by their scores (VSIDS).
+#[derive(Drop)]
+pub(crate) struct Activity<A: Allocator = Global> {
+    queue: BoundedHeap<u32, A>,
+    scores: Vec<f64, A>,
+    // What a bump adds. It grows, so that recent bumps count more.
+    increment: f64,
+    domain: Domain<A>,
+    // For each variable whether it is taken out: it is not queued then, and passed over if it is queued already.
+    is_out: Vec<bool, A>,
+}
+
+impl<A: Allocator + Copy> Activity<A> {
+    // No variable.
+    pub(crate) fn new(alloc: A) -> Result<Self, AllocError> {
+        Ok(Activity {
+            queue: BoundedHeap::with_bound(alloc, 0)?,
+            scores: Vec::new(alloc),
+            increment: 1.0,
+            domain: Domain::new(alloc)?,
+            is_out: Vec::new(alloc),
+        })
+    }
+
+    // Makes room for so many variables; new ones are queued. Only this and a domain take memory.
+    pub(crate) fn grow(&mut self, variables: usize) -> Result<(), AllocError> {
+        let old = self.scores.len();
+        self.scores.resize(old.max(variables), 0.0)?;
+        self.is_out.resize(old.max(variables), false)?;
+        self.queue
+            .raise_bound(u32::try_from(variables).unwrap_or(u32::MAX))?;
+        for variable in old..variables {
+            if let Ok(variable) = u32::try_from(variable) {
+                self.put_back(variable);
+            }
+        }
+        Ok(())
+    }
+
+    // Lets only these variables and those that are assumed be decided, or all where there is no domain.
+    pub(crate) fn limit_to(
+        &mut self,
+        domain: Option<&[u32]>,
+        assumptions: &[Literal],
+    ) -> Result<(), AllocError> {
+        match domain {
+            Some(domain) => {
+                self.domain
+                    .set(self.scores.len(), domain, assumptions, &self.scores)
+            }
+            None => {
+                self.domain.unset();
+                Ok(())
+            }
+        }
+    }
+
+    // How many variables wait to be decided.
+    pub(crate) fn waiting(&self) -> usize {
+        if self.domain.is_set() {
+            self.domain.waiting()
+        } else {
+            self.queue.len()
+        }
+    }
+
+    // Whether a variable may not be assigned above the root, since it is none of the domain.
+    pub(crate) fn excludes(&self, variable: u32) -> bool {
+        self.domain.excludes(variable)
+    }
+
+    // Queues a variable, unless it is taken out.
+    pub(crate) fn put_back(&mut self, variable: u32) {
+        if self.is_out(variable) {
+            return;
+        }
+        self.domain.put_back(variable, &self.scores);
+        if variable < self.queue.bound() {
+            self.queue.push(variable, &ByScore(&self.scores));
+        }
+    }
+
+    // Whether a variable is taken out.
+    pub(crate) fn is_out(&self, variable: u32) -> bool {
+        matches!(self.is_out.get(variable as usize), Some(true))
+    }
+
+    // Takes a variable out.
+    pub(crate) fn take_out(&mut self, variable: u32) {
+        if let Some(is_out) = self.is_out.get_mut(variable as usize) {
+            *is_out = true;
+        }
+    }
+
+    // Brings a variable back, and queues it.
+    pub(crate) fn bring_back(&mut self, variable: u32) {
+        if let Some(is_out) = self.is_out.get_mut(variable as usize) {
+            *is_out = false;
+        }
+        self.put_back(variable);
+    }
+
+    // Whether only the variables of a domain may be decided.
+    pub(crate) fn is_limited(&self) -> bool {
+        self.domain.is_set()
+    }
+
+    // Queues all variables.
+    pub(crate) fn put_all_back(&mut self) {
+        for variable in 0..self.queue.bound() {
+            self.put_back(variable);
+        }
+    }
+
+    // The score of a variable.
+    pub(crate) fn score(&self, variable: u32) -> f64 {
+        ByScore(&self.scores).score(variable)
+    }
+
+    // Raises the score of a variable.
+    pub(crate) fn bump(&mut self, variable: u32) {
+        if let Some(score) = self.scores.get_mut(variable as usize) {
+            *score += self.increment;
+            self.queue.up(variable, &ByScore(&self.scores));
+            self.domain.up(variable, &self.scores);
+        }
+    }
+
+    // A conflict was met: later bumps count more than earlier ones, by this part.
+    pub(crate) fn decay(&mut self, growth: f64) {
+        self.domain.note_conflict(&self.scores);
+        self.increment += self.increment * growth;
+        if self.increment >= GREATEST_INCREMENT {
+            self.increment /= GREATEST_INCREMENT;
+            for score in self.scores.iter_mut() {
+                *score /= GREATEST_INCREMENT;
+            }
+            self.queue.rebuild(&ByScore(&self.scores));
+            self.domain.rebuild(&self.scores);
+        }
+    }
+
+    // Takes a variable of greatest score out of the queue, or out of that of the domain. None if it is empty.
+    pub(crate) fn pick(&mut self) -> Option<u32> {
+        if self.domain.is_set() {
+            return self.domain.pick(&self.scores);
+        }
+        self.queue.pop(&ByScore(&self.scores))
+    }
+
+    // A variable of greatest score that has no value and is not taken out. Those before it leave the queue.
+    pub(crate) fn next(&mut self, trail: &Trail<A>) -> Option<u32> {
+        for _ in 0..self.queue.len() {
+            let variable = self.queue.peek()?;
+            if trail.has_no_value(variable) && !self.is_out(variable) {
+                return Some(variable);
+            }
+            self.queue.pop(&ByScore(&self.scores));
+        }
+        None
+    }
+}

@@ -1,0 +1,82 @@
+//! Collection: deleted clauses leave the kernel.
+ghost use Rattle.std.specs.Prelude.{◌≡◌};
+
+use crate::backtrack::backtrack;
+use crate::settings::SETTINGS;
+use crate::state::State;
+use crate::units::learn_units;
+use gipsat_kernel::Kernel;
+use std::alloc::{AllocError, Allocator};
+
+// Whether a collection drops a clause: it is no clause of the formula and no unit, and was deleted or is satisfied at
+// the root.
+pub(crate) fn is_deleted<A: Allocator + Copy>(
+    kernel: &Kernel<A>,
+    state: &State<A>,
+    id: usize,
+) -> bool {
+    let clause = kernel.clause(id).unwrap_or(&[]);
+    if kernel.is_original(id) || clause.len() < 2 {
+        return false;
+    }
+    state.clauses.is_deleted(id) || state.trail.is_satisfied(clause)
+}
+
+// Whether enough clauses were deleted since the last collection.
+pub(crate) fn wants_collection<A: Allocator + Copy>(kernel: &Kernel<A>, state: &State<A>) -> bool {
+    let deleted = state.stats.deleted.saturating_sub(state.collected);
+    deleted > kernel.len() as u64 / SETTINGS.collection_share
+}
+
+// For each clause whether it stays.
+fn staying<A: Allocator + Copy>(
+    alloc: A,
+    kernel: &Kernel<A>,
+    state: &State<A>,
+) -> Result<Vec<bool, A>, AllocError> {
+    let mut stays = Vec::with_capacity(alloc, kernel.len())?;
+    for id in 0..kernel.len() {
+        stays.push(!is_deleted(kernel, state, id))?;
+    }
+    Ok(stays)
+}
+
+// How many of the first flags are set.
+fn count_set(flags: &[bool], first: usize) -> usize {
+    let mut count = 0usize;
+    for flag in flags.iter().take(first) {
+        count = count.saturating_add(usize::from(*flag));
+    }
+    count
+}
+
+// Forgets what it knows of clauses that went, by a flag for each, and lets all others be watched anew.
+fn forget<A: Allocator + Copy>(state: &mut State<A>, stays: &[bool], moved: &[u32]) {
+    state.eliminated.renumber(moved);
+    state.clauses.retain(stays);
+    state.watches.clear();
+    state.trail.clear();
+    state.activity.put_all_back();
+    state.units = 0;
+    state.assumed = 0;
+    state.open = None;
+    state.vivified = count_set(stays, state.vivified);
+    state.collected = state.stats.deleted;
+}
+
+// Drops the deleted clauses.
+pub(crate) fn collect<A: Allocator + Copy>(
+    alloc: A,
+    kernel: &mut Kernel<A>,
+    state: &mut State<A>,
+) -> Result<(), AllocError>
+    ensures { kernel.new ≡ kernel.old }
+{
+    backtrack(&mut state.trail, &mut state.activity, 0);
+    learn_units(kernel, state)?;
+    let mut stays = staying(alloc, kernel, state)?;
+    let moved = state.eliminated.moved(alloc, &stays)?;
+    kernel.collect(alloc, &mut stays)?;
+    forget(state, &stays, &moved);
+    Ok(())
+}

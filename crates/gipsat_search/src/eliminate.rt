@@ -1,0 +1,263 @@
+//! Elimination of variables, with subsumption: the clauses of a variable give way to their resolvents.
+ghost use Rattle.std.specs.Prelude.{◌≡◌};
+
+use crate::derive::{Resolution, derive_resolvents};
+use crate::elimination::Elimination;
+use crate::reduce::delete;
+use crate::root::settle_root;
+use crate::settings::SETTINGS;
+use crate::state::State;
+use crate::subsume::{Subsumption, find_subsumed};
+use gipsat_cnf::Literal;
+use gipsat_kernel::Kernel;
+use std::alloc::{AllocError, Allocator, Global};
+
+// The clauses of a variable, by its sign, and the resolvents that stand for them.
+#[derive(Drop)]
+struct Replacement<A: Allocator = Global> {
+    positive: Vec<u32, A>,
+    negative: Vec<u32, A>,
+    resolutions: Vec<Resolution, A>,
+}
+
+impl<A: Allocator + Copy> Replacement<A> {
+    // Of no clause.
+    fn new(alloc: A) -> Self {
+        Replacement {
+            positive: Vec::new(alloc),
+            negative: Vec::new(alloc),
+            resolutions: Vec::new(alloc),
+        }
+    }
+}
+
+// Finds what to put in the place of the clauses of a variable, whose positive literal is `l`. False where it would be
+// too much.
+fn find_replacement<A: Allocator + Copy>(
+    kernel: &Kernel<A>,
+    state: &State<A>,
+    elimination: &mut Elimination<A>,
+    l: Literal,
+    found: &mut Replacement<A>,
+) -> Result<bool, AllocError> {
+    let count = elimination.occurrences.count(l);
+    let negated = elimination.occurrences.count(l.negated());
+    if !state.trail.is_unset(l) || count > SETTINGS.occurrences || negated > SETTINGS.occurrences {
+        return Ok(false);
+    }
+    elimination.list(l, &mut found.positive)?;
+    elimination.list(l.negated(), &mut found.negative)?;
+    elimination.list_resolutions(
+        kernel,
+        &state.trail,
+        &found.positive,
+        &found.negative,
+        l,
+        &mut found.resolutions,
+    )
+}
+
+// Derives resolvents, which take part from now on.
+fn add_resolvents<A: Allocator + Copy>(
+    kernel: &mut Kernel<A>,
+    state: &mut State<A>,
+    elimination: &mut Elimination<A>,
+    resolutions: &[Resolution],
+) -> Result<(), AllocError>
+    ensures { kernel.new ≡ kernel.old }
+{
+    derive_resolvents(kernel, &state.trail, resolutions)?;
+    for _ in state.clauses.known()..kernel.len() {
+        state.clauses.keep_next()?;
+    }
+    elimination.connect_new(kernel, &state.trail, &state.clauses)
+}
+
+// Drops the clauses that follow from one that waits, and strengthens others by it, until none waits.
+fn subsume_all<A: Allocator + Copy>(
+    alloc: A,
+    kernel: &mut Kernel<A>,
+    state: &mut State<A>,
+    elimination: &mut Elimination<A>,
+) -> Result<(), AllocError>
+    ensures { kernel.new ≡ kernel.old }
+{
+    for _ in 0..usize::MAX {
+        if elimination.steps == 0 {
+            return Ok(());
+        }
+        let Some(id) = elimination.waiting.pop() else {
+            return Ok(());
+        };
+        let mut found = Subsumption::new(alloc);
+        subsume_by(kernel, state, elimination, id, &mut found)?;
+    }
+    Ok(())
+}
+
+// Drops the clauses that follow from a clause, and strengthens others by it. Nothing is found yet.
+fn subsume_by<A: Allocator + Copy>(
+    kernel: &mut Kernel<A>,
+    state: &mut State<A>,
+    elimination: &mut Elimination<A>,
+    id: u32,
+    found: &mut Subsumption<A>,
+) -> Result<(), AllocError>
+    ensures { kernel.new ≡ kernel.old }
+{
+    find_subsumed(
+        kernel,
+        &state.trail,
+        &elimination.occurrences,
+        &mut elimination.marks,
+        &mut elimination.steps,
+        id,
+        found,
+    )?;
+    add_resolvents(kernel, state, elimination, &found.strengthened)?;
+    for other in &found.subsumed {
+        elimination.delete(kernel, state, *other);
+    }
+    for resolution in &found.strengthened {
+        elimination.delete(kernel, state, resolution.first);
+    }
+    Ok(())
+}
+
+// Puts resolvents in the place of the clauses of a variable, unless they are too many or too long. Nothing is found yet.
+fn eliminate_variable<A: Allocator + Copy>(
+    kernel: &mut Kernel<A>,
+    state: &mut State<A>,
+    elimination: &mut Elimination<A>,
+    l: Literal,
+    found: &mut Replacement<A>,
+) -> Result<(), AllocError>
+    ensures { kernel.new ≡ kernel.old }
+{
+    if !find_replacement(kernel, state, elimination, l, found)? {
+        return Ok(());
+    }
+    add_resolvents(kernel, state, elimination, &found.resolutions)?;
+    found.positive.extend_from_slice(&found.negative)?;
+    state.eliminated.push(l, &found.positive)?;
+    state.activity.take_out(l.variable());
+    elimination.occurrences.freeze(l.variable());
+    elimination.steps = elimination.steps.max(SETTINGS.variable_steps);
+    for id in &found.positive {
+        elimination.take_out(kernel, state, *id);
+    }
+    Ok(())
+}
+
+// Eliminates variables one after another, those of the fewest clauses first, until none is left or the steps are spent.
+fn eliminate_each<A: Allocator + Copy>(
+    alloc: A,
+    kernel: &mut Kernel<A>,
+    state: &mut State<A>,
+    elimination: &mut Elimination<A>,
+) -> Result<(), AllocError>
+    ensures { kernel.new ≡ kernel.old }
+{
+    for _ in 0..usize::MAX {
+        if elimination.steps == 0 {
+            return Ok(());
+        }
+        elimination.spend(SETTINGS.occurrence_steps);
+        let Some(variable) = elimination.occurrences.next_candidate() else {
+            return Ok(());
+        };
+        let Some(l) = positive(variable) else {
+            return Ok(());
+        };
+        let mut found = Replacement::new(alloc);
+        eliminate_variable(kernel, state, elimination, l, &mut found)?;
+        subsume_all(alloc, kernel, state, elimination)?;
+    }
+    Ok(())
+}
+
+// The positive literal of a variable.
+fn positive(variable: u32) -> Option<Literal> {
+    if variable >= 1 << 31 {
+        return None;
+    }
+    Some(Literal::new(variable, true))
+}
+
+// Asks each clause which others follow from it, for half of the steps at most, and then eliminates variables.
+fn subsume_and_eliminate<A: Allocator + Copy>(
+    alloc: A,
+    kernel: &mut Kernel<A>,
+    state: &mut State<A>,
+    elimination: &mut Elimination<A>,
+) -> Result<(), AllocError>
+    ensures { kernel.new ≡ kernel.old }
+{
+    let half = elimination.steps / 2;
+    elimination.steps = half;
+    subsume_all(alloc, kernel, state, elimination)?;
+    elimination.waiting.clear();
+    elimination.steps = elimination.steps.saturating_add(half);
+    eliminate_each(alloc, kernel, state, elimination)
+}
+
+// Whether a clause has an eliminated variable.
+fn has_eliminated<A: Allocator + Copy>(state: &State<A>, clause: &[Literal]) -> bool {
+    for l in clause {
+        if state.eliminated.has(l.variable()) {
+            return true;
+        }
+    }
+    false
+}
+
+// Deletes the learned clauses that have an eliminated variable.
+fn delete_learned<A: Allocator + Copy>(kernel: &Kernel<A>, state: &mut State<A>) {
+    for id in 0..kernel.len() {
+        let clause = kernel.clause(id).unwrap_or(&[]);
+        if state.clauses.rating(id).is_some() && has_eliminated(state, clause) {
+            delete(kernel, state, id);
+        }
+    }
+}
+
+// Eliminates variables but for the frozen ones, in so many steps. No clause takes part in the elimination yet.
+fn eliminate_but<A: Allocator + Copy>(
+    alloc: A,
+    kernel: &mut Kernel<A>,
+    state: &mut State<A>,
+    elimination: &mut Elimination<A>,
+    frozen: &[u32],
+    steps: u64,
+) -> Result<(), AllocError>
+    ensures { kernel.new ≡ kernel.old }
+{
+    for variable in frozen {
+        elimination.occurrences.freeze(*variable);
+    }
+    elimination.connect_new(kernel, &state.trail, &state.clauses)?;
+    elimination.steps = steps;
+    state.clauses.detach_all();
+    state.watches.clear();
+    subsume_and_eliminate(alloc, kernel, state, elimination)?;
+    delete_learned(kernel, state);
+    Ok(())
+}
+
+// Propagates what has to be true, eliminates variables but for the frozen ones, and lets all clauses be watched anew.
+pub(crate) fn eliminate<A: Allocator + Copy>(
+    alloc: A,
+    kernel: &mut Kernel<A>,
+    state: &mut State<A>,
+    frozen: &[u32],
+    steps: u64,
+) -> Result<(), AllocError>
+    ensures { kernel.new ≡ kernel.old }
+{
+    if !settle_root(alloc, kernel, state)? {
+        return Ok(());
+    }
+    state.eliminated.tidy(alloc)?;
+    let mut elimination = Elimination::new(alloc, state.trail.variables())?;
+    eliminate_but(alloc, kernel, state, &mut elimination, frozen, steps)
+}

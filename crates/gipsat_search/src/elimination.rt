@@ -1,0 +1,195 @@
+//! What an elimination of variables works on: the clauses that take part, and those that may subsume others.
+
+use crate::clauses::{Clauses, Status};
+use crate::derive::Resolution;
+use crate::occurrences::Occurrences;
+use crate::reduce::delete;
+use crate::settings::SETTINGS;
+use crate::state::State;
+use crate::subsume::Marks;
+use crate::trail::{Trail, short};
+use gipsat_cnf::Literal;
+use gipsat_kernel::Kernel;
+use std::alloc::{AllocError, Allocator, Global};
+
+// An elimination: the clauses that take part, and the queue of those that may subsume others.
+#[derive(Drop)]
+pub(crate) struct Elimination<A: Allocator = Global> {
+    pub occurrences: Occurrences<A>,
+    pub marks: Marks<A>,
+    // Clauses that were not asked yet which others follow from them.
+    pub waiting: Vec<u32, A>,
+    // How many working clauses were looked at.
+    known: usize,
+    // How many steps are left.
+    pub steps: u64,
+}
+
+impl<A: Allocator + Copy> Elimination<A> {
+    // Of no clause yet and so many variables, with no steps.
+    pub(crate) fn new(alloc: A, variables: usize) -> Result<Self, AllocError> {
+        let marks = Marks::new(alloc, variables)?;
+        Ok(Elimination {
+            occurrences: Occurrences::new(alloc, variables)?,
+            marks,
+            waiting: Vec::new(alloc),
+            known: 0,
+            steps: 0,
+        })
+    }
+
+    // So many literals were looked at.
+    pub(crate) fn spend(&mut self, literals: usize) {
+        self.steps = self.steps.saturating_sub(literals as u64);
+    }
+
+    // Lets the clauses take part that have come since.
+    pub(crate) fn connect_new(
+        &mut self,
+        kernel: &Kernel<A>,
+        trail: &Trail<A>,
+        clauses: &Clauses<A>,
+    ) -> Result<(), AllocError> {
+        for id in self.known..kernel.len() {
+            let clause = kernel.clause(id).unwrap_or(&[]);
+            if clauses.is_kept(id) && !trail.is_satisfied(clause) {
+                self.connect(trail, clause, id)?;
+            }
+        }
+        self.known = kernel.len();
+        Ok(())
+    }
+
+    // Lets a clause take part, unless it has a literal twice. The variables of such a clause stay, and those of a unit.
+    fn connect(
+        &mut self,
+        trail: &Trail<A>,
+        clause: &[Literal],
+        id: usize,
+    ) -> Result<(), AllocError> {
+        let has_twice = self.marks.has_twice(clause);
+        if has_twice || clause.len() == 1 {
+            self.freeze(clause);
+        }
+        if has_twice {
+            return Ok(());
+        }
+        self.spend(clause.len().saturating_mul(SETTINGS.occurrence_steps));
+        self.occurrences.connect(trail, clause, id)?;
+        self.waiting.push(short(id))?;
+        Ok(())
+    }
+
+    // The variables of a clause stay.
+    fn freeze(&mut self, clause: &[Literal]) {
+        for l in clause {
+            self.occurrences.freeze(l.variable());
+        }
+    }
+
+    // Lists the clauses that have a literal, where none is listed yet.
+    pub(crate) fn list(&mut self, l: Literal, clauses: &mut Vec<u32, A>) -> Result<(), AllocError> {
+        let len = self.occurrences.of(l).len();
+        self.spend(len);
+        self.occurrences.list(l, clauses)
+    }
+
+    // A clause takes no part any more.
+    fn disconnect(&mut self, kernel: &Kernel<A>, trail: &Trail<A>, id: u32) {
+        let clause = kernel.clause(id as usize).unwrap_or(&[]);
+        self.spend(clause.len().saturating_mul(SETTINGS.occurrence_steps));
+        self.occurrences.disconnect(trail, clause, id);
+    }
+
+    // Takes a clause out that was eliminated.
+    pub(crate) fn take_out(&mut self, kernel: &Kernel<A>, state: &mut State<A>, id: u32) {
+        state.clauses.set_status(id as usize, Status::Eliminated);
+        self.disconnect(kernel, &state.trail, id);
+    }
+
+    // Deletes a clause that takes part.
+    pub(crate) fn delete(&mut self, kernel: &Kernel<A>, state: &mut State<A>, id: u32) {
+        delete(kernel, state, id as usize);
+        self.disconnect(kernel, &state.trail, id);
+    }
+
+    // Lists the resolvents that stand for the clauses of a variable. Whether they are not too many, and none is too
+    // long.
+    pub(crate) fn list_resolutions(
+        &mut self,
+        kernel: &Kernel<A>,
+        trail: &Trail<A>,
+        firsts: &[u32],
+        seconds: &[u32],
+        literal: Literal,
+        resolutions: &mut Vec<Resolution, A>,
+    ) -> Result<bool, AllocError> {
+        for first in firsts {
+            let clause = kernel.clause(*first as usize).unwrap_or(&[]);
+            self.spend(clause.len());
+            self.marks.set(trail, clause, true);
+            let most = firsts.len().saturating_add(seconds.len());
+            let done = self.resolutions_with(
+                kernel,
+                trail,
+                *first,
+                seconds,
+                literal,
+                most,
+                resolutions,
+            );
+            self.marks.set(trail, clause, false);
+            if !done? {
+                return Ok(false);
+            }
+        }
+        Ok(true)
+    }
+
+    // Lists the resolvents of the marked clause. Whether they are not too many, and none is too long.
+    fn resolutions_with(
+        &mut self,
+        kernel: &Kernel<A>,
+        trail: &Trail<A>,
+        first: u32,
+        seconds: &[u32],
+        literal: Literal,
+        most: usize,
+        resolutions: &mut Vec<Resolution, A>,
+    ) -> Result<bool, AllocError> {
+        let size = self.occurrences.outline(first).size;
+        for second in seconds {
+            let clause = kernel.clause(*second as usize).unwrap_or(&[]);
+            self.spend(clause.len());
+            let Some(more) = self.literals_more(trail, clause, literal.negated()) else {
+                continue;
+            };
+            if resolutions.len() >= most
+                || size.saturating_add(more) > SETTINGS.resolvent_literals
+            {
+                return Ok(false);
+            }
+            resolutions.push(Resolution {
+                first,
+                second: *second,
+                literal,
+            })?;
+        }
+        Ok(true)
+    }
+
+    // How many literals but one of a clause are not marked. None where the negation of one of them is.
+    fn literals_more(&self, trail: &Trail<A>, clause: &[Literal], but: Literal) -> Option<usize> {
+        let mut more = 0usize;
+        for l in clause {
+            if l.code() == but.code() || !trail.is_unset(*l) {
+                continue;
+            }
+            if self.marks.has(l.negated()) {
+                return None;
+            }
+            more = more.saturating_add(usize::from(!self.marks.has(*l)));
+        }
+        Some(more)
+    }
+}

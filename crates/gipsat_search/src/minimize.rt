@@ -1,0 +1,24 @@
+//! Minimization: literals of a clause that follow from the others, by chains of reasons, are resolved away.
+ghost use Rattle.std.specs.Prelude.{◌≡◌};
+
+use crate::chains::Chains;
+use crate::derive::resolve_at;
+use crate::trail::Trail;
+use gipsat_kernel::Kernel;
+use std::alloc::{AllocError, Allocator};
+
+// Minimizes the clause at hand: resolves the literals below the conflict level away that follow from the others, and
+// those which come in by that.
+pub(crate) fn minimize<A: Allocator + Copy>(
+    kernel: &mut Kernel<A>,
+    trail: &Trail<A>,
+    chains: &mut Chains<A>,
+) -> Result<(), AllocError>
+    ensures { kernel.new ≡ kernel.old }
+{
+    chains.follow(kernel, trail)?;
+    for place in chains.removable().iter().rev() {
+        resolve_at(kernel, trail, *place)?;
+    }
+    Ok(())
+}

@@ -1,0 +1,86 @@
+//! Reason sides: the variables in the reasons of a learned clause, which are bumped too in the stable mode.
+
+use crate::settings::SETTINGS;
+use crate::stamps::Stamps;
+use crate::trail::Trail;
+use gipsat_cnf::Literal;
+use gipsat_kernel::Kernel;
+use std::alloc::{AllocError, Allocator, Global};
+
+// The variables in the reasons of a clause.
+#[derive(Drop)]
+pub(crate) struct ReasonSides<A: Allocator = Global> {
+    variables: Vec<u32, A>,
+    // These variables, and those that analysis has seen.
+    met: Stamps<A>,
+}
+
+impl<A: Allocator + Copy> ReasonSides<A> {
+    // Of no clause. It takes no memory.
+    pub(crate) fn new(alloc: A) -> Self {
+        ReasonSides {
+            variables: Vec::new(alloc),
+            met: Stamps::new(alloc),
+        }
+    }
+
+    // Makes room for so many variables.
+    pub(crate) fn grow(&mut self, variables: usize) -> Result<(), AllocError> {
+        self.met.grow(variables)
+    }
+
+    // The variables that were collected last.
+    pub(crate) fn variables(&self) -> &[u32] {
+        &self.variables
+    }
+
+    // Collects the variables in the reasons of the marked literals, but for those of the root and the first ones that
+    // analysis has seen, which are so many. Where they are too many, none is collected.
+    pub(crate) fn collect(
+        &mut self,
+        kernel: &Kernel<A>,
+        trail: &Trail<A>,
+        analyzed: usize,
+    ) -> Result<(), AllocError> {
+        self.variables.clear();
+        self.met.clear();
+        let mut most = 0usize;
+        for l in kernel.marked().iter().take(analyzed) {
+            self.met.add(l.variable() as usize);
+            if kernel.is_marked(*l) {
+                most = most.saturating_add(SETTINGS.reason_sides);
+            }
+        }
+        for l in kernel.marked().iter().take(analyzed) {
+            if kernel.is_marked(*l) {
+                self.add_reason(kernel, trail, *l)?;
+            }
+            if self.variables.len() > most {
+                self.variables.clear();
+                return Ok(());
+            }
+        }
+        Ok(())
+    }
+
+    // Collects the variables in the reason of a literal.
+    fn add_reason(
+        &mut self,
+        kernel: &Kernel<A>,
+        trail: &Trail<A>,
+        l: Literal,
+    ) -> Result<(), AllocError> {
+        let Some(step) = trail.step_of(l) else {
+            return Ok(());
+        };
+        let Some(clause) = kernel.clause(step.reason as usize) else {
+            return Ok(());
+        };
+        for other in clause {
+            if trail.level_of(*other) > 0 && self.met.add(other.variable() as usize) {
+                self.variables.push(other.variable())?;
+            }
+        }
+        Ok(())
+    }
+}

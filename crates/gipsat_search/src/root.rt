@@ -1,0 +1,42 @@
+//! The root: what is true without a decision.
+ghost use Rattle.std.specs.Prelude.{◌≡◌};
+
+use crate::attach::attach_new;
+use crate::backtrack::backtrack;
+use crate::propagate::propagate;
+use crate::state::State;
+use crate::units::learn_units;
+use gipsat_kernel::Kernel;
+use std::alloc::{AllocError, Allocator};
+
+// Backtracks to the root, watches all clauses, and propagates. The id of a falsified clause, if one is met; it is met
+// again next time.
+fn propagate_root<A: Allocator + Copy>(
+    alloc: A,
+    kernel: &Kernel<A>,
+    state: &mut State<A>,
+) -> Result<Option<u32>, AllocError> {
+    backtrack(&mut state.trail, &mut state.activity, 0);
+    state.assumed = 0;
+    if let Some(conflict) = attach_new(kernel, state)? {
+        return Ok(Some(conflict));
+    }
+    propagate(alloc, kernel, state)
+}
+
+// Backtracks to the root, watches all clauses, and propagates; each root literal becomes a clause. Whether no clause is
+// falsified; if one is, the next search meets it.
+pub(crate) fn settle_root<A: Allocator + Copy>(
+    alloc: A,
+    kernel: &mut Kernel<A>,
+    state: &mut State<A>,
+) -> Result<bool, AllocError>
+    ensures { kernel.new ≡ kernel.old }
+{
+    if let Some(conflict) = propagate_root(alloc, kernel, state)? {
+        state.open = Some(conflict);
+        return Ok(false);
+    }
+    learn_units(kernel, state)?;
+    Ok(true)
+}

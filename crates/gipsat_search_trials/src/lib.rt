@@ -1,0 +1,13 @@
+//! Tests of the search. No contract says that it finds anything: here each answer of random sessions is put to the kernel.
+#![tactic(auto)]
+
+#[cfg(test)]
+mod calls;
+#[cfg(test)]
+mod long;
+#[cfg(test)]
+mod random;
+#[cfg(test)]
+mod session;
+#[cfg(test)]
+mod sessions;
