@@ -1,4 +1,5 @@
 mod Marking
+mod RatLemmas
 mod Resolution
 mod Originals
 mod Kernels

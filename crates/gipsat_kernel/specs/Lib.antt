@@ -1,2 +1,3 @@
 pub mod Marks
 pub mod Kernel
+pub mod Rat

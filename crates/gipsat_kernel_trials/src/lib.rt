@@ -11,6 +11,8 @@ pub mod examples;
 #[cfg(test)]
 mod formulas;
 #[cfg(test)]
+mod rat;
+#[cfg(test)]
 mod refusals;
 #[cfg(test)]
 mod saturation;
