@@ -130,7 +130,8 @@ abbrev pub problem_next : {S A : Type 0} → (S → Formula) → Parser S A → 
 problem_next formula p words lines = problem_at p.rule p.stage (formula p.clauses) p.clause.items words lines
 
 -- the same, where this is the stage
-abbrev pub problem_staged : {S A : Type 0} → (S → Formula) → Stage → Parser S A → List Word → List (List Word) → Option Problem
+abbrev pub problem_staged : {S A : Type 0} → (S → Formula) → Stage → Parser S A → List Word → List (List Word)
+    → Option Problem
 problem_staged formula stage p words lines = problem_at p.rule stage (formula p.clauses) p.clause.items words lines
 
 -- the byte may stand in a word
@@ -193,7 +194,8 @@ EndsWord formula old new =
 -- whatever comes after the word, the text has not the form
 abbrev pub EndsNoWord : {S A : Type 0} → (S → Formula) → Parser S A → Type 0
 EndsNoWord formula old =
-    (words : List Word) (lines : List (List Word)) → problem_next formula old (with_word old.word.items words) lines ≡ None
+    (words : List Word) (lines : List (List Word))
+    → problem_next formula old (with_word old.word.items words) lines ≡ None
 
 -- the same, where there is a word, and these are the stages before and after it
 abbrev pub TakesWord : {S A : Type 0} → (S → Formula) → Stage → Parser S A → Stage → Parser S A → Type 0
@@ -224,7 +226,8 @@ OnRefusal P Memory = ⊤
 OnRefusal P (Refused reason) = P
 
 -- some of the bytes lead to this line, and with the next one nothing is said
-pub record IsStopped {S A : Type 0} (formula : S → Formula) (old : LineParser S A) (bytes : List ℕ) (line : ℕ) : Type 0 where
+pub record IsStopped {S A : Type 0} (formula : S → Formula) (old : LineParser S A) (bytes : List ℕ)
+    (line : ℕ) : Type 0 where
   pub front : List ℕ
   pub byte : ℕ
   pub rest : List ℕ
