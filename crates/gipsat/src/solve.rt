@@ -13,7 +13,7 @@ use crate::watch::{TimeLimit, Watch};
 use gip_program::NewFile;
 use gipsat_answers::{Solved, Verdict, solve_instance};
 use gipsat_dimacs::{DimacsError, Instance, Reason, read_instance_by};
-use gipsat_drat::writer::{Fault, Format, ProofWriter};
+use gipsat_drat_writer::{Fault, Format, ProofWriter};
 use gipsat_solver::progress::{Both, Progress};
 use std::alloc::{AllocError, Global};
 use std::io::{Read, Write};

@@ -1,9 +1,2 @@
-mod ClauseLemmas
 mod Examples
-mod HeldLemmas
-mod ModelLemmas
 mod OutcomeLemmas
-mod PropagationLemmas
-mod RatLemmas
-mod StepLemmas
-mod TrailLemmas

@@ -1,6 +1,6 @@
 //! What becomes of a proof, and why.
 ghost use Rattle.std.specs.Prelude.{◌≡◌, Some, IfOk};
-ghost use Rattle.gipsat_solver.specs.Formulas.{Formula};
+ghost use Rattle.gipsat_cnf.specs.Formulas.{Formula};
 ghost use Rattle.gipsat_drat.specs.Outcomes.{IsRight, error_text, failure_error, flaw_text, form_text};
 ghost use Rattle.gipsat_drat.specs.Outcomes.{outcome_text, place_text, refusal_text};
 ghost use Rattle.gipsat_drat.specs.declared.error.DratError.TheVariants as error;

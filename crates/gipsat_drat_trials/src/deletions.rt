@@ -2,7 +2,7 @@
 ghost use Rattle.std.specs.Prelude.{◌<◌};
 
 use gipsat_drat::Checker;
-use gipsat_solver::Literal;
+use gipsat_cnf::Literal;
 use std::alloc::{AllocError, Global};
 
 // How many clauses are given.
