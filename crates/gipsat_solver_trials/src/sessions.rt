@@ -226,7 +226,7 @@ fn is_right(
     variables: u32,
 ) -> bool {
     let limit = random.below(6) as usize;
-    match random.below(18) {
+    match random.below(15) {
         0..=1 => is_solved(solver, clauses, limit),
         2..=4 => is_solved_under_some(solver, clauses, random, variables, limit),
         5 => {
@@ -237,11 +237,7 @@ fn is_right(
             is_solved_limited(solver, clauses, budget)
         }
         6 => is_found(solver, clauses),
-        7 => {
-            let _ = solver.learn_units();
-            true
-        }
-        8..=10 => {
+        7..=10 => {
             let frozen = [random.below(variables)];
             let steps = u64::from(random.below(2000));
             let _ = solver.eliminate(&frozen, steps);
@@ -251,12 +247,8 @@ fn is_right(
             let _ = solver.simplify();
             true
         }
-        13..=14 => {
-            let _ = solver.vivify(0, u64::from(random.below(400)));
-            true
-        }
         _ => {
-            let _ = solver.compact();
+            let _ = solver.vivify(u64::from(random.below(400)));
             true
         }
     }
