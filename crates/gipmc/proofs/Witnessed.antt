@@ -2,7 +2,7 @@
 use Rattle.std.proofs.Common.{◌≡◌, ℕ, ◌<◌, ◌^◌, true, List, [], ◌∷◌, Some, Vec, Bool, length, IsTrue, arith, refl}
 use Rattle.std.specs.Prelude.{◌==◌, slice_get}
 use Rattle.std.proofs.lemmas.Bool.{and_parts}
-use Rattle.gipsat_solver.specs.Literals.{Lit}
+use Rattle.gipsat_cnf.specs.Literals.{Lit}
 use Rattle.gipmc_aiger.specs.Lists.{Every}
 use Rattle.gipmc_aiger.proofs.WitnessRereads.{witness_rereads}
 use Rattle.gipmc_aiger.specs.declared.witness.Witness.{Witness}

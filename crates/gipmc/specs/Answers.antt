@@ -1,6 +1,6 @@
 -- Texts of answers, and when they are right.
 use Rattle.std.specs.Prelude.{◌≡◌, ℕ, zero, suc, ◌<◌, ◌^◌, List, [], ◌++◌, length, slice_get, codes, decimal, Option, Some, None, IsTrue, ⊤}
-use Rattle.gipsat_solver.specs.Literals.{Lit}
+use Rattle.gipsat_cnf.specs.Literals.{Lit}
 use Rattle.gipmc_aiger.specs.Circuits.{Writes}
 use Rattle.gipmc_aiger.specs.Traces.{witness_text, witness_view}
 use Rattle.gipmc_aiger.specs.Witnesses.{witness_of}

@@ -1,6 +1,6 @@
 -- Certificates that a circuit is safe, as texts.
 use Rattle.std.specs.Prelude.{◌≡◌, ◌<◌, ℕ, List, length, slice_get, Option, Some, None}
-use Rattle.gipsat_solver.specs.Literals.{Lit}
+use Rattle.gipsat_cnf.specs.Literals.{Lit}
 use Rattle.gipmc_aiger.specs.Circuits.{Writes}
 use Rattle.gipmc_aiger.specs.Invariants.{clauses_view, invariant_for}
 use Rattle.gipmc_circuits.specs.Certificate.{IsSafeByClauses}

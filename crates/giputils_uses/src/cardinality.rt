@@ -1,6 +1,6 @@
 //! Clauses that say how many of some literals are true.
 ghost use Rattle.std.specs.Prelude.{◌≡◌, ◌++◌, map, OnOk};
-ghost use Rattle.gipsat_solver.specs.Encodings.{Adds, AtLeastOneTrue, AtMostOneTrue, ExactlyOneTrue, at_most_one, one_false};
+ghost use Rattle.gipsat_cnf.specs.Encodings.{Adds, AtLeastOneTrue, AtMostOneTrue, ExactlyOneTrue, at_most_one, one_false};
 
 use gipsat_solver::{Literal, Solver};
 use std::alloc::{AllocError, Allocator};

@@ -1,9 +1,9 @@
 //! Formulas to which clauses are added one after another.
 ghost use Rattle.std.specs.Prelude.{◌≡◌, ◌++◌, [], IfNone, IfOk, IfSome, IsTrue, OnOk};
-ghost use Rattle.gipsat_solver.specs.Answers.{IsModel};
-ghost use Rattle.gipsat_solver.specs.Assumptions.{IsSatisfiableUnder, makes_true};
-ghost use Rattle.gipsat_solver.specs.Formulas.{Assignment, IsSatisfiable};
-ghost use Rattle.gipsat_solver.specs.Values.{assignment_in};
+ghost use Rattle.gipsat_cnf.specs.Models.{IsModel};
+ghost use Rattle.gipsat_cnf.specs.Assumptions.{IsSatisfiableUnder, makes_true};
+ghost use Rattle.gipsat_cnf.specs.Formulas.{Assignment, IsSatisfiable};
+ghost use Rattle.gipsat_cnf.specs.Models.{assignment_in};
 ghost use Rattle.giputils_uses.specs.Incremental.{Covers, IsLongestStart, units};
 
 use gipsat_solver::{Literal, Solver};

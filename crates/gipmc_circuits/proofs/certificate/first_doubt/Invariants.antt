@@ -1,5 +1,5 @@
 use Rattle.std.proofs.Common.{◌≡◌}
-use Rattle.gipsat_solver.specs.Encodings.{AllBelow}
+use Rattle.gipsat_cnf.specs.Encodings.{AllBelow}
 use Rattle.gipmc_circuits.specs.Certificate.{ImpliesItem}
 use Rattle.gipmc_circuits.proofs.certificate.first_doubt.Given as goal
 

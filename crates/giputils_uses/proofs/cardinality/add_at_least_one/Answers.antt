@@ -1,6 +1,6 @@
 -- The clause says that one of its literals is true.
 use Rattle.std.proofs.lemmas.Result.{on_ok_weaker}
-use Rattle.gipsat_solver.proofs.Encodings.{Adds-same, at_least_one-says}
+use Rattle.gipsat_cnf.proofs.Encodings.{Adds-same, at_least_one-says}
 use Rattle.giputils_uses.proofs.cardinality.add_at_least_one.Goals as goal
 
 pub returns : goal.returns

@@ -1,6 +1,6 @@
 -- With the clauses of the literals that are left it is the formula with those of all.
 use Rattle.std.proofs.Common.{◌≡◌, ◌++◌, drop}
-use Rattle.gipsat_solver.specs.Encodings.{at_most_one}
+use Rattle.gipsat_cnf.specs.Encodings.{at_most_one}
 use Rattle.giputils_uses.proofs.cardinality.add_at_most_one.Given as goal
 
 abbrev pub invariant-loop-place : goal.invariant-loop-place

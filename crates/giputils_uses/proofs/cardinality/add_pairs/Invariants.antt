@@ -1,6 +1,6 @@
 -- The clauses of the others so far.
 use Rattle.std.proofs.Common.{◌≡◌, ◌++◌, map, take}
-use Rattle.gipsat_solver.specs.Encodings.{one_false}
+use Rattle.gipsat_cnf.specs.Encodings.{one_false}
 use Rattle.giputils_uses.proofs.cardinality.add_pairs.Given as goal
 
 abbrev pub invariant-loop-other : goal.invariant-loop-other

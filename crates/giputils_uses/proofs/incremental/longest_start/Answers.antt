@@ -1,7 +1,7 @@
 -- With one fact more there is no model, and so with still more.
 use Rattle.std.proofs.Common.{◌≡◌, ◌+◌, arith, subst}
 use Rattle.std.proofs.lemmas.Grind.{common_steps}
-use Rattle.gipsat_solver.specs.Formulas.{IsSatisfiable}
+use Rattle.gipsat_cnf.specs.Formulas.{IsSatisfiable}
 use Rattle.giputils_uses.specs.Incremental.{with_first}
 use Rattle.giputils_uses.proofs.Incrementals.{none_of, none-with_more}
 use Rattle.giputils_uses.proofs.incremental.longest_start.Goals as goal

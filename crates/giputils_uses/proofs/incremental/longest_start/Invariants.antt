@@ -1,6 +1,6 @@
 -- The facts so far can be true.
 use Rattle.std.proofs.Common.{◌≡◌}
-use Rattle.gipsat_solver.specs.Formulas.{IsSatisfiable}
+use Rattle.gipsat_cnf.specs.Formulas.{IsSatisfiable}
 use Rattle.giputils_uses.specs.Incremental.{with_first}
 use Rattle.giputils_uses.proofs.incremental.longest_start.Given as goal
 

@@ -1,6 +1,6 @@
 -- A core so far, of which each literal from the place on is needed.
 use Rattle.std.proofs.Common.{◌≡◌, ◌≤◌, vec_len}
-use Rattle.gipsat_solver.specs.Assumptions.{IsCore}
+use Rattle.gipsat_cnf.specs.Assumptions.{IsCore}
 use Rattle.giputils_uses.specs.MinimalCore.{NeedsFrom}
 use Rattle.giputils_uses.proofs.minimal_core.minimal_core.Given as goal
 
