@@ -34,7 +34,7 @@ fn it_ends_where_the_budget_is_spent(rt: HostRuntime) -> Result<(), AllocError> 
 fn a_turn_before_the_first_call_is_spent(rt: HostRuntime) -> Result<(), AllocError> {
     let memory = Refusing::none(rt.alloc());
     let mut session = Session::new(&memory);
-    let turn = session.search.turn(&mut session.kernel, Query::all())?;
+    let turn = session.turn(Query::all())?;
     assert!(rt; matches!(turn, Turn::Spent));
     Ok(())
 }
@@ -48,8 +48,7 @@ fn an_assumption_and_its_negation_contradict_each_other(rt: HostRuntime) -> Resu
         assumptions: &[literal(5, true), literal(5, false)],
         ..Query::all()
     };
-    session.search.begin(&mut session.kernel, query)?;
-    let turn = session.search.turn(&mut session.kernel, query)?;
+    let turn = session.first_turn(query)?;
     assert!(rt; matches!(turn, Turn::Contradiction(_)));
     Ok(())
 }
@@ -60,13 +59,8 @@ fn simplify_drops_what_a_root_literal_satisfies(rt: HostRuntime) -> Result<(), A
     let mut session = Session::new(&memory);
     add_three(&mut session)?;
     session.kernel.add_clause(&[literal(0, true)])?;
-    session.search.simplify(&mut session.kernel)?;
-    session.search.collect(&mut session.kernel)?;
-    let mut originals = 0;
-    for id in 0..session.kernel.len() {
-        originals += usize::from(session.kernel.is_original(id));
-    }
-    assert!(rt; (session.kernel.len(), originals) == (3, 3));
+    session.simplify()?;
+    assert!(rt; (session.kernel.len(), session.originals()) == (3, 3));
     Ok(())
 }
 
@@ -79,6 +73,6 @@ fn a_value_is_told_after_a_model_and_none_before(rt: HostRuntime) -> Result<(), 
     let ended = session.solve(Query::all())?;
     assert!(rt; (before, ended) == (None, Ended::Sat));
     assert!(rt; (session.search.value(2), session.search.value(9)) == (Some(true), None));
-    assert!(rt; !session.search.reopen(&session.kernel));
+    assert!(rt; !session.reopen());
     Ok(())
 }

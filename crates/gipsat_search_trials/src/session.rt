@@ -118,6 +118,40 @@ impl<'a> Session<'a> {
         })
     }
 
+    // Takes one turn.
+    pub(crate) fn turn(&mut self, query: Query<'_>) -> Result<Turn<&'a Refusing>, AllocError> {
+        self.search.turn(&mut self.kernel, query)
+    }
+
+    // Begins a call, and takes one turn.
+    pub(crate) fn first_turn(
+        &mut self,
+        query: Query<'_>,
+    ) -> Result<Turn<&'a Refusing>, AllocError> {
+        self.search.begin(&mut self.kernel, query)?;
+        self.turn(query)
+    }
+
+    // Lets the next turn begin with an open clause. Whether there is one.
+    pub(crate) fn reopen(&mut self) -> bool {
+        self.search.reopen(&self.kernel)
+    }
+
+    // Simplifies the formula, and collects.
+    pub(crate) fn simplify(&mut self) -> Result<(), AllocError> {
+        self.search.simplify(&mut self.kernel)?;
+        self.search.collect(&mut self.kernel)
+    }
+
+    // How many clauses the formula has.
+    pub(crate) fn originals(&self) -> usize {
+        let mut originals = 0usize;
+        for id in 0..self.kernel.len() {
+            originals = originals.saturating_add(usize::from(self.kernel.is_original(id)));
+        }
+        originals
+    }
+
     // Searches until there is an answer, and tells how that ended.
     pub(crate) fn solve(&mut self, query: Query<'_>) -> Result<Ended, AllocError> {
         self.search.begin(&mut self.kernel, query)?;
