@@ -37,7 +37,27 @@ fn domain<'a>(
     Ok(domain)
 }
 
-// Asks one question under assumptions: among all variables, or in a domain by a guess. Whether the answer is right.
+// Asks one question under assumptions: by a guess or not, among all variables or in a domain. Whether the answer is right.
+fn ask_within(
+    session: &mut Session<'_>,
+    assumptions: &[Literal],
+    domain: Option<&[u32]>,
+    is_guess: bool,
+) -> Result<bool, AllocError> {
+    let query = Query {
+        assumptions,
+        domain,
+        propagations: u64::MAX,
+        is_guess,
+    };
+    Ok(match session.solve(query)? {
+        Ended::Sat | Ended::Unsat => true,
+        Ended::Guessed => domain.is_some(),
+        _ => false,
+    })
+}
+
+// Asks one random question. Whether the answer is right.
 fn ask(
     memory: &Refusing,
     session: &mut Session<'_>,
@@ -45,20 +65,13 @@ fn ask(
     variables: u32,
 ) -> Result<bool, AllocError> {
     let assumptions = assumptions(memory, random, variables)?;
-    let domain = domain(memory, random, variables)?;
-    let kind = random.below(4);
-    let query = Query {
-        assumptions: &assumptions,
-        domain: if kind == 0 { Some(&domain) } else { None },
-        propagations: u64::MAX,
-        is_guess: kind < 2,
-    };
-    let ended = session.solve(query)?;
-    Ok(match ended {
-        Ended::Sat | Ended::Unsat => true,
-        Ended::Guessed => kind == 0,
-        _ => false,
-    })
+    match random.below(4) {
+        0 => {
+            let domain = domain(memory, random, variables)?;
+            ask_within(session, &assumptions, Some(&domain), true)
+        }
+        kind => ask_within(session, &assumptions, None, kind == 1),
+    }
 }
 
 // Makes one random call. Whether its answer is right, if it has one.
