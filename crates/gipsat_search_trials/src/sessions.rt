@@ -102,7 +102,7 @@ fn call(
 fn is_right(memory: &Refusing, seed: u64) -> bool {
     let mut random = Random::new(seed);
     let mut session = Session::new(memory);
-    let variables = 3 + random.below(20);
+    let variables = random.below(20).saturating_add(3);
     for _ in 0..CALLS {
         let answer = call(memory, &mut session, &mut random, variables);
         if let Ok(false) = answer {
