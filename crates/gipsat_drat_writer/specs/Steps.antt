@@ -21,11 +21,6 @@ abbrev pub step_bytes : Format → Bool → Clause → List ℕ
 step_bytes Text deleted clause = (if deleted then codes "d " else []) ++ clause_line clause
 step_bytes Binary deleted clause = (if deleted then codes "d" else codes "a") ++ clause_bytes clause
 
--- the steps of some clauses: each is deleted, or else added
-abbrev pub steps_bytes : Format → Bool → List Clause → List ℕ
-steps_bytes format deleted [] = []
-steps_bytes format deleted (clause ∷ clauses) = step_bytes format deleted clause ++ steps_bytes format deleted clauses
-
 -- what stands at the end: the empty clause is added, where nothing satisfies the formula
 abbrev pub end_bytes : Format → Bool → List ℕ
 end_bytes format refuted = if refuted then step_bytes format false [] else []

@@ -1,22 +1,21 @@
-//! A writer of proofs that nothing satisfies a formula, in the DRAT form: a step for each clause that is learned, and
-//! one for each that leaves the database.
+//! A writer of proofs that nothing satisfies a formula, in the DRAT form: a step for each clause that a solver derives,
+//! and one for each that it frees.
 
 // How it is proved: writing into a Vec of bytes. The invariant "the written bytes, followed by
 // those left to write" is enough.
 // How it is proved: an error type that has only cases which can occur (`Fault`) lets the clauses of
 // its caller close.
 
-ghost use Rattle.std.specs.Prelude.{◌≡◌, ◌++◌, ◌<◌, ◌+◌, ◌*◌, ◌^◌, [], drop, false, is_some, length};
-ghost use Rattle.std.specs.Prelude.{IfNone, IfSome, IsErrOf, IsOk, IsTrue, OnOk};
+ghost use Rattle.std.specs.Prelude.{◌≡◌, ◌++◌, ◌<◌, ◌+◌, ◌*◌, ◌^◌, [], false, true, is_some};
+ghost use Rattle.std.specs.Prelude.{IfNone, IfSome, IsErrOf, IsTrue, OnOk};
 ghost use Rattle.std.specs.ControlFlow.{break_value};
 ghost use Rattle.std.specs.Io.KnownBytes.{Appends, append_known};
-ghost use Rattle.gipsat_drat_writer.specs.Steps.{clause_bytes, end_bytes, literal_number};
-ghost use Rattle.gipsat_drat_writer.specs.Steps.{step_bytes, steps_bytes};
+ghost use Rattle.gipsat_drat_writer.specs.Steps.{clause_bytes, end_bytes, literal_number, step_bytes};
 ghost use Rattle.gipsat_drat_writer.specs.declared.writer.Fault.TheVariants as fault;
 
+use gipsat_cnf::Literal;
 use gipsat_dimacs::write_clause;
-use gipsat_solver::progress::Progress;
-use gipsat_solver::{Literal, Solver};
+use gipsat_solver::progress::{Progress, Report};
 use giputils_text::write_groups;
 use std::alloc::{AllocError, Allocator, Global};
 use std::io::{self, Write};
@@ -58,8 +57,6 @@ pub struct ProofWriter<W: Write> {
     format: Format,
     // What was not written yet.
     bytes: Vec<u8>,
-    // How many of the known clauses need no step.
-    seen: usize,
     // Why the proof is not whole.
     fault: Option<Fault>,
 }
@@ -71,7 +68,6 @@ impl<W: Write> ProofWriter<W> {
             writer,
             format,
             bytes: Vec::new(alloc),
-            seen: 0,
             fault: None,
         }
     }
@@ -94,28 +90,21 @@ impl<W: Write> ProofWriter<W> {
         self.flush()
     }
 
-    // Writes the clauses that were learned since.
-    fn write_learned(&mut self, solver: &Solver) -> Result<(), Fault>
-        ensures learned { OnOk result (Appends (append_known (W.contents self.old.writer) self.old.bytes.items)
+    // Writes a step, unless something failed before, and keeps the failure.
+    fn tell(&mut self, deleted: bool, clause: &[Literal])
+        ensures stops { IsTrue (is_some self.old.fault) → IsTrue (is_some self.new.fault) }
+        ensures format { self.new.format ≡ self.old.format }
+        ensures written { IfNone self.new.fault (Appends
+            (append_known (W.contents self.old.writer) self.old.bytes.items)
             (append_known (W.contents self.new.writer) self.new.bytes.items)
-            (steps_bytes self.old.format false (drop self.old.seen solver.now.clauses))) }
-        ensures seen { OnOk result (self.new.seen ≡ length solver.now.clauses) }
+            (step_bytes self.old.format deleted clause.now)) }
     {
-        for place in self.seen..solver.len() {
-            self.step(false, solver.clause(place))?;
+        if self.fault.is_some() {
+            return;
         }
-        self.seen = solver.len();
-        Ok(())
-    }
-
-    // Writes the deletions of the deleted clauses.
-    fn write_deleted(&mut self, solver: &Solver) -> Result<(), Fault> {
-        for place in 0..solver.len() {
-            if solver.is_deleted(place) {
-                self.step(true, solver.clause(place))?;
-            }
+        if let Err(fault) = self.step(deleted, clause) {
+            self.fault = Some(fault);
         }
-        Ok(())
     }
 
     // Writes a step.
@@ -148,70 +137,51 @@ impl<W: Write> ProofWriter<W> {
     }
 }
 
-// Remembers a failure. Whether the search goes on.
-fn remember(fault: &mut Option<Fault>, done: Result<(), Fault>) -> ControlFlow<()>
-    ensures stops { IsTrue (is_some (break_value result)) → IsTrue (is_some fault.new) }
-    ensures done { IfNone (break_value result) (IsOk done) }
-    ensures failed { IfNone fault.new (IsOk done) }
-{
-    match done {
-        Ok(()) => ControlFlow::Continue(()),
-        Err(error) => {
-            *fault = Some(error);
-            ControlFlow::Break(())
-        }
-    }
-}
-
-impl<W: Write> Progress<Global> for ProofWriter<W> {
+impl<W: Write> Progress for ProofWriter<W> {
     ghost wants_stop = { λ proof. is_some proof.fault };
 
-    // All clauses that the solver has now are known.
-    fn begin(&mut self, solver: &Solver)
-        ensures seen { self.new.seen ≡ length solver.now.clauses }
-        ensures bytes { self.new.bytes ≡ self.old.bytes }
-        ensures writer { self.new.writer ≡ self.old.writer }
-    {
-        self.seen = solver.len();
-    }
+    fn begin(&mut self, _report: Report)
+        ensures { self.new ≡ self.old }
+    {}
 
-    // Where the search goes on, all clauses that were learned since are written, in their order.
-    fn note(&mut self, solver: &Solver) -> ControlFlow<()>
-        ensures stops { IsTrue (is_some (break_value result)) → IsTrue (is_some self.new.fault) }
-        ensures learned { IfNone (break_value result) (Appends
-            (append_known (W.contents self.old.writer) self.old.bytes.items)
-            (append_known (W.contents self.new.writer) self.new.bytes.items)
-            (steps_bytes self.old.format false (drop self.old.seen solver.now.clauses))) }
-    {
-        if self.fault.is_some() {
-            return ControlFlow::Break(());
-        }
-        let done = self.write_learned(solver);
-        remember(&mut self.fault, done)
-    }
-
-    fn forget(&mut self, solver: &Solver) -> ControlFlow<()> {
-        if self.fault.is_some() {
-            return ControlFlow::Break(());
-        }
-        let done = self.write_deleted(solver);
-        remember(&mut self.fault, done)
-    }
-
-    // Where nothing failed, all clauses that were learned since are written, in their order.
-    fn end(&mut self, solver: &Solver)
+    // Where nothing failed, the step that adds the clause is written.
+    fn added(&mut self, clause: &[Literal])
         ensures stops { IsTrue (is_some self.old.fault) → IsTrue (is_some self.new.fault) }
-        ensures learned { IfNone self.new.fault (Appends
+        ensures format { self.new.format ≡ self.old.format }
+        ensures written { IfNone self.new.fault (Appends
             (append_known (W.contents self.old.writer) self.old.bytes.items)
             (append_known (W.contents self.new.writer) self.new.bytes.items)
-            (steps_bytes self.old.format false (drop self.old.seen solver.now.clauses))) }
+            (step_bytes self.old.format false clause.now)) }
+    {
+        self.tell(false, clause);
+    }
+
+    // Where nothing failed, the step that deletes the clause is written.
+    fn deleted(&mut self, clause: &[Literal])
+        ensures stops { IsTrue (is_some self.old.fault) → IsTrue (is_some self.new.fault) }
+        ensures format { self.new.format ≡ self.old.format }
+        ensures written { IfNone self.new.fault (Appends
+            (append_known (W.contents self.old.writer) self.old.bytes.items)
+            (append_known (W.contents self.new.writer) self.new.bytes.items)
+            (step_bytes self.old.format true clause.now)) }
+    {
+        self.tell(true, clause);
+    }
+
+    fn note(&mut self, _report: Report) -> ControlFlow<()>
+        ensures stops { IsTrue (is_some (break_value result)) → IsTrue (is_some self.new.fault) }
+        ensures same { self.new ≡ self.old }
     {
         if self.fault.is_some() {
-            return;
+            ControlFlow::Break(())
+        } else {
+            ControlFlow::Continue(())
         }
-        let done = self.write_learned(solver);
-        let _ = remember(&mut self.fault, done);
     }
+
+    fn end(&mut self, _report: Report)
+        ensures { self.new ≡ self.old }
+    {}
 }
 
 // Writes a step.
