@@ -1,8 +1,8 @@
 //! So many deletions that the memory of the deleted clauses is given back.
 ghost use Rattle.std.specs.Prelude.{◌<◌};
 
-use gipsat_drat::Checker;
 use gipsat_cnf::Literal;
+use gipsat_drat::Checker;
 use std::alloc::{AllocError, Global};
 
 // How many clauses are given.
