@@ -520,6 +520,31 @@ wait $!
     [ "$(cat "$work/err")" = "$work/late: another file came there meanwhile (see $(ls "$work"/late.*.part))" ]
 told "an old proof that is exchanged meanwhile stays" $?
 rm "$work"/late.*.part
+# A link stays, and what it leads to is replaced.
+printf '0\n' > "$work/late"
+ln -s late "$work/lead"
+"$gipsat" -q --time 2 --proof "$work/lead" "$work/many" > "$work/out" 2> "$work/err" &
+sleep 1
+[ "$(cat "$work/late")" = 0 ]
+told "an old proof behind a link is there until the new one is whole" $?
+wait $!
+[ "$?" = 0 ] && [ "$(cat "$work/out")" = "s UNKNOWN" ] && [ -L "$work/lead" ] && [ "$(wc -l < "$work/late")" -gt 100 ] &&
+    [ -z "$(ls "$work"/lead.* "$work"/late.* 2> /dev/null)" ]
+told "an old proof behind a link is replaced at the end" $?
+rm "$work/lead" "$work/late"
+ln -s late "$work/lead"
+try "a link that leads to nothing" 20 "" "s UNSATISFIABLE" "" --proof "$work/lead" "$kept"
+[ -L "$work/lead" ] && [ "$("$gipsat" --check "$kept" "$work/late")" = "s VERIFIED" ]
+told "a proof behind that link" $?
+rm "$work/lead" "$work/late"
+# The system takes names of 255 bytes.
+for length in 244 255; do
+    long=$work/$(printf 'a%.0s' $(seq "$length"))
+    try "a proof of a long name ($length bytes)" 20 "" "s UNSATISFIABLE" "" --proof "$long" "$kept"
+    try "that proof of a long name is checked ($length bytes)" 0 "" "s VERIFIED" "" --check "$kept" "$long"
+    rm -f "$long"
+done
+printf '0\n' > "$work/late"
 # A file that another one is mounted on has a name that the system gives to no other.
 if unshare -rm true 2> /dev/null; then
     : > "$work/below"
