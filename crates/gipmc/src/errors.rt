@@ -1,6 +1,5 @@
 //! Why nothing is answered, as it is told.
-use crate::options::Setting;
-use gip_program::{Cause, FinishError};
+use gip_program::{Cause, Fault, FinishError};
 use gipmc_aiger::AigerError;
 use std::alloc::AllocError;
 use std::fmt::{self, Display};
@@ -9,20 +8,18 @@ use std::io;
 /// Why the arguments have no meaning.
 #[derive(Clone, Copy)]
 pub enum UsageError<'a> {
-    /// No option has this name.
-    UnknownOption(&'a str),
-    /// No word stands behind this option.
-    NoValue(Setting),
-    /// This word behind the option is no number, or one of 2^64 or more.
-    NoNumber(Setting, &'a str),
+    /// Words that no options have.
+    Words(Fault<'a>),
     /// This word names no engine.
     NoEngine(&'a str),
     /// More files are named than are read.
     ExtraFile(&'a str),
     /// A witness and a certificate are given.
     TwoTasks,
-    /// A file for a certificate is named, but none is searched for.
-    NoSearch,
+    /// This option of a search stands beside a witness or a certificate.
+    NoSearch(&'a str),
+    /// This limit stands beside a witness.
+    NoLimit(&'a str),
     /// Standard input is named twice.
     InputTwice,
     /// A certificate is to be written to standard output.
@@ -32,53 +29,22 @@ pub enum UsageError<'a> {
 impl Display for UsageError<'_> {
     fn fmt<W: fmt::Write>(&self, f: &mut fmt::Formatter<W>) -> fmt::Result {
         match *self {
-            UsageError::UnknownOption(word) => write!(f, "unknown option '{word}'"),
-            UsageError::NoValue(setting) => write!(f, "'{setting}' needs {}", setting.wanted()),
-            UsageError::NoNumber(setting, word) => {
-                write!(f, "'{setting}' takes a number below 2^64, not '{word}'")
-            }
+            UsageError::Words(fault) => Display::fmt(&fault, f),
             UsageError::NoEngine(word) => write!(
                 f,
                 "'--engine' takes sim, bmc or ic3, not '{word}'"
             ),
             UsageError::ExtraFile(name) => write!(f, "one file too many, '{name}'"),
             UsageError::TwoTasks => f.write_str("'--replay' and '--certify' exclude each other"),
-            UsageError::NoSearch => {
-                f.write_str("'--certificate' goes with neither '--replay' nor '--certify'")
+            UsageError::NoSearch(word) => {
+                write!(f, "'{word}' goes with neither '--replay' nor '--certify'")
             }
+            UsageError::NoLimit(word) => write!(f, "'{word}' does not go with '--replay'"),
             UsageError::InputTwice => f.write_str("one file at most is read from standard input"),
             UsageError::OutputTwice => f.write_str(
                 "'--certificate' takes the name of a file, since standard output has the answer",
             ),
         }
-    }
-}
-
-impl Setting {
-    // What stands behind the option.
-    fn wanted(self) -> &'static str {
-        match self {
-            Setting::Replay | Setting::Certify | Setting::Certificate => "a file behind it",
-            Setting::Engine => "sim, bmc or ic3 behind it",
-            _ => "a number behind it",
-        }
-    }
-}
-
-// The option, as it is written.
-impl Display for Setting {
-    fn fmt<W: fmt::Write>(&self, f: &mut fmt::Formatter<W>) -> fmt::Result {
-        f.write_str(match *self {
-            Setting::Bad => "--bad",
-            Setting::Certificate => "--certificate",
-            Setting::Certify => "--certify",
-            Setting::Depth => "--depth",
-            Setting::Engine => "--engine",
-            Setting::Limit => "--limit",
-            Setting::Replay => "--replay",
-            Setting::Seed => "--seed",
-            Setting::Time => "--time",
-        })
     }
 }
 
