@@ -5,6 +5,8 @@ mod Ends
 mod Examples
 pub mod Encoded
 pub mod Extensions
+mod Latched
+pub mod Machines
 mod Rows
 pub mod Runs
 pub mod Traces

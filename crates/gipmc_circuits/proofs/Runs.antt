@@ -1,14 +1,10 @@
 -- Traces of a circuit whose states a function steps through.
-use Rattle.std.proofs.Common.{◌≡◌, ℕ, zero, suc, ◌+◌, IsTrue, arith, subst}
+use Rattle.std.proofs.Common.{◌≡◌, ℕ, suc, ◌+◌, IsTrue, arith, subst}
 use Rattle.gipsat_solver.specs.Formulas.{Assignment, is_true}
 use Rattle.gipsat_solver.specs.Literals.{Lit}
 use Rattle.gipmc_circuits.specs.declared.circuit.Circuit.{Circuit}
 use Rattle.gipmc_circuits.specs.Circuit.{IsSafe, IsTrace, is_initial, is_moment, is_transition}
-
--- the state after n steps from this one, by the inputs at each of them
-abbrev pub state_after : {S I : Type 0} → (S → I → S) → S → (ℕ → I) → ℕ → S
-state_after step start inputs zero = start
-state_after step start inputs (suc n) = step (state_after step start inputs n) (inputs n)
+use Rattle.gipmc_circuits.specs.Machine.{state_after}
 
 -- the values at each moment, by the state and the inputs there
 abbrev pub values_along : {S I : Type 0} → (S → I → S) → S → (S → I → Assignment) → (ℕ → I) → ℕ → Assignment

@@ -1,40 +1,23 @@
 -- Circuits with further latches and gates: each trace of a circuit is extended to one of them.
-use Rattle.std.proofs.Common.{◌≡◌, ⊎_elim, ℕ, zero, suc, ◌+◌, ◌<◌, ◌≤◌, ◌++◌, ◌&&◌, eqb, ltb, cond, Bool, true, false, not, List, [], ◌∷◌, Option, Some, None, length, IsTrue, arith, refl, sym, ap, subst, ◌∙◌}
+use Rattle.std.proofs.Common.{◌≡◌, ⊎_elim, ℕ, zero, suc, ◌+◌, ◌<◌, ◌≤◌, ◌++◌, ◌&&◌, eqb, ltb, Bool, not, List, [], ◌∷◌, length, IsTrue, arith, refl, sym, subst, ◌∙◌}
 use Rattle.std.specs.Bool.{beq}
 use Rattle.std.specs.Cmp.{booleans_Decides}
 use Rattle.std.specs.List.{list_all}
 use Rattle.std.proofs.lemmas.Bool.{and_from, and_parts, cases_Bool, cond-false, cond-true, eq-eqb, eqb-true, lt-ltb}
 use Rattle.std.proofs.lemmas.List.Folds.{list_all-append}
 use Rattle.gipsat_solver.specs.Assumptions.{makes_true}
-use Rattle.gipsat_solver.specs.Formulas.{Assignment, is_true}
+use Rattle.gipsat_solver.specs.Formulas.{Assignment}
 use Rattle.gipmc_circuits.specs.declared.circuit.And.{And}
 use Rattle.gipmc_circuits.specs.declared.circuit.Circuit.{Circuit}
 use Rattle.gipmc_circuits.specs.declared.circuit.Latch.{Latch}
-use Rattle.gipmc_circuits.specs.Circuit.{IsTrace, has_value, holds_next, holds_reset, is_initial, is_moment, is_reset, is_transition, is_valuation}
+use Rattle.gipmc_circuits.specs.Circuit.{IsTrace, has_value, holds_next, holds_reset, is_initial, is_moment, is_transition, is_valuation}
 use Rattle.gipmc_circuits.specs.Encoding.{is_below}
 use Rattle.gipmc_circuits.specs.Widened.{IsWidened, are_numbered}
 use Rattle.gipmc_circuits.specs.WellFormed.{are_in_order}
 use Rattle.gipmc_circuits.proofs.Agreeing.{AgreeBelow, is_initial-alike, is_moment-alike, is_transition-alike}
 use Rattle.gipmc_circuits.proofs.Extensions.{stacked-in_order}
+use Rattle.gipmc_circuits.proofs.Latched.{all_weaker, held, next_of, start_of, starts}
 use Rattle.gipmc_circuits.proofs.Valuations.{AgreeAt, values_from}
-
--- the values, with those that latches hold
-abbrev held : List Latch → (Latch → Bool) → Assignment → Assignment
-held [] value a v = a v
-held (l ∷ ls) value a v = cond (eqb v l.variable) (value l) (held ls value a v)
-
--- the value of a reset, 0 where it is free
-abbrev reset_value : Option Bool → Bool
-reset_value None = false
-reset_value (Some value) = value
-
--- what a latch holds at first
-abbrev start_of : Latch → Bool
-start_of l = reset_value l.reset
-
--- what a latch holds behind these values
-abbrev next_of : Assignment → Latch → Bool
-next_of a l = is_true a l.next
 
 numbered-parts : (l : Latch) (ls : List Latch) (n : ℕ) → IsTrue (are_numbered (l ∷ ls) n)
     → (l.variable ≡ n) × IsTrue (are_numbered ls (n + 1))
@@ -71,17 +54,6 @@ held-new (l ∷ ls) n value a b numbered agree =
     (held-new ls (n + 1) value a b rest
     (λ v from within. agree v (omega (arith, from)) (omega (arith, within))
     ∙ held-other l ls value a v (λ same. absurd (omega (arith, from, here, same)))))
-
-all_weaker : {X : Type 0} (p q : X → Bool) (xs : List X) → ((x : X) → IsTrue (p x) → IsTrue (q x)) → IsTrue (list_all p xs)
-    → IsTrue (list_all q xs)
-all_weaker p q [] weaker all = refl
-all_weaker p q (x ∷ xs) weaker all =
-    let (here, rest) = and_parts (p x) (list_all p xs) all in
-    and_from (q x) (list_all q xs) (weaker x here) (all_weaker p q xs weaker rest)
-
-starts : (reset : Option Bool) (value : Bool) → IsTrue (beq value (reset_value reset)) → IsTrue (is_reset reset value)
-starts None value is = refl
-starts (Some v) value is = is
 
 -- the values of a moment, with what the further latches hold there
 record Wide {A B : Type 0} (n : ℕ) (c : Circuit A) (e : Circuit B) (ls : List Latch) (value : Latch → Bool) (a b : Assignment)
