@@ -1,4 +1,5 @@
 pub mod Agreeing
+pub mod Built
 pub mod Certified
 mod Defined
 mod Ends
@@ -7,6 +8,7 @@ pub mod Encoded
 pub mod Extensions
 mod Latched
 pub mod Machines
+pub mod Numbers
 mod Rows
 pub mod Runs
 pub mod Traces

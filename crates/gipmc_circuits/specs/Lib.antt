@@ -2,6 +2,7 @@ pub mod Circuit
 pub mod Encoding
 pub mod Certificate
 pub mod Extension
+pub mod Build
 pub mod Machine
 pub mod Traces
 pub mod WellFormed

@@ -4,22 +4,19 @@ ghost use Rattle.gipmc_circuits.specs.Certificate.{is_certified};
 ghost use Rattle.gipmc_circuits.specs.Circuit.{IsSafe};
 ghost use Rattle.gipmc_circuits.specs.Traces.{FailsBy};
 
-use gipmc_circuits::{Circuit, Latch, Netlist, Trace, Verdict, certify, replay};
+use gipmc_circuits::{Builder, Netlist, Trace, Verdict, certify, replay};
 use gipsat_solver::Literal;
 use std::alloc::{AllocError, Allocator};
 
 /// Both latches begin at 0. Latch 2 holds next what input 1 is, and latch 3 keeps its value.
 pub fn two_latches<A: Allocator + Copy>(alloc: A) -> Result<Netlist<A>, AllocError> {
-    let mut circuit = Circuit::new(alloc);
-    circuit.inputs.push(1)?;
-    for &(variable, next) in &[(2, 1), (3, 3)] {
-        circuit.latches.push(Latch {
-            variable,
-            next: Literal::new(next, true),
-            reset: Some(false),
-        })?;
-    }
-    Netlist::new(alloc, circuit)?.ok_or(AllocError)
+    let mut build = Builder::new(alloc);
+    let input = build.input()?;
+    let second = build.bit()?;
+    let third = build.bit()?;
+    build.latch(second, Some(false), input)?;
+    build.latch(third, Some(false), third)?;
+    build.finish(alloc)?.ok_or(AllocError)
 }
 
 // The values of the input, one moment after another: it is 1, and then 0.

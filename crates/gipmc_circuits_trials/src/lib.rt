@@ -1,6 +1,8 @@
-//! Tests of circuits: traces, invariants, and whether a circuit is well-formed.
+//! Tests of circuits: how they are built, traces, invariants, and whether a circuit is well-formed.
 #![tactic(auto)]
 
+#[cfg(test)]
+mod build;
 #[cfg(test)]
 mod certificates;
 pub mod example;
