@@ -1,6 +1,7 @@
 -- The two forms have room for each circuit that is well-formed, if its numbers are small enough.
 use Rattle.std.proofs.Common.{◌≡◌, ⊎_elim, ℕ, zero, suc, ◌+◌, ◌<◌, ◌≤◌, ◌^◌, ◌&&◌, ◌||◌, max, Bool, true, false, not, List, [], ◌∷◌, eqb, length, map, IsTrue, arith, refl, sym, subst}
 use Rattle.std.specs.List.{list_all}
+use Rattle.std.specs.Prelude.{◌↔◌}
 use Rattle.std.proofs.Math.Nat.{le-max_left, le-max_right, le_refl}
 use Rattle.std.proofs.lemmas.Bool.{and_parts, eqb-true, false≢true, or_cases, or_right}
 use Rattle.gipsat_solver.specs.Literals.{Lit}
@@ -158,3 +159,14 @@ IsWritable-formed c formed small counts bads constraints =
       bad_count = bads;
       constraint_count = constraints;
     }
+
+-- so it is writable exactly if these numbers are small enough
+pub IsWritable-numbers : {A : Type 0} (c : Circuit A) → IsTrue (is_well_formed c)
+    → IsWritable c
+    ↔ ((greatest_variable c < 2 ^ 31)
+    × (length c.inputs.items + length c.latches.items + length c.gates.items ≤ greatest_variable c))
+    × (length c.bads.items < 2 ^ 31) × (length c.constraints.items < 2 ^ 31)
+IsWritable-numbers c formed = (
+  λ is. ((is.small, is.counts), is.bad_count, is.constraint_count),
+  λ ((small, counts), bads, constraints). IsWritable-formed c formed small counts bads constraints,
+)

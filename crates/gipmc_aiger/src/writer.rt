@@ -1,15 +1,16 @@
 //! A writer of circuits in both forms.
 ghost use Rattle.std.specs.Prelude.{◌≡◌, ◌==◌, ◌<◌, ◌+◌, ◌^◌, ◌++◌, ◌∷◌, [], ℕ, decimal, false, map, min};
-ghost use Rattle.std.specs.Prelude.{IfOk, IsErrOf, IsTrue, None, OnErr, OnOk, Some};
+ghost use Rattle.std.specs.Prelude.{◌↔◌, ◌≤◌, length, IfOk, IsErrOf, IsTrue, None, OnErr, OnOk, Some};
 ghost use Rattle.gipmc_aiger.specs.CircuitTexts.{aag_text, aig_text, and_line, and_lines, are_above, header_line};
 ghost use Rattle.gipmc_aiger.specs.CircuitTexts.{greatest_input, greatest_latch, greatest_output, greatest_variable};
 ghost use Rattle.gipmc_aiger.specs.CircuitTexts.{input_lines, is_above, is_numbered, latch_line, latch_lines};
 ghost use Rattle.gipmc_aiger.specs.CircuitTexts.{literal_lines, literal_number, numbered_behind, reset_number};
 ghost use Rattle.gipmc_aiger.specs.CircuitTexts.{packed_and, packed_ands, packed_header_line, packed_latch_line};
 ghost use Rattle.gipmc_aiger.specs.CircuitTexts.{packed_latch_lines};
+ghost use Rattle.gipmc_aiger.specs.Writable.{IsWritable};
 ghost use Rattle.giputils_text.specs.Groups.{groups};
 
-use gipmc_circuits::{And, Circuit, Latch};
+use gipmc_circuits::{And, Circuit, Latch, Netlist};
 use gipsat_solver::Literal;
 use giputils_text::write_groups;
 use std::alloc::{AllocError, AllocFailed, Allocator};
@@ -34,6 +35,49 @@ pub fn write_aag<A: Allocator + Copy>(
     write_literals(&mut text, &circuit.constraints)?;
     write_ands(&mut text, &circuit.gates)?;
     Ok(text)
+}
+
+/// Whether the forms have room for a circuit: its greatest variable is below 2^31, and so are the numbers of its bad
+/// literals and constraints.
+///
+/// If so, what is written of it is read as the same circuit.
+pub fn is_writable<A: Allocator>(netlist: &Netlist<A>) -> bool
+    ensures { IsTrue result ↔ IsWritable netlist.now.circuit }
+{
+    let circuit = &netlist.circuit;
+    has_room(circuit) && has_few(&circuit.bads) && has_few(&circuit.constraints)
+}
+
+// Whether the greatest variable is below 2^31, and there are no more rows than variables.
+fn has_room<A: Allocator>(circuit: &Circuit<A>) -> bool
+    ensures { IsTrue result ↔ (greatest_variable circuit.now < 2 ^ 31)
+        × (length circuit.now.inputs.items + length circuit.now.latches.items + length circuit.now.gates.items
+        ≤ greatest_variable circuit.now) }
+{
+    let greatest = greatest_variable(circuit) as usize;
+    let (inputs, latches) = (circuit.inputs.len(), circuit.latches.len());
+    greatest < 1 << 31 && are_within(inputs, latches, circuit.gates.len(), greatest)
+}
+
+// Whether the sum of three numbers is at most another one.
+fn are_within(first: usize, second: usize, third: usize, most: usize) -> bool
+    ensures { IsTrue result ↔ first + second + third ≤ most }
+{
+    if first > most {
+        return false;
+    }
+    let rest = most - first;
+    if second > rest {
+        return false;
+    }
+    third <= rest - second
+}
+
+// Whether there are fewer literals than 2^31.
+fn has_few(literals: &[Literal]) -> bool
+    ensures { IsTrue result ↔ length literals.now < 2 ^ 31 }
+{
+    literals.len() < 1 << 31
 }
 
 /// Why no text was written.
