@@ -1,4 +1,6 @@
+mod Adders
 mod Cardinalities
+mod Counters
 mod Counting
 mod Examples
 mod FirstQuestion

@@ -1,0 +1,13 @@
+//! A counter that is never 3.
+
+use giputils_uses::counter::{counter, is_never_three};
+use std::alloc::AllocError;
+
+#[test]
+fn the_counter_is_never_three(rt: HostRuntime) -> Result<(), AllocError> {
+    assert!(rt; is_never_three(rt.alloc())?);
+    let (netlist, _) = counter(rt.alloc())?;
+    assert!(rt; netlist.circuit.latches.len() == 2);
+    assert!(rt; netlist.circuit.inputs.len() == 1);
+    Ok(())
+}
