@@ -1,4 +1,3 @@
-mod Adders
 mod Cardinalities
 mod Counters
 mod Counting
@@ -12,6 +11,7 @@ mod Multiples
 mod Outcomes
 mod Picked
 mod Reaching
+mod SameSums
 mod Searches
 mod SmallSets
 mod TakenPlaces

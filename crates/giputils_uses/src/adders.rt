@@ -44,7 +44,8 @@ pub fn majority_adder<A: Allocator + Copy>(
     let Some(netlist) = build.finish(alloc)? else {
         return Ok(None);
     };
-    let verdict = certify(alloc, &netlist, same.negated(), &[], limit)?;
+    let clauses = Vec::new(alloc);
+    let verdict = certify(alloc, &netlist, same.negated(), &clauses, limit)?;
     match verdict {
         Verdict::Certified => Ok(Some(Adder {
             netlist,

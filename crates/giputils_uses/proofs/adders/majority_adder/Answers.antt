@@ -1,6 +1,6 @@
 -- No values tell the sum from the one that is proved.
 use Rattle.std.proofs.Common.{◌≡◌, refl, ◌∙◌}
-use Rattle.giputils_uses.proofs.Adders.{adds_too}
+use Rattle.giputils_uses.proofs.SameSums.{adds_too}
 use Rattle.giputils_uses.proofs.adders.majority_adder.Goals as goal
 
 pub returns-in-Certified : goal.returns-in-Certified
@@ -12,4 +12,4 @@ returns-in-Certified g c =
     (rw c.in-Some.is at c.in_ok-finish.ensures)
     (c.are_same.ensures.keeps.constraints ∙ c.add.ensures.keeps.constraints ∙ c.add_by_majorities.ensures.constraints
     ∙ c.in_ok-right.ensures.adds.constraints ∙ c.in_ok-left.ensures.adds.constraints ∙ c.new-build.ensures.constraints)
-    refl c.negated.ensures ((rw c.in-Certified.is at c.in_ok-verdict.ensures.excluded) refl)
+    (c.deref-7.ensures.value ∙ c.new-clauses.ensures.items) c.negated.ensures ((rw c.in-Certified.is at c.in_ok-verdict.ensures.excluded) refl)
