@@ -54,15 +54,22 @@ pub counter_machine : {A : Type 0} {none begun added compared found turned chose
     {count one twos threes more wrapped next : List Lit}
     → Parts none begun added compared found turned chosen held c enable two three count one twos threes more wrapped next
     → IsMachine c three counted 0 is_three
-counter_machine {c = c} {enable = enable} {three = three} {count = count} {one = one} {twos = twos} {threes = threes} {next = next} p =
+counter_machine {added = added} {compared = compared} {found = found} {turned = turned} {chosen = chosen} {held = held} {c = c}
+    {enable = enable} {count = count} {next = next} p =
     let valuation : (a : Assignment) → IsTrue (is_moment c a) → IsTrue (is_valuation c a) =
     λ a now. (and_parts (is_valuation c a) (makes_true a c.constraints.items) now).0 in
-    let in_held = λ a now. p.to_end.extends.valuations a (valuation a now) in
-    let in_chosen = λ a now. p.to_held.extends.valuations a (in_held a now) in
-    let in_turned = λ a now. p.to_chosen.extends.valuations a (in_chosen a now) in
-    let in_found = λ a now. p.to_turned.extends.valuations a (in_turned a now) in
-    let in_compared = λ a now. p.to_found.extends.valuations a (in_found a now) in
-    let in_added = λ a now. p.to_compared.extends.valuations a (in_compared a now) in
+    let in_held : (a : Assignment) → IsTrue (is_moment c a) → IsTrue (is_valuation held a) =
+    λ a now. p.to_end.extends.valuations a (valuation a now) in
+    let in_chosen : (a : Assignment) → IsTrue (is_moment c a) → IsTrue (is_valuation chosen a) =
+    λ a now. p.to_held.extends.valuations a (in_held a now) in
+    let in_turned : (a : Assignment) → IsTrue (is_moment c a) → IsTrue (is_valuation turned a) =
+    λ a now. p.to_chosen.extends.valuations a (in_chosen a now) in
+    let in_found : (a : Assignment) → IsTrue (is_moment c a) → IsTrue (is_valuation found a) =
+    λ a now. p.to_turned.extends.valuations a (in_turned a now) in
+    let in_compared : (a : Assignment) → IsTrue (is_moment c a) → IsTrue (is_valuation compared a) =
+    λ a now. p.to_found.extends.valuations a (in_found a now) in
+    let in_added : (a : Assignment) → IsTrue (is_moment c a) → IsTrue (is_valuation added a) =
+    λ a now. p.to_compared.extends.valuations a (in_compared a now) in
     record {
       state = λ a. number_of a count;
       input = λ a. is_true a enable;

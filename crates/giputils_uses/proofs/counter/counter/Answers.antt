@@ -8,7 +8,7 @@ use Rattle.giputils_uses.proofs.counter.counter.Goals as goal
 
 pub returns-in-Some : goal.returns-in-Some
 returns-in-Some g c =
-    let same : c.in-Some.netlist.circuit ≡ c.bad.new.self.circuit = rw c.in-Some.is at c.in_ok-finish.ensures in
+    let same : c.in-Some.netlist.circuit ≡ c.bad.new.self.circuit = rw c.in-Some.is at c.in_ok-netlist.ensures in
     subst (λ x. IsMachine x c.in_ok-at_three.at_three counted 0 is_three) (sym same)
     (counter_machine (record {
       empty = c.new-build.ensures;
