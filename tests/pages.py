@@ -71,6 +71,7 @@ PARTS = {
     "gipmc_aiger": (EXAMPLE, PEER + "AIGER 1.9", PROVED, TESTED, CHOICES, COST),
     "gipmc_ic3": (EXAMPLE, PROVED, TESTED, CHOICES, COST),
     "gipmc_engines": (EXAMPLE, PROVED, TESTED, CHOICES, COST),
+    "gipmc_answers": (EXAMPLE, PROVED, TESTED, CHOICES, COST),
     "gipmc": (PROVED, TESTED),
     "gip_program": (PROVED, TESTED, CHOICES),
     "gip_lines": (PROVED, TESTED, CHOICES, COST),

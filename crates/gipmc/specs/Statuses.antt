@@ -1,7 +1,7 @@
 -- The status that a run ends with.
 use Rattle.std.specs.Prelude.{ℕ, Bool, Result, Ok, Err, if◌then◌else◌}
-use Rattle.gipmc.specs.declared.answers.Outcome.{Outcome}
-use Rattle.gipmc.specs.declared.answers.Outcome.TheVariants.{Fails, Safe, Open}
+use Rattle.gipmc_answers.specs.declared.answers.Outcome.{Outcome}
+use Rattle.gipmc_answers.specs.declared.answers.Outcome.TheVariants.{Fails, Safe, Open}
 
 -- where nothing is answered, or an answer is not verified
 abbrev pub refused_status : ℕ

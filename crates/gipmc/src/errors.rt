@@ -1,8 +1,7 @@
 //! Why nothing is answered, as it is told.
 use crate::options::Setting;
 use gip_program::{Cause, FinishError};
-use gipmc_aiger::AigerError;
-use std::alloc::AllocError;
+use gipmc_answers::TaskError;
 use std::fmt::{self, Display};
 use std::io;
 
@@ -82,37 +81,6 @@ impl Display for Setting {
     }
 }
 
-/// Why a task was not done.
-#[derive(Clone, Copy)]
-pub enum TaskError {
-    /// The circuit's text has another form.
-    Circuit(AigerError),
-    /// The witness' text has another form.
-    Witness(AigerError),
-    /// The certificate's text has another form.
-    Certificate(AigerError),
-    /// The certificate is a circuit with another number of inputs or latches.
-    OtherShape,
-    /// There is no bad literal at this place; there are so many.
-    NoBad(usize, usize),
-    /// There is no bad literal at all.
-    NoBads,
-    /// The witness names the bad literal at this place; there are so many.
-    OtherBad(usize, usize),
-    /// The witness names the bad literal at the first place; that at the second one is asked for.
-    NotAsked(usize, usize),
-    /// The clauses that were found do not certify the circuit.
-    Uncertified,
-    /// Memory was refused.
-    Memory,
-}
-
-impl From<AllocError> for TaskError {
-    fn from(_refused: AllocError) -> TaskError {
-        TaskError::Memory
-    }
-}
-
 /// Why there is no answer. A name is that of a file; that of standard input or output is `None`.
 #[derive(Clone, Copy)]
 pub enum Failure<'a> {
@@ -130,18 +98,8 @@ pub enum Failure<'a> {
     Finish(FinishError<'a>),
     /// No certificate was written to this file.
     NoCertificate(Option<&'a str>, TaskError),
-    /// The text in this input has another form.
-    Form(Option<&'a str>, AigerError),
-    /// The circuit in this input has no bad literal at this place; it has so many.
-    NoBad(Option<&'a str>, usize, usize),
-    /// The circuit in this input has no bad literal at all.
-    NoBads(Option<&'a str>),
-    /// The witness in this input names the bad literal at this place; the circuit has so many.
-    OtherBad(Option<&'a str>, usize, usize),
-    /// The witness in this input names the bad literal at the first place; that at the second one is asked for.
-    NotAsked(Option<&'a str>, usize, usize),
-    /// The circuit in this input has another number of inputs or latches than the one that it is to certify.
-    OtherShape(Option<&'a str>),
+    /// The task on the text in this input was not done.
+    Task(Option<&'a str>, TaskError),
     /// Memory was refused.
     Memory,
 }
@@ -183,29 +141,13 @@ impl Display for Failure<'_> {
                 "{}: not written, since what was found does not certify the circuit",
                 name.unwrap_or("<stdout>")
             ),
-            Failure::Form(_, AigerError::Memory) => f.write_str("memory: refused"),
-            Failure::Form(name, error) => write!(f, "{}: {error}", name.unwrap_or("<stdin>")),
-            Failure::NoBad(name, place, count) => write!(
-                f,
-                "{}: no bad literal {place}, of {count}",
-                name.unwrap_or("<stdin>")
-            ),
-            Failure::NoBads(name) => { write!(f, "{}: no bad literal", name.unwrap_or("<stdin>")) }
-            Failure::NotAsked(name, named, asked) => write!(
+            Failure::Task(_, TaskError::Memory) => f.write_str("memory: refused"),
+            Failure::Task(name, TaskError::NotAsked(named, asked)) => write!(
                 f,
                 "{}: it names bad literal {named}, and '--bad' asks for {asked}",
                 name.unwrap_or("<stdin>")
             ),
-            Failure::OtherBad(name, place, count) => write!(
-                f,
-                "{}: it names bad literal {place}, and the circuit has {count}",
-                name.unwrap_or("<stdin>")
-            ),
-            Failure::OtherShape(name) => write!(
-                f,
-                "{}: not as many inputs and latches as the circuit has",
-                name.unwrap_or("<stdin>")
-            ),
+            Failure::Task(name, error) => write!(f, "{}: {error}", name.unwrap_or("<stdin>")),
             Failure::Memory => f.write_str("memory: refused"),
         }
     }

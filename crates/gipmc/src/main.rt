@@ -8,29 +8,27 @@
 ghost use Rattle.std.specs.Prelude.{◌≡◌, IfOk, IsTrue};
 ghost use Rattle.std.specs.Process.{exit_status};
 ghost use Rattle.std.specs.declared.alloc.Global.{Global};
-ghost use Rattle.gipmc.specs.Answers.{Answers, IsAnswered, IsCircuitIn, Replays};
-ghost use Rattle.gipmc.specs.Certificates.{Certifies};
-ghost use Rattle.gipmc.specs.declared.answers.Outcome.TheVariants.{Fails, Safe};
+ghost use Rattle.gipmc_answers.specs.Answers.{Answers, IsAnswered, IsCircuitIn};
+ghost use Rattle.gipmc_answers.specs.Certificates.{Certifies};
+ghost use Rattle.gipmc_answers.specs.Witnesses.{Replays};
+ghost use Rattle.gipmc_answers.specs.declared.answers.Outcome.TheVariants.{Fails, Safe};
 ghost use Rattle.gipmc.specs.Statuses.{outcome_status, refused_status, search_status, telling_status, usage_status, verified_status};
 
-mod answers;
-mod certificates;
 mod errors;
 mod files;
 mod help;
 mod options;
-mod output;
 mod progress;
 
-use answers::{Answered, Outcome, answer, replays};
-use certificates::{certificate_of, certifies};
-use errors::{Failure, TaskError, UsageError};
+use errors::{Failure, UsageError};
 use files::bytes_of;
 use gip_program::{Cause, Existing, NewFile, hold_standard_streams};
+use gipmc_answers::{
+    Answered, Lost, Outcome, Output, TaskError, answer, certificate_of, certifies, replays,
+};
 use gipmc_engines::{Bounds, Engine, Plan, Tries};
 use help::{HELP, VERSION};
 use options::{Options, Task};
-use output::{Lost, Output};
 use progress::Teller;
 use std::env;
 use std::fmt::Display;
@@ -208,16 +206,10 @@ fn explain(rt: &HostRuntime, error: &UsageError) -> ExitCode
 // The failure of a task on the circuit in one input and an answer in another.
 fn failure<'a>(circuit: Option<&'a str>, beside: Option<&'a str>, error: TaskError) -> Failure<'a> {
     match error {
-        TaskError::Circuit(error) => Failure::Form(circuit, error),
-        TaskError::Witness(error) => Failure::Form(beside, error),
-        TaskError::Certificate(error) => Failure::Form(beside, error),
-        TaskError::OtherShape => Failure::OtherShape(beside),
-        TaskError::NoBad(place, count) => Failure::NoBad(circuit, place, count),
-        TaskError::NoBads => Failure::NoBads(circuit),
-        TaskError::OtherBad(place, count) => Failure::OtherBad(beside, place, count),
-        TaskError::NotAsked(named, asked) => Failure::NotAsked(beside, named, asked),
-        TaskError::Uncertified => Failure::NoCertificate(beside, error),
-        TaskError::Memory => Failure::Memory,
+        TaskError::Circuit(_) | TaskError::NoBad(_, _) | TaskError::NoBads => {
+            Failure::Task(circuit, error)
+        }
+        _ => Failure::Task(beside, error),
     }
 }
 
@@ -298,7 +290,8 @@ fn search<'a>(
 // Tells where a circuit has no bad literal: nothing was asked then.
 fn tell_of_none(rt: &HostRuntime, options: &Options, answer: &Answered) {
     if answer.netlist.circuit.bads.is_empty() {
-        let _ = eprintln!(rt; "c {}", Failure::NoBads(options.file));
+        let none = Failure::Task(options.file, TaskError::NoBads);
+        let _ = eprintln!(rt; "c {none}");
     }
 }
 
