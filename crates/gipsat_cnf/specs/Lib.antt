@@ -8,3 +8,4 @@ pub mod Encodings
 pub mod Lists
 pub mod Layout
 pub mod Numbers
+pub mod Answers
