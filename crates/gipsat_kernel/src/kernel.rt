@@ -7,7 +7,7 @@ ghost use Rattle.gipsat_cnf.specs.Literals.{negated};
 ghost use Rattle.gipsat_cnf.specs.Models.{assignment_in};
 ghost use Rattle.gipsat_cnf.specs.Simplifying.{SaysSame};
 
-use crate::chain::Chain;
+use crate::chains::Chains;
 use crate::flags::{all_set, flag_at, flags_kept, keep_original};
 use crate::marks::Marks;
 use gipsat_cnf::enumerate::find_model;
@@ -30,7 +30,7 @@ pub struct Kernel<A: Allocator = Global> {
     marks: Marks<A>,
     // Whether a clause is being derived.
     is_open: bool,
-    chain: Chain<A>,
+    chains: Chains<A>,
 }
 
 impl<A: Allocator> Model for Kernel<A> {
@@ -54,7 +54,7 @@ impl<A: Allocator + Copy> Kernel<A> {
             original: Vec::new(alloc),
             marks: Marks::new(alloc),
             is_open: false,
-            chain: Chain::new(alloc),
+            chains: Chains::new(alloc),
         }
     }
 
@@ -73,7 +73,7 @@ impl<A: Allocator + Copy> Kernel<A> {
             original,
             marks,
             is_open: false,
-            chain: Chain::new(alloc),
+            chains: Chains::new(alloc),
         })
     }
 
@@ -163,11 +163,11 @@ impl<A: Allocator + Copy> Kernel<A> {
     {
         self.is_open = false;
         self.marks.clear();
-        self.chain.clear();
+        self.chains.begin(self.clauses.len());
         if id >= self.clauses.len() {
             return Ok(false);
         }
-        self.chain.push(id)?;
+        self.chains.push(id)?;
         self.marks.add_all(self.clauses.clause(id))?;
         self.is_open = true;
         Ok(true)
@@ -187,7 +187,7 @@ impl<A: Allocator + Copy> Kernel<A> {
             return Ok(false);
         }
         self.is_open = false;
-        self.chain.push(id)?;
+        self.chains.push(id)?;
         self.marks.remove(opposite);
         self.marks.add_but(pivot, self.clauses.clause(id))?;
         self.is_open = true;
@@ -220,6 +220,7 @@ impl<A: Allocator + Copy> Kernel<A> {
         self.is_open = false;
         self.original.reserve(1)?;
         let id = self.clauses.len();
+        self.chains.end_at(id)?;
         self.marks.take_into(&mut self.clauses)?;
         self.original.push_reserved(false);
         Ok(Some(id))
@@ -233,17 +234,25 @@ impl<A: Allocator + Copy> Kernel<A> {
         self.marks.clear();
     }
 
-    /// Lets [`Kernel::chain`] tell the chains of later derivations, or no more. At first it does not.
+    /// Lets [`Kernel::chain`] tell the chains of later derivations, or no more. At first it does not. Those of earlier
+    /// ones are forgotten.
     pub fn keep_chains(&mut self, are_kept: bool)
         ensures { self.new ≡ self.old }
     {
-        self.chain.keep(are_kept);
+        self.chains.keep(are_kept, self.clauses.len());
     }
 
-    /// The ids of the clauses that the last derivation used, in order, if chains are kept. A collection changes ids.
-    #[inline]
-    pub fn chain(&self) -> &[usize] {
-        self.chain.ids()
+    /// Forgets the chains of all derivations so far, and frees no memory.
+    pub fn forget_chains(&mut self)
+        ensures { self.new ≡ self.old }
+    {
+        self.chains.forget(self.clauses.len());
+    }
+
+    /// The chain of a derived clause, by its id: the ids of the working clauses that its derivation used, in order. It is
+    /// empty if it was not kept, or if there is no such clause. A collection changes ids, and forgets all chains.
+    pub fn chain(&self, id: usize) -> &[usize] {
+        self.chains.of(id)
     }
 
     /// Drops the working clauses that do not stay, by a flag for each id, and moves the others up. It sets the flags of
@@ -259,6 +268,7 @@ impl<A: Allocator + Copy> Kernel<A> {
         keep_original(&self.original, stays);
         let clauses = self.clauses.kept(alloc, stays)?;
         let original = flags_kept(alloc, &self.original, stays)?;
+        self.chains.forget(clauses.len());
         self.clauses = clauses;
         self.original = original;
         Ok(())

@@ -2,7 +2,7 @@
 //! checker of proofs rest on: a formula that changes by steps which keep satisfiability.
 #![tactic(auto)]
 
-mod chain;
+mod chains;
 mod flags;
 pub mod kernel;
 mod marks;

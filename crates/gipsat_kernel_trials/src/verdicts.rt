@@ -140,7 +140,7 @@ fn derive_unit(alloc: Global, kernel: &mut Kernel) -> Result<(), AllocError> {
 fn a_chain_names_the_clauses_that_were_used(rt: HostRuntime) -> Result<(), AllocError> {
     let mut kernel = Kernel::new(rt.alloc());
     derive_unit(rt.alloc(), &mut kernel)?;
-    assert!(rt; kernel.chain() == [0, 1].as_slice());
+    assert!(rt; kernel.chain(3) == [0, 1].as_slice() && kernel.chain(2).is_empty());
     assert!(rt; kernel.is_original(2) && !kernel.is_original(3) && !kernel.is_original(4));
     assert!(rt; kernel.literals().len() == 6 && kernel.span(4).is_none());
     assert!(rt; kernel.variables() == 4 && !kernel.is_empty());
