@@ -9,7 +9,8 @@ use gipsat_kernel::Kernel;
 use std::alloc::{AllocError, Allocator};
 
 // Whether a collection drops a clause: it is no clause of the formula and no unit, and was deleted or is satisfied at
-// the root.
+// the root. The latter only where each root literal has its unit clause: a clause that is the reason of one without it
+// would be lost to the search.
 pub(crate) fn is_deleted<A: Allocator + Copy>(
     kernel: &Kernel<A>,
     state: &State<A>,
@@ -19,7 +20,8 @@ pub(crate) fn is_deleted<A: Allocator + Copy>(
     if kernel.is_original(id) || clause.len() < 2 {
         return false;
     }
-    state.clauses.is_deleted(id) || state.trail.is_satisfied(clause)
+    let are_units = state.units == state.trail.root_len();
+    state.clauses.is_deleted(id) || are_units && state.trail.is_satisfied(clause)
 }
 
 // Whether enough clauses were deleted since the last collection.

@@ -9,8 +9,8 @@ use crate::units::learn_units;
 use gipsat_kernel::Kernel;
 use std::alloc::{AllocError, Allocator};
 
-// Backtracks to the root, watches all clauses, and propagates. The id of a falsified clause, if one is met; it is met
-// again next time.
+// Backtracks to the root, watches all clauses, and propagates. The id of a falsified clause, if one is met. If one was met
+// before, the root is propagated again, so that it is met again.
 fn propagate_root<A: Allocator + Copy>(
     alloc: A,
     kernel: &Kernel<A>,
@@ -18,14 +18,18 @@ fn propagate_root<A: Allocator + Copy>(
 ) -> Result<Option<u32>, AllocError> {
     backtrack(&mut state.trail, &mut state.activity, 0);
     state.assumed = 0;
+    if state.open.is_some() {
+        state.open = None;
+        state.trail.propagated = 0;
+    }
     if let Some(conflict) = attach_new(kernel, state)? {
         return Ok(Some(conflict));
     }
     propagate(alloc, kernel, state)
 }
 
-// Backtracks to the root, watches all clauses, and propagates; each root literal becomes a clause. Whether no clause is
-// falsified; if one is, the next search meets it.
+// Backtracks to the root, watches all clauses, and propagates; each root literal becomes a clause, also where a clause is
+// falsified, so that a collection derives none. Whether no clause is falsified; if one is, the next search meets it.
 pub(crate) fn settle_root<A: Allocator + Copy>(
     alloc: A,
     kernel: &mut Kernel<A>,
@@ -33,10 +37,8 @@ pub(crate) fn settle_root<A: Allocator + Copy>(
 ) -> Result<bool, AllocError>
     ensures { kernel.new ≡ kernel.old }
 {
-    if let Some(conflict) = propagate_root(alloc, kernel, state)? {
-        state.open = Some(conflict);
-        return Ok(false);
-    }
+    let conflict = propagate_root(alloc, kernel, state)?;
     learn_units(kernel, state)?;
-    Ok(true)
+    state.open = conflict;
+    Ok(conflict.is_none())
 }

@@ -189,9 +189,9 @@ fn run<A: Allocator + Copy>(
     Ok(Turn::Spent)
 }
 
-// Begins a call at the root, with room for all variables. Eliminated variables that are assumed, in the domain or in a
-// new clause are restored.
-fn begin<A: Allocator + Copy>(
+// Goes back to the root, with room for all variables. Eliminated variables that are assumed, in the domain or in a new
+// clause are restored.
+fn resume<A: Allocator + Copy>(
     alloc: A,
     kernel: &mut Kernel<A>,
     state: &mut State<A>,
@@ -208,9 +208,21 @@ fn begin<A: Allocator + Copy>(
     let is_plain = query.assumptions.is_empty() && query.domain.is_none();
     state.restart_policy.modes.allow(is_plain);
     state.eliminated.rewind();
-    state.end = state.stats.propagations.saturating_add(query.propagations);
     settle_root(alloc, kernel, state)?;
     state.activity.limit_to(query.domain, query.assumptions)
+}
+
+// Begins a call, with its budget, at the root.
+fn begin<A: Allocator + Copy>(
+    alloc: A,
+    kernel: &mut Kernel<A>,
+    state: &mut State<A>,
+    query: Query<'_>,
+) -> Result<(), AllocError>
+    ensures { kernel.new ≡ kernel.old }
+{
+    state.end = state.stats.propagations.saturating_add(query.propagations);
+    resume(alloc, kernel, state, query)
 }
 
 // The clause of the formula without a true literal. None if there is none.
@@ -278,6 +290,21 @@ impl<A: Allocator + Copy> Search<A> {
             return Ok(());
         };
         let done = begin(self.alloc, kernel, state, query);
+        self.end(done.is_err());
+        done
+    }
+
+    /// Goes back to the root within a call, as [`Search::begin`] does, but the budget of the call goes on.
+    ///
+    /// # Errors
+    /// `AllocError` where memory is refused. The search forgets what it knows of the clauses.
+    pub fn resume(&mut self, kernel: &mut Kernel<A>, query: Query<'_>) -> Result<(), AllocError>
+        ensures { kernel.new ≡ kernel.old }
+    {
+        let Some(state) = &mut self.state else {
+            return Ok(());
+        };
+        let done = resume(self.alloc, kernel, state, query);
         self.end(done.is_err());
         done
     }
