@@ -1,6 +1,7 @@
 -- The lines of a text that is read in parts.
 use Rattle.std.proofs.Common.{◌≡◌, ◌<◌, ◌+◌, ℕ, suc, arith, List, [], ◌∷◌, ◌++◌, length, take, drop, get_or, refl, sym, ap, ◌∙◌, append_assoc, append-nil, drop-cons, None}
 use Rattle.std.proofs.lemmas.List.{take_more, take-append-drop}
+use Rattle.gipsat_cnf.specs.Formulas.{Formula}
 use Rattle.gipsat_dimacs.specs.Texts.{problem_by, line_after, line_on, IsRefusedBy}
 use Rattle.gipsat_dimacs.specs.Parsers.{problem_from, IsStopped, SaysOn, SaysNothing}
 use Rattle.gipsat_dimacs.specs.declared.rule.HeaderRule.{HeaderRule}
@@ -25,35 +26,35 @@ at_place bytes i within =
     sym (take-append-drop i bytes) ∙ ap (λ rest. take i bytes ++ rest)
     (drop-cons bytes i 0 within ∙ ap (λ n. get_or bytes i 0 ∷ drop n bytes) next)
 
-module _ {A : Type 0} (p q : Parser A) where
+module _ {S A : Type 0} (formula : S → Formula) (p q : Parser S A) where
   -- nothing is said any more
-  pub says_on-nothing : (xs ys : List ℕ) → SaysOn p xs q → SaysNothing q ys → SaysNothing p (xs ++ ys)
-  says_on-nothing xs ys on none rest = ap (problem_from p) (append_assoc xs ys rest) ∙ on (ys ++ rest) ∙ none rest
+  pub says_on-nothing : (xs ys : List ℕ) → SaysOn formula p xs q → SaysNothing formula q ys → SaysNothing formula p (xs ++ ys)
+  says_on-nothing xs ys on none rest = ap (problem_from formula p) (append_assoc xs ys rest) ∙ on (ys ++ rest) ∙ none rest
 
-  pub says_on-append : (r : Parser A) (xs ys : List ℕ) → SaysOn p xs q → SaysOn q ys r → SaysOn p (xs ++ ys) r
-  says_on-append r xs ys on more rest = ap (problem_from p) (append_assoc xs ys rest) ∙ on (ys ++ rest) ∙ more rest
+  pub says_on-append : (r : Parser S A) (xs ys : List ℕ) → SaysOn formula p xs q → SaysOn formula q ys r → SaysOn formula p (xs ++ ys) r
+  says_on-append r xs ys on more rest = ap (problem_from formula p) (append_assoc xs ys rest) ∙ on (ys ++ rest) ∙ more rest
 
-module _ {A : Type 0} (old : LineParser A) (q : Parser A) (line : ℕ) (bytes : List ℕ) (i byte : ℕ)
+module _ {S A : Type 0} (formula : S → Formula) (old : LineParser S A) (q : Parser S A) (line : ℕ) (bytes : List ℕ) (i byte : ℕ)
     (within : i < length bytes)
-    (is : byte ≡ get_or bytes i 0) (on : SaysOn old.parser (take i bytes) q)
+    (is : byte ≡ get_or bytes i 0) (on : SaysOn formula old.parser (take i bytes) q)
     (number : line ≡ line_on old.line (take i bytes)) where
   -- the byte at a place is refused
-  pub stopped_at : SaysNothing q (byte ∷ []) → IsStopped old bytes line
+  pub stopped_at : SaysNothing formula q (byte ∷ []) → IsStopped formula old bytes line
   stopped_at none = record {
     front = take i bytes;
     byte = byte;
     rest = drop (i + 1) bytes;
     all = at_place bytes i within ∙ ap (λ b. take i bytes ++ b ∷ drop (i + 1) bytes) (sym is);
     number = number;
-    nothing = says_on-nothing old.parser q (take i bytes) (byte ∷ []) on none;
+    nothing = says_on-nothing formula old.parser q (take i bytes) (byte ∷ []) on none;
   }
 
   one_more : take (i + 1) bytes ≡ take i bytes ++ byte ∷ []
   one_more = take_more bytes i 0 within ∙ ap (λ b. take i bytes ++ b ∷ []) (sym is)
 
   -- or read
-  pub says_on-more : (r : Parser A) → SaysOn q (byte ∷ []) r → SaysOn old.parser (take (i + 1) bytes) r
-  says_on-more r more = rw one_more (says_on-append old.parser q r (take i bytes) (byte ∷ []) on more)
+  pub says_on-more : (r : Parser S A) → SaysOn formula q (byte ∷ []) r → SaysOn formula old.parser (take (i + 1) bytes) r
+  says_on-more r more = rw one_more (says_on-append formula old.parser q r (take i bytes) (byte ∷ []) on more)
 
   pub line_on-more : line_after line byte ≡ line_on old.line (take (i + 1) bytes)
   line_on-more = ap (λ n. line_after n byte) number ∙ sym (line_on-append old.line (take i bytes) (byte ∷ []))

@@ -3,6 +3,7 @@ use Rattle.std.proofs.Common.{◌≡◌, ℕ, List, [], ◌∷◌, ◌++◌, ref
 use lib.Seq.{take-append-le}
 use Rattle.std.specs.Prelude.{⊤}
 use Rattle.std.specs.Io.KnownBytes.{Consumes, IsAtEnd}
+use Rattle.gipsat_cnf.specs.Formulas.{Formula}
 use Rattle.gipsat_dimacs.specs.Texts.{Problem, problem_by, line_on, IsRefusedBy}
 use Rattle.gipsat_dimacs.specs.Parsers.{problem_from, IsStopped, SaysOn}
 use Rattle.gipsat_dimacs.specs.declared.rule.HeaderRule.{HeaderRule}
@@ -10,12 +11,12 @@ use Rattle.gipsat_dimacs.specs.declared.lines.LineParser.{LineParser}
 use Rattle.gipsat_dimacs.proofs.LineLemmas.{line_on-append, refused-none}
 
 -- where a reader that had a text has this rest, the parser has read what stood before it, and counted its lines
-abbrev pub HasRead : {A : Type 0} → HeaderRule → Option (List ℕ) → Option (List ℕ) → LineParser A → Type 0
-HasRead rule None now p = ⊤
-HasRead rule (Some text) None p = ⊥
-HasRead rule (Some text) (Some rest) p =
+abbrev pub HasRead : {S A : Type 0} → (S → Formula) → HeaderRule → Option (List ℕ) → Option (List ℕ) → LineParser S A → Type 0
+HasRead formula rule None now p = ⊤
+HasRead formula rule (Some text) None p = ⊥
+HasRead formula rule (Some text) (Some rest) p =
     (front : List ℕ) × (text ≡ front ++ rest) × (p.line ≡ line_on 1 front)
-    × ((more : List ℕ) → problem_by rule (front ++ more) ≡ problem_from p.parser more)
+    × ((more : List ℕ) → problem_by rule (front ++ more) ≡ problem_from formula p.parser more)
 
 -- a buffer that was written as a whole
 pub written_whole : (new old : List ℕ) (n : ℕ) → length new ≡ n → take n (new ++ old) ≡ new
@@ -28,17 +29,17 @@ pub refused-says_none : (rule : HeaderRule) (text : Option (List ℕ)) (line : �
 refused-says_none rule None line refused = tt
 refused-says_none rule (Some text) line refused = refused-none rule text line refused
 
-module _ {A : Type 0} (rule : HeaderRule) where
+module _ {S A : Type 0} (formula : S → Formula) (rule : HeaderRule) where
   -- at first
-  pub read_first : (text : Option (List ℕ)) (p : LineParser A) → p.line ≡ 1
-      → ((text : List ℕ) → problem_from p.parser text ≡ problem_by rule text) → HasRead rule text text p
+  pub read_first : (text : Option (List ℕ)) (p : LineParser S A) → p.line ≡ 1
+      → ((text : List ℕ) → problem_from formula p.parser text ≡ problem_by rule text) → HasRead formula rule text text p
   read_first None p first all = tt
   read_first (Some text) p first all = ([], refl, first, λ more. sym (all more))
 
   -- some bytes on
-  pub read_more : (old now new : Option (List ℕ)) (p q : LineParser A) (bytes : List ℕ) → HasRead rule old now p
+  pub read_more : (old now new : Option (List ℕ)) (p q : LineParser S A) (bytes : List ℕ) → HasRead formula rule old now p
       → Consumes now new bytes
-      → SaysOn p.parser bytes q.parser → q.line ≡ line_on p.line bytes → HasRead rule old new q
+      → SaysOn formula p.parser bytes q.parser → q.line ≡ line_on p.line bytes → HasRead formula rule old new q
   read_more None now new p q bytes has taken on line = tt
   read_more (Some text) None new p q bytes has taken on line = absurd has
   read_more (Some text) (Some now) None p q bytes has taken on line = absurd taken
@@ -50,9 +51,9 @@ module _ {A : Type 0} (rule : HeaderRule) where
   )
 
   -- bytes that are refused
-  pub read_refused : (old now new : Option (List ℕ)) (p : LineParser A) (bytes : List ℕ) (line : ℕ)
-      → HasRead rule old now p
-      → Consumes now new bytes → IsStopped p bytes line → IfSome old (λ text. IsRefusedBy rule text line)
+  pub read_refused : (old now new : Option (List ℕ)) (p : LineParser S A) (bytes : List ℕ) (line : ℕ)
+      → HasRead formula rule old now p
+      → Consumes now new bytes → IsStopped formula p bytes line → IfSome old (λ text. IsRefusedBy rule text line)
   read_refused None now new p bytes line has taken s = tt
   read_refused (Some text) None new p bytes line has taken s = absurd has
   read_refused (Some text) (Some now) None p bytes line has taken s = absurd taken
@@ -63,22 +64,22 @@ module _ {A : Type 0} (rule : HeaderRule) where
         ∙ sym (append_assoc front s.front (s.byte ∷ (s.rest ++ new))),
     s.number ∙ ap (λ n. line_on n s.front) number ∙ sym (line_on-append 1 front s.front),
     λ more. ap (problem_by rule) (append_assoc front s.front (s.byte ∷ more)) ∙ says (s.front ++ s.byte ∷ more)
-        ∙ ap (problem_from p.parser) (sym (append_assoc s.front (s.byte ∷ []) more)) ∙ s.nothing more,
+        ∙ ap (problem_from formula p.parser) (sym (append_assoc s.front (s.byte ∷ []) more)) ∙ s.nothing more,
   )
 
   -- the end
-  pub read_all : (old now new : Option (List ℕ)) (p : LineParser A) (problem : Option Problem) → HasRead rule old now p
+  pub read_all : (old now new : Option (List ℕ)) (p : LineParser S A) (problem : Option Problem) → HasRead formula rule old now p
       → Consumes now new []
-      → IsAtEnd new → problem_from p.parser [] ≡ problem → IfSome old (λ text. problem_by rule text ≡ problem)
+      → IsAtEnd new → problem_from formula p.parser [] ≡ problem → IfSome old (λ text. problem_by rule text ≡ problem)
   read_all None now new p problem has taken end e = tt
   read_all (Some text) None new p problem has taken end e = absurd has
   read_all (Some text) (Some now) None p problem has taken end e = absurd taken
   read_all (Some text) (Some now) (Some new) p problem (front, is, number, says) taken end e =
       ap (problem_by rule) (is ∙ ap (λ rest. front ++ rest) (taken ∙ end)) ∙ says [] ∙ e
 
-  pub read_all-refused : (old now new : Option (List ℕ)) (p : LineParser A) (line : ℕ) → HasRead rule old now p
+  pub read_all-refused : (old now new : Option (List ℕ)) (p : LineParser S A) (line : ℕ) → HasRead formula rule old now p
       → Consumes now new []
-      → IsAtEnd new → (line ≡ p.line) × (problem_from p.parser [] ≡ None)
+      → IsAtEnd new → (line ≡ p.line) × (problem_from formula p.parser [] ≡ None)
       → IfSome old (λ text. IsRefusedBy rule text line)
   read_all-refused None now new p line has taken end e = tt
   read_all-refused (Some text) None new p line has taken end e = absurd has

@@ -1,6 +1,6 @@
 -- What the bytes of an input write, where they are known.
 use Rattle.std.specs.Prelude.{◌≡◌, ℕ, List, IfSome, IsTrue, Option, Some, None, is_some}
-use Rattle.gipsat_solver.specs.Formulas.{Formula}
+use Rattle.gipsat_cnf.specs.Formulas.{Formula}
 use Rattle.gipsat_dimacs.specs.Texts.{Problem, problem_by, IsRefusedBy}
 use Rattle.gipsat_dimacs.specs.declared.rule.HeaderRule.{HeaderRule}
 

@@ -2,6 +2,5 @@
 pub mod Texts
 pub mod Inputs
 pub mod Parsers
-pub mod Instances
 pub mod Errors
 pub mod Writer

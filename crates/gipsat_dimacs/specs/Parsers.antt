@@ -6,8 +6,8 @@
 use Rattle.std.specs.Prelude.{◌≡◌, ℕ, ◌+◌, max, ◌==◌, ◌&&◌, ◌||◌, Bool, true, false, not, List, [], ◌∷◌, ◌++◌, length, map, nat_lt, if◌then◌else◌, codes, Option, Some, None, ⊤}
 use Rattle.std.specs.List.{AllPass}
 use Rattle.std.specs.Option.{option_map, option_and_then}
-use Rattle.gipsat_solver.specs.Formulas.{Clause, Formula}
-use Rattle.gipsat_solver.specs.Literals.{Lit}
+use Rattle.gipsat_cnf.specs.Formulas.{Clause, Formula}
+use Rattle.gipsat_cnf.specs.Literals.{Lit}
 use Rattle.gipsat_dimacs.specs.Texts.{Word, Problem, begins, comment_byte, end_byte, ends_line, is_blank, says, uncommented, clause_words, word_lines, number_of, item_of, variable_limit, clauses_after, variables_with, header_of, goes_on, has_comment, is_header, line_on, with_word}
 use Rattle.gipsat_dimacs.specs.declared.rule.HeaderRule.{HeaderRule}
 use Rattle.gipsat_dimacs.specs.declared.rule.HeaderRule.TheVariants.{Strict, Relaxed}
@@ -121,17 +121,18 @@ problem_here rule true stage before begun (words ∷ lines) = problem_at rule st
 problem_here rule false stage before begun (words ∷ lines) = problem_at rule stage before begun words lines
 
 -- the problem that a text writes, where the parser has read all but this rest
-abbrev pub problem_from : {A : Type 0} → Parser A → List ℕ → Option Problem
-problem_from p rest =
-    problem_here p.rule p.in_comment p.stage p.solver.formula p.clause.items (word_lines (p.word.items ++ rest))
+abbrev pub problem_from : {S A : Type 0} → (S → Formula) → Parser S A → List ℕ → Option Problem
+problem_from formula p rest =
+    problem_here p.rule p.in_comment p.stage (formula p.clauses) p.clause.items (word_lines (p.word.items ++ rest))
 
 -- the problem, where the word that was being read has ended
-abbrev pub problem_next : {A : Type 0} → Parser A → List Word → List (List Word) → Option Problem
-problem_next p words lines = problem_at p.rule p.stage p.solver.formula p.clause.items words lines
+abbrev pub problem_next : {S A : Type 0} → (S → Formula) → Parser S A → List Word → List (List Word) → Option Problem
+problem_next formula p words lines = problem_at p.rule p.stage (formula p.clauses) p.clause.items words lines
 
 -- the same, where this is the stage
-abbrev pub problem_staged : {A : Type 0} → Stage → Parser A → List Word → List (List Word) → Option Problem
-problem_staged stage p words lines = problem_at p.rule stage p.solver.formula p.clause.items words lines
+abbrev pub problem_staged : {S A : Type 0} → (S → Formula) → Stage → Parser S A → List Word → List (List Word)
+    → Option Problem
+problem_staged formula stage p words lines = problem_at p.rule stage (formula p.clauses) p.clause.items words lines
 
 -- the byte may stand in a word
 abbrev pub is_word_byte : ℕ → Bool
@@ -172,38 +173,40 @@ abbrev pub begins_end : ℕ → Word → Stage → Bool
 begins_end byte word stage = (byte == end_byte) && (length word == 0) && begins_line stage
 
 -- the word of a parser is such
-abbrev pub IsReading : {A : Type 0} → Parser A → Type 0
+abbrev pub IsReading : {S A : Type 0} → Parser S A → Type 0
 IsReading p = IsWord p.rule p.stage p.in_comment p.word.items
 
 -- whatever the rest of the text, it writes the same problem
-abbrev pub SaysOn : {A : Type 0} → Parser A → List ℕ → Parser A → Type 0
-SaysOn old bytes new = (rest : List ℕ) → problem_from old (bytes ++ rest) ≡ problem_from new rest
+abbrev pub SaysOn : {S A : Type 0} → (S → Formula) → Parser S A → List ℕ → Parser S A → Type 0
+SaysOn formula old bytes new =
+    (rest : List ℕ) → problem_from formula old (bytes ++ rest) ≡ problem_from formula new rest
 
 -- whatever the rest of the text, it has not the form
-abbrev pub SaysNothing : {A : Type 0} → Parser A → List ℕ → Type 0
-SaysNothing old bytes = (rest : List ℕ) → problem_from old (bytes ++ rest) ≡ None
+abbrev pub SaysNothing : {S A : Type 0} → (S → Formula) → Parser S A → List ℕ → Type 0
+SaysNothing formula old bytes = (rest : List ℕ) → problem_from formula old (bytes ++ rest) ≡ None
 
 -- whatever comes after the word, the text writes the same problem
-abbrev pub EndsWord : {A : Type 0} → Parser A → Parser A → Type 0
-EndsWord old new =
+abbrev pub EndsWord : {S A : Type 0} → (S → Formula) → Parser S A → Parser S A → Type 0
+EndsWord formula old new =
     (words : List Word) (lines : List (List Word))
-    → problem_next old (with_word old.word.items words) lines ≡ problem_next new words lines
+    → problem_next formula old (with_word old.word.items words) lines ≡ problem_next formula new words lines
 
 -- whatever comes after the word, the text has not the form
-abbrev pub EndsNoWord : {A : Type 0} → Parser A → Type 0
-EndsNoWord old =
-    (words : List Word) (lines : List (List Word)) → problem_next old (with_word old.word.items words) lines ≡ None
+abbrev pub EndsNoWord : {S A : Type 0} → (S → Formula) → Parser S A → Type 0
+EndsNoWord formula old =
+    (words : List Word) (lines : List (List Word))
+    → problem_next formula old (with_word old.word.items words) lines ≡ None
 
 -- the same, where there is a word, and these are the stages before and after it
-abbrev pub TakesWord : {A : Type 0} → Stage → Parser A → Stage → Parser A → Type 0
-TakesWord s old t new =
+abbrev pub TakesWord : {S A : Type 0} → (S → Formula) → Stage → Parser S A → Stage → Parser S A → Type 0
+TakesWord formula s old t new =
     (words : List Word) (lines : List (List Word))
-    → problem_staged s old (old.word.items ∷ words) lines ≡ problem_staged t new words lines
+    → problem_staged formula s old (old.word.items ∷ words) lines ≡ problem_staged formula t new words lines
 
 -- where there is a word at this stage, the text has not the form, whatever comes after it
-abbrev pub TakesNoWord : {A : Type 0} → Stage → Parser A → Type 0
-TakesNoWord s old =
-    (words : List Word) (lines : List (List Word)) → problem_staged s old (old.word.items ∷ words) lines ≡ None
+abbrev pub TakesNoWord : {S A : Type 0} → (S → Formula) → Stage → Parser S A → Type 0
+TakesNoWord formula s old =
+    (words : List Word) (lines : List (List Word)) → problem_staged formula s old (old.word.items ∷ words) lines ≡ None
 
 -- whatever comes after the end of a line, the text writes the same problem at the next stage
 abbrev pub EndsLine : Stage → Stage → Type 0
@@ -223,10 +226,11 @@ OnRefusal P Memory = ⊤
 OnRefusal P (Refused reason) = P
 
 -- some of the bytes lead to this line, and with the next one nothing is said
-pub record IsStopped {A : Type 0} (old : LineParser A) (bytes : List ℕ) (line : ℕ) : Type 0 where
+pub record IsStopped {S A : Type 0} (formula : S → Formula) (old : LineParser S A) (bytes : List ℕ)
+    (line : ℕ) : Type 0 where
   pub front : List ℕ
   pub byte : ℕ
   pub rest : List ℕ
   pub all : bytes ≡ front ++ byte ∷ rest
   pub number : line ≡ line_on old.line front
-  pub nothing : SaysNothing old.parser (front ++ byte ∷ [])
+  pub nothing : SaysNothing formula old.parser (front ++ byte ∷ [])

@@ -5,7 +5,7 @@ use Rattle.std.specs.Option.{option_map, option_and_then}
 use Rattle.std.specs.Str.{byte, bytes_eq}
 use Rattle.giputils_text.specs.Lines.{line_feed, pieces}
 use Rattle.giputils_text.specs.Numbers.{number_up_to}
-use Rattle.gipsat_solver.specs.Formulas.{Clause, Formula}
+use Rattle.gipsat_cnf.specs.Formulas.{Clause, Formula}
 use Rattle.gipsat_dimacs.specs.declared.rule.HeaderRule.{HeaderRule}
 use Rattle.gipsat_dimacs.specs.declared.rule.HeaderRule.TheVariants.{Strict, Relaxed}
 use Rattle.gipsat_dimacs.specs.declared.words.Item.{Item}

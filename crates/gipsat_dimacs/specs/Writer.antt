@@ -1,8 +1,8 @@
 -- A clause as a line of a text in the DIMACS form.
 use Rattle.std.specs.Prelude.{ℕ, ◌+◌, Bool, List, [], ◌∷◌, ◌++◌, codes, decimal, if◌then◌else◌}
 use Rattle.std.specs.Str.{byte}
-use Rattle.gipsat_solver.specs.Formulas.{Clause}
-use Rattle.gipsat_solver.specs.Literals.{Lit}
+use Rattle.gipsat_cnf.specs.Formulas.{Clause}
+use Rattle.gipsat_cnf.specs.Literals.{Lit}
 use Rattle.gipsat_dimacs.specs.Texts.{Word}
 
 -- the literal of a variable that has this value: variable k of a formula is k + 1 in a text

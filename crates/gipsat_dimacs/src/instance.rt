@@ -1,13 +1,12 @@
 //! A formula that was read.
 
-use gipsat_solver::Solver;
-use std::alloc::{Allocator, Global};
+use gipsat_cnf::ClauseSink;
 
 /// A formula, and how many variables its text has: variable k of the text is variable k - 1 of the formula.
 #[derive(Drop)]
-pub struct Instance<A: Allocator = Global> {
+pub struct Instance<S: ClauseSink> {
     /// How many variables there are.
     pub variables: u32,
-    /// A solver that was given the clauses.
-    pub solver: Solver<A>,
+    /// What was given the clauses, as a [`gipsat_cnf::Cnf`].
+    pub clauses: S,
 }

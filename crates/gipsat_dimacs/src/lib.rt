@@ -13,6 +13,6 @@ pub mod writer;
 
 pub use error::{Compression, DimacsError, Reason};
 pub use instance::Instance;
-pub use reader::{read_instance, read_instance_by};
+pub use reader::{read_instance, read_instance_by, read_into};
 pub use rule::HeaderRule;
 pub use writer::write_clause;

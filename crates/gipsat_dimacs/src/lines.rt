@@ -1,6 +1,5 @@
 //! A parser that knows in which line it is.
 ghost use Rattle.std.specs.Prelude.{◌≡◌, [], ℕ, List, Some, None, IfOk, OnOk, IsErrOf};
-ghost use Rattle.gipsat_dimacs.specs.Instances.{HasLearnedNone};
 ghost use Rattle.gipsat_dimacs.specs.Texts.{problem_by, line_after, line_on};
 ghost use Rattle.gipsat_dimacs.specs.Parsers.{IsReading, IsStopped, SaysOn, problem_from};
 
@@ -8,25 +7,26 @@ use crate::error::{DimacsError, Reason};
 use crate::instance::Instance;
 use crate::parser::Parser;
 use crate::rule::HeaderRule;
+use gipsat_cnf::ClauseSink;
 use std::alloc::{Allocator, Global};
 
 // A parser, and the number of the line that it reads.
 #[derive(Drop)]
-pub struct LineParser<A: Allocator = Global> {
-    pub parser: Parser<A>,
+pub struct LineParser<S: ClauseSink, A: Allocator = Global> {
+    pub parser: Parser<S, A>,
     pub line: usize,
 }
 
-impl<A: Allocator + Copy> LineParser<A> {
-    // Before a text.
-    pub fn new(alloc: A, rule: HeaderRule) -> Self
+impl<S: ClauseSink + Drop, A: Allocator + Copy> LineParser<S, A> {
+    // Before a text, whose clauses go to what has none.
+    pub fn new(alloc: A, rule: HeaderRule, clauses: S) -> Self
+        requires empty { S.formula clauses ≡ [] }
         ensures reading { IsReading result.parser }
-        ensures fresh { HasLearnedNone result.parser.solver }
         ensures line { result.line ≡ 1 }
-        ensures all { (text : List ℕ) → problem_from result.parser text ≡ problem_by rule text }
+        ensures all { (text : List ℕ) → problem_from S.formula result.parser text ≡ problem_by rule text }
     {
         LineParser {
-            parser: Parser::new(alloc, rule),
+            parser: Parser::new(alloc, rule, clauses),
             line: 1,
         }
     }
@@ -34,13 +34,11 @@ impl<A: Allocator + Copy> LineParser<A> {
     // Reads some bytes more.
     pub fn feed(&mut self, bytes: &[u8]) -> Result<(), DimacsError>
         requires reading { IsReading self.old.parser }
-        requires fresh { HasLearnedNone self.old.parser.solver }
         ensures reading { OnOk result (IsReading self.new.parser) }
-        ensures fresh { OnOk result (HasLearnedNone self.new.parser.solver) }
-        ensures ok { OnOk result (SaysOn self.old.parser bytes.now self.new.parser) }
+        ensures ok { OnOk result (SaysOn S.formula self.old.parser bytes.now self.new.parser) }
         ensures line { OnOk result (self.new.line ≡ line_on self.old.line bytes.now) }
         ensures stopped { (line : ℕ) (reason : Reason) → IsErrOf result (DimacsError.Line line reason) →
-            IsStopped self.old bytes.now line }
+            IsStopped S.formula self.old bytes.now line }
     {
         for byte in bytes {
             if let Err(stop) = self.parser.byte(*byte) {
@@ -52,14 +50,12 @@ impl<A: Allocator + Copy> LineParser<A> {
     }
 
     // The number of variables and the clauses, where the text has ended.
-    pub fn finish(self) -> Result<Instance<A>, DimacsError>
+    pub fn finish(self) -> Result<Instance<S>, DimacsError>
         requires reading { IsReading self.parser }
-        requires fresh { HasLearnedNone self.parser.solver }
-        ensures fresh { IfOk result (λ f. HasLearnedNone f.solver) }
-        ensures ok { IfOk result (λ f. problem_from self.parser [] ≡
-            Some (record { variables = f.variables; clauses = f.solver.formula })) }
+        ensures ok { IfOk result (λ f. problem_from S.formula self.parser [] ≡
+            Some (record { variables = f.variables; clauses = S.formula f.clauses })) }
         ensures stopped { (line : ℕ) (reason : Reason) → IsErrOf result (DimacsError.Line line reason) →
-            (line ≡ self.line) × (problem_from self.parser [] ≡ None) }
+            (line ≡ self.line) × (problem_from S.formula self.parser [] ≡ None) }
     {
         let line = self.line;
         match self.parser.finish() {

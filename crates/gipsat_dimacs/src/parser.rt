@@ -1,6 +1,5 @@
 //! A parser that is given a text in parts.
 ghost use Rattle.std.specs.Prelude.{◌≡◌, ◌<◌, ◌++◌, ◌∷◌, [], ℕ, Bool, true, false, List, length, Some, None, IfOk, IfErr, OnOk, OnErr};
-ghost use Rattle.gipsat_dimacs.specs.Instances.{HasLearnedNone};
 ghost use Rattle.gipsat_dimacs.specs.Texts.{problem_by, begins, has_comment, comment_byte, end_byte};
 ghost use Rattle.gipsat_dimacs.specs.Parsers.{IsReading, OnRefusal, SaysOn, SaysNothing, begins_comment, begins_end, begins_line, takes_comment, problem_from, problem_left, problem_next, EndsWord, EndsNoWord, TakesWord, TakesNoWord};
 ghost use Rattle.gipsat_dimacs.specs.declared.stage.Stage.TheVariants.{Start, Words};
@@ -11,14 +10,14 @@ use crate::instance::Instance;
 use crate::rule::HeaderRule;
 use crate::stage::{Header, Stage, expect, first_word, is_header, next_line, takes_comment};
 use crate::words::{Item, is_blank, item_in, number};
-use gipsat_solver::{Literal, Solver};
+use gipsat_cnf::{ClauseSink, Literal};
 use std::alloc::{Allocator, Global};
 
 // What has been read of a text.
 #[derive(Drop)]
-pub struct Parser<A: Allocator = Global> {
-    // The clauses that have ended.
-    pub solver: Solver<A>,
+pub struct Parser<S: ClauseSink, A: Allocator = Global> {
+    // It has the clauses that have ended.
+    pub clauses: S,
     // The literals of the clause that has not ended.
     pub clause: Vec<Literal, A>,
     // The word that has not ended.
@@ -28,15 +27,15 @@ pub struct Parser<A: Allocator = Global> {
     pub rule: HeaderRule,
 }
 
-impl<A: Allocator + Copy> Parser<A> {
-    // Before a text.
-    pub fn new(alloc: A, rule: HeaderRule) -> Self
+impl<S: ClauseSink + Drop, A: Allocator + Copy> Parser<S, A> {
+    // Before a text, whose clauses go to what has none.
+    pub fn new(alloc: A, rule: HeaderRule, clauses: S) -> Self
+        requires empty { S.formula clauses ≡ [] }
         ensures reading { IsReading result }
-        ensures fresh { HasLearnedNone result.solver }
-        ensures all { (text : List ℕ) → problem_from result text ≡ problem_by rule text }
+        ensures all { (text : List ℕ) → problem_from S.formula result text ≡ problem_by rule text }
     {
         Parser {
-            solver: Solver::new(alloc),
+            clauses,
             clause: Vec::new(alloc),
             word: Vec::new(alloc),
             stage: Stage::Start,
@@ -48,11 +47,9 @@ impl<A: Allocator + Copy> Parser<A> {
     // Reads a byte more.
     pub fn byte(&mut self, byte: u8) -> Result<(), Stop>
         requires reading { IsReading self.old }
-        requires fresh { HasLearnedNone self.old.solver }
         ensures reading { OnOk result (IsReading self.new) }
-        ensures fresh { OnOk result (HasLearnedNone self.new.solver) }
-        ensures ok { OnOk result (SaysOn self.old (byte ∷ []) self.new) }
-        ensures err { IfErr result (OnRefusal (SaysNothing self.old (byte ∷ []))) }
+        ensures ok { OnOk result (SaysOn S.formula self.old (byte ∷ []) self.new) }
+        ensures err { IfErr result (OnRefusal (SaysNothing S.formula self.old (byte ∷ []))) }
     {
         if byte == b'\n' {
             return self.end_line();
@@ -94,11 +91,9 @@ impl<A: Allocator + Copy> Parser<A> {
     // Ends the line.
     fn end_line(&mut self) -> Result<(), Stop>
         requires reading { IsReading self.old }
-        requires fresh { HasLearnedNone self.old.solver }
         ensures reading { OnOk result (IsReading self.new) }
-        ensures fresh { OnOk result (HasLearnedNone self.new.solver) }
-        ensures ok { OnOk result (SaysOn self.old (line_feed ∷ []) self.new) }
-        ensures err { IfErr result (OnRefusal (SaysNothing self.old (line_feed ∷ []))) }
+        ensures ok { OnOk result (SaysOn S.formula self.old (line_feed ∷ []) self.new) }
+        ensures err { IfErr result (OnRefusal (SaysNothing S.formula self.old (line_feed ∷ []))) }
     {
         if self.stage.is_ended() {
             return Ok(());
@@ -112,12 +107,10 @@ impl<A: Allocator + Copy> Parser<A> {
     // Ends the word, if there is one.
     fn end_word(&mut self) -> Result<(), Stop>
         requires reading { IsReading self.old }
-        requires fresh { HasLearnedNone self.old.solver }
-        ensures fresh { OnOk result (HasLearnedNone self.new.solver) }
         ensures word { OnOk result (self.new.word.items ≡ []) }
         ensures comment { self.new.in_comment ≡ self.old.in_comment }
-        ensures ok { OnOk result (EndsWord self.old self.new) }
-        ensures err { IfErr result (OnRefusal (EndsNoWord self.old)) }
+        ensures ok { OnOk result (EndsWord S.formula self.old self.new) }
+        ensures err { IfErr result (OnRefusal (EndsNoWord S.formula self.old)) }
     {
         if self.word.is_empty() {
             return Ok(());
@@ -130,16 +123,14 @@ impl<A: Allocator + Copy> Parser<A> {
     // The stage after the word.
     fn take_word(&mut self) -> Result<Stage, Stop>
         requires some { 0 < length self.old.word.items }
-        requires fresh { HasLearnedNone self.old.solver }
         requires no_comment { takes_comment self.old.rule self.old.stage self.old.word.items ≡ true →
             has_comment self.old.word.items ≡ false }
         requires no_comment_line { begins_line self.old.stage ≡ true →
             begins comment_byte self.old.word.items ≡ false }
         requires no_end { begins_line self.old.stage ≡ true → begins end_byte self.old.word.items ≡ false }
-        ensures fresh { OnOk result (HasLearnedNone self.new.solver) }
         ensures comment { self.new.in_comment ≡ self.old.in_comment }
-        ensures ok { IfOk result (λ stage. TakesWord self.old.stage self.old stage self.new) }
-        ensures err { IfErr result (OnRefusal (TakesNoWord self.old.stage self.old)) }
+        ensures ok { IfOk result (λ stage. TakesWord S.formula self.old.stage self.old stage self.new) }
+        ensures err { IfErr result (OnRefusal (TakesNoWord S.formula self.old.stage self.old)) }
     {
         match self.stage {
             Stage::Start => self.take_first(),
@@ -159,15 +150,13 @@ impl<A: Allocator + Copy> Parser<A> {
     // The stage after the word, which is the first.
     fn take_first(&mut self) -> Result<Stage, Stop>
         requires some { 0 < length self.old.word.items }
-        requires fresh { HasLearnedNone self.old.solver }
         requires no_comment { takes_comment self.old.rule Start self.old.word.items ≡ true →
             has_comment self.old.word.items ≡ false }
         requires no_comment_line { begins comment_byte self.old.word.items ≡ false }
         requires no_end { begins end_byte self.old.word.items ≡ false }
-        ensures fresh { OnOk result (HasLearnedNone self.new.solver) }
         ensures comment { self.new.in_comment ≡ self.old.in_comment }
-        ensures ok { IfOk result (λ stage. TakesWord Start self.old stage self.new) }
-        ensures err { IfErr result (OnRefusal (TakesNoWord Start self.old)) }
+        ensures ok { IfOk result (λ stage. TakesWord S.formula Start self.old stage self.new) }
+        ensures err { IfErr result (OnRefusal (TakesNoWord S.formula Start self.old)) }
     {
         if is_header(self.rule, &self.word) {
             return Ok(first_word(&self.word)?);
@@ -178,11 +167,9 @@ impl<A: Allocator + Copy> Parser<A> {
     // The stage after the word, which is one of a clause.
     fn take_item(&mut self, header: Header) -> Result<Stage, Stop>
         requires no_comment { has_comment self.old.word.items ≡ false }
-        requires fresh { HasLearnedNone self.old.solver }
-        ensures fresh { OnOk result (HasLearnedNone self.new.solver) }
         ensures comment { self.new.in_comment ≡ self.old.in_comment }
-        ensures ok { IfOk result (λ stage. TakesWord (Words header) self.old stage self.new) }
-        ensures err { IfErr result (OnRefusal (TakesNoWord (Words header) self.old)) }
+        ensures ok { IfOk result (λ stage. TakesWord S.formula (Words header) self.old stage self.new) }
+        ensures err { IfErr result (OnRefusal (TakesNoWord S.formula (Words header) self.old)) }
     {
         let item = item_in(&self.word, self.rule.variable_limit(header.variables))?;
         if header.is_full(self.rule) {
@@ -194,7 +181,7 @@ impl<A: Allocator + Copy> Parser<A> {
                 Ok(Stage::Words(header.with_literal(self.rule, l)))
             }
             Item::End => {
-                self.solver.add_clause(&self.clause)?;
+                self.clauses.add_clause(&self.clause)?;
                 self.clause.clear();
                 Ok(Stage::Words(Header {
                     variables: header.variables,
@@ -205,13 +192,11 @@ impl<A: Allocator + Copy> Parser<A> {
     }
 
     // The number of variables and the clauses, where the text has ended.
-    pub fn finish(mut self) -> Result<Instance<A>, Stop>
+    pub fn finish(mut self) -> Result<Instance<S>, Stop>
         requires reading { IsReading self }
-        requires fresh { HasLearnedNone self.solver }
-        ensures fresh { IfOk result (λ f. HasLearnedNone f.solver) }
-        ensures ok { IfOk result (λ f. problem_from self [] ≡
-            Some (record { variables = f.variables; clauses = f.solver.formula })) }
-        ensures err { IfErr result (OnRefusal (problem_from self [] ≡ None)) }
+        ensures ok { IfOk result (λ f. problem_from S.formula self [] ≡
+            Some (record { variables = f.variables; clauses = S.formula f.clauses })) }
+        ensures err { IfErr result (OnRefusal (problem_from S.formula self [] ≡ None)) }
     {
         self.in_comment = false;
         self.end_word()?;
@@ -219,25 +204,23 @@ impl<A: Allocator + Copy> Parser<A> {
     }
 
     // The formula, where the text may end.
-    fn close(self) -> Result<Instance<A>, Reason>
-        requires fresh { HasLearnedNone self.solver }
-        ensures fresh { IfOk result (λ f. HasLearnedNone f.solver) }
-        ensures ok { IfOk result (λ f. problem_next self [] [] ≡
-            Some (record { variables = f.variables; clauses = f.solver.formula })) }
-        ensures err { OnErr result (problem_next self [] [] ≡ None) }
+    fn close(self) -> Result<Instance<S>, Reason>
+        ensures ok { IfOk result (λ f. problem_next S.formula self [] [] ≡
+            Some (record { variables = f.variables; clauses = S.formula f.clauses })) }
+        ensures err { OnErr result (problem_next S.formula self [] [] ≡ None) }
     {
         let variables = self.ended()?;
         Ok(Instance {
             variables,
-            solver: self.solver,
+            clauses: self.clauses,
         })
     }
 
     // The number of variables, where the text may end.
     fn ended(&self) -> Result<u32, Reason>
-        ensures ok { IfOk result (λ n. problem_next self.now [] [] ≡
-            Some (record { variables = n; clauses = self.now.solver.formula })) }
-        ensures err { OnErr result (problem_next self.now [] [] ≡ None) }
+        ensures ok { IfOk result (λ n. problem_next S.formula self.now [] [] ≡
+            Some (record { variables = n; clauses = S.formula self.now.clauses })) }
+        ensures err { OnErr result (problem_next S.formula self.now [] [] ≡ None) }
     {
         match self.stage {
             Stage::Start => match self.rule {
@@ -255,10 +238,10 @@ impl<A: Allocator + Copy> Parser<A> {
     // The number of variables, where the text may end after this header and what was read.
     fn ended_after(&self, header: Header) -> Result<u32, Reason>
         ensures ok { IfOk result (λ n.
-            problem_left self.now.rule header self.now.solver.formula self.now.clause.items [] ≡
-            Some (record { variables = n; clauses = self.now.solver.formula })) }
+            problem_left self.now.rule header (S.formula self.now.clauses) self.now.clause.items [] ≡
+            Some (record { variables = n; clauses = S.formula self.now.clauses })) }
         ensures err { OnErr result
-            (problem_left self.now.rule header self.now.solver.formula self.now.clause.items [] ≡ None) }
+            (problem_left self.now.rule header (S.formula self.now.clauses) self.now.clause.items [] ≡ None) }
     {
         if !self.clause.is_empty() {
             return Err(Reason::OpenClause);

@@ -1,7 +1,6 @@
 //! A text from a reader to a formula.
-ghost use Rattle.std.specs.Prelude.{◌≡◌, ℕ, vec_len, IfOk, OnOk, IsErrOf};
+ghost use Rattle.std.specs.Prelude.{◌≡◌, [], ℕ, vec_len, IfOk, OnOk, IsErrOf};
 ghost use Rattle.std.specs.Io.KnownBytes.{IsAtEnd};
-ghost use Rattle.gipsat_dimacs.specs.Instances.{HasLearnedNone};
 ghost use Rattle.gipsat_dimacs.specs.Inputs.{Writes, WritesNone, IsRefusedAt};
 ghost use Rattle.gipsat_dimacs.specs.declared.rule.HeaderRule.TheVariants.{Strict};
 
@@ -9,6 +8,7 @@ use crate::error::{DimacsError, Reason};
 use crate::instance::Instance;
 use crate::lines::LineParser;
 use crate::rule::HeaderRule;
+use gipsat_cnf::{ClauseSink, Cnf};
 use std::alloc::{AllocError, Allocator};
 use std::io::Read;
 
@@ -18,15 +18,14 @@ const BUFFER_SIZE: usize = 65_536;
 /// Reads a text to its end: the formula that it writes. The counts of its header hold.
 ///
 /// # Errors
-/// As [`read_instance_by`].
+/// As [`read_into`].
 pub fn read_instance<R: Read, A: Allocator + Copy>(
     alloc: A,
     reader: &mut R,
-) -> Result<Instance<A>, DimacsError>
+) -> Result<Instance<Cnf<A>>, DimacsError>
     ensures end { OnOk result (IsAtEnd (R.remaining reader.new)) }
     ensures ok { IfOk result (λ f. Writes Strict (R.remaining reader.old)
-        (record { variables = f.variables; clauses = f.solver.formula })) }
-    ensures fresh { IfOk result (λ f. HasLearnedNone f.solver) }
+        (record { variables = f.variables; clauses = f.clauses })) }
     ensures line { (line : ℕ) (reason : Reason) → IsErrOf result (DimacsError.Line line reason) →
         WritesNone Strict (R.remaining reader.old) }
     ensures in_line { (line : ℕ) (reason : Reason) → IsErrOf result (DimacsError.Line line reason) →
@@ -38,27 +37,48 @@ pub fn read_instance<R: Read, A: Allocator + Copy>(
 /// Reads a text to its end: the formula that it writes by a rule for its header.
 ///
 /// # Errors
-/// - [`DimacsError::Input`] where a read fails.
-/// - [`DimacsError::Line`] with the number of the line at which the text has another form, and why.
-/// - [`DimacsError::Memory`] where memory is refused.
-///
-/// How much was read then is open.
+/// As [`read_into`].
 pub fn read_instance_by<R: Read, A: Allocator + Copy>(
     alloc: A,
     reader: &mut R,
     rule: HeaderRule,
-) -> Result<Instance<A>, DimacsError>
+) -> Result<Instance<Cnf<A>>, DimacsError>
     ensures end { OnOk result (IsAtEnd (R.remaining reader.new)) }
     ensures ok { IfOk result (λ f. Writes rule (R.remaining reader.old)
-        (record { variables = f.variables; clauses = f.solver.formula })) }
-    ensures fresh { IfOk result (λ f. HasLearnedNone f.solver) }
+        (record { variables = f.variables; clauses = f.clauses })) }
+    ensures line { (line : ℕ) (reason : Reason) → IsErrOf result (DimacsError.Line line reason) →
+        WritesNone rule (R.remaining reader.old) }
+    ensures in_line { (line : ℕ) (reason : Reason) → IsErrOf result (DimacsError.Line line reason) →
+        IsRefusedAt rule (R.remaining reader.old) line }
+{
+    read_into(alloc, reader, rule, Cnf::new(alloc))
+}
+
+/// Reads a text to its end, and gives each clause, when it ends, to what has none so far, as a list or a solver.
+///
+/// # Errors
+/// - [`DimacsError::Input`] where a read fails.
+/// - [`DimacsError::Line`] with the number of the line at which the text has another form, and why.
+/// - [`DimacsError::Memory`] where memory is refused, or a clause is.
+///
+/// How much was read then is open. What was given clauses is dropped.
+pub fn read_into<R: Read, S: ClauseSink + Drop, A: Allocator + Copy>(
+    alloc: A,
+    reader: &mut R,
+    rule: HeaderRule,
+    sink: S,
+) -> Result<Instance<S>, DimacsError>
+    requires empty { S.formula sink ≡ [] }
+    ensures end { OnOk result (IsAtEnd (R.remaining reader.new)) }
+    ensures ok { IfOk result (λ f. Writes rule (R.remaining reader.old)
+        (record { variables = f.variables; clauses = S.formula f.clauses })) }
     ensures line { (line : ℕ) (reason : Reason) → IsErrOf result (DimacsError.Line line reason) →
         WritesNone rule (R.remaining reader.old) }
     ensures in_line { (line : ℕ) (reason : Reason) → IsErrOf result (DimacsError.Line line reason) →
         IsRefusedAt rule (R.remaining reader.old) line }
 {
     let mut buf = zeros(alloc, BUFFER_SIZE)?;
-    let mut parser = LineParser::new(alloc, rule);
+    let mut parser = LineParser::new(alloc, rule, sink);
     for _ in 0..u64::MAX {
         let Ok(n) = reader.read(&mut buf) else {
             return Err(DimacsError::Input);

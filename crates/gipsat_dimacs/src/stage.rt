@@ -8,7 +8,7 @@ ghost use Rattle.gipsat_dimacs.specs.declared.stage.Stage.TheVariants.{Problem};
 use crate::error::Reason;
 use crate::rule::HeaderRule;
 use crate::words::compression_of;
-use gipsat_solver::Literal;
+use gipsat_cnf::Literal;
 
 // How many variables there are, and how many clauses are left to come.
 #[derive(Clone, Copy)]

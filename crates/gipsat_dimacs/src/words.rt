@@ -3,7 +3,7 @@ ghost use Rattle.std.specs.Prelude.{◌≡◌, ◌<◌, ◌^◌, ◌==◌, ◌||
 ghost use Rattle.gipsat_dimacs.specs.Texts.{number_of, item_of, signed_item, is_blank, greatest_number};
 
 use crate::error::{Compression, Reason};
-use gipsat_solver::Literal;
+use gipsat_cnf::Literal;
 
 // What a word of a clause says.
 #[derive(Clone, Copy)]

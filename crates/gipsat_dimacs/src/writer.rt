@@ -2,7 +2,7 @@
 ghost use Rattle.std.specs.Prelude.{◌≡◌, ◌++◌, OnOk};
 ghost use Rattle.gipsat_dimacs.specs.Writer.{clause_line, literal_text};
 
-use gipsat_solver::Literal;
+use gipsat_cnf::Literal;
 use std::alloc::{AllocError, Allocator};
 use std::io::Write;
 

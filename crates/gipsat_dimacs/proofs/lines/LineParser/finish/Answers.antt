@@ -6,6 +6,6 @@ use Rattle.gipsat_dimacs.proofs.lines.LineParser.finish.Goals as goal
 
 pub returns-in-Err-clause-stopped : goal.returns-in-Err-clause-stopped
 returns-in-Err-clause-stopped g c line reason is =
-    refused_at (problem_from c.args.self.parser [] ≡ None) _ c.in-Err.stop c.args.self.line line reason
+    refused_at (problem_from g.S.ClauseSink.formula c.args.self.parser [] ≡ None) _ c.in-Err.stop c.args.self.line line reason
     (ap (λ e. Err e) c.at.ensures) is
     c.in-Err.ensures.err

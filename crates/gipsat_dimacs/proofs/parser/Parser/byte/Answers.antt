@@ -9,78 +9,86 @@ use Rattle.gipsat_dimacs.proofs.parser.Parser.byte.Goals as goal
 
 pub returns-then-self-clause-ok : goal.returns-then-self-clause-ok
 returns-then-self-clause-ok g c rest =
+    let f = g.S.ClauseSink.formula in
     let p = c.args.self.now in
     let other : (c.args.byte == 10) ≡ false = grind arith in
-    in_comment-more p.rule p.solver.formula p.clause.items p.in_comment p.stage p.word.items c.args.byte rest
+    in_comment-more p.rule (f p.clauses) p.clause.items p.in_comment p.stage p.word.items c.args.byte rest
     c.requires.reading c.if-self.true other
 
 pub returns-then-is_blank-clause-ok : goal.returns-then-is_blank-clause-ok
 returns-then-is_blank-clause-ok g c =
+    let f = g.S.ClauseSink.formula in
     let p = c.args.self.now in
     let q = c.end_word.new.self in
     let blank : is_blank c.args.byte ≡ true = cc in
     on_ok_both (q.word.items ≡ [])
     ((words : List Word) (lines : List (List Word))
-    → problem_next p (with_word p.word.items words) lines ≡ problem_next q words lines)
-    (SaysOn p (c.args.byte ∷ []) q) c.end_word.result c.end_word.ensures.word c.end_word.ensures.ok
-    (λ none says rest. blank_says p.rule p.solver.formula p.clause.items p.in_comment p.stage p.word.items c.args.byte
+    → problem_next f p (with_word p.word.items words) lines ≡ problem_next f q words lines)
+    (SaysOn f p (c.args.byte ∷ []) q) c.end_word.result c.end_word.ensures.word c.end_word.ensures.ok
+    (λ none says rest. blank_says p.rule (f p.clauses) p.clause.items p.in_comment p.stage p.word.items c.args.byte
     rest c.requires.reading
-    c.if-self.false blank q.rule q.in_comment q.stage q.solver.formula q.clause.items q.word.items
+    c.if-self.false blank q.rule q.in_comment q.stage (f q.clauses) q.clause.items q.word.items
     c.end_word.ensures.comment none says)
 
 pub returns-then-is_blank-clause-err : goal.returns-then-is_blank-clause-err
 returns-then-is_blank-clause-err g c =
+    let f = g.S.ClauseSink.formula in
     let p = c.args.self.now in
     let blank : is_blank c.args.byte ≡ true = cc in
     if_refused ((words : List Word) (lines : List (List Word))
-    → problem_next p (with_word p.word.items words) lines ≡ None)
-    (SaysNothing p (c.args.byte ∷ [])) c.end_word.result
-    (λ refused rest. blank_refused p.rule p.solver.formula p.clause.items p.in_comment p.stage p.word.items c.args.byte
+    → problem_next f p (with_word p.word.items words) lines ≡ None)
+    (SaysNothing f p (c.args.byte ∷ [])) c.end_word.result
+    (λ refused rest. blank_refused p.rule (f p.clauses) p.clause.items p.in_comment p.stage p.word.items c.args.byte
     rest c.requires.reading
     c.if-self.false blank refused) c.end_word.ensures.err
 
 pub returns-then-begins_comment-clause-ok : goal.returns-then-begins_comment-clause-ok
 returns-then-begins_comment-clause-ok g c rest =
+    let f = g.S.ClauseSink.formula in
     let p = c.args.self.now in
     let q = c.end_word-then-begins_comment.new.self in
     let begins : begins_comment c.args.byte p.rule p.stage p.word.items ≡ true = cc in
-    comment_says p.rule p.solver.formula p.clause.items p.in_comment p.stage p.word.items c.args.byte rest
+    comment_says p.rule (f p.clauses) p.clause.items p.in_comment p.stage p.word.items c.args.byte rest
     c.requires.reading
-    c.if-self.false begins q.rule q.stage q.solver.formula q.clause.items q.word.items c.in_ok-end_word.ensures.word
+    c.if-self.false begins q.rule q.stage (f q.clauses) q.clause.items q.word.items c.in_ok-end_word.ensures.word
     c.in_ok-end_word.ensures.ok
 
 pub returns-in_err-end_word-clause-err : goal.returns-in_err-end_word-clause-err
 returns-in_err-end_word-clause-err g c =
+    let f = g.S.ClauseSink.formula in
     let p = c.args.self.now in
     let begins : begins_comment c.args.byte p.rule p.stage p.word.items ≡ true = cc in
     passed_on ((words : List Word) (lines : List (List Word))
-    → problem_next p (with_word p.word.items words) lines ≡ None)
-    (SaysNothing p (c.args.byte ∷ [])) c.from_residual.result _
-    (λ refused rest. comment_refused p.rule p.solver.formula p.clause.items p.in_comment p.stage p.word.items
+    → problem_next f p (with_word p.word.items words) lines ≡ None)
+    (SaysNothing f p (c.args.byte ∷ [])) c.from_residual.result _
+    (λ refused rest. comment_refused p.rule (f p.clauses) p.clause.items p.in_comment p.stage p.word.items
     c.args.byte rest c.requires.reading
     c.if-self.false begins refused) c.from_residual.ensures c.in_err-end_word.ensures.err
 
 pub returns-in_err-ended-clause-err : goal.returns-in_err-ended-clause-err
 returns-in_err-ended-clause-err g c =
+    let f = g.S.ClauseSink.formula in
     let p = c.args.self.now in
     let begins : begins_end c.args.byte p.word.items p.stage ≡ true = cc in
-    let nothing : SaysNothing p (c.args.byte ∷ []) =
-    λ rest. end_begins p.rule p.solver.formula p.clause.items p.in_comment p.stage p.word.items c.args.byte rest
+    let nothing : SaysNothing f p (c.args.byte ∷ []) =
+    λ rest. end_begins p.rule (f p.clauses) p.clause.items p.in_comment p.stage p.word.items c.args.byte rest
     c.if-self.false begins
     ∙ c.in_err-ended.ensures.err in
-    passed_on (SaysNothing p (c.args.byte ∷ [])) (SaysNothing p (c.args.byte ∷ [])) c.from_residual-in_err-ended.result
+    passed_on (SaysNothing f p (c.args.byte ∷ [])) (SaysNothing f p (c.args.byte ∷ [])) c.from_residual-in_err-ended.result
     (Refused c.in_err-ended.field-0.0) (λ h. h) c.from_residual-in_err-ended.ensures nothing
 
 pub returns-then-begins_end-clause-ok : goal.returns-then-begins_end-clause-ok
 returns-then-begins_end-clause-ok g c rest =
+    let f = g.S.ClauseSink.formula in
     let p = c.args.self.now in
     let begins : begins_end c.args.byte p.word.items p.stage ≡ true = cc in
-    end_here p.rule p.solver.formula p.clause.items p.in_comment true p.stage p.word.items c.args.byte
+    end_here p.rule (f p.clauses) p.clause.items p.in_comment true p.stage p.word.items c.args.byte
     c.in_ok-ended.field-0 rest
     (p.word.items ++ rest) c.if-self.false begins c.in_ok-ended.ensures.ok
 
 pub returns-clause-reading : goal.returns-clause-reading
 returns-clause-reading g c =
+    let f = g.S.ClauseSink.formula in
     let p = c.args.self.now in
     let other : (c.args.byte == 10) ≡ false = grind arith in
     let plain : is_blank c.args.byte ≡ false = cc in

@@ -9,26 +9,29 @@ use Rattle.gipsat_dimacs.proofs.parser.Parser.finish.Goals as goal
 
 pub returns-in_err-end_word-clause-err : goal.returns-in_err-end_word-clause-err
 returns-in_err-end_word-clause-err g c =
+    let f = g.S.ClauseSink.formula in
     let p = c.args.self in
     passed_on ((words : List Word) (lines : List (List Word))
-    → problem_next p (with_word p.word.items words) lines ≡ None)
-    (problem_from p [] ≡ None) c.from_residual.result _
-    (λ h. ended_all p.rule p.solver.formula p.clause.items p.in_comment p.stage p.word.items c.requires.reading
+    → problem_next f p (with_word p.word.items words) lines ≡ None)
+    (problem_from f p [] ≡ None) c.from_residual.result _
+    (λ h. ended_all p.rule (f p.clauses) p.clause.items p.in_comment p.stage p.word.items c.requires.reading
     ∙ h [] [])
     c.from_residual.ensures c.in_err-end_word.ensures.err
 
 pub returns-in_err-close-clause-err : goal.returns-in_err-close-clause-err
 returns-in_err-close-clause-err g c =
+    let f = g.S.ClauseSink.formula in
     let p = c.args.self in
-    let nothing : problem_from p [] ≡ None =
-    ended_all p.rule p.solver.formula p.clause.items p.in_comment p.stage p.word.items c.requires.reading
+    let nothing : problem_from f p [] ≡ None =
+    ended_all p.rule (f p.clauses) p.clause.items p.in_comment p.stage p.word.items c.requires.reading
     ∙ c.in_ok-end_word.ensures.ok [] [] ∙ c.in_err-close.ensures.err in
-    passed_on (problem_from p [] ≡ None) (problem_from p [] ≡ None) c.from_residual-in_err-close.result
+    passed_on (problem_from f p [] ≡ None) (problem_from f p [] ≡ None) c.from_residual-in_err-close.result
     (Refused c.in_err-close.field-0.0) (λ h. h)
     c.from_residual-in_err-close.ensures nothing
 
 pub returns-clause-ok : goal.returns-clause-ok
 returns-clause-ok g c =
+    let f = g.S.ClauseSink.formula in
     let p = c.args.self in
-    ended_all p.rule p.solver.formula p.clause.items p.in_comment p.stage p.word.items c.requires.reading
+    ended_all p.rule (f p.clauses) p.clause.items p.in_comment p.stage p.word.items c.requires.reading
     ∙ c.in_ok-end_word.ensures.ok [] [] ∙ c.in_ok-close.ensures.ok

@@ -10,6 +10,6 @@ returns-then-is_full-clause-err g c words lines =
     let self = c.args.self.now in
     let full : is_full self.rule c.args.header ≡ true = cc in
     rw c.requires.no_comment
-    (too_many self.rule self.solver.formula self.clause.items c.args.header c.in_ok-item.item self.word.items
+    (too_many self.rule (g.S.ClauseSink.formula self.clauses) self.clause.items c.args.header c.in_ok-item.item self.word.items
     (uncommented words ++ clause_words lines)
     (rw (c.deref.ensures.value, c.variable_limit.ensures) at c.in_ok-item.ensures.ok) full)
