@@ -6,10 +6,11 @@ use Rattle.gipsat_answers.specs.declared.answers.Verdict.TheVariants.{Satisfiabl
 use Rattle.gipsat_drat.specs.declared.error.Flaw.TheVariants.{NotShown}
 use Rattle.gipsat_drat.specs.declared.error.Outcome.TheVariants.{Verified, Refused}
 use Rattle.gipsat_drat.specs.declared.error.Place.TheVariants.{Line}
-use Rattle.gipsat.specs.Misuses.{UnknownOption, NoValue, NoNumber, ExtraFile, MissingFile, NotForCheck, InputTwice, OutputTwice}
+use Rattle.gip_program.specs.Items.{UnknownOption, NoValue, NoNumber}
+use Rattle.gip_program.specs.declared.items.Info.TheVariants as info
+use Rattle.gipsat.specs.Misuses.{Words, ExtraFile, MissingFile, NotForCheck, InputTwice, OutputTwice}
 use Rattle.gipsat.specs.Options.{no_request}
-use Rattle.gipsat.specs.Words.{work_asked, Help, Version, Solve, Check}
-use Rattle.gipsat.specs.declared.options.Setting.TheVariants.{Conflicts, Time, Proof}
+use Rattle.gipsat.specs.Words.{work_asked, Tell, Solve, Check}
 use Rattle.gipsat_dimacs.specs.Inputs.{HasForm, WritesNone, HasClauses, IsRefusedAt}
 use Rattle.gipsat_dimacs.specs.declared.rule.HeaderRule.TheVariants as rule
 use Rattle.gipsat.specs.Statuses.{checking_status, solving_status}
@@ -33,13 +34,13 @@ joined : work_asked (codes "--conflicts=7" ∷ codes "--time=9" ∷ codes "--pro
     ≡ Ok (Solve (record no_request { conflicts = 7; time = Some 9; proof = Some (codes "p=q"); file = Some (codes "a") }))
 joined = refl
 
-refused-joined_switch : work_asked (codes "--stats=1" ∷ []) ≡ Err (UnknownOption (codes "--stats=1"))
+refused-joined_switch : work_asked (codes "--stats=1" ∷ []) ≡ Err (Words (UnknownOption (codes "--stats=1")))
 refused-joined_switch = refl
 
-refused-joined_short : work_asked (codes "-t=9" ∷ []) ≡ Err (UnknownOption (codes "-t=9"))
+refused-joined_short : work_asked (codes "-t=9" ∷ []) ≡ Err (Words (UnknownOption (codes "-t=9")))
 refused-joined_short = refl
 
-refused-joined_nothing : work_asked (codes "--time=" ∷ []) ≡ Err (NoNumber Time [])
+refused-joined_nothing : work_asked (codes "--time=" ∷ []) ≡ Err (Words (NoNumber (codes "--time") []))
 refused-joined_nothing = refl
 
 -- the last limit counts
@@ -67,26 +68,26 @@ check-stdin : work_asked (codes "--check" ∷ codes "-" ∷ codes "b" ∷ []) �
 check-stdin = refl
 
 -- the help is told whatever stands behind it
-help : work_asked (codes "--stats" ∷ codes "-h" ∷ codes "--other" ∷ []) ≡ Ok Help
+help : work_asked (codes "--stats" ∷ codes "-h" ∷ codes "--other" ∷ []) ≡ Ok (Tell info.Help)
 help = refl
 
-version : work_asked (codes "--version" ∷ []) ≡ Ok Version
+version : work_asked (codes "--version" ∷ []) ≡ Ok (Tell info.Version)
 version = refl
 
-refused-option : work_asked (codes "--stat" ∷ []) ≡ Err (UnknownOption (codes "--stat"))
+refused-option : work_asked (codes "--stat" ∷ []) ≡ Err (Words (UnknownOption (codes "--stat")))
 refused-option = refl
 
 refused-output_twice : work_asked (codes "--proof=-" ∷ codes "a" ∷ []) ≡ Err OutputTwice
 refused-output_twice = refl
 
-refused-no_value : work_asked (codes "a" ∷ codes "--proof" ∷ []) ≡ Err (NoValue Proof)
+refused-no_value : work_asked (codes "a" ∷ codes "--proof" ∷ []) ≡ Err (Words (NoValue (codes "--proof")))
 refused-no_value = refl
 
-refused-number : work_asked (codes "--conflicts" ∷ codes "7x" ∷ []) ≡ Err (NoNumber Conflicts (codes "7x"))
+refused-number : work_asked (codes "--conflicts" ∷ codes "7x" ∷ []) ≡ Err (Words (NoNumber (codes "--conflicts") (codes "7x")))
 refused-number = refl
 
 refused-large_number : work_asked (codes "-t" ∷ codes "18446744073709551616" ∷ [])
-    ≡ Err (NoNumber Time (codes "18446744073709551616"))
+    ≡ Err (Words (NoNumber (codes "--time") (codes "18446744073709551616")))
 refused-large_number = refl
 
 refused-two_files : work_asked (codes "a" ∷ codes "b" ∷ []) ≡ Err (ExtraFile (codes "b"))

@@ -1,15 +1,13 @@
 -- Why the words of a command line have no meaning.
 use Rattle.std.specs.Prelude.{ℕ, List}
+use Rattle.gip_program.specs.Items as items
 use Rattle.gipsat.specs.declared.errors.UsageError.{UsageError}
 use Rattle.gipsat.specs.declared.errors.UsageError.TheVariants as error
-use Rattle.gipsat.specs.declared.options.Setting.{Setting}
 
--- an option of no such name, one without its value or with one that is no number, a file too many or too few, an option
--- that a check does not take, standard input as both of its files, and standard output for a proof
+-- words that no options have, a file too many or too few, an option that a check does not take, standard input as both of
+-- its files, and standard output for a proof
 pub data Misuse : Type 0 where
-  UnknownOption : List ℕ → Misuse
-  NoValue : Setting → Misuse
-  NoNumber : Setting → List ℕ → Misuse
+  Words : items.Misuse → Misuse
   ExtraFile : List ℕ → Misuse
   MissingFile : Misuse
   NotForCheck : List ℕ → Misuse
@@ -18,9 +16,7 @@ pub data Misuse : Type 0 where
 
 -- what an error tells
 abbrev pub misuse_of : UsageError → Misuse
-misuse_of (error.UnknownOption word) = UnknownOption word.now
-misuse_of (error.NoValue setting) = NoValue setting
-misuse_of (error.NoNumber setting word) = NoNumber setting word.now
+misuse_of (error.Words fault) = Words (items.misuse_of fault)
 misuse_of (error.ExtraFile name) = ExtraFile name.now
 misuse_of error.MissingFile = MissingFile
 misuse_of (error.NotForCheck word) = NotForCheck word.now

@@ -1,17 +1,34 @@
 -- What the options of a search ask for.
-use Rattle.std.specs.Prelude.{ℕ, ◌^◌, ◌-◌, Bool, true, false, List, if◌then◌else◌, codes, Option, Some, None, Result, Ok, Err}
-use Rattle.std.specs.Option.{ok_or, option_map, option_map_or}
-use Rattle.std.specs.Result.{result_map_both}
+use Rattle.std.specs.Prelude.{ℕ, ◌^◌, ◌-◌, Bool, true, false, List, [], ◌∷◌, if◌then◌else◌, codes, Option, Some, None, Result, Ok, Err}
+use Rattle.std.specs.Option.{option_map, option_map_or}
 use Rattle.std.specs.Str.{bytes_eq}
-use Rattle.giputils_text.specs.Numbers.{number_of}
+use Rattle.gip_program.specs.Options.{Entry, number, switch, text}
 use Rattle.gipsat_dimacs.specs.declared.rule.HeaderRule.{HeaderRule}
 use Rattle.gipsat_dimacs.specs.declared.rule.HeaderRule.TheVariants as rule
-use Rattle.gipsat.specs.Misuses.{Misuse, NoNumber, OutputTwice}
+use Rattle.gipsat.specs.Misuses.{Misuse, OutputTwice}
+use Rattle.gipsat.specs.declared.about.Number.{Number}
+use Rattle.gipsat.specs.declared.about.Number.TheVariants.{Conflicts, Time}
+use Rattle.gipsat.specs.declared.about.Switch.{Switch}
+use Rattle.gipsat.specs.declared.about.Switch.TheVariants.{Binary, Check, Force, NoSimplify, NoWitness, Quiet, Relaxed, Stats}
+use Rattle.gipsat.specs.declared.about.Text.{Text}
+use Rattle.gipsat.specs.declared.about.Text.TheVariants.{Proof}
 use Rattle.gipsat.specs.declared.options.Options.{Options}
-use Rattle.gipsat.specs.declared.options.Setting.{Setting}
-use Rattle.gipsat.specs.declared.options.Setting.TheVariants.{Conflicts, Time, Proof}
-use Rattle.gipsat.specs.declared.options.Switch.{Switch}
-use Rattle.gipsat.specs.declared.options.Switch.TheVariants.{Stats, Quiet, NoWitness, Force, Binary, NoSimplify, Relaxed}
+
+-- the options, each with its long and its short name
+abbrev pub table : List (Entry Switch Number Text)
+table =
+    switch (codes "--relaxed") [] Relaxed ∷
+    switch (codes "--no-simplify") [] NoSimplify ∷
+    number (codes "--conflicts") [] Conflicts ∷
+    number (codes "--time") (codes "-t") Time ∷
+    switch (codes "--no-witness") (codes "-n") NoWitness ∷
+    switch (codes "--quiet") (codes "-q") Quiet ∷
+    switch (codes "--stats") [] Stats ∷
+    text (codes "--proof") [] Proof ∷
+    switch (codes "--binary") [] Binary ∷
+    switch (codes "--force") (codes "-f") Force ∷
+    switch (codes "--check") [] Check ∷
+    []
 
 -- the limits of a search in conflicts and in seconds, what to write, where to write a proof, if anywhere, and in which
 -- form, whether to eliminate variables, what the counts of the header mean, and which file to read, if not standard
@@ -48,23 +65,6 @@ no_request = record {
 -- the file of this name for a proof: it is no minus, since standard output has the answer
 abbrev pub output_of : List ℕ → Result (List ℕ) Misuse
 output_of name = if bytes_eq name (codes "-") then Err OutputTwice else Ok name
-
--- with this value of a setting: a number, or the name of a file
-abbrev pub with_value : Setting → Request → List ℕ → Result Request Misuse
-with_value Conflicts r word =
-    ok_or (option_map (λ n. record r { conflicts = n }) (number_of word)) (NoNumber Conflicts word)
-with_value Time r word = ok_or (option_map (λ n. record r { time = Some n }) (number_of word)) (NoNumber Time word)
-with_value Proof r word = result_map_both (λ name. record r { proof = Some name }) (λ e. e) (output_of word)
-
--- with what a switch turns on or off
-abbrev pub switched : Switch → Request → Request
-switched Stats r = record r { stats = true }
-switched Quiet r = record r { quiet = true }
-switched NoWitness r = record r { witness = false }
-switched Force r = record r { force = true }
-switched Binary r = record r { binary = true }
-switched NoSimplify r = record r { simplify = false }
-switched Relaxed r = record r { rule = rule.Relaxed }
 
 -- the file to read has this name; standard input has none
 abbrev pub reads : Request → List ℕ → Bool

@@ -1,7 +1,6 @@
 //! Why nothing was answered, as it is told.
-use crate::options::Setting;
 use crate::proof_file::ProofError;
-use gip_program::Cause;
+use gip_program::{Cause, Fault};
 use gipsat_dimacs::{Compression, Reason};
 use gipsat_drat::error::{OtherForm, Place, Refusal};
 use std::fmt::{self, Display};
@@ -10,12 +9,8 @@ use std::io;
 /// Why the arguments have no meaning.
 #[derive(Clone, Copy)]
 pub enum UsageError<'a> {
-    /// No option has this name.
-    UnknownOption(&'a str),
-    /// No word stands behind this option.
-    NoValue(Setting),
-    /// This word behind the option is no number, or one of 2^64 or more.
-    NoNumber(Setting, &'a str),
+    /// Words that no options have.
+    Words(Fault<'a>),
     /// More files are named than are read.
     ExtraFile(&'a str),
     /// Fewer than two files are named for a check.
@@ -31,12 +26,7 @@ pub enum UsageError<'a> {
 impl Display for UsageError<'_> {
     fn fmt<W: fmt::Write>(&self, f: &mut fmt::Formatter<W>) -> fmt::Result {
         match *self {
-            UsageError::UnknownOption(word) => write!(f, "unknown option '{word}'"),
-            UsageError::NoValue(Setting::Proof) => f.write_str("'--proof' needs a file behind it"),
-            UsageError::NoValue(setting) => write!(f, "'{setting}' needs a number behind it"),
-            UsageError::NoNumber(setting, word) => {
-                write!(f, "'{setting}' takes a number below 2^64, not '{word}'")
-            }
+            UsageError::Words(fault) => Display::fmt(&fault, f),
             UsageError::ExtraFile(name) => write!(f, "one file too many, '{name}'"),
             UsageError::MissingFile => f.write_str("'--check' takes two files, FORMULA and PROOF"),
             UsageError::NotForCheck(word) => write!(f, "'--check' takes no option '{word}'"),
@@ -46,17 +36,6 @@ impl Display for UsageError<'_> {
             UsageError::OutputTwice => f.write_str(
                 "'--proof' takes the name of a file, since standard output has the answer",
             ),
-        }
-    }
-}
-
-// The option, as it is written in full, and what stands behind it.
-impl Display for Setting {
-    fn fmt<W: fmt::Write>(&self, f: &mut fmt::Formatter<W>) -> fmt::Result {
-        match *self {
-            Setting::Conflicts => f.write_str("--conflicts"),
-            Setting::Time => f.write_str("--time"),
-            Setting::Proof => f.write_str("--proof"),
         }
     }
 }

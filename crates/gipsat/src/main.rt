@@ -12,71 +12,40 @@ ghost use Rattle.std.specs.Process.{exit_status};
 ghost use Rattle.gipsat_drat.specs.Outcomes.{WritesOutcome};
 ghost use Rattle.gipsat_dimacs.specs.Inputs.{HasForm, OfProblem, WritesNone};
 ghost use Rattle.gipsat_dimacs.specs.declared.rule.HeaderRule.TheVariants.{Strict};
-ghost use Rattle.gipsat.specs.Statuses.{checking_status, refused_status, solving_status, telling_status, usage_status};
+ghost use Rattle.gipsat.specs.Statuses.{checking_status, solving_status};
 
+mod about;
 mod errors;
 mod files;
-mod help;
 mod options;
 mod proof_file;
 mod solve;
 mod watch;
 
-use errors::{Failure, UsageError};
+use about::ABOUT;
+use errors::Failure;
 use files::{Output, Source};
-use gip_program::{Cause, hold_standard_streams};
+use gip_program::{begin, explain, refuse, tell};
 use gipsat_answers::Verdict;
 use gipsat_dimacs::{DimacsError, Reason};
 use gipsat_drat::error::{DratError, Outcome};
 use gipsat_drat::task::check_text;
-use help::{HELP, VERSION};
 use options::{Options, Task};
 use solve::{SolveError, solve};
-use std::env;
-use std::fmt::Display;
-use std::io::{self, Read, Write};
+use std::io::{Read, Write};
 use std::process::ExitCode;
 use watch::WatchedReader;
 
-// The exit status where nothing is answered, or a proof is refused.
-const REFUSED: u8 = 1;
-
-// The exit status where the arguments have no meaning.
-const USAGE: u8 = 2;
-
 fn main(rt: HostRuntime) -> ExitCode {
-    if let Err(error) = hold_standard_streams(&rt) {
-        return refuse(&rt, &format_args!("/dev/null: {}", Cause(Some(error))));
-    }
-    let words = match words_of(&rt) {
+    let words = match begin(&rt) {
         Ok(words) => words,
-        Err(error) => return refuse(&rt, &format_args!("arguments: {}", Cause(Some(error)))),
+        Err(status) => return status,
     };
     match Task::parse(&words) {
-        Ok(Task::Help) => tell(&rt, HELP),
-        Ok(Task::Version) => tell(&rt, VERSION),
+        Ok(Task::Tell(info)) => tell(&rt, &ABOUT, info),
         Ok(Task::Solve(options)) => end_search(&rt, solve_file(&rt, &options)),
         Ok(Task::Check(formula, proof)) => end_check(&rt, proof, check_files(&rt, formula, proof)),
-        Err(error) => explain(&rt, &error),
-    }
-}
-
-// The arguments behind the program's name.
-fn words_of(rt: &HostRuntime) -> io::Result<Vec<String>> {
-    Ok(env::args(rt)?.skip(1).collect(rt.alloc())?)
-}
-
-// The status after a text that is told. Writes why it could not be.
-fn tell(rt: &HostRuntime, text: &str) -> ExitCode {
-    end_telling(rt, rt.stdout().write_all(text.as_bytes()))
-}
-
-fn end_telling(rt: &HostRuntime, ended: io::Result<()>) -> ExitCode
-    ensures { exit_status result ≡ telling_status ended }
-{
-    match ended {
-        Ok(()) => ExitCode::SUCCESS,
-        Err(error) => refuse(rt, &Failure::Write(None, Some(error))),
+        Err(error) => explain(&rt, "gipsat", &error),
     }
 }
 
@@ -99,22 +68,6 @@ fn end_check(rt: &HostRuntime, proof: Option<&str>, ended: Result<Outcome, Failu
         Ok(Outcome::Refused(refusal)) => refuse(rt, &Failure::Refused(proof, refusal)),
         Err(error) => refuse(rt, &error),
     }
-}
-
-// Writes why nothing is answered.
-fn refuse<E: Display>(rt: &HostRuntime, error: &E) -> ExitCode
-    ensures { exit_status result ≡ refused_status }
-{
-    let _ = eprintln!(rt; "{error}");
-    ExitCode::from(REFUSED)
-}
-
-// Writes why the arguments have no meaning.
-fn explain(rt: &HostRuntime, error: &UsageError) -> ExitCode
-    ensures { exit_status result ≡ usage_status }
-{
-    let _ = eprintln!(rt; "gipsat: {error} (try --help)");
-    ExitCode::from(USAGE)
 }
 
 // Tells that a terminal is read.

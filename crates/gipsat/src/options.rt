@@ -1,24 +1,24 @@
-//! The command line.
+//! What the words of a command line ask for.
 ghost use Rattle.std.specs.Prelude.{◌≡◌, map, string_bytes};
-ghost use Rattle.std.specs.Option.{ok_or, option_map};
+ghost use Rattle.std.specs.Option.{option_map};
 ghost use Rattle.std.specs.Result.{result_map_both};
-ghost use Rattle.giputils_text.specs.Numbers.{number_of};
-ghost use Rattle.gipsat.specs.Misuses.{misuse_of, NoNumber};
-ghost use Rattle.gipsat.specs.Options.{no_request, output_of, request_of, switched, with_value};
-ghost use Rattle.gipsat.specs.Words.{after_file, after_joined, after_named, after_option, after_word, after_words};
-ghost use Rattle.gipsat.specs.Words.{asked_for, check_asked, input_of, joined_of, long_setting_of, no_words, option_of};
-ghost use Rattle.gipsat.specs.Words.{search_asked, setting_of, state_of, switch_of, work_asked, work_of};
+ghost use Rattle.gip_program.specs.Items.{left_said, said_of};
+ghost use Rattle.gip_program.specs.Options.{entry_of};
+ghost use Rattle.gipsat.specs.Misuses.{misuse_of};
+ghost use Rattle.gipsat.specs.Options.{no_request, output_of, request_of, table};
+ghost use Rattle.gipsat.specs.Words.{after, after_file, asked_for, check_asked, input_of, no_words, search_asked};
+ghost use Rattle.gipsat.specs.Words.{state_of, switched, work_asked, work_of, work_said};
 
+use crate::about::{Number, OPTIONS, Switch, Text};
 use crate::errors::UsageError;
+use gip_program::{Info, Item, Items, Opt};
 use gipsat_dimacs::HeaderRule;
 
 /// What the arguments ask for.
 #[derive(Clone, Copy)]
 pub enum Task<'a> {
-    /// To tell what the options do.
-    Help,
-    /// To tell the program's name and version.
-    Version,
+    /// To tell what the options do, or the version.
+    Tell(Info),
     /// To solve a formula.
     Solve(Options<'a>),
     /// To check a proof that nothing satisfies a formula: the files of the formula and of the proof. None is standard
@@ -35,7 +35,18 @@ impl<'a> Task<'a> {
     pub fn parse(words: &'a [String]) -> Result<Self, UsageError<'a>>
         ensures { result_map_both work_of misuse_of result ≡ work_asked (map string_bytes words.now) }
     {
-        Parser::new().words(words)?.end()
+        Task::parse_by(&OPTIONS, words)
+    }
+
+    // What some words ask for by the table of the options.
+    fn parse_by(
+        options: &[Opt<Switch, Number, Text>],
+        words: &'a [String],
+    ) -> Result<Self, UsageError<'a>>
+        requires options { map entry_of options.now ≡ table }
+        ensures { result_map_both work_of misuse_of result ≡ work_asked (map string_bytes words.now) }
+    {
+        Asked::new().end_after(Items::new(options, words))
     }
 }
 
@@ -66,26 +77,6 @@ pub struct Options<'a> {
     pub file: Option<&'a str>,
 }
 
-/// An option that takes the word behind it.
-#[derive(Clone, Copy)]
-pub enum Setting {
-    Conflicts,
-    Time,
-    Proof,
-}
-
-/// An option of one word.
-#[derive(Clone, Copy)]
-pub enum Switch {
-    Stats,
-    Quiet,
-    NoWitness,
-    Force,
-    Binary,
-    NoSimplify,
-    Relaxed,
-}
-
 impl<'a> Options<'a> {
     // Where no word asks for anything.
     fn new() -> Self
@@ -105,72 +96,6 @@ impl<'a> Options<'a> {
             file: None,
         }
     }
-
-    // The options with this value of a setting.
-    fn with_value(self, setting: Setting, word: &'a str) -> Result<Self, UsageError<'a>>
-        ensures { result_map_both request_of misuse_of result ≡ with_value setting (request_of self.entry) word.now }
-    {
-        match setting {
-            Setting::Conflicts => {
-                let conflicts = number(setting, word)?;
-                Ok(Options { conflicts, ..self })
-            }
-            Setting::Time => {
-                let time = Some(number(setting, word)? as u64);
-                Ok(Options { time, ..self })
-            }
-            Setting::Proof => {
-                let proof = Some(output(word)?);
-                Ok(Options { proof, ..self })
-            }
-        }
-    }
-
-    // The options with what a switch turns on or off.
-    fn switched(self, switch: Switch) -> Self
-        ensures { request_of result ≡ switched switch (request_of self.entry) }
-    {
-        match switch {
-            Switch::Stats => Options {
-                stats: true,
-                ..self
-            },
-            Switch::Quiet => Options {
-                quiet: true,
-                ..self
-            },
-            Switch::NoWitness => Options {
-                witness: false,
-                ..self
-            },
-            Switch::Force => Options {
-                force: true,
-                ..self
-            },
-            Switch::Binary => Options {
-                binary: true,
-                ..self
-            },
-            Switch::NoSimplify => Options {
-                simplify: false,
-                ..self
-            },
-            Switch::Relaxed => Options {
-                rule: HeaderRule::Relaxed,
-                ..self
-            },
-        }
-    }
-}
-
-// The number that a word writes, as this setting's value.
-fn number<'a>(setting: Setting, word: &'a str) -> Result<usize, UsageError<'a>>
-    ensures { result_map_both (λ n. n) misuse_of result ≡ ok_or (number_of word.now) (NoNumber setting word.now) }
-{
-    match word.parse() {
-        Ok(number) => Ok(number),
-        Err(_) => Err(UsageError::NoNumber(setting, word)),
-    }
 }
 
 // The file of this name, to which a proof is written: not standard output.
@@ -183,216 +108,139 @@ fn output<'a>(name: &'a str) -> Result<&'a str, UsageError<'a>>
     Ok(name)
 }
 
-/// What is told in place of an answer.
-#[derive(Clone, Copy)]
-pub enum Info {
-    Help,
-    Version,
-}
-
-/// What a word that begins with a minus says.
-#[derive(Clone, Copy)]
-pub enum Opt {
-    /// The next word is the value of this setting.
-    Setting(Setting),
-    Switch(Switch),
-    Check,
-    Info(Info),
-    /// All words behind this one are files.
-    End,
-}
-
-impl Opt {
-    // The option of this name.
-    fn of(word: &str) -> Option<Self>
-        ensures { result ≡ option_of word.now }
-    {
-        if let Some(setting) = setting_of(word) {
-            return Some(Opt::Setting(setting));
-        }
-        if let Some(switch) = switch_of(word) {
-            return Some(Opt::Switch(switch));
-        }
-        match word {
-            "--check" => Some(Opt::Check),
-            "--help" => Some(Opt::Info(Info::Help)),
-            "-h" => Some(Opt::Info(Info::Help)),
-            "--version" => Some(Opt::Info(Info::Version)),
-            "--" => Some(Opt::End),
-            _ => None,
-        }
-    }
-}
-
-fn setting_of(word: &str) -> Option<Setting>
-    ensures { result ≡ setting_of word.now }
+// The file of this name. None is standard input.
+fn input<'a>(name: &'a str) -> Option<&'a str>
+    ensures { option_map (λ name. name.now) result ≡ input_of name.now }
 {
-    match word {
-        "-t" => Some(Setting::Time),
-        _ => long_setting_of(word),
-    }
+    if name == "-" { None } else { Some(name) }
 }
 
-fn long_setting_of(word: &str) -> Option<Setting>
-    ensures { result ≡ long_setting_of word.now }
-{
-    match word {
-        "--conflicts" => Some(Setting::Conflicts),
-        "--time" => Some(Setting::Time),
-        "--proof" => Some(Setting::Proof),
-        _ => None,
-    }
-}
-
-// The setting and the value of a word as `--time=9`.
-fn joined(word: &str) -> Option<(Setting, &str)>
-    ensures { option_map (λ joined. (joined.0, joined.1.now)) result ≡ joined_of word.now }
-{
-    let (name, value) = word.split_once('=')?;
-    let setting = long_setting_of(name)?;
-    Some((setting, value))
-}
-
-fn switch_of(word: &str) -> Option<Switch>
-    ensures { result ≡ switch_of word.now }
-{
-    match word {
-        "--stats" => Some(Switch::Stats),
-        "--quiet" => Some(Switch::Quiet),
-        "-q" => Some(Switch::Quiet),
-        "--no-witness" => Some(Switch::NoWitness),
-        "-n" => Some(Switch::NoWitness),
-        "--force" => Some(Switch::Force),
-        "-f" => Some(Switch::Force),
-        "--binary" => Some(Switch::Binary),
-        "--no-simplify" => Some(Switch::NoSimplify),
-        "--relaxed" => Some(Switch::Relaxed),
-        _ => None,
-    }
-}
-
-/// How the next word is read.
+/// What some words of a command line ask for.
 #[derive(Clone, Copy)]
-pub enum Awaits {
-    /// As an option or a file.
-    Any,
-    /// As the value of a setting.
-    Value(Setting),
-    /// As a file, whatever it begins with.
-    File,
-    /// Not at all: this is told, whatever comes.
-    Nothing(Info),
-}
-
-/// What was read of a command line.
-#[derive(Clone, Copy)]
-pub struct Parser<'a> {
-    awaits: Awaits,
+pub struct Asked<'a> {
     options: Options<'a>,
-    // The last setting or switch.
+    // What is told in place of an answer.
+    info: Option<Info>,
+    // The last option but `--check`.
     option: Option<&'a str>,
     check: bool,
     // The second file.
     second: Option<&'a str>,
 }
 
-impl<'a> Parser<'a> {
+impl<'a> Asked<'a> {
     // Before the first word.
     fn new() -> Self
         ensures { state_of result ≡ no_words }
     {
-        Parser {
-            awaits: Awaits::Any,
+        Asked {
             options: Options::new(),
+            info: None,
             option: None,
             check: false,
             second: None,
         }
     }
 
-    // After some more words.
-    fn words(mut self, mut words: &'a [String]) -> Result<Self, UsageError<'a>>
-        ensures { result_map_both state_of misuse_of result ≡
-            after_words (state_of self.entry) (map string_bytes words.now) }
+    // After the items that are left.
+    fn end_after(
+        mut self,
+        mut items: Items<'_, 'a, Switch, Number, Text>,
+    ) -> Result<Task<'a>, UsageError<'a>>
+        ensures { result_map_both work_of misuse_of result ≡ work_said (state_of self.entry) (left_said items.entry) }
     {
-        while let [word, rest @ ..] = words {
-            self = self.word(word.as_str())?;
-            words = rest;
+        while let Some(item) = items.next() {
+            self = self.with(item)?;
         }
-        Ok(self)
+        self.end()
     }
 
-    // After one more word.
-    fn word(self, word: &'a str) -> Result<Self, UsageError<'a>>
-        ensures { result_map_both state_of misuse_of result ≡ after_word (state_of self.entry) word.now }
+    // After one more item.
+    fn with(self, item: Item<'a, Switch, Number, Text>) -> Result<Self, UsageError<'a>>
+        ensures { result_map_both state_of misuse_of result ≡ after (state_of self.entry) (said_of item.entry) }
     {
-        match self.awaits {
-            Awaits::Value(setting) => Ok(Parser {
-                awaits: Awaits::Any,
-                options: self.options.with_value(setting, word)?,
+        let options = self.options;
+        match item {
+            Item::Switch(switch, word) => Ok(self.switched(switch, word)),
+            Item::Number(Number::Conflicts, conflicts, word) => Ok(self.with_options(
+                Options {
+                    conflicts,
+                    ..options
+                },
+                word,
+            )),
+            Item::Number(Number::Time, seconds, word) => Ok(self.with_options(
+                Options {
+                    time: Some(seconds as u64),
+                    ..options
+                },
+                word,
+            )),
+            Item::Text(Text::Proof, name, word) => {
+                let proof = Some(output(name)?);
+                Ok(self.with_options(Options { proof, ..options }, word))
+            }
+            Item::File(name) => self.file(name),
+            Item::Info(info) => Ok(Asked {
+                info: Some(info),
                 ..self
             }),
-            Awaits::File => self.file(word),
-            Awaits::Nothing(_) => Ok(self),
-            Awaits::Any if word.starts_with('-') && word != "-" => self.named(word),
-            Awaits::Any => self.file(word),
+            Item::Fault(fault) => Err(UsageError::Words(fault)),
         }
     }
 
-    // After a word that is an option, or a setting with its value.
-    fn named(self, word: &'a str) -> Result<Self, UsageError<'a>>
-        ensures { result_map_both state_of misuse_of result ≡
-            after_named (option_of word.now) (joined_of word.now) (state_of self.entry) word.now }
+    // With these options, the last of which this word names.
+    fn with_options(self, options: Options<'a>, word: &'a str) -> Self
+        ensures { state_of result ≡
+            record (state_of self.entry) { request = request_of options.entry; option = Some word.now } }
     {
-        if let Some(option) = Opt::of(word) {
-            return Ok(self.option(option, word));
-        }
-        match joined(word) {
-            Some((setting, value)) => self.joined(setting, value, word),
-            None => Err(UsageError::UnknownOption(word)),
-        }
-    }
-
-    // After a setting and its value, which stand in this word.
-    fn joined(self, setting: Setting, value: &'a str, word: &'a str) -> Result<Self, UsageError<'a>>
-        ensures { result_map_both state_of misuse_of result ≡
-            after_joined (setting, value.now) (state_of self.entry) word.now }
-    {
-        Ok(Parser {
-            options: self.options.with_value(setting, value)?,
+        Asked {
+            options,
             option: Some(word),
             ..self
-        })
+        }
     }
 
-    // After an option, which this word names.
-    fn option(self, option: Opt, word: &'a str) -> Self
-        ensures { state_of result ≡ after_option option (state_of self.entry) word.now }
+    // After a switch, which this word names.
+    fn switched(self, switch: Switch, word: &'a str) -> Self
+        ensures { state_of result ≡ switched switch (state_of self.entry) word.now }
     {
-        match option {
-            Opt::Setting(setting) => Parser {
-                awaits: Awaits::Value(setting),
-                option: Some(word),
-                ..self
-            },
-            Opt::Switch(switch) => Parser {
-                options: self.options.switched(switch),
-                option: Some(word),
-                ..self
-            },
-            Opt::Check => Parser {
+        let options = self.options;
+        let options = match switch {
+            Switch::Check => return Asked {
                 check: true,
                 ..self
             },
-            Opt::Info(info) => Parser {
-                awaits: Awaits::Nothing(info),
-                ..self
+            Switch::Binary => Options {
+                binary: true,
+                ..options
             },
-            Opt::End => Parser {
-                awaits: Awaits::File,
-                ..self
+            Switch::Force => Options {
+                force: true,
+                ..options
             },
-        }
+            Switch::NoSimplify => Options {
+                simplify: false,
+                ..options
+            },
+            Switch::NoWitness => Options {
+                witness: false,
+                ..options
+            },
+            Switch::Quiet => Options {
+                quiet: true,
+                ..options
+            },
+            Switch::Relaxed => Options {
+                rule: HeaderRule::Relaxed,
+                ..options
+            },
+            Switch::Stats => Options {
+                stats: true,
+                ..options
+            },
+        };
+        self.with_options(options, word)
     }
 
     // After the name of a file.
@@ -404,9 +252,9 @@ impl<'a> Parser<'a> {
                 file: Some(name),
                 ..self.options
             };
-            Ok(Parser { options, ..self })
+            Ok(Asked { options, ..self })
         } else if self.second.is_none() {
-            Ok(Parser {
+            Ok(Asked {
                 second: Some(name),
                 ..self
             })
@@ -419,12 +267,10 @@ impl<'a> Parser<'a> {
     fn end(self) -> Result<Task<'a>, UsageError<'a>>
         ensures { result_map_both work_of misuse_of result ≡ asked_for (state_of self.entry) }
     {
-        match self.awaits {
-            Awaits::Value(setting) => Err(UsageError::NoValue(setting)),
-            Awaits::Nothing(Info::Help) => Ok(Task::Help),
-            Awaits::Nothing(Info::Version) => Ok(Task::Version),
-            _ if self.check => self.end_check(),
-            _ => self.end_search(),
+        match self.info {
+            Some(info) => Ok(Task::Tell(info)),
+            None if self.check => self.end_check(),
+            None => self.end_search(),
         }
     }
 
@@ -462,11 +308,4 @@ impl<'a> Parser<'a> {
         }
         Ok(Task::Check(input(formula), input(proof)))
     }
-}
-
-// The file of this name. None is standard input.
-fn input<'a>(name: &'a str) -> Option<&'a str>
-    ensures { option_map (λ name. name.now) result ≡ input_of name.now }
-{
-    if name == "-" { None } else { Some(name) }
 }

@@ -1,9 +1,8 @@
 //! From a formula's bytes to those of its answer, with a proof in a file if one is wanted.
 ghost use Rattle.std.specs.Prelude.{◌≡◌, ◌≢◌, ℕ, is_some, IfOk, IfErr, IsTrue, OnOk, IsErrOf};
 ghost use Rattle.std.specs.Io.KnownBytes.{IsAtEnd};
-ghost use Rattle.gipsat_dimacs.specs.Instances.{HasLearnedNone};
-ghost use Rattle.gipsat_answers.specs.Answers.{problem_in, WritesAnswerWith};
-ghost use Rattle.gipsat_dimacs.specs.Inputs.{HasClauses, HasForm, IsRefusedAt, OfProblem, Writes, WritesNone};
+ghost use Rattle.gipsat_answers.specs.Answers.{problem_of, WritesAnswerWith};
+ghost use Rattle.gipsat_dimacs.specs.Inputs.{HasClauses, HasForm, IsRefusedAt, OfProblem, WritesNone};
 ghost use Rattle.gipsat_dimacs.specs.declared.error.DimacsError.TheVariants as dimacs_error;
 ghost use Rattle.gipsat.specs.declared.solve.SolveError.TheVariants as solve_error;
 
@@ -11,9 +10,10 @@ use crate::options::Options;
 use crate::proof_file::{self, ProofError};
 use crate::watch::{TimeLimit, Watch};
 use gip_program::NewFile;
-use gipsat_answers::{Solved, Verdict, solve_instance};
+use gipsat_answers::{Solved, Task, Verdict, solve_instance};
+use gipsat_cnf::Cnf;
 use gipsat_dimacs::{DimacsError, Instance, Reason, read_instance_by};
-use gipsat_drat::writer::{Fault, Format, ProofWriter};
+use gipsat_drat_writer::{Fault, Format, ProofWriter};
 use gipsat_solver::progress::{Both, Progress};
 use std::alloc::{AllocError, Global};
 use std::io::{Read, Write};
@@ -59,37 +59,13 @@ pub fn solve<'a, R: Read, W: Write>(
     ensures unwritten { IfErr result (λ error. error ≢ SolveError.Task DimacsError.Output → writer.new ≡ writer.old) }
 {
     let watch = Watch::new(rt, options)?;
-    let instance = match read_formula(rt, options, reader) {
+    let instance = match read_instance_by(rt.alloc(), reader, options.rule) {
         Ok(instance) => instance,
         Err(error) => return Err(SolveError::Task(error)),
     };
     watch.note_read(&instance);
     let proof = open_proof(rt, options, reader)?;
     answer(rt, options, instance, proof, watch, writer)
-}
-
-// Reads a formula, whose solver is to eliminate variables and to shorten clauses where the options say so.
-fn read_formula<'a, R: Read>(
-    rt: &HostRuntime,
-    options: &Options<'a>,
-    reader: &mut R,
-) -> Result<Instance, DimacsError>
-    ensures end { OnOk result (IsAtEnd (R.remaining reader.new)) }
-    ensures ok { IfOk result (λ f. Writes options.now.rule (R.remaining reader.old)
-        (record { variables = f.variables; clauses = f.solver.formula })) }
-    ensures fresh { IfOk result (λ f. HasLearnedNone f.solver) }
-    ensures line { (line : ℕ) (reason : Reason) → IsErrOf result (DimacsError.Line line reason) →
-        WritesNone options.now.rule (R.remaining reader.old) }
-    ensures in_line { (line : ℕ) (reason : Reason) → IsErrOf result (DimacsError.Line line reason) →
-        IsRefusedAt options.now.rule (R.remaining reader.old) line }
-{
-    match read_instance_by(rt.alloc(), reader, options.rule) {
-        Ok(mut instance) => {
-            instance.solver.set_inprocessing(options.simplify);
-            Ok(instance)
-        }
-        Err(error) => Err(error),
-    }
 }
 
 // The file of the proof, if one is wanted. It is begun once the formula was read to its end.
@@ -110,19 +86,31 @@ fn open_proof<'a, R: Read>(
     }
 }
 
+// How the options let a formula be solved.
+fn task_of(options: &Options) -> Task
+    ensures limit { result.limit ≡ options.now.conflicts }
+    ensures witness { result.witness ≡ options.now.witness }
+{
+    Task {
+        limit: options.conflicts,
+        simplify: options.simplify,
+        witness: options.witness,
+    }
+}
+
 // Solves a formula that was read, within the time that the options allow.
 fn answer<'a, W: Write>(
     rt: &HostRuntime,
     options: &Options<'a>,
-    instance: Instance,
+    instance: Instance<Cnf>,
     proof: Option<NewFile<'a>>,
     watch: Watch,
     writer: &mut W,
 ) -> Result<Solved, SolveError<'a>>
-    requires fresh { HasLearnedNone instance.solver }
-    ensures written { IfOk result (λ solved. WritesAnswerWith options.now.witness (problem_in instance)
-        options.now.conflicts solved (W.contents writer.old) (W.contents writer.new)) }
-    ensures formula { IfOk result (λ solved. solved.solver.formula ≡ instance.solver.formula) }
+    ensures written { IfOk result (λ solved. WritesAnswerWith options.now.witness
+        (problem_of instance.variables instance.clauses) options.now.conflicts solved
+        (W.contents writer.old) (W.contents writer.new)) }
+    ensures formula { IfOk result (λ solved. solved.solver.formula ≡ instance.clauses) }
     ensures stopped { IfOk result (λ solved. solved.verdict ≡ Verdict.Stopped → IsTrue (is_some options.now.time)) }
     ensures other { (line : ℕ) (reason : Reason) →
         ¬ (IsErrOf result (SolveError.Task (DimacsError.Line line reason))) }
@@ -149,18 +137,18 @@ struct Told<P> {
 }
 
 // Solves a formula that was read, and tells `progress` how far the search is.
-fn answer_told<'a, W: Write, P: Progress<Global> + Drop>(
+fn answer_told<'a, W: Write, P: Progress + Drop>(
     rt: &HostRuntime,
     options: &Options<'a>,
-    instance: Instance,
+    instance: Instance<Cnf>,
     proof: Option<NewFile<'a>>,
     mut progress: P,
     writer: &mut W,
 ) -> Result<Told<P>, SolveError<'a>>
-    requires fresh { HasLearnedNone instance.solver }
-    ensures written { IfOk result (λ told. WritesAnswerWith options.now.witness (problem_in instance)
-        options.now.conflicts told.solved (W.contents writer.old) (W.contents writer.new)) }
-    ensures formula { IfOk result (λ told. told.solved.solver.formula ≡ instance.solver.formula) }
+    ensures written { IfOk result (λ told. WritesAnswerWith options.now.witness
+        (problem_of instance.variables instance.clauses) options.now.conflicts told.solved
+        (W.contents writer.old) (W.contents writer.new)) }
+    ensures formula { IfOk result (λ told. told.solved.solver.formula ≡ instance.clauses) }
     ensures stopped { IfOk result (λ told.
         told.solved.verdict ≡ Verdict.Stopped → IsTrue (P.wants_stop told.progress)) }
     ensures other { (line : ℕ) (reason : Reason) →
@@ -170,32 +158,26 @@ fn answer_told<'a, W: Write, P: Progress<Global> + Drop>(
     if let Some(file) = proof {
         return prove(rt, options, instance, file, progress, writer);
     }
-    match solve_instance(
-        rt.alloc(),
-        instance,
-        writer,
-        options.witness,
-        options.conflicts,
-        &mut progress,
-    ) {
+    let task = task_of(options);
+    match solve_instance(rt.alloc(), instance, writer, task, &mut progress) {
         Ok(solved) => Ok(Told { solved, progress }),
         Err(error) => Err(SolveError::Task(error)),
     }
 }
 
 // Solves a formula that was read, and writes a proof to a file. The answer is written where the proof is whole.
-fn prove<'a, W: Write, P: Progress<Global> + Drop>(
+fn prove<'a, W: Write, P: Progress + Drop>(
     rt: &HostRuntime,
     options: &Options<'a>,
-    instance: Instance,
+    instance: Instance<Cnf>,
     mut file: NewFile<'a>,
     progress: P,
     writer: &mut W,
 ) -> Result<Told<P>, SolveError<'a>>
-    requires fresh { HasLearnedNone instance.solver }
-    ensures written { IfOk result (λ told. WritesAnswerWith options.now.witness (problem_in instance)
-        options.now.conflicts told.solved (W.contents writer.old) (W.contents writer.new)) }
-    ensures formula { IfOk result (λ told. told.solved.solver.formula ≡ instance.solver.formula) }
+    ensures written { IfOk result (λ told. WritesAnswerWith options.now.witness
+        (problem_of instance.variables instance.clauses) options.now.conflicts told.solved
+        (W.contents writer.old) (W.contents writer.new)) }
+    ensures formula { IfOk result (λ told. told.solved.solver.formula ≡ instance.clauses) }
     ensures stopped { IfOk result (λ told.
         told.solved.verdict ≡ Verdict.Stopped → IsTrue (P.wants_stop told.progress)) }
     ensures other { (line : ℕ) (reason : Reason) →
@@ -217,18 +199,18 @@ fn prove<'a, W: Write, P: Progress<Global> + Drop>(
 }
 
 // Solves a formula that was read, writes a proof to a file, and the answer.
-fn prove_to<'a, W: Write, P: Progress<Global> + Drop>(
+fn prove_to<'a, W: Write, P: Progress + Drop>(
     rt: &HostRuntime,
     options: &Options<'a>,
-    instance: Instance,
+    instance: Instance<Cnf>,
     file: &mut NewFile<'a>,
     progress: P,
     writer: &mut W,
 ) -> Result<Told<P>, SolveError<'a>>
-    requires fresh { HasLearnedNone instance.solver }
-    ensures written { IfOk result (λ told. WritesAnswerWith options.now.witness (problem_in instance)
-        options.now.conflicts told.solved (W.contents writer.old) (W.contents writer.new)) }
-    ensures formula { IfOk result (λ told. told.solved.solver.formula ≡ instance.solver.formula) }
+    ensures written { IfOk result (λ told. WritesAnswerWith options.now.witness
+        (problem_of instance.variables instance.clauses) options.now.conflicts told.solved
+        (W.contents writer.old) (W.contents writer.new)) }
+    ensures formula { IfOk result (λ told. told.solved.solver.formula ≡ instance.clauses) }
     ensures stopped { IfOk result (λ told.
         told.solved.verdict ≡ Verdict.Stopped → IsTrue (P.wants_stop told.progress)) }
     ensures other { (line : ℕ) (reason : Reason) →
@@ -244,14 +226,8 @@ fn prove_to<'a, W: Write, P: Progress<Global> + Drop>(
         first: progress,
         second: ProofWriter::new(rt.alloc(), file, format),
     };
-    let solved = match solve_instance(
-        rt.alloc(),
-        instance,
-        writer,
-        options.witness,
-        options.conflicts,
-        &mut both,
-    ) {
+    let task = task_of(options);
+    let solved = match solve_instance(rt.alloc(), instance, writer, task, &mut both) {
         Ok(solved) => solved,
         Err(error) => return Err(SolveError::Task(error)),
     };

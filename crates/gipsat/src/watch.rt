@@ -2,15 +2,15 @@
 ghost use Rattle.std.specs.Prelude.{◌≡◌, false, IfOk};
 
 use crate::options::Options;
+use gipsat_cnf::{Cnf, Literal};
 use gipsat_dimacs::Instance;
-use gipsat_solver::progress::Progress;
-use gipsat_solver::{Solver, Stats};
+use gipsat_solver::progress::{Progress, Report};
 use giputils_stat::logger::IntervalLogger;
 use giputils_stat::statistic::MovingAverage;
 use log::kv::Source;
 use log::span::Spans;
 use log::{Level, Log, Metadata, Record};
-use std::alloc::{AllocError, Global};
+use std::alloc::AllocError;
 use std::fmt::{self, Display};
 use std::fs;
 use std::io::{self, Read};
@@ -26,30 +26,20 @@ const INTERVAL_SECONDS: u64 = 5;
 // What is known, as it is written in a line.
 #[derive(Clone, Copy)]
 struct Snapshot<'a> {
-    stats: Stats,
-    clauses: usize,
+    report: Report,
     lengths: &'a MovingAverage,
-}
-
-impl<'a> Snapshot<'a> {
-    fn of(solver: &Solver, lengths: &'a MovingAverage) -> Self {
-        Snapshot {
-            stats: solver.stats(),
-            clauses: solver.len(),
-            lengths,
-        }
-    }
 }
 
 impl Display for Snapshot<'_> {
     fn fmt<W: fmt::Write>(&self, f: &mut fmt::Formatter<W>) -> fmt::Result {
+        let stats = self.report.stats;
         write!(
             f,
             "{} conflicts, {} restarts, {} clauses kept, {} deleted{}",
-            self.stats.conflicts,
-            self.stats.restarts,
-            self.clauses,
-            self.stats.deleted,
+            stats.conflicts,
+            stats.restarts,
+            self.report.clauses,
+            stats.deleted,
             Lengths(self.lengths)
         )
     }
@@ -208,9 +198,8 @@ pub struct Watch<'a> {
     logger: IntervalLogger,
     // Of the last learned clauses.
     lengths: MovingAverage,
-    // How many of the known clauses need not be counted, and how many were learned when they were known.
-    seen: usize,
-    learned: usize,
+    // Whether a slice of the search goes on, so that the clauses that are added were learned.
+    is_searching: bool,
     // Whether nothing is written.
     quiet: bool,
     // Whether a summary is written at the end.
@@ -228,15 +217,14 @@ impl<'a> Watch<'a> {
             clock: Clock::start(rt),
             logger: every_interval(),
             lengths: MovingAverage::with_room(rt.alloc(), LAST)?,
-            seen: 0,
-            learned: 0,
+            is_searching: false,
             quiet: options.quiet,
             stats: options.stats,
         })
     }
 
     /// This formula was read. It is written where a summary is wanted, or that took long.
-    pub fn note_read(&self, instance: &Instance) {
+    pub fn note_read(&self, instance: &Instance<Cnf>) {
         let now = self.clock.now();
         if self.quiet || !(self.stats || self.logger.due(now)) {
             return;
@@ -244,58 +232,57 @@ impl<'a> Watch<'a> {
         let _ = eprintln!(self.rt;
             "c {} variables, {} clauses read in {}",
             instance.variables,
-            instance.solver.len(),
+            instance.clauses.len(),
             Seconds(now)
         );
     }
-
-    // Counts the lengths of the last clauses that came since the last count, if some of them were learned: those that are
-    // added between two slices do not count.
-    fn count(&mut self, solver: &Solver) {
-        let len = solver.len();
-        if solver.learned() > self.learned {
-            for place in self.seen.max(len.saturating_sub(LAST))..len {
-                self.lengths.push(solver.clause(place).len());
-            }
-        }
-        self.seen = len;
-        self.learned = solver.learned();
-    }
 }
 
-impl Progress<Global> for Watch<'_> {
+impl Progress for Watch<'_> {
     ghost wants_stop = { λ _. false };
 
-    fn begin(&mut self, solver: &Solver) {
-        self.seen = solver.len();
-        self.learned = solver.learned();
+    fn wants_chains(&self) -> bool {
+        false
     }
 
-    fn note(&mut self, solver: &Solver) -> ControlFlow<()> {
-        self.count(solver);
+    fn begin(&mut self, _report: Report) {
+        self.is_searching = true;
+    }
+
+    fn added(&mut self, _id: usize, clause: &[Literal], _chain: &[usize]) {
+        if self.is_searching && !clause.is_empty() {
+            self.lengths.push(clause.len());
+        }
+    }
+
+    fn deleted(&mut self, _id: usize, _clause: &[Literal]) {}
+
+    fn note(&mut self, report: Report) -> ControlFlow<()> {
+        self.is_searching = false;
         if !self.quiet {
             let now = self.clock.now();
-            let snapshot = Snapshot::of(solver, &self.lengths);
+            let snapshot = Snapshot {
+                report,
+                lengths: &self.lengths,
+            };
             self.logger
                 .log(&Comments { rt: self.rt }, now, Level::Info, &snapshot);
         }
         ControlFlow::Continue(())
     }
 
-    fn forget(&mut self, _solver: &Solver) -> ControlFlow<()> {
-        ControlFlow::Continue(())
-    }
-
-    fn end(&mut self, solver: &Solver) {
+    fn end(&mut self, report: Report) {
         if self.quiet || !self.stats {
             return;
         }
-        self.count(solver);
-        let stats = solver.stats();
-        let _ = eprintln!(self.rt; "c {}", Snapshot::of(solver, &self.lengths));
+        let snapshot = Snapshot {
+            report,
+            lengths: &self.lengths,
+        };
+        let _ = eprintln!(self.rt; "c {snapshot}");
         let _ = eprintln!(self.rt;
             "c {} decisions, {} propagations",
-            stats.decisions, stats.propagations
+            report.stats.decisions, report.stats.propagations
         );
         let _ = eprintln!(self.rt; "c {}{}", Seconds(self.clock.now()), Peak::now(self.rt));
     }
@@ -321,12 +308,20 @@ impl<'a> TimeLimit<'a> {
     }
 }
 
-impl Progress<Global> for TimeLimit<'_> {
+impl Progress for TimeLimit<'_> {
     ghost wants_stop = { λ limit. limit.is_over };
 
-    fn begin(&mut self, _solver: &Solver) {}
+    fn wants_chains(&self) -> bool {
+        false
+    }
 
-    fn note(&mut self, _solver: &Solver) -> ControlFlow<()> {
+    fn begin(&mut self, _report: Report) {}
+
+    fn added(&mut self, _id: usize, _clause: &[Literal], _chain: &[usize]) {}
+
+    fn deleted(&mut self, _id: usize, _clause: &[Literal]) {}
+
+    fn note(&mut self, _report: Report) -> ControlFlow<()> {
         if self.clock.now() < self.limit {
             return ControlFlow::Continue(());
         }
@@ -334,9 +329,5 @@ impl Progress<Global> for TimeLimit<'_> {
         ControlFlow::Break(())
     }
 
-    fn forget(&mut self, _solver: &Solver) -> ControlFlow<()> {
-        ControlFlow::Continue(())
-    }
-
-    fn end(&mut self, _solver: &Solver) {}
+    fn end(&mut self, _report: Report) {}
 }

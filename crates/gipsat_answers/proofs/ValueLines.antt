@@ -1,6 +1,6 @@
 -- The lines of an answer's values, as far as they are written.
 use Rattle.std.proofs.Common.{◌≡◌, ◌<◌, ◌≤◌, ℕ, suc, ◌+◌, ◌-◌, List, [], ◌∷◌, ◌++◌, refl, sym, ap, ◌∙◌, arith, codes}
-use Rattle.gipsat_solver.specs.Formulas.{Assignment}
+use Rattle.gipsat_cnf.specs.Formulas.{Assignment}
 use Rattle.gipsat_dimacs.specs.Texts.{Word}
 use Rattle.gipsat_answers.specs.Answers.{laid_out, value_words}
 use Rattle.gipsat_dimacs.specs.Writer.{literal_word}

@@ -1,14 +1,11 @@
 -- The texts of answers.
 use Rattle.std.specs.Prelude.{◌≡◌, ℕ, zero, suc, ◌+◌, Bool, true, List, [], ◌∷◌, ◌++◌, length, nat_le, if◌then◌else◌, codes, IsTrue, Option}
 use Rattle.std.specs.Io.KnownBytes.{Appends}
-use Rattle.gipsat_solver.specs.Formulas.{Assignment, satisfies, IsSatisfiable}
-use Rattle.gipsat_solver.specs.Database.{SolverState}
-use Rattle.gipsat_solver.specs.Answers.{IsRight}
-use Rattle.gipsat_solver.specs.declared.solver.Answer.{Answer}
-use Rattle.gipsat_dimacs.specs.Instances.{HasLearnedNone}
+use Rattle.gipsat_cnf.specs.Formulas.{Assignment, Formula, satisfies, IsSatisfiable}
+use Rattle.gipsat_solver.specs.Answers.{IsRight, SolverState}
+use Rattle.gipsat_cnf.specs.declared.answers.Answer.{Answer}
 use Rattle.gipsat_dimacs.specs.Texts.{Problem, Word}
 use Rattle.gipsat_dimacs.specs.Writer.{literal_word}
-use Rattle.gipsat_dimacs.specs.declared.instance.Instance.{Instance}
 use Rattle.gipsat_answers.specs.declared.answers.Solved.{Solved}
 use Rattle.gipsat_answers.specs.declared.answers.Verdict.{Verdict}
 use Rattle.gipsat_answers.specs.declared.answers.Verdict.TheVariants.{Satisfiable, Unsatisfiable, Unknown, Stopped}
@@ -65,11 +62,15 @@ verdict_status Unsatisfiable = 20
 verdict_status Unknown = 0
 verdict_status Stopped = 0
 
+-- so many variables, and these clauses
+abbrev pub problem_of : ℕ → Formula → Problem
+problem_of variables formula = record { variables = variables; clauses = formula }
+
 -- the verdict and the text are right for each formula for which the answer is
 abbrev pub TellsRight : {A : Type 0} → Bool → ℕ → Answer A → Verdict → List ℕ → Type 0
 TellsRight witness variables answer verdict text =
-    (old new : SolverState) (limit : ℕ) → HasLearnedNone old → IsRight old new limit answer
-    → IsRightText witness (record { variables = variables; clauses = old.formula }) limit new verdict text
+    (old new : SolverState) (limit : ℕ) → old.learned ≡ 0 → IsRight old new limit answer
+    → IsRightText witness (problem_of variables old.formula) limit new verdict text
 
 -- a writer that held the one holds the other after the text of a right answer, with values if they are wanted
 abbrev pub WritesAnswerWith : {A : Type 0} → Bool → Problem → ℕ → Solved A → Option (List ℕ) → Option (List ℕ) → Type 0
@@ -79,7 +80,3 @@ WritesAnswerWith witness problem limit solved old new =
 -- a writer that held the one holds the other after the text of a right answer
 abbrev pub WritesAnswer : {A : Type 0} → Problem → ℕ → Solved A → Option (List ℕ) → Option (List ℕ) → Type 0
 WritesAnswer problem limit solved old new = WritesAnswerWith true problem limit solved old new
-
--- the problem of a formula that was read
-abbrev pub problem_in : {A : Type 0} → Instance A → Problem
-problem_in instance = record { variables = instance.variables; clauses = instance.solver.formula }

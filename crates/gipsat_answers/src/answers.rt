@@ -1,6 +1,6 @@
 //! Answers, and their texts.
 ghost use Rattle.std.specs.Prelude.{◌≡◌, ◌≢◌, ◌++◌, ◌<◌, ◌-◌, ◌^◌, ◌∷◌, [], List, codes, decimal, IfOk, OnOk};
-ghost use Rattle.gipsat_solver.specs.Values.{assignment_in};
+ghost use Rattle.gipsat_cnf.specs.Models.{assignment_in};
 ghost use Rattle.gipsat_dimacs.specs.Texts.{Word};
 ghost use Rattle.gipsat_dimacs.specs.Writer.{literal_word};
 ghost use Rattle.gipsat_answers.specs.Answers.{laid_out, values_text, verdict_status, witness_text, TellsRight};

@@ -6,4 +6,4 @@ pub mod answers;
 pub mod task;
 
 pub use answers::{Solved, Verdict};
-pub use task::{solve_instance, solve_text};
+pub use task::{Task, solve_instance, solve_text};

@@ -1,16 +1,28 @@
 //! The whole task: from the bytes of a text to those of an answer.
 ghost use Rattle.std.specs.Prelude.{◌≡◌, ◌≢◌, ℕ, IfOk, IfErr, OnOk, IsErrOf, IsTrue};
-ghost use Rattle.std.specs.Io.KnownBytes.{IsAtEnd};
+ghost use Rattle.std.specs.Io.KnownBytes.{Appends, IsAtEnd};
 ghost use Rattle.gipsat_dimacs.specs.Inputs.{HasClauses, HasForm, IsRefusedAt, OfProblem, WritesNone};
 ghost use Rattle.gipsat_dimacs.specs.declared.rule.HeaderRule.TheVariants.{Strict};
-ghost use Rattle.gipsat_dimacs.specs.Instances.{HasLearnedNone};
-ghost use Rattle.gipsat_answers.specs.Answers.{problem_in, WritesAnswer, WritesAnswerWith};
+ghost use Rattle.gipsat_answers.specs.Answers.{problem_of, WritesAnswer, WritesAnswerWith};
 
 use crate::answers::{Solved, Verdict, answer_text};
+use gipsat_cnf::Cnf;
 use gipsat_dimacs::{DimacsError, Instance, Reason, read_instance};
+use gipsat_solver::Solver;
 use gipsat_solver::progress::{Progress, solve_in_slices};
 use std::alloc::Allocator;
 use std::io::{Read, Write};
+
+/// How a formula is to be solved, and what is to be written.
+#[derive(Clone, Copy)]
+pub struct Task {
+    /// After how many learned clauses it gives up.
+    pub limit: usize,
+    /// Whether variables are eliminated and clauses shortened on the way.
+    pub simplify: bool,
+    /// Whether the values that satisfy the formula are written.
+    pub witness: bool,
+}
 
 /// Reads a formula in the DIMACS form, finds out whether anything satisfies it, and writes the answer.
 ///
@@ -24,7 +36,7 @@ use std::io::{Read, Write};
 /// - [`DimacsError::Output`] where a write fails. What was written by then is open.
 ///
 /// At the first three nothing was written. How much of the input was read is open.
-pub fn solve_text<A: Allocator + Copy, R: Read, W: Write, P: Progress<A>>(
+pub fn solve_text<A: Allocator + Copy, R: Read, W: Write, P: Progress>(
     alloc: A,
     reader: &mut R,
     writer: &mut W,
@@ -47,48 +59,59 @@ pub fn solve_text<A: Allocator + Copy, R: Read, W: Write, P: Progress<A>>(
     ensures unwritten { IfErr result (λ error. error ≢ DimacsError.Output → writer.new ≡ writer.old) }
 {
     let instance = read_instance(alloc, reader)?;
-    solve_instance(alloc, instance, writer, true, limit, progress)
+    let task = Task {
+        limit,
+        simplify: true,
+        witness: true,
+    };
+    solve_instance(alloc, instance, writer, task, progress)
 }
 
-/// Finds out whether anything satisfies a formula that was read, and writes the answer, as [`solve_text`] does; the
-/// values that satisfy it are left out where no `witness` is wanted.
+/// Finds out whether anything satisfies a formula that was read, and writes the answer, as [`solve_text`] does.
 ///
 /// # Errors
 /// - [`DimacsError::Memory`] where memory is refused.
 /// - [`DimacsError::Output`] where a write fails. What was written by then is open.
 ///
 /// At the first nothing was written.
-pub fn solve_instance<A: Allocator + Copy, W: Write, P: Progress<A>>(
+pub fn solve_instance<A: Allocator + Copy, W: Write, P: Progress>(
     alloc: A,
-    mut instance: Instance<A>,
+    instance: Instance<Cnf<A>>,
     writer: &mut W,
-    witness: bool,
-    limit: usize,
+    task: Task,
     progress: &mut P,
 ) -> Result<Solved<A>, DimacsError>
-    requires fresh { HasLearnedNone instance.solver }
-    ensures written { IfOk result (λ solved. WritesAnswerWith witness (problem_in instance) limit solved
+    ensures written { IfOk result (λ solved. WritesAnswerWith task.witness
+        (problem_of instance.variables instance.clauses) task.limit solved
         (W.contents writer.old) (W.contents writer.new)) }
-    ensures formula { IfOk result (λ solved. solved.solver.formula ≡ instance.solver.formula) }
+    ensures formula { IfOk result (λ solved. solved.solver.formula ≡ instance.clauses) }
     ensures stopped { IfOk result (λ solved. solved.verdict ≡ Verdict.Stopped → IsTrue (P.wants_stop progress.new)) }
     ensures other { (line : ℕ) (reason : Reason) → ¬ (IsErrOf result (DimacsError.Line line reason)) }
     ensures unwritten { IfErr result (λ error. error ≢ DimacsError.Output → writer.new ≡ writer.old) }
 {
-    let Some(answer) = solve_in_slices(&mut instance.solver, limit, progress)? else {
-        return match writer.write_all(b"s UNKNOWN\n") {
-            Ok(()) => Ok(Solved {
-                verdict: Verdict::Stopped,
-                solver: instance.solver,
-            }),
-            Err(_) => Err(DimacsError::Output),
-        };
+    let variables = instance.variables;
+    let mut solver = Solver::over(alloc, instance.clauses)?;
+    solver.set_inprocessing(task.simplify);
+    let Some(answer) = solve_in_slices(&mut solver, task.limit, progress)? else {
+        return write_solved(writer, b"s UNKNOWN\n", Verdict::Stopped, solver);
     };
-    let (verdict, text) = answer_text(alloc, witness, instance.variables, &answer)?;
-    match writer.write_all(&text) {
-        Ok(()) => Ok(Solved {
-            verdict,
-            solver: instance.solver,
-        }),
+    let (verdict, text) = answer_text(alloc, task.witness, variables, &answer)?;
+    write_solved(writer, &text, verdict, solver)
+}
+
+// Writes the text of an answer.
+fn write_solved<A: Allocator + Copy, W: Write>(
+    writer: &mut W,
+    text: &[u8],
+    verdict: Verdict,
+    solver: Solver<A>,
+) -> Result<Solved<A>, DimacsError>
+    ensures written { OnOk result (Appends (W.contents writer.old) (W.contents writer.new) text.now) }
+    ensures solved { IfOk result (λ solved. solved ≡ record { verdict = verdict; solver = solver }) }
+    ensures output { IfErr result (λ error. error ≡ DimacsError.Output) }
+{
+    match writer.write_all(text) {
+        Ok(()) => Ok(Solved { verdict, solver }),
         Err(_) => Err(DimacsError::Output),
     }
 }

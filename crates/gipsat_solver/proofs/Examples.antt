@@ -1,153 +1,26 @@
 -- Worked examples of the definitions: accepted and refused ones.
-use Rattle.std.proofs.Common.{◌≡◌, ℕ, eqb, Bool, true, false, ◌||◌, [], ◌∷◌, Some, None, refl, suc, zero}
-use Rattle.gipsat_solver.specs.Literals.{Lit, code, decoded}
-use Rattle.std.proofs.lemmas.Bool.{false≢true}
-use Rattle.gipsat_solver.specs.Formulas.{Formula, Assignment, satisfies_clause, satisfies, IsSatisfiable, Implies}
-use Rattle.gipsat_solver.specs.Seen.{is_seen}
-use Rattle.gipsat_solver.specs.Values.{value_of, unset}
-use Rattle.gipsat_solver.specs.Database.{clauses_of, original_among}
-use Rattle.gipsat_solver.specs.Answers.{IsModel}
-use Rattle.gipsat_solver.specs.TrailMeasure.{height}
-use Rattle.gipsat_solver.specs.Assumptions.{IsCore, IsSatisfiableUnder, makes_true}
+use Rattle.std.proofs.Common.{◌≡◌, ℕ, true, [], ◌∷◌, refl, arith}
+use Rattle.gipsat_cnf.specs.Literals.{Lit}
+use Rattle.gipsat_solver.specs.Answers.{HasMore, HasUpTo, IsRight, SolverState}
+use Rattle.gipsat_cnf.specs.declared.answers.Answer.{Answer}
+use Rattle.gipsat_cnf.specs.declared.answers.Answer.TheVariants.{Unknown}
 
 abbrev yes : ℕ → Lit
 yes v = record { variable = v; positive = true }
 
-abbrev not_ : ℕ → Lit
-not_ v = record { variable = v; positive = false }
+-- x0 is a clause, and so many clauses were learned
+abbrev after : ℕ → SolverState
+after n = record { formula = (yes 0 ∷ []) ∷ []; learned = n }
 
--- x0 or x1; not x0 or x1
-abbrev two : Formula
-two = (yes 0 ∷ yes 1 ∷ []) ∷ (not_ 0 ∷ yes 1 ∷ []) ∷ []
+two_more : HasMore 2 (after 3) (after 5)
+two_more = refl
 
--- x1 alone is true
-abbrev second : Assignment
-second v = eqb v 1
+at_most_four : HasUpTo 4 (after 3) (after 5)
+at_most_four = (2, omega arith, refl)
 
-second_satisfies : satisfies second two ≡ true
-second_satisfies = refl
+at_most_one_refused : HasUpTo 1 (after 3) (after 5) → ⊥
+at_most_one_refused (more, most, is) = omega (arith, most, is)
 
--- all are false
-none_does_not : satisfies (λ v. false) two ≡ false
-none_does_not = refl
-
-two_is_satisfiable : IsSatisfiable two
-two_is_satisfiable = (second, refl)
-
--- the empty clause is satisfied by nothing, and the empty formula by everything
-empty_clause : (a : Assignment) → satisfies_clause a [] ≡ false
-empty_clause a = refl
-
-empty_formula : (a : Assignment) → satisfies a [] ≡ true
-empty_formula a = refl
-
-contradiction_is_not : IsSatisfiable ((yes 0 ∷ []) ∷ (not_ 0 ∷ []) ∷ []) → ⊥
-contradiction_is_not (a, sat) = by_value (a 0) sat
-  where
-    by_value : (b : Bool) → satisfies (λ v. b) ((yes 0 ∷ []) ∷ (not_ 0 ∷ []) ∷ []) ≡ true → ⊥
-    by_value true e = false≢true e
-    by_value false e = false≢true e
-
--- x1 follows, and x0 does not
-second_follows : Implies two (yes 1 ∷ [])
-second_follows = record { follows = λ a all. by_values (a 0) (a 1) all }
-  where
-    by_values : (b c : Bool) → satisfies (λ v. elim v [ zero ↦ b | suc n ↦ c ]) two ≡ true
-        → satisfies_clause (λ v. c) (yes 1 ∷ []) ≡ true
-    by_values b true e = refl
-    by_values true false e = e
-    by_values false false e = e
-
-first_does_not : Implies two (yes 0 ∷ []) → ⊥
-first_does_not implied = false≢true (implied.follows second refl)
-
-seen : is_seen (false ∷ true ∷ []) (yes 0) ≡ true
-seen = refl
-
-unknown_value : value_of (Some true ∷ None ∷ []) (not_ 1) ≡ None
-unknown_value = refl
-
-false_value : value_of (Some true ∷ None ∷ []) (not_ 0) ≡ Some false
-false_value = refl
-
-one_unset : unset (Some true ∷ None ∷ []) ≡ 1
-one_unset = refl
-
-spans : clauses_of (yes 0 ∷ yes 1 ∷ not_ 0 ∷ []) (record { start = 0; end = 2 } ∷ record { start = 2; end = 3 } ∷ []) ≡ (yes 0 ∷ yes 1 ∷ []) ∷ (not_ 0 ∷ []) ∷ []
-spans = refl
-
--- a literal and its number, both ways
-codes : code (not_ 3) ≡ 6
-codes = refl
-
-codes_back : decoded 7 ≡ yes 3
-codes_back = refl
-
--- a literal and its negation: every assignment satisfies the clause
-tautology_holds : (a : Assignment) → satisfies_clause a (yes 0 ∷ not_ 0 ∷ []) ≡ true
-tautology_holds a = by_value (a 0)
-  where
-    by_value : (b : Bool) → satisfies_clause (λ v. b) (yes 0 ∷ not_ 0 ∷ []) ≡ true
-    by_value true = refl
-    by_value false = refl
-
--- a literal twice is as the literal once
-literal_twice : satisfies_clause second (yes 1 ∷ yes 1 ∷ []) ≡ true
-literal_twice = refl
-
-literal_twice_refused : satisfies_clause second (yes 0 ∷ yes 0 ∷ []) ≡ false
-literal_twice_refused = refl
-
--- a variable that no clause has may have either value
-other_variable : satisfies (λ v. eqb v 1 || eqb v 9) two ≡ true
-other_variable = refl
-
--- of three clauses the second was learned
-given_ones : original_among (true ∷ false ∷ true ∷ []) ((yes 0 ∷ []) ∷ (yes 1 ∷ []) ∷ [] ∷ []) ≡ (yes 0 ∷ []) ∷ [] ∷ []
-given_ones = refl
-
--- a list of literals, all of which are true, or not
-makes_both_true : makes_true second (yes 1 ∷ not_ 0 ∷ []) ≡ true
-makes_both_true = refl
-
-makes_true_refused : makes_true second (yes 1 ∷ yes 0 ∷ []) ≡ false
-makes_true_refused = refl
-
-makes_none_true : (a : Assignment) → makes_true a [] ≡ true
-makes_none_true a = refl
-
-two_is_satisfiable_under : IsSatisfiableUnder two (yes 1 ∷ not_ 0 ∷ [])
-two_is_satisfiable_under = (second, refl, refl)
-
--- not x1 can't be assumed; x0 can
-core : IsCore two (yes 0 ∷ not_ 1 ∷ []) (not_ 1 ∷ [])
-core = record {
-  among = λ l has. (suc has.0, has.1);
-  refuted = λ sat. by_values (sat.0 0) (sat.0 1) sat.1 sat.2;
-}
-  where
-    by_values : (b c : Bool) → satisfies (λ v. elim v [ zero ↦ b | suc n ↦ c ]) two ≡ true
-        → makes_true (λ v. c) (not_ 1 ∷ []) ≡ true → ⊥
-    by_values b true all is = false≢true is
-    by_values true false all is = false≢true all
-    by_values false false all is = false≢true all
-
-core_refused : IsCore two (yes 0 ∷ not_ 1 ∷ []) (yes 0 ∷ []) → ⊥
-core_refused is = is.refuted ((λ v. true), refl, refl)
-
--- one of two variables is decided, and the other follows: one and two, to the base 3
-height_of_both : height 2 (record { literal = yes 0; reason = None } ∷ record { literal = yes 1; reason = Some 0 } ∷ []) ≡ 5
-height_of_both = refl
-
--- that it follows without a decision is higher, however many are decided before
-height_of_one : height 2 (record { literal = yes 1; reason = Some 0 } ∷ []) ≡ 6
-height_of_one = refl
-
-height_of_decisions : height 2 (record { literal = yes 0; reason = None } ∷ record { literal = yes 1; reason = None } ∷ []) ≡ 4
-height_of_decisions = refl
-
-model : IsModel two (false ∷ true ∷ [])
-model = refl
-
-model_refused : IsModel two (true ∷ []) → ⊥
-model_refused is = false≢true is
+-- Unknown is right after as many clauses as the limit allows
+unknown : {A : Type 0} (answer : Answer A) → answer ≡ Unknown → IsRight (after 3) (after 5) 2 answer
+unknown answer is = rw is refl

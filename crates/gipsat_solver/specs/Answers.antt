@@ -1,14 +1,32 @@
--- When an answer is right.
-use Rattle.std.specs.Prelude.{ℕ, Bool, List, IsTrue}
-use Rattle.gipsat_solver.specs.declared.solver.Answer.{Answer}
-use Rattle.gipsat_solver.specs.declared.solver.Answer.TheVariants.{Sat, Unsat, Unknown}
-use Rattle.gipsat_solver.specs.Formulas.{Formula, satisfies, IsSatisfiable}
-use Rattle.gipsat_solver.specs.Database.{SolverState, HasMore}
-use Rattle.gipsat_solver.specs.Values.{assignment_in}
+-- When an answer of a solver is right.
+use Rattle.std.specs.Prelude.{◌≡◌, ℕ, ◌+◌, ◌-◌, ◌^◌, ◌<◌, ◌≤◌, List, ⊤, IsTrue}
+use Rattle.gipsat_cnf.specs.Assumptions.{IsCore, IsModelUnder}
+use Rattle.gipsat_cnf.specs.Formulas.{Formula, IsSatisfiable}
+use Rattle.gipsat_cnf.specs.Literals.{Lit}
+use Rattle.gipsat_cnf.specs.Models.{IsModel}
+use Rattle.gipsat_search.specs.declared.search.Query.{Query}
+use Rattle.gipsat_cnf.specs.Answers.{IsRightGuessOr, IsRightOr}
+use Rattle.gipsat_cnf.specs.declared.answers.Answer.{Answer}
+use Rattle.gipsat_cnf.specs.declared.answers.Answer.TheVariants.{Sat, Unsat, Unknown}
+use Rattle.gipsat_cnf.specs.declared.answers.AnswerUnder.{AnswerUnder}
+use Rattle.gipsat_cnf.specs.declared.answers.Guess.{Guess}
+use Rattle.gipsat_solver.specs.declared.answers.End.{End}
+use Rattle.gipsat_solver.specs.declared.answers.End.TheVariants as end
+use Rattle.gipsat_solver.specs.declared.turns.Step.{Step}
+use Rattle.gipsat_solver.specs.declared.turns.Step.TheVariants as step
 
--- the list of truth values satisfies the formula
-abbrev pub IsModel : Formula → List Bool → Type 0
-IsModel formula model = IsTrue (satisfies (assignment_in model) formula)
+-- what a solver holds: the formula, and how many clauses were learned
+pub record SolverState : Type 0 where
+  pub formula : Formula
+  pub learned : ℕ
+
+-- so many clauses more were learned
+abbrev pub HasMore : ℕ → SolverState → SolverState → Type 0
+HasMore n old new = new.learned ≡ old.learned + n
+
+-- at most so many clauses more were learned
+abbrev pub HasUpTo : ℕ → SolverState → SolverState → Type 0
+HasUpTo n old new = (more : ℕ) × (more ≤ n) × HasMore more old new
 
 -- Sat comes with a model, Unsat only where there is none; at Unknown `limit` clauses were learned
 abbrev pub IsRight : {A : Type 0} → SolverState → SolverState → ℕ → Answer A → Type 0
@@ -16,6 +34,34 @@ IsRight old new limit (Sat model) = IsModel old.formula model.items
 IsRight old new limit Unsat = ¬ (IsSatisfiable old.formula)
 IsRight old new limit Unknown = HasMore limit old new
 
--- a model or a refutation is right whatever the limit is; Unknown is not
-abbrev pub IsRightAtAnyLimit : {A : Type 0} → SolverState → SolverState → Answer A → Type 0
-IsRightAtAnyLimit old new answer = (limit : ℕ) → IsRight old new limit answer
+-- it is right, and not Unknown
+abbrev pub IsDecided : {A : Type 0} → Formula → Answer A → Type 0
+IsDecided formula (Sat model) = IsModel formula model.items
+IsDecided formula Unsat = ¬ (IsSatisfiable formula)
+IsDecided formula Unknown = ⊥
+
+-- Sat comes with a model that makes the assumptions true, Unsat with a core; at Unknown, `limit` clauses were learned
+abbrev pub IsRightUnder : {A : Type 0} → List Lit → SolverState → SolverState → ℕ → AnswerUnder A → Type 0
+IsRightUnder assumed old new limit answer = IsRightOr old.formula assumed (HasMore limit old new) answer
+
+-- the same, but at Unknown at most `limit` clauses were learned
+abbrev pub IsRightLimited : {A : Type 0} → List Lit → SolverState → SolverState → ℕ → AnswerUnder A → Type 0
+IsRightLimited assumed old new limit answer = IsRightOr old.formula assumed (HasUpTo limit old new) answer
+
+-- Unsat comes with a core; at Unknown, at most `limit` clauses were learned; Sat promises nothing
+abbrev pub IsRightGuess : {A : Type 0} → List Lit → SolverState → SolverState → ℕ → Guess A → Type 0
+IsRightGuess assumed old new limit answer = IsRightGuessOr old.formula assumed (HasUpTo limit old new) answer
+
+-- a model is one, and a core too; it guesses only if it was to, and spends only a budget that there is
+abbrev pub IsRightEnd : {A : Type 0} → Formula → Query → End A → Type 0
+IsRightEnd formula query (end.Model model) = IsModelUnder formula query.assumptions.now model.items
+IsRightEnd formula query (end.Core core) = IsCore formula query.assumptions.now core.items
+IsRightEnd formula query end.Guessed = IsTrue query.is_guess
+IsRightEnd formula query end.Spent = query.propagations < 2 ^ 64 - 1
+
+-- if the search has ended, its end is right
+abbrev pub IsRightStep : {A : Type 0} → Formula → Query → Step A → Type 0
+IsRightStep formula query step.Learned = ⊤
+IsRightStep formula query step.Reopened = ⊤
+IsRightStep formula query (step.Ended end) = IsRightEnd formula query end
+IsRightStep formula query step.Lost = ⊤

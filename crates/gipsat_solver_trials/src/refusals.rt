@@ -18,16 +18,28 @@ fn clashing() -> [[Literal; 2]; 4] {
     ]
 }
 
-// Adds the clauses, and one that is refused once more. Tells how many were refused.
-fn add_again(solver: &mut Solver<&Refusing>) -> usize {
-    let mut refused = 0usize;
+// How adding clauses went.
+#[derive(Clone, Copy)]
+struct Added {
+    // How many were refused at first.
+    refused: usize,
+    // Whether all were added at last.
+    is_whole: bool,
+}
+
+// Adds the clauses, and one that is refused once more.
+fn add_again(solver: &mut Solver<&Refusing>) -> Added {
+    let mut added = Added {
+        refused: 0,
+        is_whole: true,
+    };
     for clause in clashing() {
         if solver.add_clause(&clause).is_err() {
-            refused = refused.saturating_add(1);
-            let _ = solver.add_clause(&clause);
+            added.refused = added.refused.saturating_add(1);
+            added.is_whole &= solver.add_clause(&clause).is_ok();
         }
     }
-    refused
+    added
 }
 
 fn says_unsat(solver: &mut Solver<&Refusing>) -> bool {
@@ -40,12 +52,11 @@ fn is_answered_at_last(memory: &Refusing) -> bool {
 }
 
 fn answers_at_last(solver: &mut Solver<&Refusing>) -> bool {
-    let refused = add_again(solver);
-    let right = solver.len() == 4;
-    if refused == 0 && says_unsat(solver) {
-        return right;
+    let added = add_again(solver);
+    if added.refused == 0 && says_unsat(solver) {
+        return true;
     }
-    !(right && says_unsat(solver))
+    !(added.is_whole && says_unsat(solver))
 }
 
 // What is asked of a solver.
@@ -55,8 +66,7 @@ enum Question {
     WithNoLimit,
     // Under assumptions, and then under the core alone.
     Assumed,
-    // Once more where the database is compacted after the first conflict, or the formula simplified.
-    Compacted,
+    // Once more where the formula is simplified after the first conflict.
     Simplified,
 }
 
@@ -77,11 +87,6 @@ fn ask<'a>(
         Question::Plain => say(solver, formula, 100),
         Question::WithNoLimit => find(solver, formula),
         Question::Assumed => say_assumed(solver),
-        Question::Compacted => {
-            say(solver, formula, 1)?;
-            solver.compact()?;
-            say(solver, formula, 100)
-        }
         Question::Simplified => {
             say(solver, formula, 1)?;
             solver.simplify()?;
@@ -128,11 +133,6 @@ fn is_answered_under(memory: &Refusing) -> bool {
     is_unsat(memory, &formula, Question::Assumed)
 }
 
-fn is_answered_when_compacted(memory: &Refusing) -> bool {
-    let formula = [1, 2, 3, 0, 1, 2, -3, 0, -1, 2, 0, 1, -2, 0, -1, -2, 0];
-    is_unsat(memory, &formula, Question::Compacted)
-}
-
 // The variable 4 has to be true.
 fn is_answered_when_simplified(memory: &Refusing) -> bool {
     let formula = [
@@ -156,10 +156,6 @@ fn each_request_of_a_solver_is_refused_in_turn(rt: HostRuntime) {
         (
             "under assumptions",
             refuse_from_each(alloc, is_answered_under),
-        ),
-        (
-            "compacted",
-            refuse_from_each(alloc, is_answered_when_compacted),
         ),
         (
             "simplified",

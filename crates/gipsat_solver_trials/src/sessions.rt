@@ -1,7 +1,8 @@
-//! Random sessions: clauses are added, questions asked and clauses dropped in any order, and memory is refused now and
-//! then. Each answer is compared with a table of all assignments, and no clause may be left open.
+//! Random sessions: clauses are added, questions asked and clauses dropped in any order, and memory is refused. Each
+//! answer is compared with a table of all assignments, and no clause may be left open.
 
-use gipsat_solver::{Answer, AnswerUnder, Budget, Literal, Solver};
+use crate::random::Random;
+use gipsat_solver::{Answer, AnswerUnder, Budget, Guess, Literal, Solver};
 use giputils_refusing::Refusing;
 use std::alloc::{AllocError, Allocator, Global};
 
@@ -9,40 +10,14 @@ use std::alloc::{AllocError, Allocator, Global};
 const MOST_VARIABLES: u32 = 12;
 
 // How many sessions there are, and how many steps each has.
-const SESSIONS: u32 = 240;
+const SESSIONS: u32 = 800;
 
 const STEPS: u32 = 60;
 
-// Numbers that look random, and are the same each time (xorshift).
-#[derive(Clone, Copy)]
-struct Random {
-    state: u64,
-}
+// Each request for memory is refused in turn in sessions of so many seeds, of fewer steps.
+const REFUSED_SEEDS: u32 = 4;
 
-impl Random {
-    fn new(seed: u32) -> Self {
-        Random {
-            state: (u64::from(seed) << 20) ^ 0x9E37_79B9_7F4A_7C15,
-        }
-    }
-
-    // The next number below another; 0 where none is.
-    fn below(&mut self, end: u32) -> u32 {
-        let mut state = self.state;
-        state ^= state << 13;
-        state ^= state >> 7;
-        state ^= state << 17;
-        self.state = state;
-        let number = ((state >> 20) & 0xFFFF_FFFF).checked_rem(u64::from(end));
-        u32::try_from(number.unwrap_or(0)).unwrap_or(0)
-    }
-
-    // A literal of one of so many variables.
-    fn literal(&mut self, variables: u32) -> Literal {
-        let variable = self.below(variables).min(MOST_VARIABLES - 1);
-        Literal::new(variable, self.below(2) == 0)
-    }
-}
+const REFUSED_STEPS: u32 = 20;
 
 // Literals by the variables' bits: those of the variables themselves, and those of negations.
 #[derive(Clone, Copy)]
@@ -189,6 +164,24 @@ fn is_solved_limited(solver: &mut Solver<&Refusing>, clauses: &[Bits], budget: B
     }
 }
 
+// Guesses, and tells whether a core is one. Of the values that it ends with nothing is said.
+fn is_guessed(
+    solver: &mut Solver<&Refusing>,
+    clauses: &[Bits],
+    assumptions: &[Literal],
+    domain: Option<&[u32]>,
+    limit: usize,
+) -> bool {
+    let guess = match domain {
+        Some(domain) => solver.guess_within(domain, assumptions, limit),
+        None => solver.guess_under(assumptions, limit),
+    };
+    match guess {
+        Ok(Guess::Unsat(core)) => is_core(&core, clauses, Bits::of(assumptions)),
+        _ => true,
+    }
+}
+
 fn is_found(solver: &mut Solver<&Refusing>, clauses: &[Bits]) -> bool {
     let nothing = Bits::of(&[]);
     match solver.find_model() {
@@ -218,7 +211,26 @@ fn is_solved_under_some(
     }
 }
 
-// Asks, tidies, eliminates or shortens in a random way, and tells whether what is answered is right.
+// Guesses under two assumptions, within a domain of up to four variables or within all.
+fn is_guessed_under_some(
+    solver: &mut Solver<&Refusing>,
+    clauses: &[Bits],
+    random: &mut Random,
+    variables: u32,
+    limit: usize,
+) -> bool {
+    let assumptions = [random.literal(variables), random.literal(MOST_VARIABLES)];
+    let domain = [
+        random.below(variables),
+        random.below(variables),
+        random.below(variables),
+        random.below(MOST_VARIABLES),
+    ];
+    let size = random.below(6) as usize;
+    is_guessed(solver, clauses, &assumptions, domain.get(..size), limit)
+}
+
+// Asks, guesses, tidies, eliminates or shortens in a random way, and tells whether what is answered is right.
 fn is_right(
     solver: &mut Solver<&Refusing>,
     clauses: &[Bits],
@@ -237,11 +249,7 @@ fn is_right(
             is_solved_limited(solver, clauses, budget)
         }
         6 => is_found(solver, clauses),
-        7 => {
-            let _ = solver.learn_units();
-            true
-        }
-        8..=10 => {
+        7..=10 => {
             let frozen = [random.below(variables)];
             let steps = u64::from(random.below(2000));
             let _ = solver.eliminate(&frozen, steps);
@@ -251,12 +259,9 @@ fn is_right(
             let _ = solver.simplify();
             true
         }
-        13..=14 => {
-            let _ = solver.vivify(0, u64::from(random.below(400)));
-            true
-        }
+        13..=15 => is_guessed_under_some(solver, clauses, random, variables, limit),
         _ => {
-            let _ = solver.compact();
+            let _ = solver.vivify(u64::from(random.below(400)));
             true
         }
     }
@@ -272,15 +277,23 @@ enum Outcome {
     LeftOpen,
 }
 
-// One session.
+// What a session came to, and how many requests for memory it made.
+#[derive(Clone, Copy)]
+struct Ending {
+    outcome: Outcome,
+    requests: u64,
+}
+
+// One session, of so many steps.
 fn session<A: Allocator + Copy>(
     alloc: A,
     solver: &mut Solver<&Refusing>,
     random: &mut Random,
+    steps: u32,
 ) -> Result<Outcome, AllocError> {
     let variables = random.below(MOST_VARIABLES - 7).saturating_add(8);
     let mut clauses = Vec::new(alloc);
-    for _ in 0..STEPS {
+    for _ in 0..steps {
         if random.below(2) > 0 {
             add_some(solver, &mut clauses, random, variables)?;
         } else if !is_right(solver, &clauses, random, variables) {
@@ -297,21 +310,61 @@ fn session<A: Allocator + Copy>(
     })
 }
 
-// A session of its own solver, and in half of them one request for memory is refused.
-fn session_of(alloc: Global, seed: u32) -> Result<Outcome, AllocError> {
-    let mut random = Random::new(seed);
-    let refused = if seed % 2 == 0 { 0 } else { random.below(1000) };
-    let memory = Refusing::nth(alloc, u64::from(refused));
-    let mut solver = Solver::new(&memory);
-    session(alloc, &mut solver, &mut random)
+// The same, with its requests.
+fn how_it_ends<A: Allocator + Copy>(
+    alloc: A,
+    memory: &Refusing,
+    solver: &mut Solver<&Refusing>,
+    random: &mut Random,
+    steps: u32,
+) -> Result<Ending, AllocError> {
+    let outcome = session(alloc, solver, random, steps)?;
+    Ok(Ending {
+        outcome,
+        requests: memory.requests(),
+    })
 }
 
-// The first session that is not right. None if all of so many are.
+// A session of its own solver, of so many steps, where the request of a number is refused; with 0 none is.
+fn session_of(alloc: Global, seed: u32, steps: u32, refused: u64) -> Result<Ending, AllocError> {
+    let memory = Refusing::nth(alloc, refused);
+    let mut random = Random::new(seed);
+    how_it_ends(
+        alloc,
+        &memory,
+        &mut Solver::new(&memory),
+        &mut random,
+        steps,
+    )
+}
+
+// The first session that is not right, where one request of each second one is refused, if it makes so many. None if
+// all are right.
 fn first_fault(alloc: Global, sessions: u32) -> Result<Option<(u32, Outcome)>, AllocError> {
     for seed in 0..sessions {
-        match session_of(alloc, seed)? {
+        let refused = if seed % 2 == 0 {
+            0
+        } else {
+            Random::new(seed).below(400)
+        };
+        match session_of(alloc, seed, STEPS, u64::from(refused))?.outcome {
             Outcome::Right => {}
             outcome => return Ok(Some((seed, outcome))),
+        }
+    }
+    Ok(None)
+}
+
+// How many sessions of one seed there are where each request is refused in turn, until one makes fewer. None if one of
+// them is not right.
+fn refused_in_turn(alloc: Global, seed: u32, steps: u32) -> Result<Option<u64>, AllocError> {
+    for refused in 1..u64::MAX {
+        let ending = session_of(alloc, seed, steps, refused)?;
+        if !matches!(ending.outcome, Outcome::Right) {
+            return Ok(None);
+        }
+        if ending.requests < refused {
+            return Ok(Some(refused));
         }
     }
     Ok(None)
@@ -320,4 +373,12 @@ fn first_fault(alloc: Global, sessions: u32) -> Result<Option<(u32, Outcome)>, A
 #[test]
 fn random_sessions_leave_no_clause_open(rt: HostRuntime) {
     assert!(rt; matches!(first_fault(rt.alloc(), SESSIONS), Ok(None)));
+}
+
+#[test]
+fn sessions_are_right_where_each_request_is_refused(rt: HostRuntime) {
+    for seed in 0..REFUSED_SEEDS {
+        let runs = refused_in_turn(rt.alloc(), seed, REFUSED_STEPS);
+        assert!(rt; matches!(runs, Ok(Some(_))), "seed {seed}: {runs:?}");
+    }
 }

@@ -1,6 +1,6 @@
 -- A variable more, and the end.
 use Rattle.std.proofs.Common.{◌≡◌, ◌++◌, ◌∙◌, ap, refl, codes}
-use Rattle.gipsat_solver.specs.Values.{assignment_in}
+use Rattle.gipsat_cnf.specs.Models.{assignment_in}
 use Rattle.gipsat_answers.specs.Answers.{values_text}
 use Rattle.gipsat_dimacs.specs.Writer.{literal_word}
 use Rattle.gipsat_answers.proofs.ValueLines.{value_more, value_last}

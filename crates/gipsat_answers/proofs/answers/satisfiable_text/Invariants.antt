@@ -1,6 +1,6 @@
 -- The text so far, and what is to come.
 use Rattle.std.proofs.Common.{◌≡◌, ◌++◌, ◌-◌, codes}
-use Rattle.gipsat_solver.specs.Values.{assignment_in}
+use Rattle.gipsat_cnf.specs.Models.{assignment_in}
 use Rattle.gipsat_answers.specs.Answers.{laid_out, value_words, values_text}
 use Rattle.gipsat_answers.proofs.answers.satisfiable_text.Given as goal
 

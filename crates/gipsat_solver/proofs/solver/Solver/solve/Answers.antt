@@ -1,5 +1,5 @@
 use Rattle.std.proofs.Common.{[], refl, subst}
-use Rattle.gipsat_solver.specs.Assumptions.{IsRightUnder}
+use Rattle.gipsat_solver.specs.Answers.{IsRightUnder}
 use Rattle.gipsat_solver.proofs.AnswerLemmas.{unsatisfied-core}
 use Rattle.gipsat_solver.proofs.solver.Solver.solve.Goals as goal
 use Rattle.gipsat_solver.proofs.solver.Solver.solve.Goals.{in-Sat, in-Unsat, in-Unknown}

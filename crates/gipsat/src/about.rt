@@ -1,0 +1,131 @@
+//! What the program tells of itself, and its options.
+use gip_program::{About, Kind, Opt};
+
+/// An option of one word.
+#[derive(Clone, Copy)]
+pub enum Switch {
+    Binary,
+    Check,
+    Force,
+    NoSimplify,
+    NoWitness,
+    Quiet,
+    Relaxed,
+    Stats,
+}
+
+/// An option that takes a number.
+#[derive(Clone, Copy)]
+pub enum Number {
+    Conflicts,
+    Time,
+}
+
+/// An option that takes a word.
+#[derive(Clone, Copy)]
+pub enum Text {
+    Proof,
+}
+
+/// What the program tells of itself.
+pub const ABOUT: About<'static, Switch, Number, Text> = About {
+    version: "gipsat 0.1.0",
+    usage: &[
+        "gipsat [OPTION]... [FORMULA]",
+        "gipsat --check FORMULA PROOF",
+    ],
+    summary: &[
+        "Reads a formula in the DIMACS form from the file FORMULA, or from standard input where none is named or its name \
+         is -, and writes `s SATISFIABLE` and values that satisfy it, `s UNSATISFIABLE`, or `s UNKNOWN` where a limit \
+         ended the search.",
+    ],
+    options: &OPTIONS,
+    note: "The value of a long option may also stand behind `=`: --time=60.",
+    statuses: "Exit status: 10 satisfiable, 20 unsatisfiable, 0 unknown, verified, or help; 1 an error, or not verified; 2 \
+               arguments that have no meaning.",
+};
+
+/// The options.
+pub const OPTIONS: [Opt<Switch, Number, Text>; 11] = [
+    Opt {
+        long: "--relaxed",
+        short: "",
+        kind: Kind::Switch(Switch::Relaxed),
+        section: "Input",
+        help: "take the counts of the header as hints; there may be no header",
+    },
+    Opt {
+        long: "--no-simplify",
+        short: "",
+        kind: Kind::Switch(Switch::NoSimplify),
+        section: "Search",
+        help: "eliminate no variables, and shorten no learned clauses",
+    },
+    Opt {
+        long: "--conflicts",
+        short: "",
+        kind: Kind::Number(Number::Conflicts, "N"),
+        section: "Limits",
+        help: "give up after N conflicts",
+    },
+    Opt {
+        long: "--time",
+        short: "-t",
+        kind: Kind::Number(Number::Time, "SECONDS"),
+        section: "Limits",
+        help: "give up when the search first pauses after so many seconds; reading is not cut short",
+    },
+    Opt {
+        long: "--no-witness",
+        short: "-n",
+        kind: Kind::Switch(Switch::NoWitness),
+        section: "Output",
+        help: "write no values (lines that begin with v)",
+    },
+    Opt {
+        long: "--quiet",
+        short: "-q",
+        kind: Kind::Switch(Switch::Quiet),
+        section: "Output",
+        help: "write no comments (lines that begin with c, on standard error)",
+    },
+    Opt {
+        long: "--stats",
+        short: "",
+        kind: Kind::Switch(Switch::Stats),
+        section: "Output",
+        help: "write a summary of the search at its end, on standard error",
+    },
+    Opt {
+        long: "--proof",
+        short: "",
+        kind: Kind::Text(Text::Proof, "PROOF", "a file"),
+        section: "Proofs",
+        help: "write the steps of the search to the file PROOF, in the DRAT form, whatever the answer is: at `s \
+               UNSATISFIABLE` they are a proof. The file appears at the end. A minus is refused, since standard output has \
+               the answer",
+    },
+    Opt {
+        long: "--binary",
+        short: "",
+        kind: Kind::Switch(Switch::Binary),
+        section: "Proofs",
+        help: "write it in the binary form",
+    },
+    Opt {
+        long: "--force",
+        short: "-f",
+        kind: Kind::Switch(Switch::Force),
+        section: "Proofs",
+        help: "replace PROOF also where it looks like a formula, and where it is not empty and no FORMULA is named or \
+               --relaxed is given",
+    },
+    Opt {
+        long: "--check",
+        short: "",
+        kind: Kind::Switch(Switch::Check),
+        section: "Proofs",
+        help: "read a formula and a proof that nothing satisfies it, and write `s VERIFIED` or `s NOT VERIFIED`; each \
+               clause of the proof has to be RUP or RAT",
+    },
+];

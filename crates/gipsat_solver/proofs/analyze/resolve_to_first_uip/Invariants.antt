@@ -1,5 +1,0 @@
-use Rattle.gipsat_solver.specs.Seen.{IsResolvent}
-use Rattle.gipsat_solver.proofs.analyze.resolve_to_first_uip.Given as goal
-
-abbrev pub invariant-loop-place : goal.invariant-loop-place
-invariant-loop-place g l = IsResolvent l.database l.seen

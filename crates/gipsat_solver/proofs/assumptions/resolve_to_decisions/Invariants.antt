@@ -1,9 +1,0 @@
-use Rattle.gipsat_solver.specs.Seen.{IsResolvent}
-use Rattle.gipsat_solver.specs.Obstacles.{AreFalsifiedFor}
-use Rattle.gipsat_solver.proofs.assumptions.resolve_to_decisions.Given as goal
-
-abbrev pub invariant-loop-place : goal.invariant-loop-place
-invariant-loop-place g l = record {
-  resolvent : IsResolvent l.database l.seen;
-  falsified : AreFalsifiedFor l.trail l.fn.failed l.seen l.place;
-}

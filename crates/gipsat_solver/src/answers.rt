@@ -1,0 +1,16 @@
+//! How a search ends.
+use gipsat_cnf::Literal;
+use std::alloc::{Allocator, Global};
+
+// How a search ends before its limit of learned clauses.
+#[derive(Drop)]
+pub(crate) enum End<A: Allocator = Global> {
+    // A model of the formula that makes the assumptions true.
+    Model(Vec<bool, A>),
+    // Some of the assumptions, which can't all be true.
+    Core(Vec<Literal, A>),
+    // It was to guess, and no variable waits.
+    Guessed,
+    // Its budget is spent.
+    Spent,
+}
