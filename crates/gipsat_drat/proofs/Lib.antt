@@ -1,9 +1,3 @@
-mod ClauseLemmas
 mod Examples
 mod HeldLemmas
-mod ModelLemmas
 mod OutcomeLemmas
-mod PropagationLemmas
-mod RatLemmas
-mod StepLemmas
-mod TrailLemmas

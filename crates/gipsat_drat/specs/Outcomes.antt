@@ -1,10 +1,9 @@
 -- The texts of outcomes and of errors.
 use Rattle.std.specs.Prelude.{ℕ, List, ◌++◌, codes, decimal, Option, ⊤}
 use Rattle.std.specs.Io.KnownBytes.{Appends}
-use Rattle.gipsat_solver.specs.Formulas.{Formula, IsSatisfiable}
+use Rattle.gipsat_cnf.specs.Formulas.{Formula, IsSatisfiable}
 use Rattle.gipsat_dimacs.specs.Errors as dimacs
 use Rattle.gipsat_dimacs.specs.Texts.{Problem}
-use Rattle.gipsat_drat.specs.Held.{Held, IsConsistent}
 use Rattle.gipsat_drat.specs.declared.error.Flaw.{Flaw}
 use Rattle.gipsat_drat.specs.declared.error.Flaw.TheVariants.{Word, Number, Variable, Missing, NotShown, Step, OpenClause, Unfinished}
 use Rattle.gipsat_drat.specs.declared.error.OtherForm.{OtherForm}
@@ -71,10 +70,6 @@ outcome_text (Refused refusal) = codes "s NOT VERIFIED\n"
 abbrev pub IsRight : Formula → Outcome → Type 0
 IsRight formula Verified = ¬ (IsSatisfiable formula)
 IsRight formula (Refused refusal) = ⊤
-
--- the outcome is right for each formula that only something satisfies where all that is held can be made true
-abbrev pub Tells : Held → Outcome → Type 0
-Tells held outcome = (f : Formula) → (IsSatisfiable f → IsConsistent held) → IsRight f outcome
 
 -- a writer that held the one holds the other after the line of a right outcome
 abbrev pub WritesOutcome : Problem → Outcome → Option (List ℕ) → Option (List ℕ) → Type 0

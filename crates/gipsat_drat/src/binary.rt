@@ -3,8 +3,7 @@
 //! The code of a literal is twice the number of its variable, and one more if it is negative. A code is written with
 //! seven bits a byte, the lowest first, and 128 is added to each byte but the last.
 ghost use Rattle.std.specs.Prelude.{IfOk};
-ghost use Rattle.gipsat_drat.specs.Held.{Stays};
-ghost use Rattle.gipsat_drat.specs.Outcomes.{Tells};
+ghost use Rattle.gipsat_drat.specs.Held.{IsRightOf, Keeps};
 
 use crate::checker::Checker;
 use crate::error::{Failure, Flaw, Outcome, Place, Stop};
@@ -54,7 +53,7 @@ impl<A: Allocator + Copy> BinaryParser<A> {
 
     // Reads some bytes more, as far as the empty clause.
     pub(crate) fn feed(&mut self, checker: &mut Checker<A>, bytes: &[u8]) -> Result<(), Stop>
-        ensures { Stays checker.old checker.new }
+        ensures { Keeps checker.old checker.new }
     {
         for byte in bytes {
             self.bytes = self.bytes.saturating_add(1);
@@ -68,7 +67,7 @@ impl<A: Allocator + Copy> BinaryParser<A> {
 
     // Reads a byte more.
     fn byte(&mut self, checker: &mut Checker<A>, byte: u8) -> Result<(), Stop>
-        ensures { Stays checker.old checker.new }
+        ensures { Keeps checker.old checker.new }
     {
         if !self.in_step {
             return self.begin_step(byte);
@@ -99,7 +98,7 @@ impl<A: Allocator + Copy> BinaryParser<A> {
 
     // Ends the proof.
     pub(crate) fn finish(&self, checker: &Checker<A>) -> Result<Outcome, Failure>
-        ensures { IfOk result (Tells checker.now) }
+        ensures { IfOk result (IsRightOf checker.now) }
     {
         if checker.is_refuted() {
             return Ok(Outcome::Verified);

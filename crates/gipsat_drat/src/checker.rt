@@ -1,56 +1,44 @@
 //! The checker.
-ghost use Rattle.std.specs.Prelude.{◌≡◌, ℕ, IfNone, IfOk, IfSome, OnErr, OnOk, false};
+ghost use Rattle.std.specs.Prelude.{◌≡◌, [], false, IfOk, OnErr};
 ghost use Rattle.std.specs.Bool.{OnFalse, OnTrue};
-ghost use Rattle.gipsat_solver.specs.Literals.{Lit};
-ghost use Rattle.gipsat_solver.specs.Formulas.{Formula};
-ghost use Rattle.gipsat_drat.specs.Held.{Deletes, Entails, Follow, HoldsNone, IsConsistent, IsConsistentWith, Refutes};
-ghost use Rattle.gipsat_drat.specs.Held.{HoldsAlso, HoldsAtMost, IsShownEmpty, Keeps, KeepsWith, Stays, StaysRefuted};
-ghost use Rattle.gipsat_drat.specs.Held.{nothing_held};
-ghost use Rattle.gipsat_drat.specs.Rat.{IsRat};
-ghost use Rattle.gipsat_drat.specs.Clauses.{IsSameAt};
+ghost use Rattle.gipsat_drat.specs.Held.{IsConsistent, Keeps, StaysRefuted, held_of, held_with};
 
-use crate::clauses::Clauses;
 use crate::index::Index;
-use crate::notes::{Notes, search};
-use crate::propagation::{attach, attach_all};
-use crate::rat::resolves;
-use crate::rup::is_rup;
+use crate::rat::add_rat;
+use crate::rup::{add_rup, enter};
 use crate::trail::Trail;
-use gipsat_solver::Literal;
+use crate::watches::{GONE, Watches};
+use gipsat_cnf::{Cnf, Literal};
+use gipsat_kernel::RatKernel;
 use std::alloc::{AllocError, Allocator, Global};
 use std::marker::Model;
 
-/// Clauses, to which others are added only where they are RUP or RAT.
+/// Clauses, to which others are added only where they are RUP or RAT. Contracts see the formula of all of them, and
+/// whether the empty clause was shown.
 ///
 /// A clause is RUP if unit propagation shows that it follows. It is RAT on its first literal, the pivot, if nothing of
 /// the pivot's variable is true by the clauses alone, and each of its resolvents on the pivot is RUP: its literals with
 /// those of a clause that has the pivot's negation, but for that. Such a clause need not follow, but keeps
-/// satisfiability: where some assignment makes all that was held true, some makes this clause true as well.
+/// satisfiability: where something satisfied all clauses, something satisfies this one as well.
 ///
-/// It is seen as what it holds: its clauses, the literals that are true by them alone, and whether the empty clause was
-/// shown. A checker does not know the formula.
+/// All that is believed is a [`RatKernel`]: what propagation finds is derived by it.
 #[derive(Drop)]
 pub struct Checker<A: Allocator = Global> {
     alloc: A,
-    variables: u32,
-    clauses: Clauses<A>,
+    kernel: RatKernel<A>,
     trail: Trail<A>,
+    watches: Watches<A>,
     index: Index<A>,
-    notes: Notes<A>,
+    // Whether the empty clause was shown.
     refuted: bool,
 }
 
 impl<A: Allocator> Model for Checker<A> {
-    ghost use Rattle.std.specs.Prelude.{◌≡◌, length};
     ghost use Rattle.gipsat_drat.specs.Held.{Held};
-    ghost use Rattle.gipsat_drat.specs.Clauses.{held_among};
-    ghost use Rattle.gipsat_drat.specs.Trail.{IsSettled};
 
     ghost Value = { Held };
 
-    ghost view = { λ c. record { clauses = held_among c.clauses; units = c.trail.steps.items; refuted = c.refuted } };
-
-    ghost invariant = { λ c. IsSettled c.trail };
+    ghost view = { λ c. record { clauses = c.kernel; refuted = c.refuted } };
 }
 
 impl<A: Allocator + Copy> Checker<A> {
@@ -59,16 +47,35 @@ impl<A: Allocator + Copy> Checker<A> {
     /// # Errors
     /// `AllocError` where memory is refused.
     pub fn new(alloc: A, variables: u32) -> Result<Self, AllocError>
-        ensures value { IfOk result (λ c. c ≡ nothing_held) }
-        ensures follow { IfOk result (λ c. (f : Formula) → Follow f c) }
+        ensures { IfOk result (λ c. c ≡ held_of []) }
+    {
+        Checker::of(alloc, RatKernel::new(alloc), variables)
+    }
+
+    /// A checker that holds the clauses of a formula, for their variables. It takes the formula over without a copy.
+    ///
+    /// # Errors
+    /// `AllocError` where memory is refused. The formula is lost then.
+    pub fn over(alloc: A, formula: Cnf<A>) -> Result<Self, AllocError>
+        ensures { IfOk result (Keeps (held_of formula)) }
+    {
+        let variables = formula.variables() as u32;
+        let kernel = RatKernel::over(alloc, formula)?;
+        let mut checker = Checker::of(alloc, kernel, variables)?;
+        checker.enter_all()?;
+        Ok(checker)
+    }
+
+    // A checker of a kernel whose clauses were not entered.
+    fn of(alloc: A, kernel: RatKernel<A>, variables: u32) -> Result<Self, AllocError>
+        ensures { IfOk result (λ c. c ≡ held_of kernel) }
     {
         Ok(Checker {
             alloc,
-            variables,
-            clauses: Clauses::new(alloc),
+            kernel,
             trail: Trail::new(alloc, variables)?,
+            watches: Watches::new(alloc, variables)?,
             index: Index::new(alloc, variables)?,
-            notes: Notes::new(alloc, variables)?,
             refuted: false,
         })
     }
@@ -76,7 +83,7 @@ impl<A: Allocator + Copy> Checker<A> {
     /// Whether the empty clause was shown.
     pub fn is_refuted(&self) -> bool
         ensures value { result ≡ self.now.refuted }
-        ensures refutes { OnTrue result (Refutes self.now) }
+        ensures refutes { OnTrue result (¬ (IsConsistent self.now)) }
     {
         self.refuted
     }
@@ -86,15 +93,11 @@ impl<A: Allocator + Copy> Checker<A> {
     /// # Errors
     /// `AllocError` where memory is refused. The clause may be held then.
     pub fn give(&mut self, clause: &[Literal]) -> Result<(), AllocError>
-        ensures keeps { KeepsWith clause.now self.old self.new }
-        ensures held { OnOk result (HoldsAlso clause.now self.old self.new) }
-        ensures empty { OnOk result (IsShownEmpty clause.now self.new) }
-        ensures at_most { HoldsAtMost clause.now self.old self.new }
+        ensures keeps { Keeps (held_with self.old clause.now) self.new }
         ensures refuted { StaysRefuted self.old self.new }
     {
-        let mut copy = Vec::new(self.alloc);
-        copy.extend_from_slice(clause)?;
-        self.keep(copy)
+        let id = self.kernel.add_clause(clause)?;
+        self.enter(id)
     }
 
     /// Holds a clause, if it is RUP, or RAT on its first literal, and answers whether it is. Once the empty clause was
@@ -105,18 +108,19 @@ impl<A: Allocator + Copy> Checker<A> {
     /// # Errors
     /// `AllocError` where memory is refused. The clause may be held then.
     pub fn add(&mut self, clause: &[Literal]) -> Result<bool, AllocError>
-        ensures stays { Stays self.old self.new }
-        ensures held { IfOk result (λ shown. OnTrue shown (HoldsAlso clause.now self.old self.new)) }
-        ensures empty { IfOk result (λ shown. OnTrue shown (IsShownEmpty clause.now self.new)) }
-        ensures refused { IfOk result (λ shown. OnFalse shown (self.new.clauses ≡ self.old.clauses)) }
+        ensures keeps { Keeps self.old self.new }
+        ensures refused { IfOk result (λ shown. OnFalse shown (self.new.refuted ≡ self.old.refuted)) }
         ensures open { IfOk result (λ shown. OnFalse shown (self.old.refuted ≡ false)) }
-        ensures at_most { HoldsAtMost clause.now self.old self.new }
         ensures refuted { StaysRefuted self.old self.new }
     {
-        if !self.is_redundant(clause)? {
-            return Ok(false);
+        if self.refuted {
+            return Ok(true);
         }
-        self.give(clause)?;
+        self.collect_if_sparse()?;
+        let Some(id) = self.add_redundant(clause)? else {
+            return Ok(false);
+        };
+        self.enter(id)?;
         Ok(true)
     }
 
@@ -124,144 +128,129 @@ impl<A: Allocator + Copy> Checker<A> {
     /// none. What is true by the clauses held before stays true.
     ///
     /// # Errors
-    /// `AllocError` where memory is refused, as the memory of deleted clauses is given back. One was deleted then.
+    /// `AllocError` where memory is refused, as the memory of clauses that were deleted before is given back. None is
+    /// deleted then.
     pub fn delete(&mut self, clause: &[Literal]) -> Result<bool, AllocError>
         ensures keeps { Keeps self.old self.new }
-        ensures deleted { IfOk result (λ found. OnTrue found (Deletes clause.now self.old self.new)) }
         ensures missing { IfOk result (λ found. OnFalse found (self.new ≡ self.old)) }
-        ensures none { IfOk result (λ found. OnFalse found (HoldsNone clause.now self.old)) }
-        ensures err { OnErr result (Deletes clause.now self.old self.new) }
-        ensures refuted { StaysRefuted self.old self.new }
+        ensures err { OnErr result (self.new ≡ self.old) }
+        ensures refuted { self.new.refuted ≡ self.old.refuted }
     {
-        let Some(place) = find(&self.clauses, &self.index, &mut self.notes, clause) else {
+        self.collect_if_sparse()?;
+        let Some(id) = self.index.find(&self.kernel, clause) else {
             return Ok(false);
         };
-        self.clauses.delete(place);
-        self.index.delete(place);
-        if self.index.is_sparse() {
-            self.compact()?;
-        }
+        self.kernel.delete(id);
+        self.index.delete(id);
         Ok(true)
     }
 
-    // Whether the clause is RUP or RAT.
-    fn is_redundant(&mut self, clause: &[Literal]) -> Result<bool, AllocError>
-        ensures stays { Stays self.old self.new }
-        ensures redundant { IfOk result (λ yes. OnTrue yes
-            (IsConsistent self.old → IsConsistentWith clause.now self.new)) }
-        ensures open { IfOk result (λ yes. OnFalse yes (self.old.refuted ≡ false)) }
-        ensures clauses { self.new.clauses ≡ self.old.clauses }
-        ensures refuted { self.new.refuted ≡ self.old.refuted }
-    {
-        if self.is_rup(clause)? {
-            return Ok(true);
-        }
-        self.is_rat(clause)
-    }
-
-    // Whether the clause is RUP: unit propagation shows that it follows.
-    fn is_rup(&mut self, clause: &[Literal]) -> Result<bool, AllocError>
+    // Adds a clause to those of the kernel if it is RUP or RAT: its id.
+    fn add_redundant(&mut self, clause: &[Literal]) -> Result<Option<usize>, AllocError>
         ensures keeps { Keeps self.old self.new }
-        ensures entails { IfOk result (λ yes. OnTrue yes (Entails self.old clause.now)) }
-        ensures open { IfOk result (λ yes. OnFalse yes (self.old.refuted ≡ false)) }
-        ensures clauses { self.new.clauses ≡ self.old.clauses }
         ensures refuted { self.new.refuted ≡ self.old.refuted }
     {
-        if self.refuted {
-            return Ok(true);
-        }
-        is_rup(
+        let added = add_rup(
             self.alloc,
-            &self.clauses,
+            &mut self.kernel,
             &mut self.trail,
-            &mut self.index,
+            &mut self.watches,
             clause,
-        )
+        )?;
+        if added.is_some() {
+            return Ok(added);
+        }
+        self.add_rat(clause)
     }
 
-    // Whether the clause is RAT on its first literal: that has no value, and unit propagation shows each resolvent.
-    fn is_rat(&mut self, clause: &[Literal]) -> Result<bool, AllocError>
+    // Adds a clause to those of the kernel if it is RAT: its id.
+    fn add_rat(&mut self, clause: &[Literal]) -> Result<Option<usize>, AllocError>
         ensures keeps { Keeps self.old self.new }
-        ensures rat { IfOk result (λ yes. OnTrue yes ((pivot : Lit) × IsRat self.old pivot clause.now)) }
-        ensures clauses { self.new.clauses ≡ self.old.clauses }
         ensures refuted { self.new.refuted ≡ self.old.refuted }
     {
-        let Some(pivot) = clause.first() else {
-            return Ok(false);
-        };
-        let pivot = *pivot;
-        if self.trail.is_assigned(pivot) {
-            return Ok(false);
-        }
-        resolves(
+        let len = self.kernel.len();
+        let added = add_rat(
             self.alloc,
-            &self.clauses,
+            &mut self.kernel,
             &mut self.trail,
-            &mut self.index,
+            &mut self.watches,
             clause,
-            pivot,
-        )
-    }
-
-    // Holds a clause.
-    fn keep(&mut self, clause: Vec<Literal, A>) -> Result<(), AllocError>
-        ensures keeps { KeepsWith clause.items self.old self.new }
-        ensures held { OnOk result (HoldsAlso clause.items self.old self.new) }
-        ensures empty { OnOk result (IsShownEmpty clause.items self.new) }
-        ensures at_most { HoldsAtMost clause.items self.old self.new }
-        ensures refuted { StaysRefuted self.old self.new }
-    {
-        let place = self.clauses.len();
-        self.index.push(&clause)?;
-        self.clauses.push(clause)?;
-        let conflict = attach(
-            self.alloc,
-            &self.clauses,
-            &mut self.trail,
-            &mut self.index,
-            place,
         );
-        self.trail.settle();
-        let conflict = conflict?;
-        if !conflict {
-            return Ok(());
+        // The resolvents are dead, and the clause itself is not.
+        let more = self.kernel.len().saturating_sub(len);
+        let kept = usize::from(matches!(added, Ok(Some(_))));
+        self.index.count_dead(more.saturating_sub(kept));
+        added
+    }
+
+    // Enters each clause of the kernel, as far as the empty clause is shown.
+    fn enter_all(&mut self) -> Result<(), AllocError>
+        ensures { Keeps self.old self.new }
+    {
+        for id in 0..self.kernel.len() {
+            if self.refuted {
+                return Ok(());
+            }
+            self.enter(id)?;
         }
-        self.refuted = true;
         Ok(())
     }
 
-    // Closes the places of deleted clauses up, and makes the index anew.
-    fn compact(&mut self) -> Result<(), AllocError>
+    // Enters a clause of the kernel into the index, lets it watch two literals, and propagates what it makes true. Once
+    // the empty clause was shown, the index alone is needed.
+    #[tactic(auto, using(crate::proofs::HeldLemmas::not_shown))]
+    fn enter(&mut self, id: usize) -> Result<(), AllocError>
         ensures keeps { Keeps self.old self.new }
-        ensures clauses { self.new.clauses ≡ self.old.clauses }
         ensures refuted { StaysRefuted self.old self.new }
     {
-        let index = Index::new(self.alloc, self.variables)?;
-        self.index = index;
-        self.clauses.compact();
-        let conflict = attach_all(self.alloc, &self.clauses, &mut self.trail, &mut self.index);
-        self.trail.settle();
-        let conflict = conflict?;
-        if !conflict {
+        if let Some(clause) = self.kernel.clause(id) {
+            self.index.push(id, clause)?;
+        }
+        if self.refuted {
             return Ok(());
         }
-        self.refuted = true;
+        self.refuted = enter(
+            self.alloc,
+            &mut self.kernel,
+            &mut self.trail,
+            &mut self.watches,
+            id,
+        )?;
+        Ok(())
+    }
+
+    // Gives the memory of deleted clauses back, if they are many, and names the others by their new ids.
+    fn collect_if_sparse(&mut self) -> Result<(), AllocError>
+        ensures { self.new ≡ self.old }
+    {
+        if self.refuted || !self.index.is_sparse() {
+            return Ok(());
+        }
+        let mut stays = Vec::new(self.alloc);
+        let mut ids = Vec::new(self.alloc);
+        list_ids(&self.kernel, &mut stays, &mut ids)?;
+        let entries = self.index.kept(self.alloc, &stays)?;
+        // No request is refused from here on.
+        self.kernel.collect(self.alloc)?;
+        self.index.replace(entries);
+        self.watches.renumber(&ids);
+        self.trail.renumber(&ids);
         Ok(())
     }
 }
 
-// The place of a clause with these literals.
-fn find<A: Allocator + Copy>(
-    clauses: &Clauses<A>,
-    index: &Index<A>,
-    notes: &mut Notes<A>,
-    clause: &[Literal],
-) -> Option<usize>
-    ensures found { IfSome result (λ place. IsSameAt clauses.now clause.now place) }
-    ensures none { IfNone result ((place : ℕ) → ¬ (IsSameAt clauses.now clause.now place)) }
-{
-    if let Some(place) = index.find(clauses, notes, clause) {
-        return Some(place);
+// Lists of each clause whether it stays at a collection, and its id after that.
+fn list_ids<A: Allocator + Copy>(
+    kernel: &RatKernel<A>,
+    stays: &mut Vec<bool, A>,
+    ids: &mut Vec<usize, A>,
+) -> Result<(), AllocError> {
+    let mut next: usize = 0;
+    for id in 0..kernel.len() {
+        let is_held = kernel.clause(id).is_some();
+        stays.push(is_held)?;
+        ids.push(if is_held { next } else { GONE })?;
+        next = next.saturating_add(usize::from(is_held));
     }
-    search(clauses, notes, clause)
+    Ok(())
 }

@@ -1,7 +1,7 @@
 //! What becomes of a proof, and why.
 ghost use Rattle.std.specs.Prelude.{◌≡◌, Some, IfOk};
-ghost use Rattle.gipsat_solver.specs.Formulas.{Formula};
-ghost use Rattle.gipsat_drat.specs.Outcomes.{IsRight, error_text, failure_error, flaw_text, form_text};
+ghost use Rattle.gipsat_drat.specs.Held.{Held, IsRightOf};
+ghost use Rattle.gipsat_drat.specs.Outcomes.{error_text, failure_error, flaw_text, form_text};
 ghost use Rattle.gipsat_drat.specs.Outcomes.{outcome_text, place_text, refusal_text};
 ghost use Rattle.gipsat_drat.specs.declared.error.DratError.TheVariants as error;
 ghost use Rattle.gipsat_drat.specs.declared.error.Failure.TheVariants as failure;
@@ -244,7 +244,7 @@ pub(crate) enum Stop {
 impl Stop {
     // What a check comes to that is stopped at a place.
     pub(crate) fn at(self, place: Place) -> Result<Outcome, Failure>
-        ensures { IfOk result (λ outcome. (f : Formula) → IsRight f outcome) }
+        ensures { IfOk result (λ outcome. (held : Held) → IsRightOf held outcome) }
     {
         match self {
             Stop::Memory => Err(Failure::Memory),

@@ -3,11 +3,9 @@
 
 mod binary;
 pub mod checker;
-mod clauses;
 pub mod error;
 mod form;
 mod index;
-mod notes;
 mod parser;
 mod propagation;
 mod rat;
@@ -16,7 +14,7 @@ mod step;
 pub mod task;
 mod text;
 mod trail;
-pub mod writer;
+mod watches;
 
 pub use checker::Checker;
 pub use error::{DratError, Flaw, OtherForm, Outcome, Place, Refusal};

@@ -1,7 +1,6 @@
 //! A proof in either of the forms that are read.
 ghost use Rattle.std.specs.Prelude.{IfOk};
-ghost use Rattle.gipsat_drat.specs.Held.{Stays};
-ghost use Rattle.gipsat_drat.specs.Outcomes.{Tells};
+ghost use Rattle.gipsat_drat.specs.Held.{IsRightOf, Keeps};
 
 use crate::binary::BinaryParser;
 use crate::checker::Checker;
@@ -36,7 +35,7 @@ impl<A: Allocator + Copy> Parser<A> {
 
     // Reads some bytes more, as far as the empty clause.
     pub(crate) fn feed(&mut self, checker: &mut Checker<A>, bytes: &[u8]) -> Result<(), Stop>
-        ensures { Stays checker.old checker.new }
+        ensures { Keeps checker.old checker.new }
     {
         match self {
             Parser::Text(parser) => parser.feed(checker, bytes),
@@ -46,7 +45,7 @@ impl<A: Allocator + Copy> Parser<A> {
 
     // Ends the proof.
     pub(crate) fn finish(&mut self, checker: &mut Checker<A>) -> Result<Outcome, Failure>
-        ensures { IfOk result (Tells checker.old) }
+        ensures { IfOk result (IsRightOf checker.old) }
     {
         match self {
             Parser::Text(parser) => parser.finish(checker),

@@ -1,68 +1,116 @@
-//! Clauses that have the property RAT: unit propagation shows each resolvent on the first literal, the pivot.
-ghost use Rattle.std.specs.Prelude.{◌≡◌, IfOk};
-ghost use Rattle.std.specs.Bool.{OnFalse, OnTrue};
-ghost use Rattle.std.specs.Prelude.{ℕ};
-ghost use Rattle.gipsat_solver.specs.Formulas.{Has};
-ghost use Rattle.gipsat_drat.specs.Resolvents.{resolvent, without};
-ghost use Rattle.gipsat_drat.specs.Trail.{IsSettled, ResolvesAt, StaysRooted};
+//! Clauses that are RAT: unit propagation shows each resolvent on the first literal, the pivot. The kernel adds the
+//! clause if the resolvents are clauses of its formula.
+ghost use Rattle.gipsat_kernel.specs.Rat.{KeepsSatisfiable};
 
-use crate::clauses::Clauses;
-use crate::index::Index;
-use crate::rup::is_rup;
-use crate::trail::Trail;
-use gipsat_solver::Literal;
+use crate::rup::add_rup;
+use crate::trail::{Trail, Value};
+use crate::watches::Watches;
+use gipsat_cnf::Literal;
+use gipsat_kernel::RatKernel;
 use std::alloc::{AllocError, Allocator};
 
-// Whether unit propagation shows each resolvent of the clause on the pivot. What was assigned is taken back.
-pub(crate) fn resolves<A: Allocator + Copy>(
+// Adds a clause if it is RAT on its first literal, which has to be open: its id. The resolvents are deleted again, also
+// where memory is refused.
+pub(crate) fn add_rat<A: Allocator + Copy>(
     alloc: A,
-    clauses: &Clauses<A>,
+    kernel: &mut RatKernel<A>,
     trail: &mut Trail<A>,
-    index: &mut Index<A>,
+    watches: &mut Watches<A>,
+    clause: &[Literal],
+) -> Result<Option<usize>, AllocError>
+    ensures { KeepsSatisfiable kernel.old kernel.new }
+{
+    let Some(pivot) = clause.first().copied() else {
+        return Ok(None);
+    };
+    if trail.value(pivot) != Value::Open {
+        return Ok(None);
+    }
+    let mut resolvents = Vec::new(alloc);
+    let added = add_resolved(
+        alloc,
+        kernel,
+        trail,
+        watches,
+        clause,
+        pivot,
+        &mut resolvents,
+    );
+    delete_all(kernel, &resolvents);
+    added
+}
+
+// Adds the resolvents of a clause on the pivot, and lists their ids. Adds the clause if unit propagation shows all of
+// them: its id.
+fn add_resolved<A: Allocator + Copy>(
+    alloc: A,
+    kernel: &mut RatKernel<A>,
+    trail: &mut Trail<A>,
+    watches: &mut Watches<A>,
     clause: &[Literal],
     pivot: Literal,
-) -> Result<bool, AllocError>
-    ensures stays { StaysRooted clauses.now trail.old trail.new }
-    ensures settled { IsSettled trail.old → IsSettled trail.new }
-    ensures shown { IfOk result (λ shown. OnTrue shown ((place : ℕ) →
-        ResolvesAt clauses.now trail.old pivot clause.now place)) }
+    resolvents: &mut Vec<usize, A>,
+) -> Result<Option<usize>, AllocError>
+    ensures { KeepsSatisfiable kernel.old kernel.new }
 {
-    for place in 0..clauses.len() {
-        if !resolves_at(alloc, clauses, trail, index, clause, pivot, place)? {
+    if !add_resolvents(alloc, kernel, trail, watches, clause, pivot, resolvents)? {
+        return Ok(None);
+    }
+    kernel.add_rat(clause, resolvents)
+}
+
+// Adds the resolvents of a clause on the pivot, as far as unit propagation shows them: their ids. Whether it shows all.
+fn add_resolvents<A: Allocator + Copy>(
+    alloc: A,
+    kernel: &mut RatKernel<A>,
+    trail: &mut Trail<A>,
+    watches: &mut Watches<A>,
+    clause: &[Literal],
+    pivot: Literal,
+    resolvents: &mut Vec<usize, A>,
+) -> Result<bool, AllocError>
+    ensures { KeepsSatisfiable kernel.old kernel.new }
+{
+    for id in 0..kernel.len() {
+        let Some(resolvent) = resolvent_with(alloc, kernel, id, clause, pivot)? else {
+            continue;
+        };
+        resolvents.reserve(1)?;
+        let Some(added) = add_rup(alloc, kernel, trail, watches, &resolvent)? else {
             return Ok(false);
-        }
+        };
+        resolvents.push_reserved(added);
     }
     Ok(true)
 }
 
-// Whether unit propagation shows the resolvent with the clause at a place, if that has the pivot's negation.
-fn resolves_at<A: Allocator + Copy>(
+// The resolvent of a clause on the pivot, which stays, with the clause of an id, if that has the pivot's negation.
+fn resolvent_with<A: Allocator + Copy>(
     alloc: A,
-    clauses: &Clauses<A>,
-    trail: &mut Trail<A>,
-    index: &mut Index<A>,
+    kernel: &RatKernel<A>,
+    id: usize,
     clause: &[Literal],
     pivot: Literal,
-    place: usize,
-) -> Result<bool, AllocError>
-    ensures stays { StaysRooted clauses.now trail.old trail.new }
-    ensures settled { IsSettled trail.old → IsSettled trail.new }
-    ensures shown { IfOk result (λ shown. OnTrue shown (ResolvesAt clauses.now trail.old pivot clause.now place)) }
-{
-    let Some(other) = clauses.get(place) else {
-        return Ok(true);
+) -> Result<Option<Vec<Literal, A>>, AllocError> {
+    let Some(other) = kernel.clause(id) else {
+        return Ok(None);
     };
-    if !has(other, pivot.negated()) {
-        return Ok(true);
+    let opposite = pivot.negated();
+    if !has(other, opposite) {
+        return Ok(None);
     }
-    let resolvent = resolve(alloc, pivot, clause, other)?;
-    is_rup(alloc, clauses, trail, index, &resolvent)
+    let mut resolvent = Vec::with_capacity(alloc, clause.len())?;
+    resolvent.extend_from_slice(clause)?;
+    for l in other {
+        if l.code() != opposite.code() {
+            resolvent.push(*l)?;
+        }
+    }
+    Ok(Some(resolvent))
 }
 
 // Whether a literal is one of the clause's.
-fn has(clause: &[Literal], l: Literal) -> bool
-    ensures { OnFalse result (¬ (Has clause.now l)) }
-{
+fn has(clause: &[Literal], l: Literal) -> bool {
     for m in clause {
         if m.code() == l.code() {
             return true;
@@ -71,30 +119,11 @@ fn has(clause: &[Literal], l: Literal) -> bool
     false
 }
 
-// The resolvent on the pivot of a clause that has it, with another clause. The pivot stays.
-fn resolve<A: Allocator + Copy>(
-    alloc: A,
-    pivot: Literal,
-    clause: &[Literal],
-    other: &[Literal],
-) -> Result<Vec<Literal, A>, AllocError>
-    ensures { IfOk result (λ made. made.items ≡ resolvent pivot clause.now other.now) }
+// Deletes clauses.
+fn delete_all<A: Allocator + Copy>(kernel: &mut RatKernel<A>, ids: &[usize])
+    ensures { KeepsSatisfiable kernel.old kernel.new }
 {
-    let mut literals = without(alloc, pivot.negated(), other)?;
-    literals.extend_from_slice(clause)?;
-    Ok(literals)
-}
-
-// A clause without a literal.
-fn without<A: Allocator + Copy>(
-    alloc: A,
-    l: Literal,
-    clause: &[Literal],
-) -> Result<Vec<Literal, A>, AllocError>
-    ensures { IfOk result (λ left. left.items ≡ without l clause.now) }
-{
-    let mut literals = Vec::new(alloc);
-    literals.extend_from_slice(clause)?;
-    literals.retain(|m| m.code() != l.code());
-    Ok(literals)
+    for id in ids {
+        kernel.delete(*id);
+    }
 }

@@ -1,70 +1,233 @@
-//! Clauses that have the property RUP: unit propagation shows that they follow.
-ghost use Rattle.std.specs.Prelude.{IfOk, []};
+//! Clauses that are RUP: unit propagation shows that they follow. What propagation found is derived by the kernel,
+//! which adds the clause.
+ghost use Rattle.std.specs.Prelude.{◌≡◌, IfOk};
 ghost use Rattle.std.specs.Bool.{OnTrue};
-ghost use Rattle.gipsat_solver.specs.Formulas.{Formula, Implies};
-ghost use Rattle.gipsat_drat.specs.Clauses.{AreImpliedAt};
-ghost use Rattle.gipsat_drat.specs.Trail.{FollowsFrom, IsSettled, IsTrail, StaysRooted};
+ghost use Rattle.gipsat_cnf.specs.Formulas.{IsSatisfiable};
+ghost use Rattle.gipsat_kernel.specs.Rat.{KeepsSatisfiable};
 
-use crate::clauses::Clauses;
-use crate::index::Index;
-use crate::propagation::propagate;
-use crate::trail::Trail;
-use gipsat_solver::Literal;
+use crate::propagation::{attach, propagate};
+use crate::trail::{Reason, Trail, Value};
+use crate::watches::Watches;
+use gipsat_cnf::Literal;
+use gipsat_kernel::RatKernel;
 use std::alloc::{AllocError, Allocator};
 
-// Whether unit propagation shows that the clause follows. What was assigned is taken back.
-pub(crate) fn is_rup<A: Allocator + Copy>(
+// Adds a clause if unit propagation shows that it follows: its id. What was assigned is taken back, also where memory is
+// refused.
+pub(crate) fn add_rup<A: Allocator + Copy>(
     alloc: A,
-    clauses: &Clauses<A>,
+    kernel: &mut RatKernel<A>,
     trail: &mut Trail<A>,
-    index: &mut Index<A>,
+    watches: &mut Watches<A>,
     clause: &[Literal],
-) -> Result<bool, AllocError>
-    ensures stays { StaysRooted clauses.now trail.old trail.new }
-    ensures settled { IsSettled trail.old → IsSettled trail.new }
-    ensures shown { IfOk result (λ shown. OnTrue shown (FollowsFrom clauses.now trail.old clause.now)) }
+) -> Result<Option<usize>, AllocError>
+    ensures { KeepsSatisfiable kernel.old kernel.new }
 {
-    let shown = refute(alloc, clauses, trail, index, clause);
+    let added = derive(alloc, kernel, trail, watches, clause);
     trail.backtrack();
-    shown
+    added
 }
 
-// Makes the literals of a clause false and propagates. Whether a clause is met whose literals are all false.
-fn refute<A: Allocator + Copy>(
+// Adds a clause if unit propagation shows that it follows: its id. What was assigned stays.
+fn derive<A: Allocator + Copy>(
     alloc: A,
-    clauses: &Clauses<A>,
+    kernel: &mut RatKernel<A>,
     trail: &mut Trail<A>,
-    index: &mut Index<A>,
+    watches: &mut Watches<A>,
+    clause: &[Literal],
+) -> Result<Option<usize>, AllocError>
+    ensures { KeepsSatisfiable kernel.old kernel.new }
+{
+    if !begin_rup(alloc, kernel, trail, watches, clause)? {
+        return Ok(None);
+    }
+    conclude(kernel, trail, clause)
+}
+
+// Makes the literals of a clause false and propagates. Begins to derive the clause if it is shown, and answers whether.
+fn begin_rup<A: Allocator + Copy>(
+    alloc: A,
+    kernel: &mut RatKernel<A>,
+    trail: &mut Trail<A>,
+    watches: &mut Watches<A>,
     clause: &[Literal],
 ) -> Result<bool, AllocError>
-    ensures stays { (f : Formula) →
-        AreImpliedAt f clauses.now → IsTrail f [] trail.old → IsTrail f clause.now trail.new }
-    ensures shown { IfOk result (λ shown. OnTrue shown ((f : Formula) →
-        AreImpliedAt f clauses.now → IsTrail f [] trail.old → Implies f clause.now)) }
+    ensures { KeepsSatisfiable kernel.old kernel.new }
 {
-    let shown = falsify(trail, clause)?;
-    if shown {
-        return Ok(true);
+    if let Some(l) = falsify(trail, clause)? {
+        return begin_true(kernel, l, trail.reason(l));
     }
-    propagate(alloc, clauses, trail, index)
+    match propagate(alloc, kernel, trail, watches)? {
+        Some(conflict) => kernel.begin(conflict),
+        None => Ok(false),
+    }
 }
 
-// Makes the literals of a clause false. Whether one of them is true.
+// Begins to derive a clause that has a true literal.
+fn begin_true<A: Allocator + Copy>(
+    kernel: &mut RatKernel<A>,
+    l: Literal,
+    reason: Reason,
+) -> Result<bool, AllocError>
+    ensures { kernel.new ≡ kernel.old }
+{
+    match reason {
+        Reason::Clause(id) => kernel.begin(id),
+        Reason::Assumed => {
+            kernel.begin_tautology(l)?;
+            Ok(true)
+        }
+    }
+}
+
+// Makes the literals of a clause false. One of them, if it is true.
 fn falsify<A: Allocator + Copy>(
     trail: &mut Trail<A>,
     clause: &[Literal],
-) -> Result<bool, AllocError>
-    ensures stays { (f : Formula) → IsTrail f [] trail.old → IsTrail f clause.now trail.new }
-    ensures shown { IfOk result (λ shown. OnTrue shown ((f : Formula) →
-        IsTrail f [] trail.old → Implies f clause.now)) }
-{
+) -> Result<Option<Literal>, AllocError> {
     for l in clause {
-        if trail.is_true(*l) {
-            return Ok(true);
-        }
-        if !trail.is_false(*l) {
-            trail.assign(l.negated())?;
+        match trail.value(*l) {
+            Value::True => return Ok(Some(*l)),
+            Value::False => {}
+            Value::Open => trail.assign(l.negated(), Reason::Assumed)?,
         }
     }
-    Ok(false)
+    Ok(None)
+}
+
+// Resolves the clause that is being derived with the reasons of its literals, the latest first, and adds a clause if it
+// has all literals that are left: its id.
+fn conclude<A: Allocator + Copy>(
+    kernel: &mut RatKernel<A>,
+    trail: &Trail<A>,
+    clause: &[Literal],
+) -> Result<Option<usize>, AllocError>
+    ensures { KeepsSatisfiable kernel.old kernel.new }
+{
+    for place in (trail.root()..trail.len()).rev() {
+        let Some(l) = trail.step(place) else {
+            continue;
+        };
+        resolve(kernel, l, trail.reason(l))?;
+    }
+    resolve_rooted(kernel, trail)?;
+    kernel.conclude(clause)
+}
+
+// Resolves the clause that is being derived with the reason of a true literal, if it has the negation.
+fn resolve<A: Allocator + Copy>(
+    kernel: &mut RatKernel<A>,
+    l: Literal,
+    reason: Reason,
+) -> Result<(), AllocError>
+    ensures { kernel.new ≡ kernel.old }
+{
+    if let Reason::Clause(id) = reason {
+        kernel.resolve(l, id)?;
+    }
+    Ok(())
+}
+
+// Takes the literals that are false by the clauses alone out of the clause that is being derived.
+fn resolve_rooted<A: Allocator + Copy>(
+    kernel: &mut RatKernel<A>,
+    trail: &Trail<A>,
+) -> Result<(), AllocError>
+    ensures { kernel.new ≡ kernel.old }
+{
+    for place in 0..kernel.marked().len() {
+        let Some(l) = kernel.marked().get(place).copied() else {
+            continue;
+        };
+        if trail.is_false(l) {
+            resolve(kernel, l.negated(), trail.reason(l))?;
+        }
+    }
+    Ok(())
+}
+
+// Adds a clause for each literal that has become true by the clauses alone, which has this literal alone and is its
+// reason from then on.
+fn add_units<A: Allocator + Copy>(
+    kernel: &mut RatKernel<A>,
+    trail: &mut Trail<A>,
+) -> Result<(), AllocError>
+    ensures { KeepsSatisfiable kernel.old kernel.new }
+{
+    for place in trail.root()..trail.len() {
+        let Some(l) = trail.step(place) else {
+            continue;
+        };
+        if let Some(id) = add_unit(kernel, trail, l)? {
+            trail.set_reason(l, Reason::Clause(id));
+        }
+    }
+    Ok(())
+}
+
+// Adds the clause of a literal that is true by the clauses alone: its id.
+fn add_unit<A: Allocator + Copy>(
+    kernel: &mut RatKernel<A>,
+    trail: &Trail<A>,
+    l: Literal,
+) -> Result<Option<usize>, AllocError>
+    ensures { KeepsSatisfiable kernel.old kernel.new }
+{
+    begin_true(kernel, l, trail.reason(l))?;
+    resolve_rooted(kernel, trail)?;
+    kernel.conclude(&[l])
+}
+
+// Lets a clause of the kernel watch two literals, and propagates what it makes true, for good. Whether the empty clause
+// is shown by that. Where memory is refused, what was assigned is taken back.
+pub(crate) fn enter<A: Allocator + Copy>(
+    alloc: A,
+    kernel: &mut RatKernel<A>,
+    trail: &mut Trail<A>,
+    watches: &mut Watches<A>,
+    id: usize,
+) -> Result<bool, AllocError>
+    ensures keeps { KeepsSatisfiable kernel.old kernel.new }
+    ensures refuted { IfOk result (λ yes. OnTrue yes (¬ (IsSatisfiable kernel.new))) }
+{
+    let empty = settle(alloc, kernel, trail, watches, id);
+    trail.backtrack();
+    match empty? {
+        Some(id) => Ok(kernel.is_refuted(id)),
+        None => Ok(false),
+    }
+}
+
+// Lets a clause of the kernel watch two literals, and propagates what it makes true, for good. The id of the empty
+// clause if it follows.
+fn settle<A: Allocator + Copy>(
+    alloc: A,
+    kernel: &mut RatKernel<A>,
+    trail: &mut Trail<A>,
+    watches: &mut Watches<A>,
+    id: usize,
+) -> Result<Option<usize>, AllocError>
+    ensures { KeepsSatisfiable kernel.old kernel.new }
+{
+    if let Some(conflict) = attach(kernel, trail, watches, id)? {
+        return add_empty(kernel, trail, conflict);
+    }
+    if let Some(conflict) = propagate(alloc, kernel, trail, watches)? {
+        return add_empty(kernel, trail, conflict);
+    }
+    add_units(kernel, trail)?;
+    trail.settle();
+    Ok(None)
+}
+
+// Adds the empty clause, where all literals of a clause are false by the clauses alone: its id.
+fn add_empty<A: Allocator + Copy>(
+    kernel: &mut RatKernel<A>,
+    trail: &Trail<A>,
+    conflict: usize,
+) -> Result<Option<usize>, AllocError>
+    ensures { KeepsSatisfiable kernel.old kernel.new }
+{
+    kernel.begin(conflict)?;
+    conclude(kernel, trail, &[])
 }

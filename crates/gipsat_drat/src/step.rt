@@ -1,10 +1,10 @@
 //! A step of a proof: a clause to add, or one to delete.
 ghost use Rattle.std.specs.Prelude.{◌≡◌, ◌-◌, IfOk};
-ghost use Rattle.gipsat_drat.specs.Held.{Stays};
+ghost use Rattle.gipsat_drat.specs.Held.{Keeps};
 
 use crate::checker::Checker;
 use crate::error::{Flaw, Stop};
-use gipsat_solver::Literal;
+use gipsat_cnf::Literal;
 use std::alloc::{Allocator, Global};
 
 // The greatest number of a variable that a proof may name.
@@ -51,7 +51,7 @@ impl<A: Allocator + Copy> Step<A> {
 
     // Ends it, and begins the next one.
     pub(crate) fn end(&mut self, checker: &mut Checker<A>) -> Result<(), Stop>
-        ensures { Stays checker.old checker.new }
+        ensures { Keeps checker.old checker.new }
     {
         take_clause(checker, &self.clause, self.deletes)?;
         self.deletes = false;
@@ -66,7 +66,7 @@ fn take_clause<A: Allocator + Copy>(
     clause: &[Literal],
     deletes: bool,
 ) -> Result<(), Stop>
-    ensures { Stays checker.old checker.new }
+    ensures { Keeps checker.old checker.new }
 {
     if deletes {
         let found = checker.delete(clause)?;

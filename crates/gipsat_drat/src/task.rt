@@ -3,15 +3,15 @@ ghost use Rattle.std.specs.Prelude.{◌≡◌, ◌≢◌, ℕ, IfOk, IfErr, OnOk
 ghost use Rattle.std.specs.Io.KnownBytes.{IsAtEnd};
 ghost use Rattle.gipsat_dimacs.specs.Inputs.{HasForm, OfProblem, WritesNone};
 ghost use Rattle.gipsat_dimacs.specs.declared.rule.HeaderRule.TheVariants.{Strict};
-ghost use Rattle.gipsat_drat.specs.Held.{Follow};
-ghost use Rattle.gipsat_drat.specs.Outcomes.{IsRight, Tells, WritesOutcome};
+ghost use Rattle.gipsat_drat.specs.Held.{IsRightOf};
+ghost use Rattle.gipsat_drat.specs.Outcomes.{IsRight, WritesOutcome};
 
 use crate::checker::Checker;
 use crate::error::{DratError, Failure, Outcome};
 use crate::form::{START_SIZE, form_of};
 use crate::parser::Parser;
+use gipsat_cnf::Cnf;
 use gipsat_dimacs::{DimacsError, Reason, read_instance};
-use gipsat_solver::{Literal, Solver};
 use std::alloc::{AllocError, Allocator};
 use std::io::{Read, Write};
 
@@ -50,57 +50,24 @@ pub fn check_text<A: Allocator + Copy, F: Read, P: Read, W: Write>(
     ensures unwritten { IfErr result (λ error. error ≢ DratError.Output → writer.new ≡ writer.old) }
 {
     let instance = read_instance(alloc, formula)?;
-    let outcome = check(alloc, instance.solver, proof)?;
+    let outcome = check(alloc, instance.clauses, proof)?;
     match writer.write_all(outcome.text()) {
         Ok(()) => Ok(outcome),
         Err(_) => Err(DratError::Output),
     }
 }
 
-// Checks a proof that nothing satisfies the formula of a solver.
+// Checks a proof that nothing satisfies a formula.
 fn check<A: Allocator + Copy, P: Read>(
     alloc: A,
-    solver: Solver<A>,
+    formula: Cnf<A>,
     proof: &mut P,
 ) -> Result<Outcome, Failure>
-    ensures { IfOk result (IsRight solver.formula) }
+    ensures { IfOk result (IsRight formula) }
 {
-    let variables = variables_of(&solver);
-    let mut checker = Checker::new(alloc, variables)?;
-    give_all(&mut checker, &solver)?;
-    drop(solver);
+    let variables = formula.variables() as u32;
+    let mut checker = Checker::over(alloc, formula)?;
     check_proof(alloc, &mut checker, variables, proof)
-}
-
-// A number that each variable of the clauses is below.
-fn variables_of<A: Allocator + Copy>(solver: &Solver<A>) -> u32 {
-    let mut variables = 0;
-    for place in 0..solver.len() {
-        variables = variables_with(solver.clause(place), variables);
-    }
-    variables
-}
-
-// A number that each variable of a clause is below, and at least another.
-fn variables_with(clause: &[Literal], least: u32) -> u32 {
-    let mut variables = least;
-    for l in clause {
-        variables = variables.max(l.variable() + 1);
-    }
-    variables
-}
-
-// Lets a checker hold all clauses of a solver.
-fn give_all<A: Allocator + Copy>(
-    checker: &mut Checker<A>,
-    solver: &Solver<A>,
-) -> Result<(), AllocError>
-    ensures { Follow solver.now.formula checker.old → Follow solver.now.formula checker.new }
-{
-    for place in 0..solver.len() {
-        checker.give(solver.clause(place))?;
-    }
-    Ok(())
 }
 
 // Reads a proof and checks it. Where what is held is refuted by itself, none is read.
@@ -110,7 +77,7 @@ fn check_proof<A: Allocator + Copy, P: Read>(
     variables: u32,
     proof: &mut P,
 ) -> Result<Outcome, Failure>
-    ensures { IfOk result (Tells checker.old) }
+    ensures { IfOk result (IsRightOf checker.old) }
 {
     if checker.is_refuted() {
         return Ok(Outcome::Verified);
@@ -149,7 +116,7 @@ fn check_rest<A: Allocator + Copy, P: Read>(
     parser: &mut Parser<A>,
     proof: &mut P,
 ) -> Result<Outcome, Failure>
-    ensures { IfOk result (Tells checker.old) }
+    ensures { IfOk result (IsRightOf checker.old) }
 {
     let mut buf = zeros(alloc, BUFFER_SIZE)?;
     for _ in 0..u64::MAX {

@@ -1,7 +1,6 @@
 //! A proof as text: numbers between blanks, and `d` before a clause to delete.
 ghost use Rattle.std.specs.Prelude.{IfOk};
-ghost use Rattle.gipsat_drat.specs.Held.{Stays};
-ghost use Rattle.gipsat_drat.specs.Outcomes.{Tells};
+ghost use Rattle.gipsat_drat.specs.Held.{IsRightOf, Keeps};
 
 use crate::checker::Checker;
 use crate::error::{Failure, Flaw, Outcome, Place, Stop};
@@ -52,7 +51,7 @@ impl<A: Allocator + Copy> TextParser<A> {
 
     // Reads some bytes more, as far as the empty clause.
     pub(crate) fn feed(&mut self, checker: &mut Checker<A>, bytes: &[u8]) -> Result<(), Stop>
-        ensures { Stays checker.old checker.new }
+        ensures { Keeps checker.old checker.new }
     {
         for byte in bytes {
             self.byte(checker, *byte)?;
@@ -65,7 +64,7 @@ impl<A: Allocator + Copy> TextParser<A> {
 
     // Reads a byte more.
     fn byte(&mut self, checker: &mut Checker<A>, byte: u8) -> Result<(), Stop>
-        ensures { Stays checker.old checker.new }
+        ensures { Keeps checker.old checker.new }
     {
         if byte == b'\n' {
             return self.end_line(checker);
@@ -87,7 +86,7 @@ impl<A: Allocator + Copy> TextParser<A> {
 
     // Ends the line.
     fn end_line(&mut self, checker: &mut Checker<A>) -> Result<(), Stop>
-        ensures { Stays checker.old checker.new }
+        ensures { Keeps checker.old checker.new }
     {
         self.end_word(checker)?;
         self.in_comment = false;
@@ -98,7 +97,7 @@ impl<A: Allocator + Copy> TextParser<A> {
 
     // Ends the word, if there is one.
     fn end_word(&mut self, checker: &mut Checker<A>) -> Result<(), Stop>
-        ensures { Stays checker.old checker.new }
+        ensures { Keeps checker.old checker.new }
     {
         let word = self.word;
         self.word = Word::None;
@@ -116,7 +115,7 @@ impl<A: Allocator + Copy> TextParser<A> {
 
     // Ends the proof.
     pub(crate) fn finish(&mut self, checker: &mut Checker<A>) -> Result<Outcome, Failure>
-        ensures { IfOk result (Tells checker.old) }
+        ensures { IfOk result (IsRightOf checker.old) }
     {
         if let Err(stop) = self.end_word(checker) {
             return stop.at(self.place());

@@ -1,124 +1,155 @@
-//! The literals that are true, in the order in which they became so.
-ghost use Rattle.std.specs.Prelude.{◌≡◌, ◌≢◌, [], IfOk, length, slice_set};
-ghost use Rattle.std.specs.Bool.{OnFalse};
-ghost use Rattle.gipsat_solver.specs.Formulas.{Clause, Formula, Has};
-ghost use Rattle.gipsat_solver.specs.Literals.{Lit, negated};
-ghost use Rattle.gipsat_solver.specs.Seen.{is_seen};
-ghost use Rattle.gipsat_drat.specs.Propagation.{Forces};
-ghost use Rattle.gipsat_drat.specs.Trail.{IsUnassigned, IsSettled, IsTrail};
-
-use gipsat_solver::Literal;
+//! The literals that are true, in the order in which they became so, and why.
+use gipsat_cnf::Literal;
 use std::alloc::{AllocError, Allocator, Global};
 
-// The true literals. Those before the root are true by the clauses alone, the others while a clause is falsified.
+// What is known of a literal.
+#[derive(Clone, Copy, PartialEq, Eq)]
+pub(crate) enum Value {
+    Open,
+    True,
+    False,
+}
+
+// Why a literal is true.
+#[derive(Clone, Copy, PartialEq, Eq)]
+pub(crate) enum Reason {
+    // It was made true, so that a clause is falsified.
+    Assumed,
+    // By the clause with this id, whose other literals are false.
+    Clause(usize),
+}
+
+// The true literals. Those before the root are true by the clauses alone, and each has a clause of its own as its
+// reason; the others are true while a clause is falsified.
 #[derive(Drop)]
 pub(crate) struct Trail<A: Allocator = Global> {
-    // Whether the literal with this code is true.
-    pub truths: Vec<bool, A>,
-    pub steps: Vec<Literal, A>,
-    pub root: usize,
+    // By the code of the literal.
+    values: Vec<Value, A>,
+    // By the variable.
+    reasons: Vec<Reason, A>,
+    steps: Vec<Literal, A>,
+    root: usize,
     // The literals before this place have been propagated.
-    pub head: usize,
+    head: usize,
 }
 
 impl<A: Allocator + Copy> Trail<A> {
     // No literal of so many variables is true.
-    pub(crate) fn new(alloc: A, variables: u32) -> Result<Self, AllocError>
-        ensures steps { IfOk result (λ t. t.steps.items ≡ []) }
-        ensures settled { IfOk result (λ t. IsSettled t) }
-    {
+    pub(crate) fn new(alloc: A, variables: u32) -> Result<Self, AllocError> {
+        let variables = variables as usize;
         Ok(Trail {
-            truths: vec![in alloc; false; 2 * variables as usize]?,
+            values: vec![in alloc; Value::Open; 2 * variables]?,
+            reasons: vec![in alloc; Reason::Assumed; variables]?,
             steps: Vec::new(alloc),
             root: 0,
             head: 0,
         })
     }
 
+    // What is known of the literal.
+    #[inline]
+    pub(crate) fn value(&self, l: Literal) -> Value {
+        match self.values.get(l.code()) {
+            Some(value) => *value,
+            None => Value::Open,
+        }
+    }
+
     // Whether the literal is true.
     #[inline]
-    pub(crate) fn is_true(&self, l: Literal) -> bool
-        ensures { result ≡ is_seen self.now.truths.items l }
-    {
-        match self.truths.get(l.code()) {
-            Some(truth) => *truth,
-            None => false,
-        }
+    pub(crate) fn is_true(&self, l: Literal) -> bool {
+        self.value(l) == Value::True
     }
 
     // Whether the literal is false.
     #[inline]
-    pub(crate) fn is_false(&self, l: Literal) -> bool
-        ensures { result ≡ is_seen self.now.truths.items (negated l) }
-    {
-        self.is_true(l.negated())
+    pub(crate) fn is_false(&self, l: Literal) -> bool {
+        self.value(l) == Value::False
     }
 
-    // Whether the literal's variable has a value.
-    pub(crate) fn is_assigned(&self, l: Literal) -> bool
-        ensures { OnFalse result (IsUnassigned self.now l) }
-    {
-        has_variable(&self.steps, l.variable())
+    // Why the literal, or its negation, is true.
+    pub(crate) fn reason(&self, l: Literal) -> Reason {
+        match self.reasons.get(l.variable() as usize) {
+            Some(reason) => *reason,
+            None => Reason::Assumed,
+        }
     }
 
-    // Makes a literal true.
-    pub(crate) fn assign(&mut self, l: Literal) -> Result<(), AllocError>
-        ensures { (f : Formula) (c : Clause) → Forces f c l → IsTrail f c self.old → IsTrail f c self.new }
-    {
+    // Makes an open literal true.
+    pub(crate) fn assign(&mut self, l: Literal, reason: Reason) -> Result<(), AllocError> {
         self.steps.push(l)?;
-        put(&mut self.truths, l.code(), true);
+        self.set(l, Value::True, Value::False);
+        self.set_reason(l, reason);
         Ok(())
     }
 
+    // Writes what is known of a literal and of its negation.
+    fn set(&mut self, l: Literal, value: Value, opposite: Value) {
+        if let Some(old) = self.values.get_mut(l.code()) {
+            *old = value;
+        }
+        if let Some(old) = self.values.get_mut(l.negated().code()) {
+            *old = opposite;
+        }
+    }
+
+    // Writes why the literal is true.
+    pub(crate) fn set_reason(&mut self, l: Literal, reason: Reason) {
+        if let Some(old) = self.reasons.get_mut(l.variable() as usize) {
+            *old = reason;
+        }
+    }
+
+    // How many variables there are.
+    pub(crate) fn capacity(&self) -> usize {
+        self.reasons.len()
+    }
+
+    // How many literals are true.
+    pub(crate) fn len(&self) -> usize {
+        self.steps.len()
+    }
+
+    // How many of them are true by the clauses alone.
+    pub(crate) fn root(&self) -> usize {
+        self.root
+    }
+
+    // The true literal at a place of the order.
+    pub(crate) fn step(&self, place: usize) -> Option<Literal> {
+        self.steps.get(place).copied()
+    }
+
     // The next literal to propagate.
-    pub(crate) fn next(&mut self) -> Option<Literal>
-        ensures { (f : Formula) (c : Clause) → IsTrail f c self.old → IsTrail f c self.new }
-    {
+    pub(crate) fn next(&mut self) -> Option<Literal> {
         let l = *self.steps.get(self.head)?;
-        self.head += 1;
+        self.head = self.head.saturating_add(1);
         Some(l)
     }
 
     // Keeps what is true for good.
-    pub(crate) fn settle(&mut self)
-        ensures root { self.new.root ≡ length self.new.steps.items }
-        ensures trail { (f : Formula) → IsTrail f [] self.old → IsTrail f [] self.new }
-    {
+    pub(crate) fn settle(&mut self) {
         self.root = self.steps.len();
     }
 
     // Takes back what became true while a clause was falsified.
-    pub(crate) fn backtrack(&mut self)
-        ensures root { (f : Formula) (c : Clause) → IsTrail f c self.old →
-            self.new.root ≡ length self.new.steps.items }
-        ensures trail { (f : Formula) (c : Clause) → IsTrail f c self.old → IsTrail f [] self.new }
-    {
-        while self.steps.len() > self.root {
+    pub(crate) fn backtrack(&mut self) {
+        for _ in self.root..self.steps.len() {
             if let Some(l) = self.steps.pop() {
-                put(&mut self.truths, l.code(), false);
+                self.set(l, Value::Open, Value::Open);
             }
         }
         self.head = self.steps.len();
     }
-}
 
-// Whether one of the literals is of the variable.
-fn has_variable(literals: &[Literal], variable: u32) -> bool
-    ensures { OnFalse result ((m : Lit) → Has literals.now m → m.variable ≢ variable) }
-{
-    for l in literals {
-        if l.variable() == variable {
-            return true;
+    // Names the clauses by their new ids.
+    pub(crate) fn renumber(&mut self, ids: &[usize]) {
+        for reason in self.reasons.iter_mut() {
+            if let Reason::Clause(id) = *reason {
+                if let Some(new) = ids.get(id) {
+                    *reason = Reason::Clause(*new);
+                }
+            }
         }
-    }
-    false
-}
-
-// Writes a truth value, if the place is one.
-fn put<A: Allocator>(truths: &mut Vec<bool, A>, place: usize, value: bool)
-    ensures { truths.new.items ≡ slice_set truths.old.items place value }
-{
-    if place < truths.len() {
-        truths[place] = value;
     }
 }

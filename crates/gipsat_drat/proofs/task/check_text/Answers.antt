@@ -12,7 +12,7 @@ returns-in-Ok-clause-written g c =
     let old = g.W.Write.contents c.args.writer.now in
     let new = g.W.Write.contents c.write_all.new.self in
     let written = subst (Appends old new) c.text.ensures c.in-Ok.ensures.bytes in
-    of_problem (g.F.Read.remaining c.args.formula.now) (record { variables = instance.variables; clauses = instance.solver.formula })
+    of_problem (g.F.Read.remaining c.args.formula.now) (record { variables = instance.variables; clauses = instance.clauses })
     (λ problem. WritesOutcome problem c.in_ok-outcome.outcome old new) c.in_ok-instance.ensures.ok (c.in_ok-outcome.ensures, written)
 
 pub returns-in_err-outcome-clause-line : goal.returns-in_err-outcome-clause-line

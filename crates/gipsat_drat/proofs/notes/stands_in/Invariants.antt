@@ -1,8 +1,0 @@
--- The literals before are others.
-use Rattle.std.proofs.Common.{◌≡◌, ◌≢◌, ◌<◌, ℕ, Some}
-use Rattle.std.specs.Prelude.{slice_get}
-use Rattle.gipsat_solver.specs.Literals.{Lit, code}
-use Rattle.gipsat_drat.proofs.notes.stands_in.Given as goal
-
-abbrev pub invariant-loop-m : goal.invariant-loop-m
-invariant-loop-m l = (k : ℕ) (m : Lit) → k < l.m-index → slice_get l.clause k ≡ Some m → code m ≢ code l.l
