@@ -1,7 +1,7 @@
 -- Worked examples of texts.
 use Rattle.std.proofs.Common.{◌≡◌, ℕ, [], ◌∷◌, ◌++◌, refl, ap, codes, Some, None, true, false}
 use Rattle.std.specs.Fmt.{digits}
-use Rattle.gipsat_solver.specs.Literals.{Lit}
+use Rattle.gipsat_cnf.specs.Literals.{Lit}
 use Rattle.gipmc_circuits.specs.declared.circuit.And.{And}
 use Rattle.gipmc_circuits.specs.declared.circuit.Circuit.{Circuit}
 use Rattle.gipmc_aiger.specs.Circuits.{Rows, body_at, circuit_of, gate_at, header_at, latch_at, rows_of, packed_operands_at, properties_at, sizes_at, written_operands_at}

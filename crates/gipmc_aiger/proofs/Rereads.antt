@@ -9,7 +9,7 @@ use Rattle.std.proofs.lemmas.Str.{digit_value_digit}
 use Rattle.std.proofs.lemmas.Str.Parse.{digit_from_value}
 use Rattle.std.proofs.lemmas.Fmt.{decimal_is_IsNumeral}
 use Rattle.giputils_text.specs.Lines.{space}
-use Rattle.gipsat_solver.specs.Literals.{Lit}
+use Rattle.gipsat_cnf.specs.Literals.{Lit}
 use Rattle.gipmc_circuits.specs.declared.circuit.And.{And}
 use Rattle.gipmc_circuits.specs.declared.circuit.Latch.{Latch}
 use Rattle.gipmc_circuits.specs.declared.circuit.Circuit.{Circuit}

@@ -2,7 +2,7 @@
 use Rattle.std.proofs.Common.{◌≡◌, ℕ, List, ◌∷◌, map, Option, Some, None, arith, refl, ap, sym, ◌∙◌}
 use Rattle.giputils_text.specs.Lines.{pieces, space}
 use Rattle.giputils_text.proofs.Pieces.{pieces-cons}
-use Rattle.gipsat_solver.specs.Formulas.{Clause}
+use Rattle.gipsat_cnf.specs.Formulas.{Clause}
 use Rattle.gipsat_dimacs.specs.Texts.{Word, header_of, item_of}
 use Rattle.gipsat_dimacs.specs.declared.words.Item.{Item}
 use Rattle.gipsat_dimacs.specs.declared.words.Item.TheVariants.{End}

@@ -3,9 +3,9 @@ use Rattle.std.proofs.Common.{◌≡◌, ℕ, ◌+◌, ◌&&◌, ◌||◌, Bool,
 use Rattle.std.specs.List.{list_all, list_any}
 use Rattle.std.specs.List.Sorted.{IsPermutation}
 use Rattle.std.proofs.lemmas.List.Sorted.{list_any-IsPermutation}
-use Rattle.gipsat_solver.specs.Formulas.{Assignment}
-use Rattle.gipsat_solver.specs.Literals.{Lit}
-use Rattle.gipsat_solver.proofs.Places.{same_some}
+use Rattle.gipsat_cnf.specs.Formulas.{Assignment}
+use Rattle.gipsat_cnf.specs.Literals.{Lit}
+use Rattle.gipsat_cnf.proofs.Places.{same_some}
 use Rattle.gipmc_circuits.specs.declared.circuit.Circuit.{Circuit}
 use Rattle.gipmc_circuits.specs.Circuit.{FailsAfter, IsSafe, IsTrace, has_value, holds_next, holds_reset, is_moment}
 use Rattle.gipmc_aiger.specs.Circuits.{IsReordering, Rows, Writes, rows_of}

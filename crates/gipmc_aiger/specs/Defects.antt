@@ -3,7 +3,7 @@ use Rattle.std.specs.Prelude.{◌≡◌, ℕ, zero, suc, ◌<◌, ◌&&◌, ◌|
 use Rattle.std.specs.List.{list_any}
 use Rattle.gipmc_aiger.specs.Lists.{Every}
 use lib.Dec.{eqb}
-use Rattle.gipsat_solver.specs.Literals.{Lit}
+use Rattle.gipsat_cnf.specs.Literals.{Lit}
 use Rattle.gipmc_circuits.specs.WellFormed.{is_constant, with_variable, with_variables}
 use Rattle.gipmc_circuits.specs.declared.circuit.And.{And}
 use Rattle.gipmc_aiger.specs.Circuits.{Rows, circuit_of}

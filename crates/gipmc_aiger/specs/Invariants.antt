@@ -2,8 +2,8 @@
 use Rattle.std.specs.Prelude.{ℕ, ◌==◌, Bool, false, not, List, [], ◌∷◌, ◌++◌, length, get_or, filter, map, codes, decimal, Option, Some, None, if◌then◌else◌}
 use Rattle.std.specs.declared.vec.Vec.{Vec}
 use Rattle.std.specs.Str.{byte}
-use Rattle.gipsat_solver.specs.Formulas.{Clause, Formula}
-use Rattle.gipsat_solver.specs.Literals.{Lit}
+use Rattle.gipsat_cnf.specs.Formulas.{Clause, Formula}
+use Rattle.gipsat_cnf.specs.Literals.{Lit}
 use Rattle.gipsat_dimacs.specs.Texts.{Word, header_of, item_of}
 use Rattle.gipsat_dimacs.specs.Writer.{clause_line}
 use Rattle.gipsat_dimacs.specs.declared.words.Item.{Item}

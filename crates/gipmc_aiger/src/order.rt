@@ -8,7 +8,7 @@ ghost use Rattle.gipmc_aiger.specs.Defects.{operands, used_literals, visit_at};
 
 use crate::error::Defect;
 use gipmc_circuits::{And, Circuit, Latch};
-use gipsat_solver::Literal;
+use gipsat_cnf::Literal;
 use std::alloc::{AllocError, Allocator};
 
 // What defines a variable.

@@ -8,7 +8,7 @@ use crate::error::{Reason, Stop};
 use crate::header::{Form, Header};
 use crate::numbers::{NEWLINE, SPACE, delta, expected, number, optional};
 use gipmc_circuits::{And, Latch};
-use gipsat_solver::Literal;
+use gipsat_cnf::Literal;
 use std::alloc::Allocator;
 
 // What a row says.

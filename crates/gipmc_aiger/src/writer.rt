@@ -10,7 +10,7 @@ ghost use Rattle.gipmc_aiger.specs.CircuitTexts.{packed_latch_lines};
 ghost use Rattle.giputils_text.specs.Groups.{groups};
 
 use gipmc_circuits::{And, Circuit, Latch};
-use gipsat_solver::Literal;
+use gipsat_cnf::Literal;
 use giputils_text::write_groups;
 use std::alloc::{AllocError, AllocFailed, Allocator};
 use std::io::Write;

@@ -5,13 +5,13 @@ use Rattle.std.proofs.Math.Nat.{le_refl}
 use Rattle.std.specs.Bool.{beq}
 use Rattle.std.specs.List.{list_all}
 use Rattle.std.proofs.lemmas.Bool.{and_parts, false≢true}
-use Rattle.gipsat_solver.specs.Formulas.{Assignment}
-use Rattle.gipsat_solver.specs.Assumptions.{makes_true}
-use Rattle.gipsat_solver.specs.Literals.{Lit, negated}
-use Rattle.gipsat_solver.proofs.Places.{none_some, same_some}
+use Rattle.gipsat_cnf.specs.Formulas.{Assignment}
+use Rattle.gipsat_cnf.specs.Assumptions.{makes_true}
+use Rattle.gipsat_cnf.specs.Literals.{Lit, negated}
+use Rattle.gipsat_cnf.proofs.Places.{none_some, same_some}
 use Rattle.gipmc_circuits.specs.declared.circuit.And.{And}
 use Rattle.gipmc_circuits.specs.declared.circuit.Circuit.{Circuit}
-use Rattle.gipsat_solver.specs.Values.{assignment_in}
+use Rattle.gipsat_cnf.specs.Models.{assignment_in}
 use Rattle.gipmc_circuits.specs.declared.trace.Trace.{Trace}
 use Rattle.gipmc_circuits.specs.Circuit.{FailsAfter, IsSafe, IsTrace, has_value, is_reset, is_valuation}
 use Rattle.gipmc_circuits.specs.Extension.{Accepts, SharesState, are_stacked}

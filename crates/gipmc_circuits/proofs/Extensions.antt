@@ -5,9 +5,9 @@ use Rattle.std.specs.List.{list_all}
 use Rattle.std.proofs.Math.Path.{fun_ext}
 use Rattle.std.proofs.lemmas.Bool.{and_from, and_parts, cases_Bool, cases_lt, eqb-true, eq-eqb, false≢true, le-ltb, lt-ltb, ltb-true, or_cases}
 use Rattle.std.proofs.lemmas.List.Folds.{list_all-append, list_all-map}
-use Rattle.gipsat_solver.specs.Assumptions.{makes_true}
-use Rattle.gipsat_solver.specs.Formulas.{Assignment, is_true}
-use Rattle.gipsat_solver.specs.Literals.{Lit, negated}
+use Rattle.gipsat_cnf.specs.Assumptions.{makes_true}
+use Rattle.gipsat_cnf.specs.Formulas.{Assignment, is_true}
+use Rattle.gipsat_cnf.specs.Literals.{Lit, negated}
 use Rattle.gipmc_circuits.specs.declared.circuit.And.{And}
 use Rattle.gipmc_circuits.specs.declared.circuit.Circuit.{Circuit}
 use Rattle.gipmc_circuits.specs.Certificate.{Excludes, IsInductive, IsInitiated, holds}

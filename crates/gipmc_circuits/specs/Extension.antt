@@ -1,9 +1,9 @@
 -- Circuits as certificates, and circuits that are extended by the gates of their certificates.
 use Rattle.std.specs.Prelude.{◌≡◌, ℕ, ◌+◌, ◌++◌, ◌&&◌, Bool, true, List, [], ◌∷◌, Vec, map, slice_index_or, IsTrue}
 use lib.Dec.{eqb}
-use Rattle.gipsat_solver.specs.Assumptions.{makes_true}
-use Rattle.gipsat_solver.specs.Formulas.{Assignment, is_true}
-use Rattle.gipsat_solver.specs.Literals.{Lit, negated}
+use Rattle.gipsat_cnf.specs.Assumptions.{makes_true}
+use Rattle.gipsat_cnf.specs.Formulas.{Assignment, is_true}
+use Rattle.gipsat_cnf.specs.Literals.{Lit, negated}
 use Rattle.gipmc_circuits.specs.declared.circuit.And.{And}
 use Rattle.gipmc_circuits.specs.declared.circuit.Circuit.{Circuit}
 use Rattle.gipmc_circuits.specs.Certificate.{holds}

@@ -1,7 +1,7 @@
 //! Circuits in the form that AIGER has: inputs, latches and and-gates, each with its variable.
 ghost use Rattle.std.specs.Prelude.{◌≡◌, []};
 
-use gipsat_solver::Literal;
+use gipsat_cnf::Literal;
 use std::alloc::{Allocator, Global};
 
 /// An and-gate: its output is true exactly if both operands are.

@@ -1,15 +1,15 @@
 //! Circuits that are extended by the gates of another circuit, which certifies them.
 ghost use Rattle.std.specs.Prelude.{◌≡◌, ◌++◌, ◌&&◌, [], ◌∷◌, map, IfOk, IfSome, IsTrue};
-ghost use Rattle.gipsat_solver.specs.Assumptions.{makes_true};
-ghost use Rattle.gipsat_solver.specs.Formulas.{Assignment};
-ghost use Rattle.gipsat_solver.specs.Literals.{negated};
+ghost use Rattle.gipsat_cnf.specs.Assumptions.{makes_true};
+ghost use Rattle.gipsat_cnf.specs.Formulas.{Assignment};
+ghost use Rattle.gipsat_cnf.specs.Literals.{negated};
 ghost use Rattle.gipmc_circuits.specs.Certificate.{holds};
 ghost use Rattle.gipmc_circuits.specs.Encoding.{literal_below};
 ghost use Rattle.gipmc_circuits.specs.Extension.{IsExtension, IsNaming, are_stacked, claims, name_in, renamed, renamed_gate};
 
 use crate::circuit::{And, Circuit, Latch};
 use crate::netlist::Netlist;
-use gipsat_solver::Literal;
+use gipsat_cnf::Literal;
 use std::alloc::{AllocError, Allocator};
 
 /// A circuit with the gates of its certificate behind its own, and the clauses that say what the certificate claims.

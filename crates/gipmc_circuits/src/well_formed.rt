@@ -1,12 +1,12 @@
 //! Whether a circuit defines each variable once, its gates in order.
 ghost use Rattle.std.specs.Prelude.{◌≡◌, ◌≤◌, ◌&&◌, length, map, IfOk, IsTrue, OnOk};
 ghost use Rattle.std.specs.List.{list_all};
-ghost use Rattle.gipsat_solver.specs.Values.{assignment_in};
+ghost use Rattle.gipsat_cnf.specs.Models.{assignment_in};
 ghost use Rattle.gipmc_circuits.specs.WellFormed.{are_in_order, are_new, is_well_formed, uses_defined, with_variable, with_variables};
 
 use crate::circuit::{And, Circuit, Latch};
 use crate::trace::value_of;
-use gipsat_solver::Literal;
+use gipsat_cnf::Literal;
 use std::alloc::{AllocError, Allocator};
 
 // Lets the notes have at least so many places. Nothing more is defined then.

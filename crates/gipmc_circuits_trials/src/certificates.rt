@@ -2,7 +2,7 @@
 
 use crate::latched::{latched, netlist};
 use gipmc_circuits::{And, Circuit, Latch, Netlist, Verdict, certify, certify_by};
-use gipsat_solver::Literal;
+use gipsat_solver::{Literal, Solver};
 use std::alloc::{AllocError, Global};
 
 // The literal that is true where a variable has a value.
@@ -29,7 +29,7 @@ fn invariant(alloc: Global, literal: Literal) -> Result<Vec<Vec<Literal>>, Alloc
 fn verdict(alloc: Global, clause: Literal, bad: Literal) -> Result<Verdict, AllocError> {
     let netlist = constrained(alloc)?;
     let invariant = invariant(alloc, clause)?;
-    certify(alloc, &netlist, bad, &invariant, 100)
+    certify::<Solver, _>(alloc, &netlist, bad, &invariant, 100)
 }
 
 // The literal of an invariant, the bad literal, and what is said.
@@ -94,7 +94,7 @@ fn certificate(alloc: Global, form: Form) -> Result<Circuit, AllocError> {
 fn verdict_by(alloc: Global, form: Form) -> Result<Option<Verdict>, AllocError> {
     let circuit = constrained(alloc)?;
     let certificate = netlist(alloc, certificate(alloc, form)?)?;
-    certify_by(alloc, &circuit, Literal::new(4, true), &certificate, 100)
+    certify_by::<Solver, _>(alloc, &circuit, Literal::new(4, true), &certificate, 100)
 }
 
 const CERTIFICATES: &[(Form, Option<Verdict>)] = &[

@@ -5,7 +5,7 @@ ghost use Rattle.gipmc_circuits.specs.Circuit.{IsSafe};
 ghost use Rattle.gipmc_circuits.specs.Traces.{FailsBy};
 
 use gipmc_circuits::{Circuit, Latch, Netlist, Trace, Verdict, certify, replay};
-use gipsat_solver::Literal;
+use gipsat_solver::{Literal, Solver};
 use std::alloc::{AllocError, Allocator};
 
 /// Both latches begin at 0. Latch 2 holds next what input 1 is, and latch 3 keeps its value.
@@ -71,7 +71,7 @@ pub fn judged<A: Allocator + Copy>(
     ensures { IfOk result (λ verdict. IsTrue (is_certified verdict) → IsSafe netlist.now.circuit bad) }
 {
     let invariant = invariant(alloc, bad)?;
-    certify(alloc, netlist, bad, &invariant, 1000)
+    certify::<Solver<A>, _>(alloc, netlist, bad, &invariant, 1000)
 }
 
 #[test]

@@ -1,7 +1,7 @@
 -- What is added for each place is added for all.
 use Rattle.std.proofs.Common.{◌≡◌, length, arith}
 use Rattle.std.proofs.lemmas.Grind.{common_steps}
-use Rattle.gipsat_solver.specs.Formulas.{satisfies_clause}
+use Rattle.gipsat_cnf.specs.Formulas.{satisfies_clause}
 use Rattle.gipmc_circuits.proofs.Encoded.{Adds-each}
 use Rattle.gipmc_circuits.proofs.certificate.add_invariant.Goals as goal
 

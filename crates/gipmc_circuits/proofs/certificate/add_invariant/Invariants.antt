@@ -1,8 +1,8 @@
-use Rattle.gipsat_solver.specs.Encodings.{Adds, AllBelow}
-use Rattle.gipsat_solver.specs.Formulas.{satisfies_clause}
+use Rattle.gipsat_cnf.specs.Encodings.{Adds, AllBelow}
+use Rattle.gipsat_cnf.specs.Formulas.{satisfies_clause}
 use Rattle.gipmc_circuits.specs.Encoding.{PassesAt}
 use Rattle.gipmc_circuits.proofs.certificate.add_invariant.Given as goal
 
 abbrev pub invariant-loop-place : goal.invariant-loop-place
 invariant-loop-place g l =
-    Adds (λ a. AllBelow l.place (PassesAt (λ c. satisfies_clause a c.items) l.invariant')) l.fn.solver.formula l.solver.formula
+    Adds (λ a. AllBelow l.place (PassesAt (λ c. satisfies_clause a c.items) l.invariant')) (g.S.ClauseSink.formula l.fn.solver) (g.S.ClauseSink.formula l.solver)

@@ -1,6 +1,6 @@
 -- The formula says of two moments what a transition between them is.
 use Rattle.std.proofs.lemmas.Result.{IfOk-weaker}
-use Rattle.gipsat_solver.proofs.Places.{IfNone-more}
+use Rattle.gipsat_cnf.proofs.Places.{IfNone-more}
 use Rattle.gipmc_circuits.proofs.Certified.{inductive}
 use Rattle.gipmc_circuits.proofs.certificate.consecution_by.Goals as goal
 

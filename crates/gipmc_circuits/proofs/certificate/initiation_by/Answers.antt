@@ -1,6 +1,6 @@
 -- The formula says of an initial moment what it is.
 use Rattle.std.proofs.lemmas.Result.{IfOk-weaker}
-use Rattle.gipsat_solver.proofs.Places.{IfNone-more}
+use Rattle.gipsat_cnf.proofs.Places.{IfNone-more}
 use Rattle.gipmc_circuits.proofs.Certified.{initiated}
 use Rattle.gipmc_circuits.proofs.certificate.initiation_by.Goals as goal
 

@@ -5,4 +5,4 @@ use Rattle.gipmc_circuits.proofs.certificate.is_implied.Goals as goal
 pub returns-in-Unsat-clause-right : goal.returns-in-Unsat-clause-right
 returns-in-Unsat-clause-right g c sure =
     implied_by_core _ c.args.offset c.args.clause.now c.in_ok-literals.literals.items _ c.in_ok-literals.ensures
-    (rw (c.in-Unsat.is, c.deref.ensures.value) at c.in_ok-solve_under.ensures.right)
+    (rw (c.in-Unsat.is, c.deref.ensures.value) at c.in_ok-solve_limited.ensures.right)

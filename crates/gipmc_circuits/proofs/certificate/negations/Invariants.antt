@@ -1,5 +1,5 @@
 use Rattle.std.proofs.Common.{◌≡◌, map, take}
-use Rattle.gipsat_solver.specs.Literals.{negated}
+use Rattle.gipsat_cnf.specs.Literals.{negated}
 use Rattle.gipmc_circuits.specs.Encoding.{shifted}
 use Rattle.gipmc_circuits.proofs.certificate.negations.Given as goal
 

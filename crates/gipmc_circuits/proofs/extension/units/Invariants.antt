@@ -1,7 +1,7 @@
 -- The clauses so far say that the literals so far are true.
 use Rattle.std.proofs.Common.{◌≡◌, take}
-use Rattle.gipsat_solver.specs.Assumptions.{makes_true}
-use Rattle.gipsat_solver.specs.Formulas.{Assignment}
+use Rattle.gipsat_cnf.specs.Assumptions.{makes_true}
+use Rattle.gipsat_cnf.specs.Formulas.{Assignment}
 use Rattle.gipmc_circuits.specs.Certificate.{holds}
 use Rattle.gipmc_circuits.specs.Extension.{name_in}
 use Rattle.gipmc_circuits.proofs.extension.units.Given as goal

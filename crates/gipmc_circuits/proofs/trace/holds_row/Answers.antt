@@ -1,5 +1,5 @@
 -- One variable more has its value.
-use Rattle.gipsat_solver.specs.Values.{assignment_in}
+use Rattle.gipsat_cnf.specs.Models.{assignment_in}
 use Rattle.gipmc_circuits.proofs.Rows.{holds_next, holds_row}
 use Rattle.gipmc_circuits.proofs.trace.holds_row.Goals as goal
 

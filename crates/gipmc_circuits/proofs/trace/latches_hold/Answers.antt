@@ -1,7 +1,7 @@
 -- One latch more holds its value.
 use Rattle.std.proofs.Common.{◌≤◌, map, sym, subst}
 use Rattle.std.proofs.lemmas.List.{length-map}
-use Rattle.gipsat_solver.specs.Values.{assignment_in}
+use Rattle.gipsat_cnf.specs.Models.{assignment_in}
 use Rattle.gipmc_circuits.proofs.Rows.{holds_next_mapped, holds_row}
 use Rattle.gipmc_circuits.proofs.trace.latches_hold.Goals as goal
 

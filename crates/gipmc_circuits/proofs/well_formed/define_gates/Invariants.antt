@@ -1,6 +1,6 @@
 -- Those that are left are in order and defined as all are.
 use Rattle.std.proofs.Common.{◌≡◌, drop, map}
-use Rattle.gipsat_solver.specs.Values.{assignment_in}
+use Rattle.gipsat_cnf.specs.Models.{assignment_in}
 use Rattle.gipmc_circuits.specs.WellFormed.{are_in_order, with_variables}
 use Rattle.gipmc_circuits.proofs.well_formed.define_gates.Given as goal
 

@@ -1,6 +1,6 @@
 -- A value that is false defines nothing.
 use Rattle.std.proofs.Common.{ap, ◌∙◌}
-use Rattle.gipsat_solver.specs.Values.{assignment_in}
+use Rattle.gipsat_cnf.specs.Models.{assignment_in}
 use Rattle.gipmc_circuits.proofs.Defined.{defined_pushed}
 use Rattle.gipmc_circuits.proofs.well_formed.grow.Goals as goal
 

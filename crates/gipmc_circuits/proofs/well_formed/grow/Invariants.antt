@@ -1,6 +1,6 @@
 -- What is defined is not changed.
 use Rattle.std.proofs.Common.{◌≡◌, ◌-◌, length}
-use Rattle.gipsat_solver.specs.Values.{assignment_in}
+use Rattle.gipsat_cnf.specs.Models.{assignment_in}
 use Rattle.gipmc_circuits.proofs.well_formed.grow.Given as goal
 
 abbrev pub invariant-loop-defined : goal.invariant-loop-defined

@@ -1,6 +1,6 @@
 -- Each step says its part of what a well-formed circuit is, and the notes are those of the step before.
 use Rattle.std.proofs.Common.{◌≡◌, sym, ap, ◌∙◌}
-use Rattle.gipsat_solver.specs.Values.{assignment_in}
+use Rattle.gipsat_cnf.specs.Models.{assignment_in}
 use Rattle.gipmc_circuits.specs.WellFormed.{is_constant, with_variable}
 use Rattle.gipmc_circuits.proofs.Defined.{defined_first, in_order_uses, not_in_order, not_new_inputs, not_new_latches, notes_of}
 use Rattle.gipmc_circuits.proofs.well_formed.is_well_formed.Goals as goal
