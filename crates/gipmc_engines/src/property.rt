@@ -3,7 +3,7 @@ ghost use Rattle.std.specs.Prelude.{◌≡◌, IfSome, IsTrue};
 ghost use Rattle.gipmc_circuits.specs.Encoding.{literal_below};
 
 use gipmc_circuits::Netlist;
-use gipsat_solver::Literal;
+use gipsat_cnf::Literal;
 use std::alloc::Allocator;
 
 // A netlist, and the literal of it that is to be false at every moment.

@@ -3,7 +3,7 @@
 use crate::shifter::{FULL, shifter};
 use crate::stopper::Stopper;
 use gipmc_engines::{Bounds, Verdict, search};
-use gipsat_solver::Literal;
+use gipsat_solver::{Literal, Solver};
 use std::alloc::{AllocError, Global};
 
 // What a search says, in short.
@@ -34,7 +34,7 @@ fn told(alloc: Global, bad: Literal, depth: usize, stop: usize) -> Result<Found,
         limit: 100,
         calls: 0,
     };
-    let verdict = search(alloc, &netlist, bad, bounds, &mut Stopper::new(0, stop))?;
+    let verdict = search::<Solver, _, _>(alloc, &netlist, bad, bounds, &mut Stopper::new(0, stop))?;
     Ok(found_by(&verdict))
 }
 

@@ -4,7 +4,7 @@ ghost use Rattle.gipmc_engines.specs.Verdicts.{IsRightVerdict};
 
 use gipmc_circuits::Netlist;
 use gipmc_engines::{Bounds, Plan, Verdict, check};
-use gipsat_solver::Literal;
+use gipsat_solver::{Literal, Solver};
 use std::alloc::{AllocError, Allocator};
 
 /// What is found out about the bad literal by 2048 random runs, and then by at most 10,000 calls of IC3.
@@ -22,7 +22,7 @@ pub fn verdict<A: Allocator + Copy>(
         },
         ..Plan::default()
     };
-    check(alloc, netlist, bad, &plan, &mut ())
+    check::<Solver<A>, _, _>(alloc, netlist, bad, &plan, &mut ())
 }
 
 #[test]

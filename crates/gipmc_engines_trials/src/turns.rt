@@ -4,7 +4,7 @@ use crate::shifter::{full, register, shifter};
 use crate::stopper::Stopper;
 use gipmc_circuits::Netlist;
 use gipmc_engines::{Bounds, Verdict, decide, decide_by_turns};
-use gipsat_solver::Literal;
+use gipsat_solver::{Literal, Solver};
 use std::alloc::{AllocError, Global};
 
 // What is said, in short.
@@ -38,7 +38,7 @@ fn never() -> Literal {
 // What IC3 says of the register by so many calls.
 fn alone(alloc: Global, bad: Literal, calls: usize) -> Result<Said, AllocError> {
     let netlist = shifter(alloc)?;
-    let verdict = decide(alloc, &netlist, bad, calls, &mut ())?;
+    let verdict = decide::<Solver, _, _>(alloc, &netlist, bad, calls, &mut ())?;
     Ok(said_by(&verdict))
 }
 
@@ -63,7 +63,7 @@ fn said_by_turns(
     bad: Literal,
     bounds: Bounds,
 ) -> Result<Said, AllocError> {
-    let verdict = decide_by_turns(alloc, netlist, bad, bounds, &mut ())?;
+    let verdict = decide_by_turns::<Solver, _, _>(alloc, netlist, bad, bounds, &mut ())?;
     Ok(said_by(&verdict))
 }
 
@@ -131,7 +131,7 @@ fn told_alone(
     calls: usize,
 ) -> Result<usize, AllocError> {
     let mut watch = Stopper::new(0, 0);
-    let _ = decide(alloc, netlist, bad, calls, &mut watch)?;
+    let _ = decide::<Solver, _, _>(alloc, netlist, bad, calls, &mut watch)?;
     Ok(watch.slices)
 }
 
@@ -143,7 +143,7 @@ fn told_by_turns(
     calls: usize,
 ) -> Result<usize, AllocError> {
     let mut watch = Stopper::new(0, 0);
-    let _ = decide_by_turns(alloc, netlist, bad, bounds(0, calls), &mut watch)?;
+    let _ = decide_by_turns::<Solver, _, _>(alloc, netlist, bad, bounds(0, calls), &mut watch)?;
     Ok(watch.slices)
 }
 

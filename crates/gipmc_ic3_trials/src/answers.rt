@@ -3,7 +3,7 @@
 use crate::circuits::{Kind, literal, made};
 use gipmc_circuits::{Netlist, Trace, certificate, certify, replay};
 use gipmc_ic3::{Found, Search};
-use gipsat_solver::Literal;
+use gipsat_solver::{Literal, Solver};
 use std::alloc::{AllocError, Allocator, Global};
 
 // What is believed of a circuit.
@@ -35,7 +35,7 @@ fn found_in_a_slice(
     bad: Literal,
     calls: u64,
 ) -> Result<Found, AllocError> {
-    let mut search = Search::new(alloc, netlist, bad)?;
+    let mut search = Search::<Solver, _>::new(alloc, netlist, bad)?;
     search.run(calls)
 }
 
@@ -74,7 +74,7 @@ fn certified<A: Allocator + Copy>(
     bad: Literal,
     invariant: &[Vec<Literal, A>],
 ) -> Result<Answer, AllocError> {
-    match certify(alloc, netlist, bad, invariant, 1000)? {
+    match certify::<Solver<A>, _>(alloc, netlist, bad, invariant, 1000)? {
         certificate::Verdict::Certified => Ok(Answer::Safe),
         _ => Ok(Answer::Wrong),
     }

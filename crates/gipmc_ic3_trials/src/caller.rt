@@ -2,7 +2,7 @@
 
 use gipmc_circuits::Netlist;
 use gipmc_ic3::{Found, Search};
-use gipsat_solver::Literal;
+use gipsat_solver::{Literal, Solver};
 use std::alloc::{AllocError, Allocator};
 
 /// What a search finds in at most so many slices, each of so many calls.
@@ -16,13 +16,13 @@ pub fn found_in_slices<A: Allocator + Copy>(
     slices: u32,
     calls: u64,
 ) -> Result<Found<A>, AllocError> {
-    let mut search = Search::new(alloc, netlist, bad)?;
+    let mut search = Search::<Solver<A>, A>::new(alloc, netlist, bad)?;
     run_slices(&mut search, slices, calls)
 }
 
 // The same, by a search that was begun.
 fn run_slices<A: Allocator + Copy>(
-    search: &mut Search<'_, A>,
+    search: &mut Search<'_, Solver<A>, A>,
     slices: u32,
     calls: u64,
 ) -> Result<Found<A>, AllocError> {

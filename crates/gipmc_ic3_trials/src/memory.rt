@@ -4,7 +4,7 @@ use crate::answers::{Answer, checked};
 use crate::circuits::{Kind, made};
 use gipmc_circuits::Netlist;
 use gipmc_ic3::{Found, Search};
-use gipsat_solver::Literal;
+use gipsat_solver::{Literal, Solver};
 use giputils_refusing::Refusing;
 use std::alloc::{AllocError, Global};
 
@@ -32,7 +32,7 @@ fn found_at_last<'a>(
     netlist: &Netlist<&'a Refusing>,
     bad: Literal,
 ) -> Result<Found<&'a Refusing>, AllocError> {
-    let mut search = Search::new(memory, netlist, bad)?;
+    let mut search = Search::<Solver<&Refusing>, _>::new(memory, netlist, bad)?;
     match search.run(1000) {
         Ok(found) => Ok(found),
         Err(_) => search.run(1000),

@@ -5,7 +5,7 @@ use crate::caller::found_in_slices;
 use crate::circuits::{Kind, made};
 use gipmc_circuits::Netlist;
 use gipmc_ic3::{Found, Search};
-use gipsat_solver::Literal;
+use gipsat_solver::{Literal, Solver};
 use std::alloc::{AllocError, Global};
 
 // What slices of so many calls find out about gate 6.
@@ -47,7 +47,7 @@ struct Told {
     literals: u128,
 }
 
-fn told_by(search: &Search<'_, Global>) -> Told {
+fn told_by(search: &Search<'_, Solver, Global>) -> Told {
     let statistics = search.statistics();
     Told {
         calls: statistics.calls,
@@ -59,7 +59,7 @@ fn told_by(search: &Search<'_, Global>) -> Told {
 
 // What the second of two slices finds, and what the search tells then.
 fn run_twice(
-    search: &mut Search<'_, Global>,
+    search: &mut Search<'_, Solver, Global>,
     first: u64,
     second: u64,
 ) -> Result<(Found, Told), AllocError> {
@@ -74,7 +74,7 @@ fn search_twice(
     first: u64,
     second: u64,
 ) -> Result<(Found, Told), AllocError> {
-    let mut search = Search::new(alloc, netlist, Literal::new(6, true))?;
+    let mut search = Search::<Solver, _>::new(alloc, netlist, Literal::new(6, true))?;
     run_twice(&mut search, first, second)
 }
 
