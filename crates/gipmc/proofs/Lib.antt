@@ -1,5 +1,2 @@
 mod Ended
 mod Examples
-mod Shown
-mod Told
-mod Witnessed

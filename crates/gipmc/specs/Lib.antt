@@ -1,6 +1,4 @@
--- What is answered about a circuit.
-pub mod Answers
-pub mod Certificates
+-- What a command line asks for, and how a run ends.
 pub mod Misuses
 pub mod Options
 pub mod Statuses

@@ -1,12 +1,34 @@
 -- What the options ask for.
-use Rattle.std.specs.Prelude.{ℕ, ◌^◌, ◌-◌, Bool, true, false, List, if◌then◌else◌, codes, Option, Some, None}
+use Rattle.std.specs.Prelude.{ℕ, ◌^◌, ◌-◌, Bool, true, false, List, [], ◌∷◌, if◌then◌else◌, codes, Option, Some, None}
 use Rattle.std.specs.Option.{option_map}
 use Rattle.std.specs.Str.{bytes_eq}
-use Rattle.gipmc_engines.specs.declared.engines.Engine.{Engine}
+use Rattle.gipmc_engines.specs.declared.engines.Engine as engines
 use Rattle.gipmc_engines.specs.declared.engines.Engine.TheVariants.{Simulation, Bounded, Ic3, All}
+use Rattle.gip_program.specs.Options.{Entry, number, switch, text}
+use Rattle.gipmc.specs.declared.about.Number.{Number}
+use Rattle.gipmc.specs.declared.about.Number.TheVariants.{Bad, Depth, Limit, Seed, Time}
+use Rattle.gipmc.specs.declared.about.Switch.{Switch}
+use Rattle.gipmc.specs.declared.about.Switch.TheVariants.{Quiet, Stats, Verbose}
+use Rattle.gipmc.specs.declared.about.Text.{Text}
+use Rattle.gipmc.specs.declared.about.Text.TheVariants.{Certificate, Certify, Engine, Replay}
 use Rattle.gipmc.specs.declared.options.Options.{Options}
-use Rattle.gipmc.specs.declared.options.Switch.{Switch}
-use Rattle.gipmc.specs.declared.options.Switch.TheVariants.{Quiet, Stats, Verbose}
+
+-- the options, each with its long and its short name
+abbrev pub table : List (Entry Switch Number Text)
+table =
+    number (codes "--bad") [] Bad ∷
+    text (codes "--engine") [] Engine ∷
+    number (codes "--depth") [] Depth ∷
+    number (codes "--limit") [] Limit ∷
+    number (codes "--time") (codes "-t") Time ∷
+    number (codes "--seed") [] Seed ∷
+    text (codes "--replay") [] Replay ∷
+    text (codes "--certify") [] Certify ∷
+    text (codes "--certificate") [] Certificate ∷
+    switch (codes "--quiet") (codes "-q") Quiet ∷
+    switch (codes "--verbose") (codes "-v") Verbose ∷
+    switch (codes "--stats") [] Stats ∷
+    []
 
 -- the file of the circuit, if not standard input, the place of its bad literal, if not all, what searches, the most
 -- transitions, if that is said, the most clauses or calls, the seed, the limit in seconds, if there is one, what to
@@ -14,7 +36,7 @@ use Rattle.gipmc.specs.declared.options.Switch.TheVariants.{Quiet, Stats, Verbos
 pub record Request : Type 0 where
   pub file : Option (List ℕ)
   pub bad : Option ℕ
-  pub engine : Engine
+  pub engine : engines.Engine
   pub depth : Option ℕ
   pub limit : ℕ
   pub seed : ℕ
@@ -41,7 +63,7 @@ no_request = record {
 }
 
 -- the engine of this name
-abbrev pub engine_of : List ℕ → Option Engine
+abbrev pub engine_of : List ℕ → Option engines.Engine
 engine_of word =
     if bytes_eq word (codes "sim") then Some Simulation
     else if bytes_eq word (codes "bmc") then Some Bounded
@@ -53,6 +75,14 @@ abbrev pub switched : Switch → Request → Request
 switched Quiet r = record r { quiet = true }
 switched Stats r = record r { stats = true }
 switched Verbose r = record r { verbose = true }
+
+-- with this value of an option
+abbrev pub counted : Number → ℕ → Request → Request
+counted Bad n r = record r { bad = Some n }
+counted Depth n r = record r { depth = Some n }
+counted Limit n r = record r { limit = n }
+counted Seed n r = record r { seed = n }
+counted Time n r = record r { time = Some n }
 
 -- what options ask for
 abbrev pub request_of : Options → Request

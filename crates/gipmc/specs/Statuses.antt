@@ -1,20 +1,8 @@
 -- The status that a run ends with.
 use Rattle.std.specs.Prelude.{ℕ, Bool, Result, Ok, Err, if◌then◌else◌}
-use Rattle.gipmc.specs.declared.answers.Outcome.{Outcome}
-use Rattle.gipmc.specs.declared.answers.Outcome.TheVariants.{Fails, Safe, Open}
-
--- where nothing is answered, or an answer is not verified
-abbrev pub refused_status : ℕ
-refused_status = 1
-
--- where the arguments have no meaning
-abbrev pub usage_status : ℕ
-usage_status = 2
-
--- of a text that is told
-abbrev pub telling_status : {E : Type 0} → Result Unit E → ℕ
-telling_status (Ok done) = 0
-telling_status (Err error) = refused_status
+use Rattle.gip_program.specs.Statuses.{refused_status}
+use Rattle.gipmc_answers.specs.declared.answers.Outcome.{Outcome}
+use Rattle.gipmc_answers.specs.declared.answers.Outcome.TheVariants.{Fails, Safe, Open}
 
 -- of an outcome
 abbrev pub outcome_status : Outcome → ℕ

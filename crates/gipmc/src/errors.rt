@@ -1,28 +1,24 @@
 //! Why nothing is answered, as it is told.
-use crate::options::Setting;
-use gip_program::{Cause, FinishError};
-use gipmc_aiger::AigerError;
-use std::alloc::AllocError;
+use gip_program::{Cause, Fault, FinishError};
+use gipmc_answers::TaskError;
 use std::fmt::{self, Display};
 use std::io;
 
 /// Why the arguments have no meaning.
 #[derive(Clone, Copy)]
 pub enum UsageError<'a> {
-    /// No option has this name.
-    UnknownOption(&'a str),
-    /// No word stands behind this option.
-    NoValue(Setting),
-    /// This word behind the option is no number, or one of 2^64 or more.
-    NoNumber(Setting, &'a str),
+    /// Words that no options have.
+    Words(Fault<'a>),
     /// This word names no engine.
     NoEngine(&'a str),
     /// More files are named than are read.
     ExtraFile(&'a str),
     /// A witness and a certificate are given.
     TwoTasks,
-    /// A file for a certificate is named, but none is searched for.
-    NoSearch,
+    /// This option of a search stands beside a witness or a certificate.
+    NoSearch(&'a str),
+    /// This limit stands beside a witness.
+    NoLimit(&'a str),
     /// Standard input is named twice.
     InputTwice,
     /// A certificate is to be written to standard output.
@@ -32,84 +28,22 @@ pub enum UsageError<'a> {
 impl Display for UsageError<'_> {
     fn fmt<W: fmt::Write>(&self, f: &mut fmt::Formatter<W>) -> fmt::Result {
         match *self {
-            UsageError::UnknownOption(word) => write!(f, "unknown option '{word}'"),
-            UsageError::NoValue(setting) => write!(f, "'{setting}' needs {}", setting.wanted()),
-            UsageError::NoNumber(setting, word) => {
-                write!(f, "'{setting}' takes a number below 2^64, not '{word}'")
-            }
+            UsageError::Words(fault) => Display::fmt(&fault, f),
             UsageError::NoEngine(word) => write!(
                 f,
                 "'--engine' takes sim, bmc or ic3, not '{word}'"
             ),
             UsageError::ExtraFile(name) => write!(f, "one file too many, '{name}'"),
             UsageError::TwoTasks => f.write_str("'--replay' and '--certify' exclude each other"),
-            UsageError::NoSearch => {
-                f.write_str("'--certificate' goes with neither '--replay' nor '--certify'")
+            UsageError::NoSearch(word) => {
+                write!(f, "'{word}' goes with neither '--replay' nor '--certify'")
             }
+            UsageError::NoLimit(word) => write!(f, "'{word}' does not go with '--replay'"),
             UsageError::InputTwice => f.write_str("one file at most is read from standard input"),
             UsageError::OutputTwice => f.write_str(
                 "'--certificate' takes the name of a file, since standard output has the answer",
             ),
         }
-    }
-}
-
-impl Setting {
-    // What stands behind the option.
-    fn wanted(self) -> &'static str {
-        match self {
-            Setting::Replay | Setting::Certify | Setting::Certificate => "a file behind it",
-            Setting::Engine => "sim, bmc or ic3 behind it",
-            _ => "a number behind it",
-        }
-    }
-}
-
-// The option, as it is written.
-impl Display for Setting {
-    fn fmt<W: fmt::Write>(&self, f: &mut fmt::Formatter<W>) -> fmt::Result {
-        f.write_str(match *self {
-            Setting::Bad => "--bad",
-            Setting::Certificate => "--certificate",
-            Setting::Certify => "--certify",
-            Setting::Depth => "--depth",
-            Setting::Engine => "--engine",
-            Setting::Limit => "--limit",
-            Setting::Replay => "--replay",
-            Setting::Seed => "--seed",
-            Setting::Time => "--time",
-        })
-    }
-}
-
-/// Why a task was not done.
-#[derive(Clone, Copy)]
-pub enum TaskError {
-    /// The circuit's text has another form.
-    Circuit(AigerError),
-    /// The witness' text has another form.
-    Witness(AigerError),
-    /// The certificate's text has another form.
-    Certificate(AigerError),
-    /// The certificate is a circuit with another number of inputs or latches.
-    OtherShape,
-    /// There is no bad literal at this place; there are so many.
-    NoBad(usize, usize),
-    /// There is no bad literal at all.
-    NoBads,
-    /// The witness names the bad literal at this place; there are so many.
-    OtherBad(usize, usize),
-    /// The witness names the bad literal at the first place; that at the second one is asked for.
-    NotAsked(usize, usize),
-    /// The clauses that were found do not certify the circuit.
-    Uncertified,
-    /// Memory was refused.
-    Memory,
-}
-
-impl From<AllocError> for TaskError {
-    fn from(_refused: AllocError) -> TaskError {
-        TaskError::Memory
     }
 }
 
@@ -130,18 +64,8 @@ pub enum Failure<'a> {
     Finish(FinishError<'a>),
     /// No certificate was written to this file.
     NoCertificate(Option<&'a str>, TaskError),
-    /// The text in this input has another form.
-    Form(Option<&'a str>, AigerError),
-    /// The circuit in this input has no bad literal at this place; it has so many.
-    NoBad(Option<&'a str>, usize, usize),
-    /// The circuit in this input has no bad literal at all.
-    NoBads(Option<&'a str>),
-    /// The witness in this input names the bad literal at this place; the circuit has so many.
-    OtherBad(Option<&'a str>, usize, usize),
-    /// The witness in this input names the bad literal at the first place; that at the second one is asked for.
-    NotAsked(Option<&'a str>, usize, usize),
-    /// The circuit in this input has another number of inputs or latches than the one that it is to certify.
-    OtherShape(Option<&'a str>),
+    /// The task on the text in this input was not done.
+    Task(Option<&'a str>, TaskError),
     /// Memory was refused.
     Memory,
 }
@@ -183,29 +107,13 @@ impl Display for Failure<'_> {
                 "{}: not written, since what was found does not certify the circuit",
                 name.unwrap_or("<stdout>")
             ),
-            Failure::Form(_, AigerError::Memory) => f.write_str("memory: refused"),
-            Failure::Form(name, error) => write!(f, "{}: {error}", name.unwrap_or("<stdin>")),
-            Failure::NoBad(name, place, count) => write!(
-                f,
-                "{}: no bad literal {place}, of {count}",
-                name.unwrap_or("<stdin>")
-            ),
-            Failure::NoBads(name) => { write!(f, "{}: no bad literal", name.unwrap_or("<stdin>")) }
-            Failure::NotAsked(name, named, asked) => write!(
+            Failure::Task(_, TaskError::Memory) => f.write_str("memory: refused"),
+            Failure::Task(name, TaskError::NotAsked(named, asked)) => write!(
                 f,
                 "{}: it names bad literal {named}, and '--bad' asks for {asked}",
                 name.unwrap_or("<stdin>")
             ),
-            Failure::OtherBad(name, place, count) => write!(
-                f,
-                "{}: it names bad literal {place}, and the circuit has {count}",
-                name.unwrap_or("<stdin>")
-            ),
-            Failure::OtherShape(name) => write!(
-                f,
-                "{}: not as many inputs and latches as the circuit has",
-                name.unwrap_or("<stdin>")
-            ),
+            Failure::Task(name, error) => write!(f, "{}: {error}", name.unwrap_or("<stdin>")),
             Failure::Memory => f.write_str("memory: refused"),
         }
     }

@@ -8,40 +8,33 @@
 ghost use Rattle.std.specs.Prelude.{◌≡◌, IfOk, IsTrue};
 ghost use Rattle.std.specs.Process.{exit_status};
 ghost use Rattle.std.specs.declared.alloc.Global.{Global};
-ghost use Rattle.gipmc.specs.Answers.{Answers, IsAnswered, IsCircuitIn, Replays};
-ghost use Rattle.gipmc.specs.Certificates.{Certifies};
-ghost use Rattle.gipmc.specs.declared.answers.Outcome.TheVariants.{Fails, Safe};
-ghost use Rattle.gipmc.specs.Statuses.{outcome_status, refused_status, search_status, telling_status, usage_status, verified_status};
+ghost use Rattle.gipmc_answers.specs.Answers.{Answers, IsAnswered, IsCircuitIn};
+ghost use Rattle.gipmc_answers.specs.Certificates.{Certifies};
+ghost use Rattle.gipmc_answers.specs.Witnesses.{Replays};
+ghost use Rattle.gipmc_answers.specs.declared.answers.Outcome.TheVariants.{Fails, Safe};
+ghost use Rattle.gipmc.specs.Statuses.{outcome_status, search_status, verified_status};
 
-mod answers;
-mod certificates;
+mod about;
 mod errors;
 mod files;
-mod help;
 mod options;
-mod output;
 mod progress;
 
-use answers::{Answered, Outcome, answer, replays};
-use certificates::{certificate_of, certifies};
-use errors::{Failure, TaskError, UsageError};
+use about::ABOUT;
+use errors::Failure;
 use files::bytes_of;
-use gip_program::{Cause, Existing, NewFile, hold_standard_streams};
+use gip_program::{Existing, NewFile, begin, explain, refuse, tell};
+use gipmc_answers::{
+    Answered, Lost, Outcome, Output, TaskError, answer, certificate_of, certifies, replays,
+};
 use gipmc_engines::{Bounds, Engine, Plan, Tries};
-use help::{HELP, VERSION};
 use options::{Options, Task};
-use output::{Lost, Output};
 use progress::Teller;
-use std::env;
-use std::fmt::Display;
-use std::io::{self, Stdout, Write};
+use std::io::{Stdout, Write};
 use std::process::ExitCode;
 
 // The exit status where nothing is answered, or an answer is not verified.
 const REFUSED: u8 = 1;
-
-// The exit status where the arguments have no meaning.
-const USAGE: u8 = 2;
 
 // How often simulation begins anew, and how many moments it has then.
 const ROUNDS: usize = 2;
@@ -52,20 +45,16 @@ const MOMENTS: usize = 256;
 const DEPTH: usize = 100;
 
 fn main(rt: HostRuntime) -> ExitCode {
-    if let Err(error) = hold_standard_streams(&rt) {
-        return refuse(&rt, &format_args!("/dev/null: {}", Cause(Some(error))));
-    }
-    let words = match words_of(&rt) {
+    let words = match begin(&rt) {
         Ok(words) => words,
-        Err(error) => return refuse(&rt, &format_args!("arguments: {}", Cause(Some(error)))),
+        Err(status) => return status,
     };
     match Task::parse(&words) {
-        Ok(Task::Help) => tell(&rt, HELP),
-        Ok(Task::Version) => tell(&rt, VERSION),
+        Ok(Task::Tell(info)) => tell(&rt, &ABOUT, info),
         Ok(Task::Search(options)) => run_search(&rt, &options),
         Ok(Task::Replay(options, witness)) => run_replay(&rt, &options, witness),
         Ok(Task::Certify(options, name)) => run_certify(&rt, &options, name),
-        Err(error) => explain(&rt, &error),
+        Err(error) => explain(&rt, "gipmc", &error),
     }
 }
 
@@ -138,25 +127,6 @@ fn texts_of<'a>(
     Ok((bytes, text))
 }
 
-// The arguments behind the program's name.
-fn words_of(rt: &HostRuntime) -> io::Result<Vec<String>> {
-    Ok(env::args(rt)?.skip(1).collect(rt.alloc())?)
-}
-
-// The status after a text that is told. Writes why it could not be.
-fn tell(rt: &HostRuntime, text: &str) -> ExitCode {
-    end_telling(rt, rt.stdout().write_all(text.as_bytes()))
-}
-
-fn end_telling(rt: &HostRuntime, ended: io::Result<()>) -> ExitCode
-    ensures { exit_status result ≡ telling_status ended }
-{
-    match ended {
-        Ok(()) => ExitCode::SUCCESS,
-        Err(error) => refuse(rt, &Failure::Write(error)),
-    }
-}
-
 // The status of an outcome.
 fn status_of(outcome: Outcome) -> u8
     ensures { result ≡ outcome_status outcome }
@@ -189,35 +159,13 @@ fn end_check(rt: &HostRuntime, ended: Result<bool, Failure>) -> ExitCode
     }
 }
 
-// Writes why nothing is answered.
-fn refuse<E: Display>(rt: &HostRuntime, error: &E) -> ExitCode
-    ensures { exit_status result ≡ refused_status }
-{
-    let _ = eprintln!(rt; "{error}");
-    ExitCode::from(REFUSED)
-}
-
-// Writes why the arguments have no meaning.
-fn explain(rt: &HostRuntime, error: &UsageError) -> ExitCode
-    ensures { exit_status result ≡ usage_status }
-{
-    let _ = eprintln!(rt; "gipmc: {error} (try --help)");
-    ExitCode::from(USAGE)
-}
-
 // The failure of a task on the circuit in one input and an answer in another.
 fn failure<'a>(circuit: Option<&'a str>, beside: Option<&'a str>, error: TaskError) -> Failure<'a> {
     match error {
-        TaskError::Circuit(error) => Failure::Form(circuit, error),
-        TaskError::Witness(error) => Failure::Form(beside, error),
-        TaskError::Certificate(error) => Failure::Form(beside, error),
-        TaskError::OtherShape => Failure::OtherShape(beside),
-        TaskError::NoBad(place, count) => Failure::NoBad(circuit, place, count),
-        TaskError::NoBads => Failure::NoBads(circuit),
-        TaskError::OtherBad(place, count) => Failure::OtherBad(beside, place, count),
-        TaskError::NotAsked(named, asked) => Failure::NotAsked(beside, named, asked),
-        TaskError::Uncertified => Failure::NoCertificate(beside, error),
-        TaskError::Memory => Failure::Memory,
+        TaskError::Circuit(_) | TaskError::NoBad(_, _) | TaskError::NoBads => {
+            Failure::Task(circuit, error)
+        }
+        _ => Failure::Task(beside, error),
     }
 }
 
@@ -298,7 +246,8 @@ fn search<'a>(
 // Tells where a circuit has no bad literal: nothing was asked then.
 fn tell_of_none(rt: &HostRuntime, options: &Options, answer: &Answered) {
     if answer.netlist.circuit.bads.is_empty() {
-        let _ = eprintln!(rt; "c {}", Failure::NoBads(options.file));
+        let none = Failure::Task(options.file, TaskError::NoBads);
+        let _ = eprintln!(rt; "c {none}");
     }
 }
 

@@ -1,24 +1,25 @@
-//! The command line.
+//! What the words of a command line ask for.
 ghost use Rattle.std.specs.Prelude.{◌≡◌, map, string_bytes};
 ghost use Rattle.std.specs.Option.{ok_or, option_map};
 ghost use Rattle.std.specs.Result.{result_map_both};
-ghost use Rattle.giputils_text.specs.Numbers.{number_of};
-ghost use Rattle.gipmc.specs.Misuses.{misuse_of, NoEngine, NoNumber};
-ghost use Rattle.gipmc.specs.Options.{engine_of, no_request, request_of, switched};
-ghost use Rattle.gipmc.specs.Words.{after_file, after_named, after_option, after_word, after_words, answer_of};
-ghost use Rattle.gipmc.specs.Words.{asked_for, input_of, joined_of, long_setting_of, no_words, option_of, output_of};
-ghost use Rattle.gipmc.specs.Words.{setting_of, state_of, switch_of, task_asked, with_value, work_asked, work_of};
+ghost use Rattle.gip_program.specs.Items.{left_said, said_of};
+ghost use Rattle.gip_program.specs.Options.{entry_of};
+ghost use Rattle.gipmc.specs.Misuses.{misuse_of, NoEngine};
+ghost use Rattle.gipmc.specs.Options.{counted, engine_of, no_request, request_of, switched, table};
+ghost use Rattle.gipmc.specs.Words.{after, after_file, answer_of, asked_for, given, heeded, input_of, no_words, noted};
+ghost use Rattle.gipmc.specs.Words.{output_of, scope_of_number, scope_of_switch, scope_of_text, state_of, task_asked};
+ghost use Rattle.gipmc.specs.Words.{work_asked, work_of, work_said};
 
+use crate::about::{Number, OPTIONS, Switch, Text};
 use crate::errors::UsageError;
+use gip_program::{Info, Item, Items, Opt};
 use gipmc_engines::Engine;
 
 /// What the arguments ask for.
 #[derive(Clone, Copy)]
 pub enum Task<'a> {
-    /// To tell what the options do.
-    Help,
-    /// To tell the program's name and version.
-    Version,
+    /// To tell what the options do, or the version.
+    Tell(Info),
     /// To answer about a circuit.
     Search(Options<'a>),
     /// To replay the witness in this file. None is standard input.
@@ -36,7 +37,18 @@ impl<'a> Task<'a> {
     pub fn parse(words: &'a [String]) -> Result<Self, UsageError<'a>>
         ensures { result_map_both work_of misuse_of result ≡ work_asked (map string_bytes words.now) }
     {
-        Parser::new().words(words)?.end()
+        Task::parse_by(&OPTIONS, words)
+    }
+
+    // What some words ask for by the table of the options.
+    fn parse_by(
+        options: &[Opt<Switch, Number, Text>],
+        words: &'a [String],
+    ) -> Result<Self, UsageError<'a>>
+        requires options { map entry_of options.now ≡ table }
+        ensures { result_map_both work_of misuse_of result ≡ work_asked (map string_bytes words.now) }
+    {
+        Asked::new().end_after(Items::new(options, words))
     }
 }
 
@@ -65,28 +77,6 @@ pub struct Options<'a> {
     pub stats: bool,
     /// The file that a certificate is written to, if one is wanted.
     pub certificate: Option<&'a str>,
-}
-
-/// An option that takes a value.
-#[derive(Clone, Copy)]
-pub enum Setting {
-    Bad,
-    Certificate,
-    Certify,
-    Depth,
-    Engine,
-    Limit,
-    Replay,
-    Seed,
-    Time,
-}
-
-/// An option of one word.
-#[derive(Clone, Copy)]
-pub enum Switch {
-    Quiet,
-    Stats,
-    Verbose,
 }
 
 impl<'a> Options<'a> {
@@ -129,30 +119,45 @@ impl<'a> Options<'a> {
         }
     }
 
-    // The file of an answer that is checked beside these options.
-    fn answer(self, name: &'a str) -> Result<Option<&'a str>, UsageError<'a>>
-        ensures { result_map_both (option_map (λ name. name.now)) misuse_of result ≡
-            answer_of (request_of self.entry) name.now }
+    // The options with this value of an option.
+    fn counted(self, number: Number, value: usize) -> Self
+        ensures { request_of result ≡ counted number value (request_of self.entry) }
     {
-        if self.certificate.is_some() {
-            return Err(UsageError::NoSearch);
+        match number {
+            Number::Bad => Options {
+                bad: Some(value),
+                ..self
+            },
+            Number::Depth => Options {
+                depth: Some(value),
+                ..self
+            },
+            Number::Limit => Options {
+                limit: value,
+                ..self
+            },
+            Number::Seed => Options {
+                seed: value as u64,
+                ..self
+            },
+            Number::Time => Options {
+                time: Some(value as u64),
+                ..self
+            },
         }
-        let answer = input(name);
-        if self.file.is_none() && answer.is_none() {
-            return Err(UsageError::InputTwice);
-        }
-        Ok(answer)
     }
 }
 
-// The number that a word writes, as this setting's value.
-fn number<'a>(setting: Setting, word: &'a str) -> Result<usize, UsageError<'a>>
-    ensures { result_map_both (λ n. n) misuse_of result ≡ ok_or (number_of word.now) (NoNumber setting word.now) }
+// The file of an answer that is checked beside these options.
+fn answer<'a>(options: &Options<'a>, name: &'a str) -> Result<Option<&'a str>, UsageError<'a>>
+    ensures { result_map_both (option_map (λ name. name.now)) misuse_of result ≡
+        answer_of (request_of options.now) name.now }
 {
-    match word.parse() {
-        Ok(number) => Ok(number),
-        Err(_) => Err(UsageError::NoNumber(setting, word)),
+    let answer = input(name);
+    if options.file.is_none() && answer.is_none() {
+        return Err(UsageError::InputTwice);
     }
+    Ok(answer)
 }
 
 // The engine of this name.
@@ -184,241 +189,160 @@ fn output<'a>(name: &'a str) -> Result<&'a str, UsageError<'a>>
     Ok(name)
 }
 
-/// What is told in place of an answer.
+/// The tasks that heed an option.
 #[derive(Clone, Copy)]
-pub enum Info {
-    Help,
-    Version,
+pub enum Scope {
+    Each,
+    /// A search alone.
+    Search,
+    /// All but a replay.
+    Limit,
 }
 
-/// What a word that begins with a minus says.
-#[derive(Clone, Copy)]
-pub enum Opt {
-    /// The next word is the value of this setting.
-    Setting(Setting),
-    Switch(Switch),
-    Info(Info),
-    /// All words behind this one are files.
-    End,
-}
-
-impl Opt {
-    // The option of this name.
-    fn of(word: &str) -> Option<Self>
-        ensures { result ≡ option_of word.now }
+impl Switch {
+    fn scope(self) -> Scope
+        ensures { result ≡ scope_of_switch self }
     {
-        if let Some(setting) = setting_of(word) {
-            return Some(Opt::Setting(setting));
-        }
-        if let Some(switch) = switch_of(word) {
-            return Some(Opt::Switch(switch));
-        }
-        match word {
-            "--help" => Some(Opt::Info(Info::Help)),
-            "-h" => Some(Opt::Info(Info::Help)),
-            "--version" => Some(Opt::Info(Info::Version)),
-            "--" => Some(Opt::End),
-            _ => None,
+        match self {
+            Switch::Quiet | Switch::Verbose => Scope::Each,
+            Switch::Stats => Scope::Search,
         }
     }
 }
 
-fn setting_of(word: &str) -> Option<Setting>
-    ensures { result ≡ setting_of word.now }
-{
-    match word {
-        "-t" => Some(Setting::Time),
-        _ => long_setting_of(word),
+impl Number {
+    fn scope(self) -> Scope
+        ensures { result ≡ scope_of_number self }
+    {
+        match self {
+            Number::Bad => Scope::Each,
+            Number::Limit => Scope::Limit,
+            Number::Depth | Number::Seed | Number::Time => Scope::Search,
+        }
     }
 }
 
-fn long_setting_of(word: &str) -> Option<Setting>
-    ensures { result ≡ long_setting_of word.now }
-{
-    match word {
-        "--bad" => Some(Setting::Bad),
-        "--certificate" => Some(Setting::Certificate),
-        "--certify" => Some(Setting::Certify),
-        "--depth" => Some(Setting::Depth),
-        "--engine" => Some(Setting::Engine),
-        "--limit" => Some(Setting::Limit),
-        "--replay" => Some(Setting::Replay),
-        "--seed" => Some(Setting::Seed),
-        "--time" => Some(Setting::Time),
-        _ => None,
+impl Text {
+    fn scope(self) -> Scope
+        ensures { result ≡ scope_of_text self }
+    {
+        match self {
+            Text::Certify | Text::Replay => Scope::Each,
+            Text::Certificate | Text::Engine => Scope::Search,
+        }
     }
 }
 
-// The setting and the value of a word as `--depth=9`.
-fn joined(word: &str) -> Option<(Setting, &str)>
-    ensures { option_map (λ joined. (joined.0, joined.1.now)) result ≡ joined_of word.now }
-{
-    let (name, value) = word.split_once('=')?;
-    let setting = long_setting_of(name)?;
-    Some((setting, value))
-}
-
-fn switch_of(word: &str) -> Option<Switch>
-    ensures { result ≡ switch_of word.now }
-{
-    match word {
-        "--quiet" => Some(Switch::Quiet),
-        "-q" => Some(Switch::Quiet),
-        "--stats" => Some(Switch::Stats),
-        "--verbose" => Some(Switch::Verbose),
-        "-v" => Some(Switch::Verbose),
-        _ => None,
-    }
-}
-
-/// How the next word is read.
+/// What some words of a command line ask for.
 #[derive(Clone, Copy)]
-pub enum Awaits {
-    /// As an option or a file.
-    Any,
-    /// As the value of a setting.
-    Value(Setting),
-    /// As a file, whatever it begins with.
-    File,
-    /// Not at all: this is told, whatever comes.
-    Nothing(Info),
-}
-
-/// What was read of a command line.
-#[derive(Clone, Copy)]
-pub struct Parser<'a> {
-    awaits: Awaits,
+pub struct Asked<'a> {
     options: Options<'a>,
+    // What is told in place of an answer.
+    info: Option<Info>,
+    // The last options of a search alone, and of a limit.
+    search: Option<&'a str>,
+    limit: Option<&'a str>,
     replay: Option<&'a str>,
     certify: Option<&'a str>,
 }
 
-impl<'a> Parser<'a> {
+impl<'a> Asked<'a> {
     // Before the first word.
     fn new() -> Self
         ensures { state_of result ≡ no_words }
     {
-        Parser {
-            awaits: Awaits::Any,
+        Asked {
             options: Options::new(),
+            info: None,
+            search: None,
+            limit: None,
             replay: None,
             certify: None,
         }
     }
 
-    // After some more words.
-    fn words(mut self, mut words: &'a [String]) -> Result<Self, UsageError<'a>>
-        ensures { result_map_both state_of misuse_of result ≡
-            after_words (state_of self.entry) (map string_bytes words.now) }
+    // After the items that are left.
+    fn end_after(
+        mut self,
+        mut items: Items<'_, 'a, Switch, Number, Text>,
+    ) -> Result<Task<'a>, UsageError<'a>>
+        ensures { result_map_both work_of misuse_of result ≡ work_said (state_of self.entry) (left_said items.entry) }
     {
-        while let [word, rest @ ..] = words {
-            self = self.word(word.as_str())?;
-            words = rest;
+        while let Some(item) = items.next() {
+            self = self.with(item)?;
         }
-        Ok(self)
+        self.end()
     }
 
-    // After one more word.
-    fn word(self, word: &'a str) -> Result<Self, UsageError<'a>>
-        ensures { result_map_both state_of misuse_of result ≡ after_word (state_of self.entry) word.now }
+    // After one more item.
+    fn with(self, item: Item<'a, Switch, Number, Text>) -> Result<Self, UsageError<'a>>
+        ensures { result_map_both state_of misuse_of result ≡ after (state_of self.entry) (said_of item.entry) }
     {
-        match self.awaits {
-            Awaits::Value(setting) => Parser {
-                awaits: Awaits::Any,
+        match item {
+            Item::Switch(switch, word) => Ok(
+                self.with_options(self.options.switched(switch))
+                    .noted(switch.scope(), word),
+            ),
+            Item::Number(number, value, word) => Ok(
+                self.with_options(self.options.counted(number, value))
+                    .noted(number.scope(), word),
+            ),
+            Item::Text(text, value, word) => self.noted(text.scope(), word).given(text, value),
+            Item::File(name) => self.file(name),
+            Item::Info(info) => Ok(Asked {
+                info: Some(info),
                 ..self
-            }
-            .with_value(setting, word),
-            Awaits::File => self.file(word),
-            Awaits::Nothing(_) => Ok(self),
-            Awaits::Any if word.starts_with('-') && word != "-" => self.named(word),
-            Awaits::Any => self.file(word),
-        }
-    }
-
-    // After a word that is an option, or a setting with its value.
-    fn named(self, word: &'a str) -> Result<Self, UsageError<'a>>
-        ensures { result_map_both state_of misuse_of result ≡
-            after_named (option_of word.now) (joined_of word.now) (state_of self.entry) word.now }
-    {
-        if let Some(option) = Opt::of(word) {
-            return Ok(self.option(option));
-        }
-        match joined(word) {
-            Some((setting, value)) => self.with_value(setting, value),
-            None => Err(UsageError::UnknownOption(word)),
-        }
-    }
-
-    // After an option.
-    fn option(self, option: Opt) -> Self
-        ensures { state_of result ≡ after_option option (state_of self.entry) }
-    {
-        match option {
-            Opt::Setting(setting) => Parser {
-                awaits: Awaits::Value(setting),
-                ..self
-            },
-            Opt::Switch(switch) => self.with(self.options.switched(switch)),
-            Opt::Info(info) => Parser {
-                awaits: Awaits::Nothing(info),
-                ..self
-            },
-            Opt::End => Parser {
-                awaits: Awaits::File,
-                ..self
-            },
+            }),
+            Item::Fault(fault) => Err(UsageError::Words(fault)),
         }
     }
 
     // With these options.
-    fn with(self, options: Options<'a>) -> Self
+    fn with_options(self, options: Options<'a>) -> Self
         ensures { state_of result ≡ record (state_of self.entry) { request = request_of options.entry } }
     {
-        Parser { options, ..self }
+        Asked { options, ..self }
     }
 
-    // With this value of a setting.
-    fn with_value(self, setting: Setting, word: &'a str) -> Result<Self, UsageError<'a>>
-        ensures { result_map_both state_of misuse_of result ≡ with_value setting (state_of self.entry) word.now }
+    // After an option of this scope, which this word names.
+    fn noted(self, scope: Scope, word: &'a str) -> Self
+        ensures { state_of result ≡ noted scope word.now (state_of self.entry) }
+    {
+        match scope {
+            Scope::Each => self,
+            Scope::Search => Asked {
+                search: Some(word),
+                ..self
+            },
+            Scope::Limit => Asked {
+                limit: Some(word),
+                ..self
+            },
+        }
+    }
+
+    // With this value of an option.
+    fn given(self, text: Text, word: &'a str) -> Result<Self, UsageError<'a>>
+        ensures { result_map_both state_of misuse_of result ≡ given text (state_of self.entry) word.now }
     {
         let options = self.options;
-        match setting {
-            Setting::Bad => {
-                let bad = Some(number(setting, word)?);
-                Ok(self.with(Options { bad, ..options }))
-            }
-            Setting::Depth => {
-                let depth = Some(number(setting, word)?);
-                Ok(self.with(Options { depth, ..options }))
-            }
-            Setting::Limit => {
-                let limit = number(setting, word)?;
-                Ok(self.with(Options { limit, ..options }))
-            }
-            Setting::Seed => {
-                let seed = number(setting, word)? as u64;
-                Ok(self.with(Options { seed, ..options }))
-            }
-            Setting::Time => {
-                let time = Some(number(setting, word)? as u64);
-                Ok(self.with(Options { time, ..options }))
-            }
-            Setting::Engine => {
+        match text {
+            Text::Engine => {
                 let engine = engine(word)?;
-                Ok(self.with(Options { engine, ..options }))
+                Ok(self.with_options(Options { engine, ..options }))
             }
-            Setting::Certificate => {
+            Text::Certificate => {
                 let certificate = Some(output(word)?);
-                Ok(self.with(Options {
+                Ok(self.with_options(Options {
                     certificate,
                     ..options
                 }))
             }
-            Setting::Replay => Ok(Parser {
+            Text::Replay => Ok(Asked {
                 replay: Some(word),
                 ..self
             }),
-            Setting::Certify => Ok(Parser {
+            Text::Certify => Ok(Asked {
                 certify: Some(word),
                 ..self
             }),
@@ -432,7 +356,7 @@ impl<'a> Parser<'a> {
         if self.options.file.is_some() {
             return Err(UsageError::ExtraFile(name));
         }
-        Ok(self.with(Options {
+        Ok(self.with_options(Options {
             file: Some(name),
             ..self.options
         }))
@@ -442,11 +366,9 @@ impl<'a> Parser<'a> {
     fn end(self) -> Result<Task<'a>, UsageError<'a>>
         ensures { result_map_both work_of misuse_of result ≡ asked_for (state_of self.entry) }
     {
-        match self.awaits {
-            Awaits::Value(setting) => Err(UsageError::NoValue(setting)),
-            Awaits::Nothing(Info::Help) => Ok(Task::Help),
-            Awaits::Nothing(Info::Version) => Ok(Task::Version),
-            _ => self.task(),
+        match self.info {
+            Some(info) => Ok(Task::Tell(info)),
+            None => self.task(),
         }
     }
 
@@ -464,9 +386,28 @@ impl<'a> Parser<'a> {
         };
         match (self.replay, self.certify) {
             (None, None) => Ok(Task::Search(options)),
-            (Some(witness), None) => Ok(Task::Replay(options, options.answer(witness)?)),
-            (None, Some(certificate)) => Ok(Task::Certify(options, options.answer(certificate)?)),
+            (Some(witness), None) => {
+                self.heeded(true)?;
+                Ok(Task::Replay(options, answer(&options, witness)?))
+            }
+            (None, Some(certificate)) => {
+                self.heeded(false)?;
+                Ok(Task::Certify(options, answer(&options, certificate)?))
+            }
             (Some(_), Some(_)) => Err(UsageError::TwoTasks),
+        }
+    }
+
+    // Tests that a check of an answer heeds each option, or a replay alone.
+    fn heeded(self, replay: bool) -> Result<(), UsageError<'a>>
+        ensures { result_map_both (λ done. done) misuse_of result ≡ heeded replay (state_of self.entry) }
+    {
+        if let Some(word) = self.search {
+            return Err(UsageError::NoSearch(word));
+        }
+        match self.limit {
+            Some(word) if replay => Err(UsageError::NoLimit(word)),
+            _ => Ok(()),
         }
     }
 }

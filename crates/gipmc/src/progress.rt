@@ -1,5 +1,6 @@
 //! How far a search is, in lines on standard error.
 use crate::options::Options;
+use gipmc_answers::Listener;
 use gipmc_engines::Watch;
 use gipmc_ic3::Statistics;
 use giputils_stat::logger::IntervalLogger;
@@ -13,15 +14,6 @@ use std::time::{Duration, Instant};
 
 // How many seconds it is at least from one line to the next.
 const INTERVAL_SECONDS: u64 = 5;
-
-/// A listener to the searches about some bad literals, one after another.
-pub trait Listener: Watch {
-    /// The search about the bad literal at this place is to begin. `Break` where there is no time for it.
-    fn begin(&mut self, place: usize) -> ControlFlow<()>;
-
-    /// It ended. Whether that was because memory was refused.
-    fn end(&mut self, is_refused: bool);
-}
 
 /// Writes now and then how far a search is, where standard error is a terminal or that is asked for, and a summary of
 /// each, if that is wanted. It stops a search when the time is over.

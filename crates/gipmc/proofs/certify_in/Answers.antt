@@ -1,7 +1,7 @@
 -- The certificate is verified.
 use Rattle.std.proofs.Common.{sym, ◌∙◌}
 use Rattle.std.specs.declared.alloc.Global.{Global}
-use Rattle.gipmc.specs.Certificates.{Certifies}
+use Rattle.gipmc_answers.specs.Certificates.{Certifies}
 use Rattle.gipmc.proofs.Ended.{verified_ended}
 use Rattle.gipmc.proofs.certify_in.Goals as goal
 

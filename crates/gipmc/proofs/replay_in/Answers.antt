@@ -1,7 +1,7 @@
 -- The witness is verified.
 use Rattle.std.proofs.Common.{sym, ◌∙◌}
 use Rattle.std.specs.declared.alloc.Global.{Global}
-use Rattle.gipmc.specs.Answers.{Replays}
+use Rattle.gipmc_answers.specs.Witnesses.{Replays}
 use Rattle.gipmc.proofs.Ended.{verified_ended}
 use Rattle.gipmc.proofs.replay_in.Goals as goal
 

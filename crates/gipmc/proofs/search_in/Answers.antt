@@ -1,7 +1,7 @@
 -- The outcome is that of the search.
 use Rattle.std.proofs.Common.{sym, ◌∙◌}
 use Rattle.std.specs.declared.alloc.Global.{Global}
-use Rattle.gipmc.specs.Answers.{IsAnswered}
+use Rattle.gipmc_answers.specs.Answers.{IsAnswered}
 use Rattle.gipmc.proofs.Ended.{fails_ended, safe_ended}
 use Rattle.gipmc.proofs.search_in.Goals as goal
 

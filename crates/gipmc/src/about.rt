@@ -1,0 +1,143 @@
+//! What the program tells of itself, and its options.
+use gip_program::{About, Kind, Opt};
+
+/// An option of one word.
+#[derive(Clone, Copy)]
+pub enum Switch {
+    Quiet,
+    Stats,
+    Verbose,
+}
+
+/// An option that takes a number.
+#[derive(Clone, Copy)]
+pub enum Number {
+    Bad,
+    Depth,
+    Limit,
+    Seed,
+    Time,
+}
+
+/// An option that takes a word.
+#[derive(Clone, Copy)]
+pub enum Text {
+    Certificate,
+    Certify,
+    Engine,
+    Replay,
+}
+
+/// What the program tells of itself.
+pub const ABOUT: About<'static, Switch, Number, Text> = About {
+    version: "gipmc 0.1.0",
+    usage: &["gipmc [OPTION]... [FILE]"],
+    summary: &[
+        "Reads a circuit in the ascii or the binary form of AIGER 1.9 from FILE, or from standard input where none is \
+         named or its name is -, and searches for each bad literal in turn. As soon as it knows, it writes what it found: \
+         the lines `1`, `b` with the literal's place (from 0 on), a witness and `.`; or `0` in place of `1` where no bad \
+         state is reachable, and `2` where that is open. A line `u` with a number before a `2` says that no \
+         counterexample has so many transitions or fewer. Where the circuit has no bad literals, its outputs are taken \
+         for them; where it has neither, no answer is written.",
+    ],
+    options: &OPTIONS,
+    note: "The value of a long option may also stand behind `=`: --depth=20.",
+    statuses: "Exit status: 10 unsafe, a bad state is reachable; 20 safe, none is; 0 open, verified, or help; 1 an error, \
+               or not verified; 2 arguments that have no meaning.",
+};
+
+/// The options.
+pub const OPTIONS: [Opt<Switch, Number, Text>; 12] = [
+    Opt {
+        long: "--bad",
+        short: "",
+        kind: Kind::Number(Number::Bad, "I"),
+        section: "Input",
+        help: "only the bad literal at place I",
+    },
+    Opt {
+        long: "--engine",
+        short: "",
+        kind: Kind::Text(Text::Engine, "ENGINE", "sim, bmc or ic3"),
+        section: "Search",
+        help: "only this one: sim (random simulation), bmc (bounded model checking) or ic3; without this, simulation for a \
+               moment, and then bmc and ic3 by turns",
+    },
+    Opt {
+        long: "--depth",
+        short: "",
+        kind: Kind::Number(Number::Depth, "N"),
+        section: "Search",
+        help: "bmc asks for traces of at most N transitions (100 with --engine bmc, else without bound)",
+    },
+    Opt {
+        long: "--limit",
+        short: "",
+        kind: Kind::Number(Number::Limit, "N"),
+        section: "Search",
+        help: "bmc leaves a question open after N learned clauses, and so does --certify; ic3 ends after N calls of its \
+               solvers. Without this there is no bound: ic3 goes on until it finds an answer",
+    },
+    Opt {
+        long: "--time",
+        short: "-t",
+        kind: Kind::Number(Number::Time, "N"),
+        section: "Search",
+        help: "stop after N seconds: what is not known then is open. Each engine may do one step more",
+    },
+    Opt {
+        long: "--seed",
+        short: "",
+        kind: Kind::Number(Number::Seed, "N"),
+        section: "Search",
+        help: "the seed of random simulation (0)",
+    },
+    Opt {
+        long: "--replay",
+        short: "",
+        kind: Kind::Text(Text::Replay, "WITNESS", "a file"),
+        section: "Answers of other programs",
+        help: "write `s VERIFIED` if the trace in the file WITNESS is a counterexample, or `s NOT VERIFIED`. With --bad, \
+               WITNESS has to name this literal",
+    },
+    Opt {
+        long: "--certify",
+        short: "",
+        kind: Kind::Text(Text::Certify, "FILE", "a file"),
+        section: "Answers of other programs",
+        help: "write `s VERIFIED` if the certificate in FILE shows that no bad state is reachable, or `s NOT VERIFIED`, \
+               also where a question is left open by --limit. A certificate is clauses over latches in the DIMACS form, or \
+               a circuit in a form of AIGER with as many inputs and latches, whose bad literals are false, and constraints \
+               true, where an invariant holds",
+    },
+    Opt {
+        long: "--certificate",
+        short: "",
+        kind: Kind::Text(Text::Certificate, "F", "a file"),
+        section: "Output",
+        help: "write a certificate to the file F, which must not be there, if no bad state is reachable: clauses, which \
+               `--certify F` checks. A minus is refused, since standard output has the answer",
+    },
+    Opt {
+        long: "--quiet",
+        short: "-q",
+        kind: Kind::Switch(Switch::Quiet),
+        section: "Output",
+        help: "write no progress; without this it is written where standard error is a terminal",
+    },
+    Opt {
+        long: "--verbose",
+        short: "-v",
+        kind: Kind::Switch(Switch::Verbose),
+        section: "Output",
+        help: "write progress every five seconds, whatever standard error is, and also with -q",
+    },
+    Opt {
+        long: "--stats",
+        short: "",
+        kind: Kind::Switch(Switch::Stats),
+        section: "Output",
+        help: "write a summary on standard error for each bad literal that was searched for (lines that begin with c): how \
+               far each engine that ran came, and the time",
+    },
+];

@@ -1,0 +1,4 @@
+mod Shown
+mod Told
+mod Witnessed
+mod Written

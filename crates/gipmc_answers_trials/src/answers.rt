@@ -1,0 +1,43 @@
+//! What is answered, and what a write that is lost ends.
+
+use crate::circuits::{HELD, KEPT, NONE, TWO};
+use crate::example::answered;
+use gipmc_answers::{Lost, Outcome, Output, TaskError, answer};
+use gipmc_engines::Plan;
+use giputils_refusing::devices::{Failure, Sink};
+use std::alloc::Global;
+use std::io::ErrorKind;
+
+// A circuit, what is said of it, and the first byte of the text, if there is one.
+const ANSWERS: &[(&[u8], Outcome, Option<u8>)] = &[
+    (HELD, Outcome::Fails, Some(b'1')),
+    (KEPT, Outcome::Safe, Some(b'0')),
+    (TWO, Outcome::Fails, Some(b'0')),
+    (NONE, Outcome::Safe, None),
+];
+
+#[test]
+fn answers_about_all_bad_literals(rt: HostRuntime) -> Result<(), TaskError> {
+    for &(circuit, outcome, first) in ANSWERS {
+        let (found, text) = answered(rt.alloc(), circuit)?;
+        assert!(rt; found == outcome && text.first().copied() == first);
+    }
+    Ok(())
+}
+
+// What is said of two bad literals where the first answer is lost, and whether the output tells that one was.
+fn said(alloc: Global, lost: Lost) -> Result<(Outcome, bool), TaskError> {
+    let writer = Sink::new(alloc, 9, 1, Failure::Refuses(ErrorKind::Other));
+    let mut output = Output::new(writer, lost);
+    let answered = answer(alloc, TWO, None, &Plan::default(), &mut (), &mut output)?;
+    Ok((answered.said.outcome, output.failure.is_some()))
+}
+
+#[test]
+fn an_answer_that_is_lost_ends_the_search_where_that_is_wanted(
+    rt: HostRuntime,
+) -> Result<(), TaskError> {
+    assert!(rt; said(rt.alloc(), Lost::Stop)? == (Outcome::Open, true));
+    assert!(rt; said(rt.alloc(), Lost::GoOn)? == (Outcome::Fails, true));
+    Ok(())
+}

@@ -1,0 +1,65 @@
+//! Certificates that are found, and those of others.
+
+use crate::circuits::{HELD, KEPT, TWO};
+use gipmc_answers::{Lost, Output, TaskError, answer, certificate_of, certifies};
+use gipmc_engines::Plan;
+use std::alloc::Global;
+
+// The certificate that is found for a circuit.
+fn found(alloc: Global, circuit: &[u8], asked: Option<usize>) -> Result<Vec<u8>, TaskError> {
+    let mut output = Output::new(Vec::new(alloc), Lost::GoOn);
+    let answered = answer(
+        alloc,
+        circuit,
+        asked,
+        &Plan::default(),
+        &mut (),
+        &mut output,
+    )?;
+    let invariant = &answered.said.invariant;
+    certificate_of(alloc, &answered.netlist, invariant, asked, usize::MAX)
+}
+
+// A circuit, the bad literal that is asked about, and whether a certificate of it is found.
+const FOUND: &[(&[u8], Option<usize>, bool)] = &[
+    (KEPT, None, true),
+    (KEPT, Some(0), true),
+    (TWO, Some(0), true),
+    (TWO, None, false),
+    (HELD, None, false),
+];
+
+#[test]
+fn a_certificate_is_found_where_it_is_safe(rt: HostRuntime) -> Result<(), TaskError> {
+    for &(circuit, asked, is_found) in FOUND {
+        match found(rt.alloc(), circuit, asked) {
+            Ok(_) => assert!(rt; is_found),
+            Err(error) => assert!(rt; !is_found && error == TaskError::Uncertified),
+        }
+    }
+    Ok(())
+}
+
+// The first latch stays 0, in clauses and as a circuit.
+const STAYS: &[u8] = b"p cnf 1 1\n-1 0\n";
+
+const FIRST_STAYS: &[u8] = b"p cnf 2 1\n-1 0\n";
+
+const AS_CIRCUIT: &[u8] = b"aag 1 0 1 0 0 1\n2 2\n2\n";
+
+// A circuit, a certificate, the bad literal that is asked about, and whether it is safe by it.
+const JUDGED: &[(&[u8], &[u8], Option<usize>, bool)] = &[
+    (KEPT, STAYS, None, true),
+    (KEPT, AS_CIRCUIT, Some(0), true),
+    (HELD, STAYS, None, false),
+    (TWO, FIRST_STAYS, Some(0), true),
+    (TWO, FIRST_STAYS, None, false),
+];
+
+#[test]
+fn certificates_of_others_are_judged(rt: HostRuntime) -> Result<(), TaskError> {
+    for &(circuit, text, asked, is_safe) in JUDGED {
+        assert!(rt; certifies(rt.alloc(), circuit, text, asked, 100)? == is_safe);
+    }
+    Ok(())
+}

@@ -1,0 +1,16 @@
+//! Texts of small circuits.
+
+/// A latch that holds next what the input was, and is bad.
+pub const HELD: &[u8] = b"aag 2 1 1 0 0 1\n2\n4 2\n4\n";
+
+/// A latch that stays 0, and is bad.
+pub const KEPT: &[u8] = b"aag 1 0 1 0 0 1\n2 2\n2\n";
+
+/// A latch that stays 0, and one that holds next what the input was. Both are bad.
+pub const TWO: &[u8] = b"aag 3 1 2 0 0 2\n2\n4 4\n6 2\n4\n6\n";
+
+/// A latch that stays 0, and is not bad.
+pub const NONE: &[u8] = b"aag 1 0 1 0 0\n2 2\n";
+
+/// The text of a witness of `HELD`.
+pub const RISES: &[u8] = b"1\nb0\n0\n1\n0\n.\n";

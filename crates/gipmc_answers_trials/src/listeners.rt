@@ -1,0 +1,71 @@
+//! What a listener is told, and what it stops.
+
+use crate::circuits::TWO;
+use gipmc_answers::{Listener, Lost, Outcome, Output, TaskError, answer};
+use gipmc_engines::{Plan, Watch};
+use gipmc_ic3::Statistics;
+use std::alloc::Global;
+use std::ops::ControlFlow;
+
+// Stops before the search about the bad literal at a place, and counts those that began and ended.
+#[derive(Clone, Copy, PartialEq, Eq)]
+struct Stopper {
+    place: usize,
+    begun: usize,
+    ended: usize,
+}
+
+impl Watch for Stopper {
+    fn note_round(&mut self, _rounds: usize) -> ControlFlow<()> {
+        ControlFlow::Continue(())
+    }
+
+    fn note(&mut self, _depth: usize, _clauses: usize, _learned: usize) -> ControlFlow<()> {
+        ControlFlow::Continue(())
+    }
+
+    fn note_slice(&mut self, _frame: usize, _statistics: &Statistics) -> ControlFlow<()> {
+        ControlFlow::Continue(())
+    }
+}
+
+impl Listener for Stopper {
+    fn begin(&mut self, place: usize) -> ControlFlow<()> {
+        if place == self.place {
+            return ControlFlow::Break(());
+        }
+        self.begun = self.begun.saturating_add(1);
+        ControlFlow::Continue(())
+    }
+
+    fn end(&mut self, is_refused: bool) {
+        self.ended = self.ended.saturating_add(usize::from(!is_refused));
+    }
+}
+
+// What is said of two bad literals, the first of them safe, and how many searches began and ended.
+fn said(alloc: Global, place: usize) -> Result<(Outcome, usize, usize), TaskError> {
+    let mut stopper = Stopper {
+        place,
+        begun: 0,
+        ended: 0,
+    };
+    let mut output = Output::new(Vec::new(alloc), Lost::GoOn);
+    let answered = answer(
+        alloc,
+        TWO,
+        None,
+        &Plan::default(),
+        &mut stopper,
+        &mut output,
+    )?;
+    Ok((answered.said.outcome, stopper.begun, stopper.ended))
+}
+
+#[test]
+fn a_listener_leaves_a_literal_open(rt: HostRuntime) -> Result<(), TaskError> {
+    assert!(rt; said(rt.alloc(), 1)? == (Outcome::Open, 1, 1));
+    assert!(rt; said(rt.alloc(), 0)? == (Outcome::Fails, 1, 1));
+    assert!(rt; said(rt.alloc(), 2)? == (Outcome::Fails, 2, 2));
+    Ok(())
+}
