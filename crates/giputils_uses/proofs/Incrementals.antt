@@ -4,12 +4,12 @@ use Rattle.std.specs.Prelude.{◌⊎◌, slice_get, Option, None, is_some, IfNon
 use Rattle.std.proofs.lemmas.Bool.{false≢true}
 use Rattle.std.proofs.lemmas.List.{append_assoc, map-append}
 use Rattle.std.proofs.Math.Seq.{take-add}
-use Rattle.gipsat_solver.specs.Assumptions.{IsSatisfiableUnder, makes_true}
-use Rattle.gipsat_solver.specs.Formulas.{Assignment, Clause, Formula, IsSatisfiable, is_true, satisfies, satisfies_clause}
-use Rattle.gipsat_solver.specs.Literals.{Lit}
-use Rattle.gipsat_solver.proofs.Encodings.{Adds-clauses}
-use Rattle.gipsat_solver.proofs.Formulas.{satisfies-at, satisfies-each, satisfies-first, unsatisfiable-more}
-use Rattle.gipsat_solver.proofs.Places.{none_some, same_some}
+use Rattle.gipsat_cnf.specs.Assumptions.{IsSatisfiableUnder, makes_true}
+use Rattle.gipsat_cnf.specs.Formulas.{Assignment, Clause, Formula, IsSatisfiable, is_true, satisfies, satisfies_clause}
+use Rattle.gipsat_cnf.specs.Literals.{Lit}
+use Rattle.gipsat_cnf.proofs.Encodings.{Adds-clauses}
+use Rattle.gipsat_cnf.proofs.Formulas.{satisfies-at, satisfies-each, satisfies-first, unsatisfiable-more}
+use Rattle.gipsat_cnf.proofs.Places.{none_some, same_some}
 use Rattle.giputils_uses.specs.Incremental.{Covers, either, units, with_first}
 
 clause-at : (pairs : List (Lit × Lit)) (k : ℕ) (pair : Lit × Lit) → slice_get pairs k ≡ Some pair

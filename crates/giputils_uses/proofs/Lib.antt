@@ -1,4 +1,5 @@
 mod Cardinalities
+mod Counters
 mod Counting
 mod Examples
 mod FirstQuestion
@@ -10,6 +11,7 @@ mod Multiples
 mod Outcomes
 mod Picked
 mod Reaching
+mod SameSums
 mod Searches
 mod SmallSets
 mod TakenPlaces

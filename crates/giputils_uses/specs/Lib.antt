@@ -3,6 +3,8 @@ pub mod Activity
 pub mod Bounded
 pub mod Clock
 pub mod Compaction
+pub mod Confirm
+pub mod Counter
 pub mod Counts
 pub mod Drained
 pub mod Incremental

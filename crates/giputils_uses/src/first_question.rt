@@ -1,6 +1,6 @@
 //! A first question to the solver.
 ghost use Rattle.std.specs.Prelude.{◌≡◌, [], IfOk, IfSome, IsTrue};
-ghost use Rattle.gipsat_solver.specs.Values.{assignment_in};
+ghost use Rattle.gipsat_cnf.specs.Models.{assignment_in};
 
 use gipsat_solver::{AnswerUnder, Literal, Solver};
 use std::alloc::{AllocError, Allocator};

@@ -1,12 +1,12 @@
 //! Formulas to which clauses are added one after another.
 ghost use Rattle.std.specs.Prelude.{◌≡◌, ◌++◌, [], IfNone, IfOk, IfSome, IsTrue, OnOk};
-ghost use Rattle.gipsat_solver.specs.Answers.{IsModel};
-ghost use Rattle.gipsat_solver.specs.Assumptions.{IsSatisfiableUnder, makes_true};
-ghost use Rattle.gipsat_solver.specs.Formulas.{Assignment, IsSatisfiable};
-ghost use Rattle.gipsat_solver.specs.Values.{assignment_in};
+ghost use Rattle.gipsat_cnf.specs.Models.{IsModel};
+ghost use Rattle.gipsat_cnf.specs.Assumptions.{IsSatisfiableUnder, makes_true};
+ghost use Rattle.gipsat_cnf.specs.Formulas.{Assignment, IsSatisfiable};
+ghost use Rattle.gipsat_cnf.specs.Models.{assignment_in};
 ghost use Rattle.giputils_uses.specs.Incremental.{Covers, IsLongestStart, units};
 
-use gipsat_solver::{Literal, Solver};
+use gipsat_cnf::{ClauseSink, Literal, SatSolver};
 use std::alloc::{AllocError, Allocator};
 
 /// Values by which at least one literal of each pair is true, as of two workers one is at work each day. None where
@@ -16,22 +16,22 @@ use std::alloc::{AllocError, Allocator};
 ///
 /// # Errors
 /// `AllocError` where memory is refused.
-pub fn cover<A: Allocator + Copy>(
+pub fn cover<S: SatSolver<A> + Drop, A: Allocator + Copy>(
     alloc: A,
     pairs: &[(Literal, Literal)],
 ) -> Result<Option<Vec<bool, A>>, AllocError>
     ensures covers { IfOk result (λ found. IfSome found (λ model. Covers pairs.now (assignment_in model.items))) }
     ensures none { IfOk result (λ found. IfNone found ((a : Assignment) → ¬ (Covers pairs.now a))) }
 {
-    cover_by(&mut Solver::new(alloc), pairs)
+    cover_by(&mut S::new(alloc), pairs)
 }
 
 // The same, by a solver without clauses.
-fn cover_by<A: Allocator + Copy>(
-    solver: &mut Solver<A>,
+fn cover_by<S: SatSolver<A>, A: Allocator + Copy>(
+    solver: &mut S,
     pairs: &[(Literal, Literal)],
 ) -> Result<Option<Vec<bool, A>>, AllocError>
-    requires empty { solver.old.formula ≡ [] }
+    requires empty { S.formula solver.old ≡ [] }
     ensures covers { IfOk result (λ found. IfSome found (λ model. Covers pairs.now (assignment_in model.items))) }
     ensures none { IfOk result (λ found. IfNone found ((a : Assignment) → ¬ (Covers pairs.now a))) }
 {
@@ -49,26 +49,23 @@ fn cover_by<A: Allocator + Copy>(
 ///
 /// # Errors
 /// `AllocError` where memory is refused. Some of the facts may have been added.
-pub fn model_with<A: Allocator + Copy>(
-    solver: &mut Solver<A>,
+pub fn model_with<S: SatSolver<A>, A: Allocator + Copy>(
+    solver: &mut S,
     facts: &[Literal],
 ) -> Result<Option<Vec<bool, A>>, AllocError>
-    ensures formula { OnOk result (solver.new.formula ≡ solver.old.formula ++ units facts.now) }
-    ensures model { IfOk result (λ found. IfSome found (λ model. IsModel solver.old.formula model.items)) }
+    ensures formula { OnOk result (S.formula solver.new ≡ S.formula solver.old ++ units facts.now) }
+    ensures model { IfOk result (λ found. IfSome found (λ model. IsModel (S.formula solver.old) model.items)) }
     ensures facts { IfOk result (λ found. IfSome found (λ model.
         IsTrue (makes_true (assignment_in model.items) facts.now))) }
-    ensures none { IfOk result (λ found. IfNone found (¬ (IsSatisfiableUnder solver.old.formula facts.now))) }
+    ensures none { IfOk result (λ found. IfNone found (¬ (IsSatisfiableUnder (S.formula solver.old) facts.now))) }
 {
     add_facts(solver, facts)?;
     solver.find_model()
 }
 
 // Adds the clause that a fact is true, for each of the facts.
-fn add_facts<A: Allocator + Copy>(
-    solver: &mut Solver<A>,
-    facts: &[Literal],
-) -> Result<(), AllocError>
-    ensures { OnOk result (solver.new.formula ≡ solver.old.formula ++ units facts.now) }
+fn add_facts<S: ClauseSink>(solver: &mut S, facts: &[Literal]) -> Result<(), AllocError>
+    ensures { OnOk result (S.formula solver.new ≡ S.formula solver.old ++ units facts.now) }
 {
     for fact in facts {
         solver.add_clause(&[*fact])?;
@@ -85,13 +82,13 @@ fn add_facts<A: Allocator + Copy>(
 ///
 /// # Errors
 /// `AllocError` where memory is refused. Some of the facts may have been added.
-pub fn longest_start<A: Allocator + Copy>(
-    solver: &mut Solver<A>,
+pub fn longest_start<S: SatSolver<A>, A: Allocator + Copy>(
+    solver: &mut S,
     facts: &[Literal],
 ) -> Result<Option<usize>, AllocError>
     ensures longest { IfOk result (λ found. IfSome found (λ count.
-        IsLongestStart solver.old.formula facts.now count)) }
-    ensures none { IfOk result (λ found. IfNone found (¬ (IsSatisfiable solver.old.formula))) }
+        IsLongestStart (S.formula solver.old) facts.now count)) }
+    ensures none { IfOk result (λ found. IfNone found (¬ (IsSatisfiable (S.formula solver.old)))) }
 {
     if solver.find_model()?.is_none() {
         return Ok(None);

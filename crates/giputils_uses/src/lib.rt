@@ -3,9 +3,12 @@
 #![tactic(auto)]
 
 pub mod activity;
+pub mod adders;
 pub mod bounded;
 pub mod cardinality;
 pub mod compaction;
+pub mod confirm;
+pub mod counter;
 pub mod counts;
 pub mod drain;
 pub mod first_question;

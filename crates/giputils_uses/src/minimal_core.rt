@@ -2,7 +2,7 @@
 ghost use Rattle.std.specs.Prelude.{◌≡◌, ◌+◌, ◌<◌, vec_len, IfOk, IfSome};
 ghost use Rattle.giputils_uses.specs.MinimalCore.{IsMinimalCore, IsNextCore};
 
-use gipsat_solver::{AnswerUnder, Literal, Solver};
+use gipsat_cnf::{AnswerUnder, Budget, Literal, SatSolver};
 use std::alloc::{AllocError, Allocator};
 
 /// Assumptions that can't be true together with the formula, though they can where any one of them is left out.
@@ -14,17 +14,17 @@ use std::alloc::{AllocError, Allocator};
 ///
 /// # Errors
 /// `AllocError` where memory is refused.
-pub fn minimal_core<A: Allocator + Copy>(
+pub fn minimal_core<S: SatSolver<A>, A: Allocator + Copy>(
     alloc: A,
-    solver: &mut Solver<A>,
+    solver: &mut S,
     assumptions: &[Literal],
     limit: usize,
 ) -> Result<Option<Vec<Literal, A>>, AllocError>
-    ensures formula { solver.new.formula ≡ solver.old.formula }
+    ensures formula { S.formula solver.new ≡ S.formula solver.old }
     ensures minimal { IfOk result (λ found. IfSome found (λ core.
-        IsMinimalCore solver.old.formula assumptions.now core.items)) }
+        IsMinimalCore (S.formula solver.old) assumptions.now core.items)) }
 {
-    let AnswerUnder::Unsat(core) = solver.solve_under(assumptions, limit)? else {
+    let AnswerUnder::Unsat(core) = solver.solve_limited(assumptions, learning(limit))? else {
         return Ok(None);
     };
     let mut core = core;
@@ -40,24 +40,32 @@ pub fn minimal_core<A: Allocator + Copy>(
 }
 
 // The core without the literal at a place if that is one still, and else the core. None where that was left open.
-fn without<A: Allocator + Copy>(
+fn without<S: SatSolver<A>, A: Allocator + Copy>(
     alloc: A,
-    solver: &mut Solver<A>,
+    solver: &mut S,
     core: Vec<Literal, A>,
     place: usize,
     limit: usize,
 ) -> Result<Option<Vec<Literal, A>>, AllocError>
     requires { place < vec_len core }
-    ensures formula { solver.new.formula ≡ solver.old.formula }
+    ensures formula { S.formula solver.new ≡ S.formula solver.old }
     ensures next { IfOk result (λ found. IfSome found (λ next.
-        IsNextCore solver.old.formula core.items place next.items)) }
+        IsNextCore (S.formula solver.old) core.items place next.items)) }
 {
     let mut fewer = Vec::new(alloc);
     fewer.extend_from_slice(&core)?;
     fewer.remove(place);
-    match solver.solve_under(&fewer, limit)? {
+    match solver.solve_limited(&fewer, learning(limit))? {
         AnswerUnder::Sat(_) => Ok(Some(core)),
         AnswerUnder::Unsat(_) => Ok(Some(fewer)),
         AnswerUnder::Unknown => Ok(None),
+    }
+}
+
+// A budget of so many learned clauses.
+fn learning(clauses: usize) -> Budget {
+    Budget {
+        clauses,
+        propagations: u64::MAX,
     }
 }

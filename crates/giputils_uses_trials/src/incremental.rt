@@ -39,7 +39,7 @@ fn makes_true(values: &Option<Vec<bool>>, wanted: Option<&[usize]>) -> bool {
 #[test]
 fn one_of_each_pair_is_true(rt: HostRuntime) -> Result<(), Fail> {
     for &(numbers, wanted) in COVERS {
-        let values = cover(rt.alloc(), &pairs(rt.alloc(), numbers)?)?;
+        let values = cover::<Solver, Global>(rt.alloc(), &pairs(rt.alloc(), numbers)?)?;
         assert!(rt; makes_true(&values, wanted));
     }
     Ok(())

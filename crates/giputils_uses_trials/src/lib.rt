@@ -7,11 +7,17 @@
 #[cfg(test)]
 mod activity;
 #[cfg(test)]
+mod adders;
+#[cfg(test)]
 mod bounded;
 #[cfg(test)]
 mod cardinality;
 #[cfg(test)]
 mod compaction;
+#[cfg(test)]
+mod confirm;
+#[cfg(test)]
+mod counter;
 #[cfg(test)]
 mod counts;
 #[cfg(test)]

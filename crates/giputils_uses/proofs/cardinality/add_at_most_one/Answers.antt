@@ -1,7 +1,7 @@
 -- The clauses of all pairs say that at most one is true.
 use Rattle.std.proofs.Common.{◌≡◌, length, arith}
 use Rattle.std.proofs.lemmas.Grind.{common_steps}
-use Rattle.gipsat_solver.proofs.Encodings.{Adds-at_most_one}
+use Rattle.gipsat_cnf.proofs.Encodings.{Adds-at_most_one}
 use Rattle.giputils_uses.proofs.Cardinalities.{pairs-all}
 use Rattle.giputils_uses.proofs.cardinality.add_at_most_one.Goals as goal
 

@@ -1,6 +1,6 @@
 -- First at least one, and then at most one.
 use Rattle.std.proofs.lemmas.Result.{on_ok_weaker}
-use Rattle.gipsat_solver.proofs.Encodings.{Adds-both}
+use Rattle.gipsat_cnf.proofs.Encodings.{Adds-both}
 use Rattle.giputils_uses.proofs.cardinality.add_exactly_one.Goals as goal
 
 pub returns : goal.returns

@@ -1,5 +1,5 @@
 -- The formula is that of both clauses.
-use Rattle.gipsat_solver.specs.Values.{assignment_in}
+use Rattle.gipsat_cnf.specs.Models.{assignment_in}
 use Rattle.giputils_uses.proofs.FirstQuestion.{second-is_true}
 use Rattle.giputils_uses.proofs.first_question.ask.Goals as goal
 

@@ -1,9 +1,10 @@
 -- The facts so far can be true.
 use Rattle.std.proofs.Common.{◌≡◌}
-use Rattle.gipsat_solver.specs.Formulas.{IsSatisfiable}
+use Rattle.gipsat_cnf.specs.Formulas.{IsSatisfiable}
 use Rattle.giputils_uses.specs.Incremental.{with_first}
 use Rattle.giputils_uses.proofs.incremental.longest_start.Given as goal
 
 abbrev pub invariant-loop-place : goal.invariant-loop-place
 invariant-loop-place g l =
-    (l.solver.formula ≡ with_first l.fn.solver.formula l.facts l.place) × IsSatisfiable l.solver.formula
+    (g.S.ClauseSink.formula l.solver ≡ with_first (g.S.ClauseSink.formula l.fn.solver) l.facts l.place)
+    × IsSatisfiable (g.S.ClauseSink.formula l.solver)

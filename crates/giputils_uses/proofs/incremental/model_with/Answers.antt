@@ -1,5 +1,5 @@
 -- The formula is longer by the clauses of the facts.
-use Rattle.gipsat_solver.specs.Values.{assignment_in}
+use Rattle.gipsat_cnf.specs.Models.{assignment_in}
 use Rattle.giputils_uses.proofs.Incrementals.{facts-true, model-before, none-with}
 use Rattle.giputils_uses.proofs.Outcomes.{found-weaker, missing-weaker}
 use Rattle.giputils_uses.proofs.incremental.model_with.Goals as goal

@@ -8,7 +8,7 @@ use Rattle.giputils_uses.proofs.minimal_core.minimal_core.Goals as goal
 pub loop-place-init : goal.loop-place-init
 loop-place-init g c =
     let long : vec_len c.in-Unsat.core ≡ length c.in-Unsat.core.items = grind (arith, common_steps) in (
-      c.solve_under.ensures.learns.formula,
+      c.solve_limited.ensures.formula,
       omega (arith, c.len-place.ensures),
       rw (c.in-Unsat.is) at c.in_ok-core.ensures.right,
       λ k from below. absurd (omega (arith, c.len-place.ensures, long, from, below)),
@@ -20,7 +20,7 @@ without-requires g c = omega (arith, c.loop-place.invariant.1, c.loop-place-test
 pub loop-place-preserved : goal.loop-place-preserved
 loop-place-preserved g c =
     let (same, within, core, needs) = c.loop-place.invariant in
-    let formula = c.args.solver.now.formula in
+    let formula = g.S.ClauseSink.formula c.args.solver.now in
     let items = c.loop-place.core.items in
     let place = c.loop-place.place - 1 in
     let long : vec_len c.loop-place.core ≡ length items = grind (arith, common_steps) in

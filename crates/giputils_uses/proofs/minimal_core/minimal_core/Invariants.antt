@@ -1,13 +1,14 @@
 -- A core so far, of which each literal from the place on is needed.
 use Rattle.std.proofs.Common.{◌≡◌, ◌≤◌, vec_len}
-use Rattle.gipsat_solver.specs.Assumptions.{IsCore}
+use Rattle.gipsat_cnf.specs.Assumptions.{IsCore}
 use Rattle.giputils_uses.specs.MinimalCore.{NeedsFrom}
 use Rattle.giputils_uses.proofs.minimal_core.minimal_core.Given as goal
 
 abbrev pub invariant-loop-place : goal.invariant-loop-place
 invariant-loop-place g l =
-    (l.solver.formula ≡ l.fn.solver.formula) × (l.place ≤ vec_len l.core)
-    × IsCore l.fn.solver.formula l.assumptions l.core.items × NeedsFrom l.fn.solver.formula l.place l.core.items
+    (g.S.ClauseSink.formula l.solver ≡ g.S.ClauseSink.formula l.fn.solver) × (l.place ≤ vec_len l.core)
+    × IsCore (g.S.ClauseSink.formula l.fn.solver) l.assumptions l.core.items
+    × NeedsFrom (g.S.ClauseSink.formula l.fn.solver) l.place l.core.items
 
 abbrev pub decreases-loop-place : goal.decreases-loop-place
 decreases-loop-place g l = l.place
