@@ -113,8 +113,8 @@ class List:
             self.step(" ".join(map(str, ["clause", *clause])), "ok")
         return self
 
-    def compact(self):
-        return self.step("compact", "ok")
+    def simplify(self):
+        return self.step("simplify", "ok")
 
     def ask(self, call, wanted):
         """A question that is answered by `sat` or `unsat`, or is left open."""
@@ -229,17 +229,17 @@ def clauses_come():
 
 
 def variables_come():
-    """Clauses over new variables after each answer, also where the store was closed up before."""
+    """Clauses over new variables after each answer, also where the formula was simplified before."""
     parts = [[[1, 2]], [[-1, 7], [-2, -7], [7, 9]], [[-9], [-7]]]
     answers = ["sat", "sat", "unsat"]
     after = List("variables after an answer")
     for part, wanted in zip(parts, answers):
         after.give(part).ask(f"solve {LIMIT}", wanted)
     yield after
-    closed_up = List("clauses for a closed up store").give(parts[0]).ask(f"solve {LIMIT}", answers[0])
+    simplified = List("clauses for a simplified formula").give(parts[0]).ask(f"solve {LIMIT}", answers[0])
     for part, wanted in zip(parts[1:], answers[1:]):
-        closed_up.compact().give(part).ask(f"solve {LIMIT}", wanted)
-    yield closed_up
+        simplified.simplify().give(part).ask(f"solve {LIMIT}", wanted)
+    yield simplified
 
 
 def slices():
@@ -247,7 +247,7 @@ def slices():
     before half of them are forgotten, and a tenth more each time that the conflicts have grown by half."""
     going_on = List("a further call goes on").give(pigeons(5)).ask("slices 20", "unsat")
     yield going_on.step("conflicts_above 20", "true")
-    small = List("a store stays small").give(pigeons(7)).ask("compact_slices 100", "unsat")
+    small = List("a store stays small").give(pigeons(7)).ask("slices 100", "unsat")
     yield small.step("known_below 3000", "true").step("conflicts_above 5000", "true")
 
 

@@ -2,22 +2,21 @@
 //!
 //! A literal is a number as DIMACS has it: 1 is the first variable, and -1 its negation.
 //!
-//! `clause LITERAL..` gives a clause, `compact` closes the store up, `simplify` drops what has to hold anyway, and
-//! `eliminate STEPS VARIABLE..` eliminates variables, but for these; each is answered `ok`.
+//! `clause LITERAL..` gives a clause, `simplify` drops what has to hold anyway, and `eliminate STEPS VARIABLE..`
+//! eliminates variables, but for these; each is answered `ok`.
 //!
 //! `solve LIMIT`, `limited LIMIT PROPAGATIONS`, `under LIMIT LITERAL..` (these are assumed) and `find` (with no limit)
 //! are answered `sat`, `unsat` or `unknown`, and so is `guess LIMIT LITERAL..`, whose `sat` is not looked at; `value
 //! VARIABLE` asks for a value then, `true`, `false` or `none`. Behind `unsat` under assumptions stands the core, in
 //! rising order. `domain VARIABLE..` (answered `ok`) lets guesses decide these alone, or all where none is named.
 //! `learn LIMIT` is `solve LIMIT`, but is answered `ok`. `slices LIMIT` goes on with such a limit until there is an
-//! answer, and `compact_slices LIMIT` closes the store up after each slice.
+//! answer.
 //!
-//! `vivify PLACE PROPAGATIONS` shortens clauses from a place on: `shortened` if it added as many as it deleted,
-//! `nothing` if it did neither, and else `wrong`.
+//! `vivify PROPAGATIONS` shortens learned clauses: `shortened` if it added as many as it deleted, `nothing` if it did
+//! neither, and else `wrong`.
 //!
-//! `known`, `learned` and `decisions` ask for numbers. `conflicts_above NUMBER` asks whether more conflicts were met,
-//! `known_below NUMBER` whether fewer clauses were known each time that the store had been closed up, and `has PLACE
-//! VARIABLE` whether a clause from a place on has a variable; the replies are `true` and `false`.
+//! `known`, `learned` and `decisions` ask for numbers. `conflicts_above NUMBER` asks whether more conflicts were met, and
+//! `known_below NUMBER` whether fewer clauses were known after each slice; the replies are `true` and `false`.
 
 use crate::calls::NotACall;
 use crate::formulas::{satisfies, value};
@@ -54,7 +53,7 @@ pub(crate) struct Given {
     core: Vec<Literal>,
     // The variables that guesses may decide, or none where all may be.
     domain: Vec<u32>,
-    // How many clauses were known at most when the store had been closed up.
+    // How many clauses were known at most after a slice.
     most: usize,
 }
 
@@ -118,10 +117,6 @@ fn call(alloc: Global, given: &mut Given, words: &[&str]) -> Result<Reply> {
 fn call_alone(given: &mut Given, name: &str) -> Result<Reply> {
     match name {
         "find" => Ok(Reply::Word(given.find()?.word())),
-        "compact" => {
-            given.compact()?;
-            Ok(DONE)
-        }
         "simplify" => {
             given.solver.simplify()?;
             Ok(DONE)
@@ -142,10 +137,10 @@ fn call_with(given: &mut Given, name: &str, number: usize) -> Result<Reply> {
             DONE
         }
         "slices" => Reply::Word(given.solve_in_slices(number)?.word()),
-        "compact_slices" => Reply::Word(given.solve_in_compact_slices(number)?.word()),
         "conflicts_above" => flag(given.conflicts() > number as u64),
         "known_below" => flag(given.most < number),
         "value" => Reply::Word(given.value(number)),
+        "vivify" => Reply::Word(given.vivify(number as u64)?),
         _ => return Err(NotACall.into()),
     })
 }
@@ -154,8 +149,6 @@ fn call_with(given: &mut Given, name: &str, number: usize) -> Result<Reply> {
 fn call_with_two(given: &mut Given, name: &str, first: usize, second: u64) -> Result<Reply> {
     Ok(match name {
         "limited" => Reply::Word(given.solve_limited(first, second)?.word()),
-        "vivify" => Reply::Word(given.vivify(first, second)?),
-        "has" => flag(given.has(first, second)),
         _ => return Err(NotACall.into()),
     })
 }
@@ -360,10 +353,10 @@ impl Given {
         }
     }
 
-    // Shortens clauses from a place on. The word for what became of them.
-    fn vivify(&mut self, place: usize, propagations: u64) -> Result<&'static str, AllocError> {
+    // Shortens learned clauses. The word for what became of them.
+    fn vivify(&mut self, propagations: u64) -> Result<&'static str, AllocError> {
         let (known, deleted) = (self.solver.len(), self.solver.stats().deleted);
-        self.solver.vivify(place, propagations)?;
+        self.solver.vivify(propagations)?;
         let added = self.solver.len().saturating_sub(known) as u64;
         let deleted = self.solver.stats().deleted.saturating_sub(deleted);
         Ok(if added != deleted {
@@ -373,18 +366,6 @@ impl Given {
         } else {
             "nothing"
         })
-    }
-
-    // Whether a clause from a place on has a variable.
-    fn has(&self, start: usize, variable: u64) -> bool {
-        for place in start..self.solver.len() {
-            for l in self.solver.clause(place) {
-                if u64::from(l.variable()) == variable {
-                    return true;
-                }
-            }
-        }
-        false
     }
 
     // The number that a word asks for.
@@ -403,28 +384,10 @@ impl Given {
         for _ in 0..SLICES {
             if said == Said::Unknown {
                 said = self.solve(limit)?;
+                self.most = self.solver.len().max(self.most);
             }
         }
         Ok(said)
-    }
-
-    // The same, where the store is closed up after each call.
-    fn solve_in_compact_slices(&mut self, limit: usize) -> Result<Said, AllocError> {
-        let mut said = Said::Unknown;
-        for _ in 0..SLICES {
-            if said == Said::Unknown {
-                said = self.solve(limit)?;
-                self.compact()?;
-            }
-        }
-        Ok(said)
-    }
-
-    // Closes the store up.
-    fn compact(&mut self) -> Result<(), AllocError> {
-        self.solver.compact()?;
-        self.most = self.solver.len().max(self.most);
-        Ok(())
     }
 
     // How many conflicts were met.
