@@ -4,10 +4,14 @@ use std::fmt::{self, Display};
 use std::fs::{self, File, Metadata};
 use std::io::{self, ErrorKind, Write};
 use std::os::unix::fs::MetadataExt;
+use std::path::PathBuf;
 use std::process;
 
 // How many names are tried for the file that holds the bytes until it is whole.
 const NAMES: u32 = 64;
+
+// The most bytes of a name that the name of a part takes over. The system takes 255 in all.
+const KEPT_BYTES: usize = 200;
 
 /// What is done where something has the name already.
 #[derive(Clone, Copy, PartialEq, Eq)]
@@ -20,11 +24,14 @@ pub enum Existing {
 
 /// A file that appears under its name when it is whole.
 ///
-/// Until then its bytes are in the file `NAME.NUMBER.part` beside it, which the first write makes. That one is removed
-/// where the new file is dropped before it is whole, and is left where the program is killed.
+/// Until then its bytes are in the file `NAME.NUMBER.part` beside it, which the first write makes; of a NAME of more than
+/// 200 bytes it has the first ones. That file is removed where the new file is dropped before it is whole, and is left
+/// where the program is killed.
 pub struct NewFile<'a> {
     rt: HostRuntime,
     name: &'a str,
+    // What a link of this name leads to. None where the name is no link.
+    target: Option<PathBuf>,
     // The file that it replaces, if it replaces one. It stays open, so that no other file gets its inode.
     replaced: Option<File>,
     // None before the first write.
@@ -37,6 +44,22 @@ struct Part {
     file: File,
     // The number in its name. None for what is written as it stands.
     number: Option<u32>,
+}
+
+// The name of a part: that of the new file, and the part's number.
+#[derive(Clone, Copy)]
+struct PartName<'a>(&'a str, u32);
+
+impl Display for PartName<'_> {
+    fn fmt<W: fmt::Write>(&self, f: &mut fmt::Formatter<W>) -> fmt::Result {
+        let PartName(name, number) = *self;
+        let base = match name.rfind('/') {
+            Some(place) => place.saturating_add(1),
+            None => 0,
+        };
+        let end = name.floor_char_boundary(base.saturating_add(KEPT_BYTES));
+        write!(f, "{}.{number}.part", &name[..end])
+    }
 }
 
 // By what the system tells files from each other.
@@ -67,20 +90,22 @@ impl Display for FinishError<'_> {
             }
             FinishError::Taken(name, number) => write!(
                 f,
-                "{name}: another file came there meanwhile (see {name}.{number}.part)"
+                "{name}: another file came there meanwhile (see {})",
+                PartName(name, number)
             ),
             FinishError::Refused(name, number, error) => write!(
                 f,
-                "{name}: cannot be written: {} (see {name}.{number}.part)",
-                Cause(Some(error))
+                "{name}: cannot be written: {} (see {})",
+                Cause(Some(error)),
+                PartName(name, number)
             ),
         }
     }
 }
 
 impl<'a> NewFile<'a> {
-    /// Prepares a file of this name. A file that is to be replaced stays as it is, but the one that a link leads to is
-    /// emptied.
+    /// Prepares a file of this name. A file that is to be replaced stays as it is, also where a link leads to it in the
+    /// same file system. In another one it is emptied.
     ///
     /// # Errors
     /// Where the name is empty, where something has it and is not to be replaced or may not be written, and where no
@@ -89,6 +114,7 @@ impl<'a> NewFile<'a> {
         let mut file = NewFile {
             rt: *rt,
             name,
+            target: None,
             replaced: None,
             part: None,
         };
@@ -105,6 +131,7 @@ impl<'a> NewFile<'a> {
                 // A file that may not be written is not replaced.
                 file.replaced = Some(File::options().append(true).open(rt, name)?);
             }
+            Ok(metadata) if metadata.is_symlink() && file.follow(&metadata)? => {}
             Ok(_) => {
                 file.part = Some(Part {
                     file: File::create(rt, name)?,
@@ -116,6 +143,32 @@ impl<'a> NewFile<'a> {
         // A folder that can't be written is told now.
         remove(rt, name, &file.make_part()?);
         Ok(file)
+    }
+
+    // Whether the link of this name leads to a file that can be replaced from here. That one is to be replaced then.
+    fn follow(&mut self, link: &Metadata) -> io::Result<bool> {
+        let Ok(target) = fs::canonicalize(&self.rt, self.name) else {
+            return Ok(false);
+        };
+        let metadata = fs::symlink_metadata(&self.rt, target.as_str())?;
+        if !metadata.is_file() || metadata.dev() != link.dev() {
+            return Ok(false);
+        }
+        self.replaced = Some(
+            File::options()
+                .append(true)
+                .open(&self.rt, target.as_str())?,
+        );
+        self.target = Some(target);
+        Ok(true)
+    }
+
+    // Where the file appears.
+    fn place(&self) -> &str {
+        match &self.target {
+            Some(target) => target.as_str(),
+            None => self.name,
+        }
     }
 
     /// Its name.
@@ -140,7 +193,7 @@ impl<'a> NewFile<'a> {
         let Some(number) = part.number else {
             return Ok(());
         };
-        match self.place(&part.file, number) {
+        match self.appear(&part.file, number) {
             Ok(true) => Ok(()),
             Ok(false) => Err(FinishError::Taken(name, number)),
             Err(error) => Err(FinishError::Refused(name, number, error)),
@@ -148,23 +201,23 @@ impl<'a> NewFile<'a> {
     }
 
     // Moves the part with this number to the name. Whether the name was free, or is that of the replaced file.
-    fn place(&self, file: &File, number: u32) -> io::Result<bool> {
+    fn appear(&self, file: &File, number: u32) -> io::Result<bool> {
         // Some systems tell only here that a write failed.
         file.sync_all()?;
         let part = part_name(&self.rt, self.name, number)?;
-        match fs::symlink_metadata(&self.rt, self.name) {
+        match fs::symlink_metadata(&self.rt, self.place()) {
             Ok(metadata) => {
                 if !self.replaces(Identity::of(&metadata))? {
                     return Ok(false);
                 }
-                fs::rename(&self.rt, part.as_str(), self.name)?;
+                fs::rename(&self.rt, part.as_str(), self.place())?;
                 return Ok(true);
             }
             Err(error) if error.kind() == ErrorKind::NotFound => {}
             Err(error) => return Err(error),
         }
         // A link is refused where the name was taken since, and a rename is not.
-        match fs::hard_link(&self.rt, part.as_str(), self.name) {
+        match fs::hard_link(&self.rt, part.as_str(), self.place()) {
             Ok(()) => {
                 let _ = fs::remove_file(&self.rt, part.as_str());
                 Ok(true)
@@ -173,7 +226,7 @@ impl<'a> NewFile<'a> {
                 ErrorKind::AlreadyExists => Ok(false),
                 // What file systems without links answer.
                 ErrorKind::PermissionDenied | ErrorKind::Unsupported => {
-                    fs::rename(&self.rt, part.as_str(), self.name)?;
+                    fs::rename(&self.rt, part.as_str(), self.place())?;
                     Ok(true)
                 }
                 _ => Err(error),
@@ -214,6 +267,7 @@ impl Drop for NewFile<'_> {
         let NewFile {
             rt,
             name,
+            target: _,
             replaced: _,
             part,
         } = self;
@@ -260,5 +314,5 @@ fn remove(rt: &HostRuntime, name: &str, part: &Part) {
 
 // The name of a part.
 fn part_name(rt: &HostRuntime, name: &str, number: u32) -> io::Result<String> {
-    Ok(format!(in rt.alloc(); "{name}.{number}.part")?)
+    Ok(format!(in rt.alloc(); "{}", PartName(name, number))?)
 }

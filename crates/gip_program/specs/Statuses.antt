@@ -1,0 +1,15 @@
+-- The status that a program ends with.
+use Rattle.std.specs.Prelude.{ℕ, Result, Ok, Err}
+
+-- where nothing is answered, or an answer is not verified
+abbrev pub refused_status : ℕ
+refused_status = 1
+
+-- where the arguments have no meaning
+abbrev pub usage_status : ℕ
+usage_status = 2
+
+-- where there is no answer to give, and nothing failed
+abbrev pub ended_status : {E : Type 0} → Result Unit E → ℕ
+ended_status (Ok done) = 0
+ended_status (Err error) = refused_status
