@@ -1,0 +1,4 @@
+pub mod Built
+mod Latched
+pub mod Machines
+pub mod Numbers
