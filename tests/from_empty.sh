@@ -13,7 +13,7 @@ there=$(mktemp -d) || exit 2
 trap 'rm -rf "$there"' EXIT
 cd "$there" && git init -q . || exit 2
 
-for crate in giputils_base giputils_heap gipsat_solver; do
+for crate in giputils_base giputils_heap gipsat_cnf gipsat_kernel gipsat_search gipsat_solver; do
     mkdir -p "crates/$crate"
     cp -r "$here/crates/$crate"/{src,specs,proofs} "crates/$crate" || exit 2
     grep "^$crate:" "$here/crates.txt" >> crates.txt || exit 2

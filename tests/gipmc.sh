@@ -360,6 +360,13 @@ try "a witness and a certificate" 2 \
     "gipmc: '--replay' and '--certify' exclude each other (try --help)" "" "" --replay a --certify b
 try "a witness, and a file for a certificate" 2 \
     "gipmc: '--certificate' goes with neither '--replay' nor '--certify' (try --help)" "" "" --replay a --certificate b
+for option in --engine=bmc --depth=9 --seed=1 --time=9 --stats; do
+    for task in --replay --certify; do
+        try "$option beside $task" 2 \
+            "gipmc: '$option' goes with neither '--replay' nor '--certify' (try --help)" "" "" "$task" a "$option"
+    done
+done
+try "a limit beside a witness" 2 "gipmc: '--limit' does not go with '--replay' (try --help)" "" "" --replay a --limit 9
 try "standard output for a certificate" 2 \
     "gipmc: '--certificate' takes the name of a file, since standard output has the answer (try --help)" "" "" \
     --certificate -

@@ -357,8 +357,8 @@ try "a proof that can't be opened" 1 "$work/none/proof: no such file" "" "" --pr
 try "a proof in a folder's place" 1 "$work: is a directory" "" "" --proof "$work" "$work/formula"
 try "a proof to a full device" 1 "/dev/full: cannot be written: no space left" "" "" --proof /dev/full "$work/formula"
 
-# What is told at the end, on standard error. One clause is learned, of one literal.
-told='c 2 conflicts, 0 restarts, 5 clauses kept, 0 deleted, 1.000000 literals in each of the last learned'
+# What is told at the end, on standard error. One clause is learned, of one literal, and then the empty one.
+told='c 2 conflicts, 0 restarts, 6 clauses kept, 0 deleted, 1.000000 literals in each of the last learned'
 printf 'p cnf 2 4\n1 2 0\n-1 2 0\n1 -2 0\n-1 -2 0\n' | "$gipsat" --stats > "$work/out" 2> "$work/err"
 if [ "$(cat "$work/out")" = "s UNSATISFIABLE" ] && grep -qxF "$told" "$work/err" &&
     grep -q '^c 2 variables, 4 clauses read in [0-9]*\.[0-9]\{3\} s$' "$work/err" &&
@@ -520,6 +520,31 @@ wait $!
     [ "$(cat "$work/err")" = "$work/late: another file came there meanwhile (see $(ls "$work"/late.*.part))" ]
 told "an old proof that is exchanged meanwhile stays" $?
 rm "$work"/late.*.part
+# A link stays, and what it leads to is replaced.
+printf '0\n' > "$work/late"
+ln -s late "$work/lead"
+"$gipsat" -q --time 2 --proof "$work/lead" "$work/many" > "$work/out" 2> "$work/err" &
+sleep 1
+[ "$(cat "$work/late")" = 0 ]
+told "an old proof behind a link is there until the new one is whole" $?
+wait $!
+[ "$?" = 0 ] && [ "$(cat "$work/out")" = "s UNKNOWN" ] && [ -L "$work/lead" ] && [ "$(wc -l < "$work/late")" -gt 100 ] &&
+    [ -z "$(ls "$work"/lead.* "$work"/late.* 2> /dev/null)" ]
+told "an old proof behind a link is replaced at the end" $?
+rm "$work/lead" "$work/late"
+ln -s late "$work/lead"
+try "a link that leads to nothing" 20 "" "s UNSATISFIABLE" "" --proof "$work/lead" "$kept"
+[ -L "$work/lead" ] && [ "$("$gipsat" --check "$kept" "$work/late")" = "s VERIFIED" ]
+told "a proof behind that link" $?
+rm "$work/lead" "$work/late"
+# The system takes names of 255 bytes.
+for length in 244 255; do
+    long=$work/$(printf 'a%.0s' $(seq "$length"))
+    try "a proof of a long name ($length bytes)" 20 "" "s UNSATISFIABLE" "" --proof "$long" "$kept"
+    try "that proof of a long name is checked ($length bytes)" 0 "" "s VERIFIED" "" --check "$kept" "$long"
+    rm -f "$long"
+done
+printf '0\n' > "$work/late"
 # A file that another one is mounted on has a name that the system gives to no other.
 if unshare -rm true 2> /dev/null; then
     : > "$work/below"

@@ -1,13 +1,13 @@
 #!/usr/bin/env python3
 """Compares the manual pages and the bash completions with the help of the programs, and ends with 'N passed, M failed'.
 
-    tests/manuals.py            compares, and tries tools/install where the programs are built
+    tests/manuals.py            compares, and tries tools/install
     tests/manuals.py --write    writes them anew
 
-The help of a program is the text HELP in crates/NAME/src/help.rt. From it are made crates/NAME/man/NAME.1 and
-crates/NAME/man/NAME.bash. So the help has this form: lines of usage; paragraphs on the program; sections, each a title
-with a colon and the options below it, whose texts begin in column 25; more paragraphs; one that begins with
-`Exit status: `. No line has more than 80 columns.
+What a program tells by --help is made into crates/NAME/man/NAME.1 and crates/NAME/man/NAME.bash. Where it is not built,
+`rt try` runs it, and tools/install is not tried. The help has this form: lines of usage; paragraphs on the program;
+sections, each a title with a colon and the options below it, whose texts begin in column 25; more paragraphs; one that
+begins with `Exit status: `. No line has more than 80 columns.
 """
 
 import argparse
@@ -103,14 +103,17 @@ complete -o default -F _{name} {name}
 """
 
 
-def constant(source, name):
-    return re.search(rf'^pub const {name}: &str = "(.*?)";$', source, re.DOTALL | re.MULTILINE).group(1)
+def told_by(name, option):
+    """What a program writes at an option, built or not."""
+    folder = ROOT / "crates" / name
+    built = folder / "out" / name
+    command = [built, option] if built.is_file() else ["rt", "try", "--", option]
+    return subprocess.run(command, cwd=folder, capture_output=True, text=True, check=True).stdout
 
 
 def made(name):
     """The texts of a program's files, and its help."""
-    source = (ROOT / "crates" / name / "src" / "help.rt").read_text()
-    text, version = constant(source, "HELP"), constant(source, "VERSION").removesuffix("\\n")
+    text, version = told_by(name, "--help"), told_by(name, "--version").strip()
     told = Help(text)
     return {f"{name}.1": manual(name, version, told), f"{name}.bash": completion(name, told)}, text
 

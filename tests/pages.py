@@ -67,10 +67,13 @@ PARTS = {
     "gipsat_dimacs": (EXAMPLE, PEER + "CaDiCaL", PROVED, TESTED, CHOICES, COST),
     "gipsat_answers": (EXAMPLE, PROVED, TESTED, CHOICES, COST),
     "gipsat_drat": (EXAMPLE, PEER + "drat-trim", PROVED, TESTED, CHOICES, COST),
+    "gipsat_drat_writer": (PROVED, TESTED, CHOICES),
     "gipmc_circuits": (EXAMPLE, PEER + "AIGER", PROVED, TESTED, CHOICES, COST),
+    "gipmc_builder": (EXAMPLE, PROVED, TESTED, CHOICES, COST),
     "gipmc_aiger": (EXAMPLE, PEER + "AIGER 1.9", PROVED, TESTED, CHOICES, COST),
     "gipmc_ic3": (EXAMPLE, PROVED, TESTED, CHOICES, COST),
     "gipmc_engines": (EXAMPLE, PROVED, TESTED, CHOICES, COST),
+    "gipmc_answers": (EXAMPLE, PROVED, TESTED, CHOICES, COST),
     "gipmc": (PROVED, TESTED),
     "gip_program": (PROVED, TESTED, CHOICES),
     "gip_lines": (PROVED, TESTED, CHOICES, COST),
@@ -485,8 +488,9 @@ def elsewhere(page, text):
     complaints, rows = sound(page, text), {}
     for part, folders in re.findall(r"^\| ([^|]+) \| ([^|]*`\w+`) \|$", text, re.MULTILINE):
         named = re.findall(r"`(\w+)`", folders)
-        others = re.match(r"those of (?:the )?([^,]+),", folders)
-        rows[part] = set(named) | (rows.get(others[1], set()) if others else set())
+        others = re.match(r"those of ([^,]+),", folders)
+        told = re.split(r" and of ", others[1]) if others else []
+        rows[part] = set(named).union(*(rows.get(other.removeprefix("the "), set()) for other in told))
         if rows[part] != needed(named[-1]):
             complaints.append(f"the folders of {part} are not {', '.join(sorted(needed(named[-1])))}")
     return complaints if rows else [*complaints, "it has no table of parts"]
@@ -541,11 +545,12 @@ def map_of_crates(page, text):
         told = set().union(*(needed(other) for other in re.findall(r"`(\w+)`", others)))
         wrong = [crate for crate in re.findall(r"`(\w+)`", own) if needed(crate) - {crate} != told]
         complaints += [f"{crate} stands on other crates" for crate in wrong]
-    solver = "".join(path.read_text(encoding="utf-8") for path in (CRATES / "gipsat_solver/src").rglob("*.rt"))
+    folders = [CRATES / crate / "src" for crate in ("gipsat_cnf", "gipsat_kernel", "gipsat_search", "gipsat_solver")]
+    solver = "".join(path.read_text(encoding="utf-8") for folder in folders for path in folder.rglob("*.rt"))
     rows = re.findall(r"^\| ([^|]*) \| [^|]* \|$", text.partition("| MiniSat |")[2].partition("\n## ")[0], re.MULTILINE)
-    lost = [name for row in rows for name in re.findall(r"`(\w+)`", row) if not re.search(rf"\b{name}\b", solver)]
+    lost = [name for row in rows for name in re.findall(r"`(\w+)`", row) if not name.startswith("gip") and not re.search(rf"\b{name}\b", solver)]
     complaints += [f"the solver has no {name}" for name in lost]
-    complaints += ring_of_modules(CRATES / "gipsat_solver/src")
+    complaints += [ring for folder in folders for ring in ring_of_modules(folder)]
     for path in sorted(CRATES.glob("*/src/**/*.rt")):
         if not path.read_text(encoding="utf-8").startswith("//! "):
             complaints.append(f"{path.relative_to(ROOT)} does not begin with a line //!")

@@ -1,13 +1,14 @@
 #!/usr/bin/env python3
-"""Runs the commands that README.md shows, and compares what they print with what stands below them.
+"""Runs the commands that pages show, and compares what they print with what stands below them.
 
 A command is a line `$ COMMAND` of a block ```console, which bash runs at the top of the checkout. It has to end with
 status 0, and to print the lines that follow, to standard output or error; a line `...` stands for any lines, and a
 command with no line below it may print anything. `./test`, which runs this script, and `rt ci`, which runs before it,
 are not run.
 
-The commands run in order in a copy of the files that git lists, with the programs crates/NAME/out/NAME that `rt ci` has
-built. A command counts as a test. The last line is 'N passed, M failed'.
+The commands of a page run in order in a copy of the files that git lists, with the programs crates/NAME/out/NAME that
+`rt ci` has built. Those of a page that needs a program which is not installed are not run. A command counts as a test.
+The last line is 'N passed, M failed'.
 """
 
 import argparse
@@ -21,6 +22,8 @@ import sys
 import tempfile
 
 ROOT = pathlib.Path(__file__).resolve().parent.parent
+# The pages, each with the programs that it needs.
+PAGES = {"README.md": (), "docs/FORMULAS.md": ("awk",), "docs/CIRCUITS.md": ("yosys", "yosys-witness")}
 SECONDS = 600
 BLOCK = re.compile(r"^```console\n(.*?)^```$", re.DOTALL | re.MULTILINE)
 NOT_RUN = re.compile(r"(?:\./test|rt ci)(?:\s+#.*)?")
@@ -74,12 +77,12 @@ def is_as_shown(printed, lines):
     return not lines or re.fullmatch(wanted, "".join(f"{line.rstrip()}\n" for line in printed.splitlines()))
 
 
-def main():
-    argparse.ArgumentParser(description=__doc__, formatter_class=argparse.RawDescriptionHelpFormatter).parse_args()
+def run_page(name):
+    """How many commands of a page do as it shows, and how many do not."""
     passed = failed = 0
     with tempfile.TemporaryDirectory(prefix="giputils-readme-") as room:
         copy_checkout(pathlib.Path(room))
-        for command, lines in commands((ROOT / "README.md").read_text(encoding="utf-8")):
+        for command, lines in commands((ROOT / name).read_text(encoding="utf-8")):
             if NOT_RUN.fullmatch(command):
                 continue
             printed, status = run(command, room)
@@ -88,6 +91,18 @@ def main():
             print(f"{'ok' if is_well else 'FAILED'}: {command}", flush=True)
             if not is_well:
                 print(f"status {status}; it printed\n{printed[-2000:]}")
+    return passed, failed
+
+
+def main():
+    argparse.ArgumentParser(description=__doc__, formatter_class=argparse.RawDescriptionHelpFormatter).parse_args()
+    passed = failed = 0
+    for name, programs in PAGES.items():
+        if missing := [program for program in programs if not shutil.which(program)]:
+            print(f"{name}: not run, for want of {', '.join(missing)}")
+            continue
+        ran = run_page(name)
+        passed, failed = passed + ran[0], failed + ran[1]
     print(f"{passed} passed, {failed} failed")
     return 1 if failed or not passed else 0
 
