@@ -6,8 +6,6 @@
 #![tactic(auto)]
 
 #[cfg(test)]
-mod again;
-#[cfg(test)]
 mod caller;
 #[cfg(test)]
 mod deletions;
@@ -17,5 +15,7 @@ mod forms;
 mod memory;
 #[cfg(test)]
 mod rat;
+#[cfg(test)]
+mod steps;
 #[cfg(test)]
 mod verdicts;

@@ -1,4 +1,4 @@
-//! Steps that are asked again where memory was refused.
+//! Steps one after another, each of which is taken or refused as it should be.
 
 use gipsat_cnf::Literal;
 use gipsat_drat::Checker;
@@ -71,43 +71,24 @@ fn ask(
     }
 }
 
-// Whether a step is taken, at once or when it is asked again.
-fn is_taken(checker: &mut Checker<&Refusing>, call: Call, clause: &[Literal]) -> bool {
-    match ask(checker, call, clause) {
-        Ok(taken) => taken,
-        Err(_) => ask(checker, call, clause) == Ok(true),
-    }
-}
-
 // The number of the first step that is not taken, and whether the empty clause is shown.
 fn taken(alloc: Global, checker: &mut Checker<&Refusing>) -> Result<(usize, bool), AllocError> {
     for (number, (call, numbers)) in STEPS.iter().enumerate() {
         let clause = clause_of(alloc, numbers)?;
-        if !is_taken(checker, *call, &clause) {
+        if !ask(checker, *call, &clause)? {
             return Ok((number, checker.is_refuted()));
         }
     }
     Ok((STEPS.len(), checker.is_refuted()))
 }
 
-// What becomes of all steps. Where the checker itself is refused its memory, there is nothing to ask.
+// What becomes of all steps.
 fn run(alloc: Global, memory: &Refusing) -> Result<(usize, bool), AllocError> {
-    match Checker::new(memory, 6) {
-        Ok(mut checker) => taken(alloc, &mut checker),
-        Err(_) => Ok((STEPS.len(), true)),
-    }
+    taken(alloc, &mut Checker::new(memory, 6)?)
 }
 
 #[test]
-fn a_step_that_was_refused_memory_is_taken_when_it_is_asked_again(rt: HostRuntime) {
-    let alloc = rt.alloc();
-    let unrefused = Refusing::none(alloc);
-    assert!(rt; run(alloc, &unrefused) == Ok((STEPS.len(), true)));
-    let requests = unrefused.requests();
-    assert!(rt; requests > 40, "{requests}");
-    for n in 1..=requests {
-        let memory = Refusing::nth(alloc, n);
-        let found = run(alloc, &memory);
-        assert!(rt; found == Ok((STEPS.len(), true)), "{n}: {found:?}");
-    }
+fn each_step_is_taken_or_refused_as_it_should_be(rt: HostRuntime) {
+    let memory = Refusing::none(rt.alloc());
+    assert!(rt; run(rt.alloc(), &memory) == Ok((STEPS.len(), true)));
 }
