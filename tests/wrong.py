@@ -27,9 +27,9 @@ Where this is not a goal, the file of the wrong body says so, in a line 'refused
 well. Another error is no refusal. One that shows less than its file says is tried once more, by itself: beside others its
 goals may wait for one of them.
 
-A line of tests/wrong.txt is a crate and a sum of all that its refusals rest on: the kit, this script, the crate's line
-of crates.txt, its src, specs, proofs and wrong bodies, and of each library of the repository below it what others read:
-its line, specs, public proofs, and of src the public items without comments and without the bodies of functions.
+A line of tests/wrong.txt is a crate and a sum of all that its refusals rest on: the kit's logic, this script, the crate's
+line of crates.txt, its src, specs, proofs and wrong bodies, and of each library of the repository below it what others
+read: its line, specs, public proofs, and of src the public items without comments and without the bodies of functions.
 """
 
 import argparse
@@ -243,8 +243,10 @@ def public_proofs(folder):
 
 
 @functools.cache
-def kit():
-    return subprocess.run(["rt", "version"], stdout=subprocess.PIPE, check=True).stdout
+def logic():
+    """The kit's logic, as `rt version` tells it behind the kit's name: kits that share it accept the same proofs."""
+    told = subprocess.run(["rt", "version"], stdout=subprocess.PIPE, check=True, text=True).stdout
+    return told.partition(" ")[2]
 
 
 def sum_of(crate, uses, root=ROOT):
@@ -255,7 +257,7 @@ def sum_of(crate, uses, root=ROOT):
         data = text if isinstance(text, bytes) else text.encode()
         total.update(f"{name}\0{len(data)}\0".encode() + data)
 
-    add("kit", kit())
+    add("logic", logic())
     add("script", pathlib.Path(__file__).read_bytes())
     folder = root / "crates" / crate
     add(crate, " ".join(uses[crate]))
