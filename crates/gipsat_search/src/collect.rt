@@ -57,13 +57,25 @@ fn forget<A: Allocator + Copy>(state: &mut State<A>, stays: &[bool], moved: &[u3
     state.eliminated.renumber(moved);
     state.clauses.retain(stays);
     state.watches.clear();
+    forget_root(state);
+    state.vivified = count_set(stays, state.vivified);
+    state.collected = state.stats.deleted;
+}
+
+// Forgets what is true at the root, since no clause is watched.
+fn forget_root<A: Allocator + Copy>(state: &mut State<A>) {
     state.trail.clear();
     state.activity.put_all_back();
     state.units = 0;
     state.assumed = 0;
     state.open = None;
-    state.vivified = count_set(stays, state.vivified);
-    state.collected = state.stats.deleted;
+}
+
+// Frees the memory of all watches, and lets all clauses be watched anew.
+pub(crate) fn free_watches<A: Allocator + Copy>(alloc: A, state: &mut State<A>) {
+    state.clauses.detach_all();
+    state.watches.free(alloc);
+    forget_root(state);
 }
 
 // Drops the deleted clauses.

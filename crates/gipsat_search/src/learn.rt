@@ -113,6 +113,25 @@ fn count_conflict<A: Allocator + Copy>(state: &mut State<A>) {
     state.clauses.decay();
 }
 
+// The id of a derived clause that is empty, where a clause is. From one of the formula it is derived, so that each proof
+// ends with a derived one.
+fn derive_empty<A: Allocator + Copy>(
+    kernel: &mut Kernel<A>,
+    id: usize,
+) -> Result<Option<usize>, AllocError>
+    ensures { kernel.new ≡ kernel.old }
+{
+    let last = kernel.len().saturating_sub(1);
+    if kernel.is_refuted(last) && !kernel.is_original(last) {
+        return Ok(Some(last));
+    }
+    if kernel.is_original(id) {
+        kernel.begin(id)?;
+        return kernel.conclude();
+    }
+    Ok(Some(id))
+}
+
 // Learns from a conflict. The id of the learned clause where it is empty.
 pub(crate) fn learn<A: Allocator + Copy>(
     kernel: &mut Kernel<A>,
@@ -122,7 +141,7 @@ pub(crate) fn learn<A: Allocator + Copy>(
     ensures { kernel.new ≡ kernel.old }
 {
     if kernel.is_refuted(conflict as usize) {
-        return Ok(Some(conflict as usize));
+        return derive_empty(kernel, conflict as usize);
     }
     let level = highest_level(
         &state.trail,

@@ -309,6 +309,13 @@ impl<A: Allocator + Copy> Search<A> {
         done
     }
 
+    /// Gives the call so many propagations more, from now on.
+    pub fn extend(&mut self, propagations: u64) {
+        if let Some(state) = &mut self.state {
+            state.end = state.stats.propagations.saturating_add(propagations);
+        }
+    }
+
     /// Goes on until a clause was learned or something was found, for the query of [`Search::begin`].
     ///
     /// # Errors
@@ -339,7 +346,8 @@ impl<A: Allocator + Copy> Search<A> {
     }
 
     /// Drops the clauses of the formula that a literal satisfies which has to be true, as far as that is found without a
-    /// decision. Each such literal becomes a clause of the formula.
+    /// decision. Each such literal becomes a clause of the formula. The memory of the watches is freed: the next call
+    /// watches all clauses anew.
     ///
     /// # Errors
     /// `AllocError` where memory is refused. The formula stays as it was.

@@ -2,6 +2,7 @@
 ghost use Rattle.std.specs.Prelude.{◌≡◌, OnOk, OnErr};
 ghost use Rattle.gipsat_cnf.specs.Simplifying.{SaysSame};
 
+use crate::collect::free_watches;
 use crate::reduce::delete;
 use crate::root::settle_root;
 use crate::state::State;
@@ -35,8 +36,8 @@ fn drop_all_satisfied<A: Allocator + Copy>(kernel: &mut Kernel<A>, state: &mut S
     }
 }
 
-// Propagates what has to be true, makes it clauses of the formula, and deletes the clauses that it satisfies. Where a
-// clause is falsified, nothing is deleted.
+// Propagates what has to be true, makes it clauses of the formula, deletes the clauses that it satisfies, and frees the
+// watches. Where a clause is falsified, nothing is deleted.
 pub(crate) fn simplify<A: Allocator + Copy>(
     alloc: A,
     kernel: &mut Kernel<A>,
@@ -47,6 +48,7 @@ pub(crate) fn simplify<A: Allocator + Copy>(
 {
     if settle_root(alloc, kernel, state)? {
         drop_all_satisfied(kernel, state);
+        free_watches(alloc, state);
     }
     Ok(())
 }
