@@ -1,15 +1,7 @@
-//! Tests of the search, and the example of its page. No contract says that it finds anything: here each answer of random
-//! sessions is put to the kernel.
+//! The example of the page of the search, and tests of calls that the solver over it does not make. Random sessions of
+//! the search are those of that solver's trials.
 #![tactic(auto)]
 
 #[cfg(test)]
 mod calls;
 pub mod examples;
-#[cfg(test)]
-mod long;
-#[cfg(test)]
-mod random;
-#[cfg(test)]
-mod session;
-#[cfg(test)]
-mod sessions;
