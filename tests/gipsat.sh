@@ -357,8 +357,9 @@ try "a proof that can't be opened" 1 "$work/none/proof: no such file" "" "" --pr
 try "a proof in a folder's place" 1 "$work: is a directory" "" "" --proof "$work" "$work/formula"
 try "a proof to a full device" 1 "/dev/full: cannot be written: no space left" "" "" --proof /dev/full "$work/formula"
 
-# What is told at the end, on standard error. One clause is learned, of one literal, and then the empty one.
-told='c 2 conflicts, 0 restarts, 6 clauses kept, 0 deleted, 1.000000 literals in each of the last learned'
+# What is told at the end, on standard error. One clause is learned, of one literal, and then the empty one, which does
+# not count among the clauses kept.
+told='c 2 conflicts, 0 restarts, 5 clauses kept, 0 deleted, 1.000000 literals in each of the last learned'
 printf 'p cnf 2 4\n1 2 0\n-1 2 0\n1 -2 0\n-1 -2 0\n' | "$gipsat" --stats > "$work/out" 2> "$work/err"
 if [ "$(cat "$work/out")" = "s UNSATISFIABLE" ] && grep -qxF "$told" "$work/err" &&
     grep -q '^c 2 variables, 4 clauses read in [0-9]*\.[0-9]\{3\} s$' "$work/err" &&

@@ -28,6 +28,10 @@ HasMore n old new = new.learned ≡ old.learned + n
 abbrev pub HasUpTo : ℕ → SolverState → SolverState → Type 0
 HasUpTo n old new = (more : ℕ) × (more ≤ n) × HasMore more old new
 
+-- no clause that was learned is forgotten
+abbrev pub HasNoFewer : SolverState → SolverState → Type 0
+HasNoFewer old new = old.learned ≤ new.learned
+
 -- Sat comes with a model, Unsat only where there is none; at Unknown `limit` clauses were learned
 abbrev pub IsRight : {A : Type 0} → SolverState → SolverState → ℕ → Answer A → Type 0
 IsRight old new limit (Sat model) = IsModel old.formula model.items

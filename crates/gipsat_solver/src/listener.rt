@@ -11,7 +11,8 @@ use std::ops::ControlFlow;
 pub struct Report {
     /// How much the solver did since it was made.
     pub stats: Stats,
-    /// How many clauses it has: those of the formula, and those that follow and were not freed.
+    /// How many clauses it has: those of the formula, and those that follow and were not freed. The empty clause, with
+    /// which a search ends that finds that there is no model, does not count.
     pub clauses: usize,
 }
 

@@ -1,6 +1,6 @@
 //! A search in slices: between two of them it tells how far it is, and may be stopped.
-ghost use Rattle.std.specs.Prelude.{◌≡◌, IfNone, IfOk, IfSome, IsTrue, OnOk};
-ghost use Rattle.gipsat_solver.specs.Answers.{HasUpTo, IsDecided, IsRight};
+ghost use Rattle.std.specs.Prelude.{◌≡◌, IfNone, IfOk, IfSome, IsTrue, OnErr, OnOk};
+ghost use Rattle.gipsat_solver.specs.Answers.{HasNoFewer, HasUpTo, IsDecided, IsRight};
 
 use crate::answers::End;
 pub use crate::listener::{Both, Progress, Report};
@@ -23,6 +23,7 @@ pub fn solve_in_slices<A: Allocator + Copy, P: Progress>(
     ensures right { IfOk result (λ found. IfSome found (IsRight solver.old solver.new limit)) }
     ensures stopped { IfOk result (λ found. IfNone found (IsTrue (P.wants_stop progress.new))) }
     ensures formula { solver.new.formula ≡ solver.old.formula }
+    ensures learned { HasNoFewer solver.old solver.new }
 {
     solver.tell_from_now_on(progress.wants_chains());
     let found = solve_on(solver, limit, progress);
@@ -33,7 +34,10 @@ pub fn solve_in_slices<A: Allocator + Copy, P: Progress>(
     Ok(found)
 }
 
-// The search, without its end.
+// How many pauses a slice has at least.
+const PAUSES: u64 = 16;
+
+// The search, without its end. Between two pauses it goes on where it was.
 fn solve_on<A: Allocator + Copy, P: Progress>(
     solver: &mut Solver<A>,
     limit: usize,
@@ -42,93 +46,137 @@ fn solve_on<A: Allocator + Copy, P: Progress>(
     ensures right { IfOk result (λ found. IfSome found (IsRight solver.old solver.new limit)) }
     ensures stopped { IfOk result (λ found. IfNone found (IsTrue (P.wants_stop progress.new))) }
     ensures formula { solver.new.formula ≡ solver.old.formula }
+    ensures learned { HasNoFewer solver.old solver.new }
 {
     let mut left = limit;
-    let mut propagations = SETTINGS.slice_propagations;
-    for slice in 0..usize::MAX {
+    let mut slice = Slice::first(solver);
+    for _ in 0..usize::MAX {
         progress.begin(solver.report());
-        let start = Start::of(solver);
-        let clauses = left.min(SETTINGS.slice_clauses);
-        if let Some(answer) = solve_slice(solver, clauses, propagations, progress)? {
+        let before = solver.learned();
+        if let Some(answer) = solve_to_pause(solver, left, slice, progress)? {
             return Ok(Some(answer));
         }
-        let learned = solver.learned() - start.learned;
-        left -= learned;
+        left -= solver.learned() - before;
         if left == 0 {
             return Ok(Some(Answer::Unknown));
-        }
-        if learned == 0 {
-            propagations = propagations.saturating_mul(2);
         }
         solver.tell_added(progress);
         if progress.note(solver.report()).is_break() {
             return Ok(None);
         }
-        inprocess(solver, start, slice == 0)?;
+        slice = end_slice(solver, slice)?;
         solver.tell_added(progress);
     }
     Ok(Some(solver.solve(left)?))
 }
 
-// Solves for one slice. None where no answer was found within it.
-fn solve_slice<A: Allocator + Copy, P: Progress>(
+// Solves up to the next pause of a slice. None where no answer was found so far.
+fn solve_to_pause<A: Allocator + Copy, P: Progress>(
     solver: &mut Solver<A>,
-    clauses: usize,
-    propagations: u64,
+    limit: usize,
+    slice: Slice,
     progress: &mut P,
 ) -> Result<Option<Answer<A>>, AllocError>
     ensures some { IfOk result (λ found. IfSome found (IsDecided solver.old.formula)) }
-    ensures most { OnOk result (HasUpTo clauses solver.old solver.new) }
+    ensures most { OnOk result (HasUpTo limit solver.old solver.new) }
+    ensures refused { OnErr result (HasNoFewer solver.old solver.new) }
     ensures formula { solver.new.formula ≡ solver.old.formula }
 {
     let query = Query {
         assumptions: &[],
         domain: None,
-        propagations,
+        propagations: SETTINGS.slice_propagations / PAUSES,
         is_guess: false,
     };
-    match solver.find(&query, clauses, progress)? {
+    let clauses = limit.min(slice.clauses_left(solver));
+    match solver.resume(&query, clauses, slice.has_begun, progress)? {
         Some(End::Model(model)) => Ok(Some(Answer::Sat(model))),
         Some(End::Core(_)) => Ok(Some(Answer::Unsat)),
         Some(End::Guessed | End::Spent) | None => Ok(None),
     }
 }
 
-// How far a search was when a slice of it began.
+// A slice of a search: how far the search was when it began, and when it is over.
 #[derive(Clone, Copy)]
-struct Start {
+struct Slice {
     learned: usize,
     propagations: u64,
+    // How many literals it propagates, unless it learns enough clauses before.
+    budget: u64,
+    is_first: bool,
+    // Whether it goes on after a pause.
+    has_begun: bool,
 }
 
-impl Start {
-    // Of the slice that begins now.
-    fn of<A: Allocator + Copy>(solver: &Solver<A>) -> Self
-        ensures { result.learned ≡ solver.now.learned }
-    {
-        Start {
+impl Slice {
+    // The first one, which begins now.
+    fn first<A: Allocator + Copy>(solver: &Solver<A>) -> Self {
+        Slice {
             learned: solver.learned(),
             propagations: solver.stats().propagations,
+            budget: SETTINGS.slice_propagations,
+            is_first: true,
+            has_begun: false,
         }
+    }
+
+    // The next one, which begins now. It is longer where this one has learned nothing.
+    fn next<A: Allocator + Copy>(self, solver: &Solver<A>) -> Self {
+        let factor = 1 + u64::from(self.clauses(solver) == 0);
+        Slice {
+            budget: self.budget.saturating_mul(factor),
+            is_first: false,
+            ..Slice::first(solver)
+        }
+    }
+
+    // How many clauses it has learned.
+    fn clauses<A: Allocator + Copy>(self, solver: &Solver<A>) -> usize {
+        solver.learned().saturating_sub(self.learned)
+    }
+
+    // How many clauses it may learn yet.
+    fn clauses_left<A: Allocator + Copy>(self, solver: &Solver<A>) -> usize {
+        SETTINGS.slice_clauses.saturating_sub(self.clauses(solver))
+    }
+
+    // How many literals it has propagated.
+    fn work<A: Allocator + Copy>(self, solver: &Solver<A>) -> u64 {
+        solver
+            .stats()
+            .propagations
+            .saturating_sub(self.propagations)
+    }
+
+    // Whether it has learned or propagated enough.
+    fn is_over<A: Allocator + Copy>(self, solver: &Solver<A>) -> bool {
+        self.clauses_left(solver) == 0 || self.work(solver) >= self.budget
     }
 }
 
-// Eliminates variables if the slice was the first, and shortens the clauses that it learned, unless that is not wanted.
-fn inprocess<A: Allocator + Copy>(
-    solver: &mut Solver<A>,
-    start: Start,
-    is_first: bool,
-) -> Result<(), AllocError>
+// The next slice where this one is over, and this one else. Between two slices variables are eliminated, after the first
+// one alone, and the clauses shortened that the last one learned, unless that is not wanted.
+fn end_slice<A: Allocator + Copy>(solver: &mut Solver<A>, slice: Slice) -> Result<Slice, AllocError>
     ensures { solver.new ≡ solver.old }
 {
-    if !solver.is_inprocessing() {
-        return Ok(());
+    if !slice.is_over(solver) {
+        return Ok(Slice {
+            has_begun: true,
+            ..slice
+        });
     }
-    let propagations = solver
-        .stats()
-        .propagations
-        .saturating_sub(start.propagations);
-    if is_first {
+    if solver.is_inprocessing() {
+        inprocess(solver, slice)?;
+    }
+    Ok(slice.next(solver))
+}
+
+// Eliminates variables if the slice was the first, and shortens the clauses that it learned.
+fn inprocess<A: Allocator + Copy>(solver: &mut Solver<A>, slice: Slice) -> Result<(), AllocError>
+    ensures { solver.new ≡ solver.old }
+{
+    let propagations = slice.work(solver);
+    if slice.is_first {
         let more = (solver.literals() as u64).saturating_mul(SETTINGS.literal_steps);
         solver.eliminate(&[], SETTINGS.elimination_steps.saturating_add(more))?;
     }

@@ -4,7 +4,7 @@ ghost use Rattle.gipsat_cnf.specs.Encodings.{Adds};
 ghost use Rattle.gipsat_cnf.specs.Formulas.{IsSatisfiable, satisfies_clause};
 ghost use Rattle.gipsat_cnf.specs.Models.{IsModel};
 ghost use Rattle.gipsat_cnf.specs.Simplifying.{SaysSame};
-ghost use Rattle.gipsat_solver.specs.Answers.{HasMore, HasUpTo, IsRight, IsRightEnd, IsRightGuess, IsRightLimited, IsRightUnder};
+ghost use Rattle.gipsat_solver.specs.Answers.{HasMore, HasNoFewer, HasUpTo, IsRight, IsRightEnd, IsRightGuess, IsRightLimited, IsRightUnder};
 
 use crate::answers::End;
 use crate::listener::{Progress, Report};
@@ -133,6 +133,7 @@ impl<A: Allocator + Copy> Solver<A> {
         ensures right { IfOk result (IsRight self.old self.new limit) }
         ensures formula { self.new.formula ≡ self.old.formula }
         ensures learned { OnOk result (HasUpTo limit self.old self.new) }
+        ensures refused { OnErr result (HasNoFewer self.old self.new) }
     {
         Ok(match self.solve_under(&[], limit)? {
             AnswerUnder::Sat(model) => Answer::Sat(model),
@@ -158,6 +159,7 @@ impl<A: Allocator + Copy> Solver<A> {
         ensures right { IfOk result (IsRightUnder assumptions.now self.old self.new limit) }
         ensures formula { self.new.formula ≡ self.old.formula }
         ensures learned { OnOk result (HasUpTo limit self.old self.new) }
+        ensures refused { OnErr result (HasNoFewer self.old self.new) }
     {
         let query = Query {
             assumptions,
@@ -189,6 +191,7 @@ impl<A: Allocator + Copy> Solver<A> {
         ensures right { IfOk result (IsRightLimited assumptions.now self.old self.new budget.clauses) }
         ensures formula { self.new.formula ≡ self.old.formula }
         ensures learned { OnOk result (HasUpTo budget.clauses self.old self.new) }
+        ensures refused { OnErr result (HasNoFewer self.old self.new) }
     {
         let query = Query {
             assumptions,
@@ -221,6 +224,7 @@ impl<A: Allocator + Copy> Solver<A> {
         ensures right { IfOk result (IsRightGuess assumptions.now self.old self.new limit) }
         ensures formula { self.new.formula ≡ self.old.formula }
         ensures learned { OnOk result (HasUpTo limit self.old self.new) }
+        ensures refused { OnErr result (HasNoFewer self.old self.new) }
     {
         self.guess(assumptions, limit, None)
     }
@@ -243,6 +247,7 @@ impl<A: Allocator + Copy> Solver<A> {
         ensures right { IfOk result (IsRightGuess assumptions.now self.old self.new limit) }
         ensures formula { self.new.formula ≡ self.old.formula }
         ensures learned { OnOk result (HasUpTo limit self.old self.new) }
+        ensures refused { OnErr result (HasNoFewer self.old self.new) }
     {
         self.guess(assumptions, limit, Some(domain))
     }
@@ -257,6 +262,7 @@ impl<A: Allocator + Copy> Solver<A> {
         ensures right { IfOk result (IsRightGuess assumptions.now self.old self.new limit) }
         ensures formula { self.new.formula ≡ self.old.formula }
         ensures learned { OnOk result (HasUpTo limit self.old self.new) }
+        ensures refused { OnErr result (HasNoFewer self.old self.new) }
     {
         let query = Query {
             assumptions,
@@ -288,6 +294,7 @@ impl<A: Allocator + Copy> Solver<A> {
         ensures model { IfOk result (λ found. IfSome found (λ model. IsModel self.old.formula model.items)) }
         ensures none { IfOk result (λ found. IfNone found (¬ (IsSatisfiable self.old.formula))) }
         ensures formula { self.new.formula ≡ self.old.formula }
+        ensures learned { HasNoFewer self.old self.new }
     {
         match self.solve(usize::MAX)? {
             Answer::Sat(model) => Ok(Some(model)),
@@ -307,9 +314,49 @@ impl<A: Allocator + Copy> Solver<A> {
         ensures right { IfOk result (λ end. IfSome end (IsRightEnd self.old.formula query.now)) }
         ensures limit { IfOk result (λ end. IfNone end (HasMore limit self.old self.new)) }
         ensures most { OnOk result (HasUpTo limit self.old self.new) }
+        ensures refused { OnErr result (HasNoFewer self.old self.new) }
         ensures stop { IsTrue (P.wants_stop progress.old) → IsTrue (P.wants_stop progress.new) }
     {
         self.search.begin(&mut self.kernel, *query)?;
+        self.find_on(query, limit, progress)
+    }
+
+    // As `find`, but goes on with a search that was begun where it is, with so many propagations more.
+    pub(crate) fn resume<P: Progress>(
+        &mut self,
+        query: &Query<'_>,
+        limit: usize,
+        has_begun: bool,
+        progress: &mut P,
+    ) -> Result<Option<End<A>>, AllocError>
+        ensures formula { self.new.formula ≡ self.old.formula }
+        ensures right { IfOk result (λ end. IfSome end (IsRightEnd self.old.formula query.now)) }
+        ensures limit { IfOk result (λ end. IfNone end (HasMore limit self.old self.new)) }
+        ensures most { OnOk result (HasUpTo limit self.old self.new) }
+        ensures refused { OnErr result (HasNoFewer self.old self.new) }
+        ensures stop { IsTrue (P.wants_stop progress.old) → IsTrue (P.wants_stop progress.new) }
+    {
+        if !has_begun {
+            return self.find(query, limit, progress);
+        }
+        self.search.extend(query.propagations);
+        self.find_on(query, limit, progress)
+    }
+
+    // Searches on until there is an end, or so many clauses were learned.
+    fn find_on<P: Progress>(
+        &mut self,
+        query: &Query<'_>,
+        limit: usize,
+        progress: &mut P,
+    ) -> Result<Option<End<A>>, AllocError>
+        ensures formula { self.new.formula ≡ self.old.formula }
+        ensures right { IfOk result (λ end. IfSome end (IsRightEnd self.old.formula query.now)) }
+        ensures limit { IfOk result (λ end. IfNone end (HasMore limit self.old self.new)) }
+        ensures most { OnOk result (HasUpTo limit self.old self.new) }
+        ensures refused { OnErr result (HasNoFewer self.old self.new) }
+        ensures stop { IsTrue (P.wants_stop progress.old) → IsTrue (P.wants_stop progress.new) }
+    {
         if self.search.wants_collection(&self.kernel) {
             self.collect(query, progress)?;
         }
@@ -410,7 +457,15 @@ impl<A: Allocator + Copy> Solver<A> {
     pub(crate) fn report(&self) -> Report {
         Report {
             stats: self.stats(),
-            clauses: self.len(),
+            clauses: self.len().saturating_sub(usize::from(self.ends_empty())),
+        }
+    }
+
+    // Whether the last clause was derived and is empty.
+    fn ends_empty(&self) -> bool {
+        match self.kernel.len().checked_sub(1) {
+            Some(last) => self.kernel.is_refuted(last) && !self.kernel.is_original(last),
+            None => false,
         }
     }
 

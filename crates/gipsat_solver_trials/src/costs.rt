@@ -148,8 +148,8 @@ fn take_back_within(alloc: Global, bytes: usize, rounds: u16) -> Result<(), Allo
     take_back_in_rounds(&mut Solver::new(&memory), rounds)
 }
 
-// 100 rounds add 5000 clauses, which take more than 200000 bytes with their watches.
+// 100 rounds add 5000 clauses, whose literals alone take 60000 bytes, and their watches 80000 more.
 #[test]
 fn the_memory_of_dropped_clauses_is_freed(rt: HostRuntime) {
-    assert!(rt; take_back_within(rt.alloc(), 200_000, 100).is_ok());
+    assert!(rt; take_back_within(rt.alloc(), 100_000, 100).is_ok());
 }

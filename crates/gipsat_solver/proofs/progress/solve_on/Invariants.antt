@@ -2,8 +2,8 @@
 use Rattle.std.proofs.Common.{◌≡◌, ◌≤◌, ◌+◌}
 use Rattle.gipsat_solver.proofs.progress.solve_on.Given as goal
 
-abbrev pub invariant-loop-slice : goal.invariant-loop-slice
-invariant-loop-slice g l = record {
+abbrev pub invariant-loop : goal.invariant-loop
+invariant-loop g l = record {
   formula : l.solver.formula ≡ l.fn.solver.formula;
   learned : l.solver.learned + l.left ≡ l.fn.solver.learned + l.limit;
   fewer : l.left ≤ l.limit;

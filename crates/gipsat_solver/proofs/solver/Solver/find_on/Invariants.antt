@@ -2,7 +2,7 @@
 use Rattle.std.proofs.Common.{◌≡◌}
 use Rattle.std.specs.Prelude.{IsTrue}
 use Rattle.gipsat_solver.specs.Answers.{HasMore}
-use Rattle.gipsat_solver.proofs.solver.Solver.find.Given as goal
+use Rattle.gipsat_solver.proofs.solver.Solver.find_on.Given as goal
 
 abbrev pub invariant-loop : goal.invariant-loop
 invariant-loop g l = record {

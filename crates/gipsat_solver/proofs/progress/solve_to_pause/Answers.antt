@@ -1,5 +1,5 @@
 use Rattle.gipsat_solver.proofs.AnswerLemmas.{unsatisfied-end}
-use Rattle.gipsat_solver.proofs.progress.solve_slice.Goals as goal
+use Rattle.gipsat_solver.proofs.progress.solve_to_pause.Goals as goal
 
 pub returns-in-Some-Core-clause-some : goal.returns-in-Some-Core-clause-some
 returns-in-Some-Core-clause-some g c =
