@@ -5,6 +5,8 @@ use Rattle.std.specs.Prelude.{◌^◌}
 use Rattle.gipsat_cnf.specs.Literals.{Lit}
 use Rattle.gipsat_dimacs.specs.Writer.{clause_line}
 use Rattle.gipsat_drat_writer.specs.Steps.{end_bytes, step_bytes}
+use Rattle.gipsat_drat_writer.specs.Lrat.{hints_of, lrat_added, lrat_deleted}
+use Rattle.gipsat_drat_writer.specs.declared.writer.Form.TheVariants.{Drat, Lrat}
 use Rattle.gipsat_drat_writer.specs.declared.writer.Format.TheVariants.{Text, Binary}
 use Rattle.giputils_text.specs.Groups.{groups}
 
@@ -35,11 +37,32 @@ groups-greatest : groups 4 (2 ^ 33) ≡ 128 ∷ 128 ∷ 128 ∷ 128 ∷ 32 ∷ [
 groups-greatest = refl
 
 -- the empty clause stands at the end where nothing satisfies the formula, and there alone
-end-unsatisfiable : end_bytes Text true ≡ codes "0\n"
+end-unsatisfiable : end_bytes Drat Text true ≡ codes "0\n"
 end-unsatisfiable = refl
 
-end-unsatisfiable_bytes : end_bytes Binary true ≡ 97 ∷ 0 ∷ []
+end-unsatisfiable_bytes : end_bytes Drat Binary true ≡ 97 ∷ 0 ∷ []
 end-unsatisfiable_bytes = refl
 
-end-open : end_bytes Binary false ≡ []
+end-open : end_bytes Drat Binary false ≡ []
 end-open = refl
+
+end-told : end_bytes Lrat Text true ≡ []
+end-told = refl
+
+-- the clause with the id 1 was freed, and those with 2 and 0 were resolved in this order
+names : hints_of (4 ∷ 0 ∷ 7 ∷ []) (2 ∷ 0 ∷ []) ≡ 4 ∷ 7 ∷ []
+names = refl
+
+named : lrat_added Text 9 (yes 0 ∷ not_ 11 ∷ []) (4 ∷ 7 ∷ []) ≡ codes "9 1 -12 0 4 7 0\n"
+unfolding digits
+named = refl
+
+named_bytes : lrat_added Binary 300 (not_ 0 ∷ []) (4 ∷ 7 ∷ []) ≡ 97 ∷ 172 ∷ 2 ∷ 3 ∷ 0 ∷ 8 ∷ 14 ∷ 0 ∷ []
+named_bytes = refl
+
+freed : lrat_deleted Text 9 7 ≡ codes "9 d 7 0\n"
+unfolding digits
+freed = refl
+
+freed_bytes : lrat_deleted Binary 9 7 ≡ 100 ∷ 7 ∷ 0 ∷ []
+freed_bytes = refl

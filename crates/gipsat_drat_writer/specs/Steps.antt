@@ -6,6 +6,8 @@ use Rattle.giputils_text.specs.Groups.{groups}
 use Rattle.gipsat_dimacs.specs.Writer.{clause_line}
 use Rattle.gipsat_drat_writer.specs.declared.writer.Format.{Format}
 use Rattle.gipsat_drat_writer.specs.declared.writer.Format.TheVariants.{Text, Binary}
+use Rattle.gipsat_drat_writer.specs.declared.writer.Form.{Form}
+use Rattle.gipsat_drat_writer.specs.declared.writer.Form.TheVariants.{Drat, Lrat}
 
 -- the number of a literal in bytes: twice that in a text, and 1 more where it is negative
 abbrev pub literal_number : Lit → ℕ
@@ -21,6 +23,7 @@ abbrev pub step_bytes : Format → Bool → Clause → List ℕ
 step_bytes Text deleted clause = (if deleted then codes "d " else []) ++ clause_line clause
 step_bytes Binary deleted clause = (if deleted then codes "d" else codes "a") ++ clause_bytes clause
 
--- what stands at the end: the empty clause is added, where nothing satisfies the formula
-abbrev pub end_bytes : Format → Bool → List ℕ
-end_bytes format refuted = if refuted then step_bytes format false [] else []
+-- what stands at the end: in DRAT the empty clause is added, where nothing satisfies the formula; in LRAT it was told
+abbrev pub end_bytes : Form → Format → Bool → List ℕ
+end_bytes Drat format refuted = if refuted then step_bytes format false [] else []
+end_bytes Lrat format refuted = []

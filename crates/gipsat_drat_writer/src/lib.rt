@@ -1,6 +1,9 @@
 //! A writer of proofs that nothing satisfies a formula, which listens to a solver.
 #![tactic(auto)]
 
+mod lrat;
+mod names;
+mod steps;
 pub mod writer;
 
-pub use writer::{Fault, Format, ProofWriter};
+pub use writer::{Fault, Form, Format, ProofWriter};

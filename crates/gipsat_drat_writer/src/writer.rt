@@ -1,39 +1,48 @@
-//! A writer of proofs that nothing satisfies a formula, in the DRAT form: a step for each clause that a solver derives,
-//! and one for each that it frees.
+//! A writer of proofs that nothing satisfies a formula, in the DRAT or the LRAT form: a step for each clause that a
+//! solver derives, and one for each that it frees.
 
-// How it is proved: writing into a Vec of bytes. The invariant "the written bytes, followed by
-// those left to write" is enough.
 // How it is proved: an error type that has only cases which can occur (`Fault`) lets the clauses of
 // its caller close.
 
-ghost use Rattle.std.specs.Prelude.{◌≡◌, ◌++◌, ◌<◌, ◌+◌, ◌*◌, ◌^◌, [], false, true, is_some};
+ghost use Rattle.std.specs.Prelude.{◌≡◌, ◌++◌, ◌+◌, [], is_some};
 ghost use Rattle.std.specs.Prelude.{IfNone, IfSome, IsErrOf, IsTrue, OnOk};
 ghost use Rattle.std.specs.ControlFlow.{break_value};
 ghost use Rattle.std.specs.Io.KnownBytes.{Appends, append_known};
-ghost use Rattle.gipsat_drat_writer.specs.Steps.{clause_bytes, end_bytes, literal_number, step_bytes};
+ghost use Rattle.gipsat_drat_writer.specs.Lrat.{added_bytes, deleted_bytes, hints_of, name_in};
+ghost use Rattle.gipsat_drat_writer.specs.Steps.{end_bytes};
 ghost use Rattle.gipsat_drat_writer.specs.declared.writer.Fault.TheVariants as fault;
 
+use crate::lrat::{write_added, write_deleted};
+use crate::names::Names;
+use crate::steps::write_step;
 use gipsat_cnf::Literal;
-use gipsat_dimacs::write_clause;
 use gipsat_solver::progress::{Progress, Report};
-use giputils_text::write_groups;
-use std::alloc::{AllocError, Allocator, Global};
+use std::alloc::{AllocError, Global};
 use std::io::{self, Write};
 use std::ops::ControlFlow;
+
+/// What the steps of a proof say.
+#[derive(Clone, Copy, Debug, PartialEq, Eq, Hash)]
+pub enum Form {
+    /// The clauses that are added and deleted.
+    Drat,
+    /// Their names too, and the names of those that each follows from.
+    Lrat,
+}
 
 /// How a proof is written.
 #[derive(Clone, Copy, Debug, PartialEq, Eq, Hash)]
 pub enum Format {
     /// A line for each step, with numbers in decimal digits.
     Text,
-    /// A byte `a` or `d` for each step, and each literal in groups of 7 bits.
+    /// A byte `a` or `d` for each step, and each number in groups of 7 bits.
     Binary,
 }
 
 /// Why a proof is not whole.
 #[derive(Clone, Copy)]
 pub enum Fault {
-    /// Memory was refused.
+    /// Memory was refused, or an LRAT proof would have 2^32 names.
     Memory,
     /// The output could not be written.
     Output(io::Error),
@@ -54,7 +63,10 @@ const BUFFER_SIZE: usize = 65_536;
 #[derive(Drop)]
 pub struct ProofWriter<W: Write> {
     writer: W,
+    form: Form,
     format: Format,
+    // The names of clauses, in LRAT alone.
+    names: Names,
     // What was not written yet.
     bytes: Vec<u8>,
     // Why the proof is not whole.
@@ -62,59 +74,93 @@ pub struct ProofWriter<W: Write> {
 }
 
 impl<W: Write> ProofWriter<W> {
-    /// Before the search.
+    /// Before the search, in the DRAT form.
     pub fn new(alloc: Global, writer: W, format: Format) -> Self {
+        ProofWriter::in_form(alloc, writer, Form::Drat, format)
+    }
+
+    /// Before the search, in a form. In LRAT the clauses of the formula are named 1, 2 and so on in their order, so the
+    /// solver may have derived no clause yet, and it is searched once.
+    pub fn in_form(alloc: Global, writer: W, form: Form, format: Format) -> Self {
         ProofWriter {
             writer,
+            form,
             format,
+            names: Names::new(alloc),
             bytes: Vec::new(alloc),
             fault: None,
         }
     }
 
-    /// Writes what is left, and the empty clause where the search found that nothing satisfies the formula.
+    /// Writes what is left, and in DRAT the empty clause where the search found that nothing satisfies the formula.
     ///
     /// # Errors
     /// The first failure of all: `Output` where a write failed, `Memory` where memory was refused.
     pub fn finish(&mut self, refuted: bool) -> Result<(), Fault>
         ensures whole { OnOk result (Appends (W.contents self.old.writer) (W.contents self.new.writer)
-            (self.old.bytes.items ++ end_bytes self.old.format refuted)) }
+            (self.old.bytes.items ++ end_bytes self.old.form self.old.format refuted)) }
         ensures fault { IfSome self.old.fault (λ fault. IsErrOf result fault) }
     {
         if let Some(fault) = self.fault {
             return Err(fault);
         }
-        if refuted {
-            write_step(&mut self.bytes, self.format, false, &[])?;
+        match self.form {
+            Form::Drat if refuted => write_step(&mut self.bytes, self.format, false, &[])?,
+            _ => {}
         }
         self.flush()
     }
 
-    // Writes a step, unless something failed before, and keeps the failure.
-    fn tell(&mut self, deleted: bool, clause: &[Literal])
-        ensures stops { IsTrue (is_some self.old.fault) → IsTrue (is_some self.new.fault) }
+    // Writes that a clause is added.
+    fn add(&mut self, clause: &[Literal], chain: &[usize]) -> Result<(), Fault>
+        ensures form { self.new.form ≡ self.old.form }
         ensures format { self.new.format ≡ self.old.format }
-        ensures written { IfNone self.new.fault (Appends
+        ensures written { OnOk result (Appends
             (append_known (W.contents self.old.writer) self.old.bytes.items)
             (append_known (W.contents self.new.writer) self.new.bytes.items)
-            (step_bytes self.old.format deleted clause.now)) }
+            (added_bytes self.old.form self.old.format self.new.names.last clause.now
+            (hints_of self.new.names.by_id.items chain.now))) }
     {
-        if self.fault.is_some() {
-            return;
+        match self.form {
+            Form::Drat => write_step(&mut self.bytes, self.format, false, clause)?,
+            Form::Lrat => {
+                self.names.add(chain)?;
+                let hints = &self.names.hints;
+                write_added(&mut self.bytes, self.format, self.names.last, clause, hints)?;
+            }
         }
-        if let Err(fault) = self.step(deleted, clause) {
-            self.fault = Some(fault);
-        }
+        self.flush_much()
     }
 
-    // Writes a step.
-    fn step(&mut self, deleted: bool, clause: &[Literal]) -> Result<(), Fault>
+    // Writes that a clause is deleted.
+    fn delete(&mut self, id: usize, clause: &[Literal]) -> Result<(), Fault>
+        ensures form { self.new.form ≡ self.old.form }
         ensures format { self.new.format ≡ self.old.format }
-        ensures written { OnOk result (Appends (append_known (W.contents self.old.writer) self.old.bytes.items)
+        ensures written { OnOk result (Appends
+            (append_known (W.contents self.old.writer) self.old.bytes.items)
             (append_known (W.contents self.new.writer) self.new.bytes.items)
-            (step_bytes self.old.format deleted clause.now)) }
+            (deleted_bytes self.old.form self.old.format self.old.names.last
+            (name_in self.old.names.by_id.items id) clause.now)) }
     {
-        write_step(&mut self.bytes, self.format, deleted, clause)?;
+        match self.form {
+            Form::Drat => write_step(&mut self.bytes, self.format, true, clause)?,
+            Form::Lrat => {
+                let name = self.names.of(id);
+                write_deleted(&mut self.bytes, self.format, self.names.last, name)?;
+                self.names.free(id);
+            }
+        }
+        self.flush_much()
+    }
+
+    // Writes what was not written yet, once it is much.
+    fn flush_much(&mut self) -> Result<(), Fault>
+        ensures written { OnOk result (Appends (W.contents self.old.writer)
+            (append_known (W.contents self.new.writer) self.new.bytes.items) self.old.bytes.items) }
+        ensures form { self.new.form ≡ self.old.form }
+        ensures format { self.new.format ≡ self.old.format }
+        ensures names { self.new.names ≡ self.old.names }
+    {
         if self.bytes.len() < BUFFER_SIZE {
             return Ok(());
         }
@@ -126,7 +172,9 @@ impl<W: Write> ProofWriter<W> {
         ensures written { OnOk result (Appends (W.contents self.old.writer) (W.contents self.new.writer)
             self.old.bytes.items) }
         ensures cleared { self.new.bytes.items ≡ [] }
+        ensures form { self.new.form ≡ self.old.form }
         ensures format { self.new.format ≡ self.old.format }
+        ensures names { self.new.names ≡ self.old.names }
     {
         let done = self.writer.write_all(&self.bytes);
         self.bytes.clear();
@@ -141,35 +189,60 @@ impl<W: Write> Progress for ProofWriter<W> {
     ghost wants_stop = { λ proof. is_some proof.fault };
 
     fn wants_chains(&self) -> bool {
-        false
+        matches!(self.form, Form::Lrat)
     }
 
-    fn begin(&mut self, _report: Report)
-        ensures { self.new ≡ self.old }
-    {}
+    // In LRAT the clauses of the formula are named, unless they are.
+    fn begin(&mut self, report: Report)
+        ensures stops { IsTrue (is_some self.old.fault) → IsTrue (is_some self.new.fault) }
+        ensures written { (self.new.bytes ≡ self.old.bytes) × (self.new.writer ≡ self.old.writer) }
+        ensures form { self.new.form ≡ self.old.form }
+        ensures format { self.new.format ≡ self.old.format }
+    {
+        if self.fault.is_some() || matches!(self.form, Form::Drat) {
+            return;
+        }
+        if self.names.begin(report.clauses).is_err() {
+            self.fault = Some(Fault::Memory);
+        }
+    }
 
     // Where nothing failed, the step that adds the clause is written.
-    fn added(&mut self, _id: usize, clause: &[Literal], _chain: &[usize])
+    fn added(&mut self, _id: usize, clause: &[Literal], chain: &[usize])
         ensures stops { IsTrue (is_some self.old.fault) → IsTrue (is_some self.new.fault) }
+        ensures form { self.new.form ≡ self.old.form }
         ensures format { self.new.format ≡ self.old.format }
         ensures written { IfNone self.new.fault (Appends
             (append_known (W.contents self.old.writer) self.old.bytes.items)
             (append_known (W.contents self.new.writer) self.new.bytes.items)
-            (step_bytes self.old.format false clause.now)) }
+            (added_bytes self.old.form self.old.format self.new.names.last clause.now
+            (hints_of self.new.names.by_id.items chain.now))) }
     {
-        self.tell(false, clause);
+        if self.fault.is_some() {
+            return;
+        }
+        if let Err(fault) = self.add(clause, chain) {
+            self.fault = Some(fault);
+        }
     }
 
     // Where nothing failed, the step that deletes the clause is written.
-    fn deleted(&mut self, _id: usize, clause: &[Literal])
+    fn deleted(&mut self, id: usize, clause: &[Literal])
         ensures stops { IsTrue (is_some self.old.fault) → IsTrue (is_some self.new.fault) }
+        ensures form { self.new.form ≡ self.old.form }
         ensures format { self.new.format ≡ self.old.format }
         ensures written { IfNone self.new.fault (Appends
             (append_known (W.contents self.old.writer) self.old.bytes.items)
             (append_known (W.contents self.new.writer) self.new.bytes.items)
-            (step_bytes self.old.format true clause.now)) }
+            (deleted_bytes self.old.form self.old.format self.old.names.last
+            (name_in self.old.names.by_id.items id) clause.now)) }
     {
-        self.tell(true, clause);
+        if self.fault.is_some() {
+            return;
+        }
+        if let Err(fault) = self.delete(id, clause) {
+            self.fault = Some(fault);
+        }
     }
 
     fn note(&mut self, _report: Report) -> ControlFlow<()>
@@ -186,44 +259,4 @@ impl<W: Write> Progress for ProofWriter<W> {
     fn end(&mut self, _report: Report)
         ensures { self.new ≡ self.old }
     {}
-}
-
-// Writes a step.
-fn write_step<A: Allocator>(
-    bytes: &mut Vec<u8, A>,
-    format: Format,
-    deleted: bool,
-    clause: &[Literal],
-) -> Result<(), AllocError>
-    ensures { OnOk result (bytes.new.items ≡ bytes.old.items ++ step_bytes format deleted clause.now) }
-{
-    match format {
-        Format::Text => {
-            bytes.extend_from_slice(if deleted { b"d " } else { b"" })?;
-            write_clause(bytes, clause)
-        }
-        Format::Binary => {
-            bytes.push(if deleted { b'd' } else { b'a' })?;
-            write_bytes(bytes, clause)
-        }
-    }
-}
-
-// Writes the bytes of a clause.
-fn write_bytes<A: Allocator>(bytes: &mut Vec<u8, A>, clause: &[Literal]) -> Result<(), AllocError>
-    ensures { OnOk result (bytes.new.items ≡ bytes.old.items ++ clause_bytes clause.now) }
-{
-    for l in clause {
-        write_groups(bytes, number_of(*l))?;
-    }
-    bytes.push(0)?;
-    Ok(())
-}
-
-// The number of a literal in bytes.
-fn number_of(l: Literal) -> u64
-    ensures number { result ≡ literal_number l }
-    ensures small { result < 2 ^ 34 }
-{
-    2 * (u64::from(l.variable()) + 1) + u64::from(!l.is_positive())
 }

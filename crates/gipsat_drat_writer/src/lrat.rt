@@ -1,0 +1,137 @@
+//! Steps of a proof in the LRAT form.
+ghost use Rattle.std.specs.Prelude.{◌≡◌, ◌++◌, OnOk};
+ghost use Rattle.gipsat_dimacs.specs.Writer.{literal_text};
+ghost use Rattle.gipsat_drat_writer.specs.Lrat.{hint_bytes, hints_bytes, literals_text, lrat_added, lrat_deleted};
+ghost use Rattle.gipsat_drat_writer.specs.Lrat.{name_bytes, zero_bytes};
+
+use crate::steps::write_bytes;
+use crate::writer::Format;
+use gipsat_cnf::Literal;
+use giputils_text::write_groups;
+use std::alloc::{AllocError, Allocator};
+use std::io::Write;
+
+// Writes that a clause is added under a name, with the names of those that it follows from.
+pub(crate) fn write_added<A: Allocator>(
+    bytes: &mut Vec<u8, A>,
+    format: Format,
+    name: u32,
+    clause: &[Literal],
+    hints: &[u32],
+) -> Result<(), AllocError>
+    ensures { OnOk result (bytes.new.items ≡ bytes.old.items ++ lrat_added format name clause.now hints.now) }
+{
+    match format {
+        Format::Text => {
+            write_name(bytes, format, name)?;
+            write_literals(bytes, clause)?;
+        }
+        Format::Binary => {
+            bytes.push(b'a')?;
+            write_name(bytes, format, name)?;
+            write_bytes(bytes, clause)?;
+        }
+    }
+    write_hints(bytes, format, hints)
+}
+
+// Writes that the clause of a name is deleted, behind the step of the last name.
+pub(crate) fn write_deleted<A: Allocator>(
+    bytes: &mut Vec<u8, A>,
+    format: Format,
+    last: u32,
+    name: u32,
+) -> Result<(), AllocError>
+    ensures { OnOk result (bytes.new.items ≡ bytes.old.items ++ lrat_deleted format last name) }
+{
+    match format {
+        Format::Text => {
+            write_name(bytes, format, last)?;
+            bytes.extend_from_slice(b"d ")?;
+        }
+        Format::Binary => {
+            bytes.push(b'd')?;
+        }
+    }
+    write_name(bytes, format, name)?;
+    write_zero(bytes, format)
+}
+
+// Writes a name.
+fn write_name<A: Allocator>(
+    bytes: &mut Vec<u8, A>,
+    format: Format,
+    name: u32,
+) -> Result<(), AllocError>
+    ensures { OnOk result (bytes.new.items ≡ bytes.old.items ++ name_bytes format name) }
+{
+    match format {
+        Format::Text => write!(bytes, "{name} ").map_err(|_| AllocError),
+        Format::Binary => write_groups(bytes, u64::from(name)),
+    }
+}
+
+// Writes the literals of a clause in a line, and a 0 behind them.
+fn write_literals<A: Allocator>(
+    bytes: &mut Vec<u8, A>,
+    clause: &[Literal],
+) -> Result<(), AllocError>
+    ensures { OnOk result (bytes.new.items ≡ bytes.old.items ++ literals_text clause.now) }
+{
+    for l in clause {
+        write_literal(bytes, *l)?;
+    }
+    bytes.extend_from_slice(b"0 ")
+}
+
+// Writes a literal in a line.
+fn write_literal<A: Allocator>(bytes: &mut Vec<u8, A>, l: Literal) -> Result<(), AllocError>
+    ensures { OnOk result (bytes.new.items ≡ bytes.old.items ++ literal_text l) }
+{
+    if !l.is_positive() {
+        bytes.push(b'-')?;
+    }
+    let number = l.variable() + 1;
+    write!(bytes, "{number} ").map_err(|_| AllocError)
+}
+
+// Writes hints, and the end of a step.
+fn write_hints<A: Allocator>(
+    bytes: &mut Vec<u8, A>,
+    format: Format,
+    hints: &[u32],
+) -> Result<(), AllocError>
+    ensures { OnOk result (bytes.new.items ≡ bytes.old.items ++ hints_bytes format hints.now) }
+{
+    for hint in hints {
+        write_hint(bytes, format, *hint)?;
+    }
+    write_zero(bytes, format)
+}
+
+// Writes a hint.
+fn write_hint<A: Allocator>(
+    bytes: &mut Vec<u8, A>,
+    format: Format,
+    hint: u32,
+) -> Result<(), AllocError>
+    ensures { OnOk result (bytes.new.items ≡ bytes.old.items ++ hint_bytes format hint) }
+{
+    match format {
+        Format::Text => write!(bytes, "{hint} ").map_err(|_| AllocError),
+        Format::Binary => write_groups(bytes, 2 * u64::from(hint)),
+    }
+}
+
+// Writes the end of a step.
+fn write_zero<A: Allocator>(bytes: &mut Vec<u8, A>, format: Format) -> Result<(), AllocError>
+    ensures { OnOk result (bytes.new.items ≡ bytes.old.items ++ zero_bytes format) }
+{
+    match format {
+        Format::Text => bytes.extend_from_slice(b"0\n"),
+        Format::Binary => {
+            bytes.push(0)?;
+            Ok(())
+        }
+    }
+}
