@@ -4,7 +4,7 @@ use Rattle.std.specs.Fmt.{digits}
 use Rattle.gipsat_cnf.specs.Formulas.{Formula}
 use Rattle.gipsat_drat.specs.Outcomes.{IsRight, error_text, outcome_text, refusal_text}
 use Rattle.gipsat_drat.specs.declared.error.DratError.TheVariants.{Form}
-use Rattle.gipsat_drat.specs.declared.error.Flaw.TheVariants.{Missing, NotShown}
+use Rattle.gipsat_drat.specs.declared.error.Flaw.TheVariants.{Unnamed, NotShown}
 use Rattle.gipsat_drat.specs.declared.error.OtherForm.TheVariants.{Gzip}
 use Rattle.gipsat_drat.specs.declared.error.Place.TheVariants.{Byte, Line}
 use Rattle.gipsat_drat.specs.declared.error.Outcome.TheVariants.{Verified, Refused}
@@ -29,7 +29,7 @@ refused_in_text : refusal_text (record { place = Line 3; flaw = NotShown })
 unfolding digits
 refused_in_text = refl
 
-refused_in_binary : refusal_text (record { place = Byte 17; flaw = Missing }) ≡ codes "proof byte 17: no such clause to delete"
+refused_in_binary : refusal_text (record { place = Byte 17; flaw = Unnamed }) ≡ codes "proof byte 17: a name that no clause has"
 unfolding digits
 refused_in_binary = refl
 

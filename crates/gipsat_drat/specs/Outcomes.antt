@@ -5,7 +5,7 @@ use Rattle.gipsat_cnf.specs.Formulas.{Formula, IsSatisfiable}
 use Rattle.gipsat_dimacs.specs.Errors as dimacs
 use Rattle.gipsat_dimacs.specs.Texts.{Problem}
 use Rattle.gipsat_drat.specs.declared.error.Flaw.{Flaw}
-use Rattle.gipsat_drat.specs.declared.error.Flaw.TheVariants.{Word, Number, Variable, Missing, NotShown, Step, OpenClause, Unfinished}
+use Rattle.gipsat_drat.specs.declared.error.Flaw.TheVariants.{Word, Number, Variable, NotShown, Name, Unnamed, Hint, NotHinted, Step, OpenClause, Unfinished}
 use Rattle.gipsat_drat.specs.declared.error.OtherForm.{OtherForm}
 use Rattle.gipsat_drat.specs.declared.error.OtherForm.TheVariants.{Gzip, Xz, Bzip2, Zstd, Rup, Frat}
 use Rattle.gipsat_drat.specs.declared.error.Place.{Place}
@@ -21,10 +21,13 @@ use Rattle.gipsat_drat.specs.declared.error.DratError.TheVariants as error
 -- why a proof is refused
 abbrev pub flaw_text : Flaw → List ℕ
 flaw_text Word = codes "not a number"
-flaw_text Number = codes "a number past 2147483647"
-flaw_text Variable = codes "a variable that the formula does not have"
+flaw_text Number = codes "a number that is too great"
+flaw_text Variable = codes "a 0 with a sign"
 flaw_text NotShown = codes "a clause that is neither RUP nor RAT on its first literal"
-flaw_text Missing = codes "no such clause to delete"
+flaw_text Name = codes "a name that is not greater than all before"
+flaw_text Unnamed = codes "a name that no clause has"
+flaw_text Hint = codes "a hint whose clause is not unit"
+flaw_text NotHinted = codes "hints that do not show the clause"
 flaw_text Step = codes "a step that begins with neither a nor d"
 flaw_text OpenClause = codes "a clause without its 0"
 flaw_text Unfinished = codes "the end without the empty clause"

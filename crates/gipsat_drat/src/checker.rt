@@ -42,7 +42,7 @@ impl<A: Allocator> Model for Checker<A> {
 }
 
 impl<A: Allocator + Copy> Checker<A> {
-    /// A checker that holds nothing, for clauses of so many variables.
+    /// A checker that holds nothing, with room for so many variables. Where a clause has others, it takes room for them.
     ///
     /// # Errors
     /// `AllocError` where memory is refused.
@@ -52,7 +52,7 @@ impl<A: Allocator + Copy> Checker<A> {
         Checker::of(alloc, RatKernel::new(alloc), variables)
     }
 
-    /// A checker that holds the clauses of a formula, for their variables. It takes the formula over without a copy.
+    /// A checker that holds the clauses of a formula. It takes the formula over without a copy.
     ///
     /// # Errors
     /// `AllocError` where memory is refused. The formula is lost then.
@@ -96,6 +96,7 @@ impl<A: Allocator + Copy> Checker<A> {
         ensures keeps { Keeps (held_with self.old clause.now) self.new }
         ensures refuted { StaysRefuted self.old self.new }
     {
+        self.cover(clause)?;
         let id = self.kernel.add_clause(clause)?;
         self.enter(id)
     }
@@ -116,6 +117,7 @@ impl<A: Allocator + Copy> Checker<A> {
         if self.refuted {
             return Ok(true);
         }
+        self.cover(clause)?;
         self.collect_if_sparse()?;
         let Some(id) = self.add_redundant(clause)? else {
             return Ok(false);
@@ -143,6 +145,16 @@ impl<A: Allocator + Copy> Checker<A> {
         self.kernel.delete(id);
         self.index.delete(id);
         Ok(true)
+    }
+
+    // Has room for the variables of a clause.
+    fn cover(&mut self, clause: &[Literal]) -> Result<(), AllocError>
+        ensures { self.new ≡ self.old }
+    {
+        self.trail.cover_clause(clause)?;
+        let variables = self.trail.capacity();
+        self.watches.cover(self.alloc, variables)?;
+        self.index.cover(variables)
     }
 
     // Adds a clause to those of the kernel if it is RUP or RAT: its id.
@@ -240,7 +252,7 @@ impl<A: Allocator + Copy> Checker<A> {
 }
 
 // Lists of each clause whether it stays at a collection, and its id after that.
-fn list_ids<A: Allocator + Copy>(
+pub(crate) fn list_ids<A: Allocator + Copy>(
     kernel: &RatKernel<A>,
     stays: &mut Vec<bool, A>,
     ids: &mut Vec<usize, A>,

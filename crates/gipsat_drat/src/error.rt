@@ -17,14 +17,20 @@ use std::fmt;
 pub enum Flaw {
     /// A word is no number.
     Word,
-    /// A number is greater than 2^31 - 1, or a code of a binary proof has more than five bytes.
+    /// A literal's number is greater than 2^31 - 1, or another number greater than 2^55.
     Number,
-    /// A variable is 0 with a sign, or greater than each of the formula's clauses.
+    /// A 0 has a sign.
     Variable,
     /// A clause is neither RUP nor RAT on its first literal.
     NotShown,
-    /// There is no such clause to delete.
-    Missing,
+    /// A step's name is not greater than all before.
+    Name,
+    /// No clause has the name of a hint, or of a deletion.
+    Unnamed,
+    /// Not all literals of a hint's clause but one are false, or that one is true.
+    Hint,
+    /// The hints do not show the clause.
+    NotHinted,
     /// A step of a binary proof begins with another byte than `a` or `d`.
     Step,
     /// The last clause has no 0 at its end.
@@ -39,12 +45,15 @@ impl fmt::Display for Flaw {
     fn fmt<W: fmt::Write>(&self, f: &mut fmt::Formatter<W>) -> fmt::Result {
         match self {
             Flaw::Word => f.write_str("not a number"),
-            Flaw::Number => f.write_str("a number past 2147483647"),
-            Flaw::Variable => f.write_str("a variable that the formula does not have"),
+            Flaw::Number => f.write_str("a number that is too great"),
+            Flaw::Variable => f.write_str("a 0 with a sign"),
             Flaw::NotShown => f.write_str(
                 "a clause that is neither RUP nor RAT on its first literal",
             ),
-            Flaw::Missing => f.write_str("no such clause to delete"),
+            Flaw::Name => f.write_str("a name that is not greater than all before"),
+            Flaw::Unnamed => f.write_str("a name that no clause has"),
+            Flaw::Hint => f.write_str("a hint whose clause is not unit"),
+            Flaw::NotHinted => f.write_str("hints that do not show the clause"),
             Flaw::Step => f.write_str("a step that begins with neither a nor d"),
             Flaw::OpenClause => f.write_str("a clause without its 0"),
             Flaw::Unfinished => f.write_str("the end without the empty clause"),

@@ -38,6 +38,15 @@ impl<A: Allocator + Copy> Index<A> {
         })
     }
 
+    // Has room for so many variables, if there are more than before.
+    pub(crate) fn cover(&mut self, variables: usize) -> Result<(), AllocError> {
+        let codes = variables.saturating_mul(2);
+        if codes > self.places.len() {
+            self.places.resize(codes, 0)?;
+        }
+        Ok(())
+    }
+
     // Enters a clause, whose id is not below those of others.
     pub(crate) fn push(&mut self, id: usize, clause: &[Literal]) -> Result<(), AllocError> {
         let hash = self.hash(clause);

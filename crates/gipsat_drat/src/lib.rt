@@ -1,11 +1,18 @@
-//! A checker of proofs that nothing satisfies a formula: clauses, each of which has to be RUP or RAT.
+//! A checker of proofs that nothing satisfies a formula: clauses, each of which has to be RUP or RAT, found by
+//! propagation or shown by hints.
 #![tactic(auto)]
 
 mod binary;
 pub mod checker;
+mod codes;
 pub mod error;
 mod form;
+mod hints;
 mod index;
+mod lrat;
+mod lrat_parser;
+mod lrat_step;
+mod names;
 mod parser;
 mod propagation;
 mod rat;
@@ -15,6 +22,7 @@ pub mod task;
 mod text;
 mod trail;
 mod watches;
+mod words;
 
 pub use checker::Checker;
 pub use error::{DratError, Flaw, OtherForm, Outcome, Place, Refusal};

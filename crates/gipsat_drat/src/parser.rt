@@ -5,7 +5,7 @@ ghost use Rattle.gipsat_drat.specs.Held.{IsRightOf, Keeps};
 use crate::binary::BinaryParser;
 use crate::checker::Checker;
 use crate::error::{Failure, Outcome, Place, Stop};
-use crate::form::Form;
+use crate::step::Missing;
 use crate::text::TextParser;
 use std::alloc::{Allocator, Global};
 
@@ -17,11 +17,21 @@ pub(crate) enum Parser<A: Allocator = Global> {
 }
 
 impl<A: Allocator + Copy> Parser<A> {
-    // Before a proof of this form about so many variables.
-    pub(crate) fn new(alloc: A, form: Form, variables: u32) -> Self {
-        match form {
-            Form::Text => Parser::Text(TextParser::new(alloc, variables)),
-            Form::Binary => Parser::Binary(BinaryParser::new(alloc, variables)),
+    // Before a text.
+    pub(crate) fn of_text(alloc: A) -> Self {
+        Parser::Text(TextParser::new(alloc))
+    }
+
+    // Before a binary proof.
+    pub(crate) fn of_bytes(alloc: A) -> Self {
+        Parser::Binary(BinaryParser::new(alloc))
+    }
+
+    // Which deletions were passed over.
+    pub(crate) fn missing(&self) -> Missing {
+        match self {
+            Parser::Text(parser) => parser.missing(),
+            Parser::Binary(parser) => parser.missing(),
         }
     }
 

@@ -85,7 +85,7 @@ fn add_resolvents<A: Allocator + Copy>(
 }
 
 // The resolvent of a clause on the pivot, which stays, with the clause of an id, if that has the pivot's negation.
-fn resolvent_with<A: Allocator + Copy>(
+pub(crate) fn resolvent_with<A: Allocator + Copy>(
     alloc: A,
     kernel: &RatKernel<A>,
     id: usize,
@@ -120,7 +120,7 @@ fn has(clause: &[Literal], l: Literal) -> bool {
 }
 
 // Deletes clauses.
-fn delete_all<A: Allocator + Copy>(kernel: &mut RatKernel<A>, ids: &[usize])
+pub(crate) fn delete_all<A: Allocator + Copy>(kernel: &mut RatKernel<A>, ids: &[usize])
     ensures { KeepsSatisfiable kernel.old kernel.new }
 {
     for id in ids {

@@ -64,7 +64,7 @@ fn begin_rup<A: Allocator + Copy>(
 }
 
 // Begins to derive a clause that has a true literal.
-fn begin_true<A: Allocator + Copy>(
+pub(crate) fn begin_true<A: Allocator + Copy>(
     kernel: &mut RatKernel<A>,
     l: Literal,
     reason: Reason,
@@ -81,7 +81,7 @@ fn begin_true<A: Allocator + Copy>(
 }
 
 // Makes the literals of a clause false. One of them, if it is true.
-fn falsify<A: Allocator + Copy>(
+pub(crate) fn falsify<A: Allocator + Copy>(
     trail: &mut Trail<A>,
     clause: &[Literal],
 ) -> Result<Option<Literal>, AllocError> {
@@ -104,14 +104,27 @@ fn conclude<A: Allocator + Copy>(
 ) -> Result<Option<usize>, AllocError>
     ensures { KeepsSatisfiable kernel.old kernel.new }
 {
-    for place in (trail.root()..trail.len()).rev() {
+    resolve_steps(kernel, trail, trail.root())?;
+    resolve_rooted(kernel, trail)?;
+    kernel.conclude(clause)
+}
+
+// Resolves the clause that is being derived with the reasons of the literals that are true from one place on, the latest
+// first.
+pub(crate) fn resolve_steps<A: Allocator + Copy>(
+    kernel: &mut RatKernel<A>,
+    trail: &Trail<A>,
+    from: usize,
+) -> Result<(), AllocError>
+    ensures { kernel.new ≡ kernel.old }
+{
+    for place in (from..trail.len()).rev() {
         let Some(l) = trail.step(place) else {
             continue;
         };
         resolve(kernel, l, trail.reason(l))?;
     }
-    resolve_rooted(kernel, trail)?;
-    kernel.conclude(clause)
+    Ok(())
 }
 
 // Resolves the clause that is being derived with the reason of a true literal, if it has the negation.

@@ -3,29 +3,45 @@ ghost use Rattle.std.specs.Prelude.{◌≡◌, ◌-◌, IfOk};
 ghost use Rattle.gipsat_drat.specs.Held.{Keeps};
 
 use crate::checker::Checker;
-use crate::error::{Flaw, Stop};
+use crate::error::{Flaw, Place, Stop};
 use gipsat_cnf::Literal;
 use std::alloc::{Allocator, Global};
 
 // The greatest number of a variable that a proof may name.
 pub(crate) const GREATEST_NUMBER: u64 = 2_147_483_647;
 
+// Deletions of clauses that are not held.
+#[derive(Clone, Copy)]
+pub(crate) struct Missing {
+    pub count: usize,
+    // Where the first one ends.
+    pub first: Option<Place>,
+}
+
 // A step that has not ended.
 #[derive(Drop)]
 pub(crate) struct Step<A: Allocator = Global> {
-    variables: u32,
     clause: Vec<Literal, A>,
     deletes: bool,
+    missing: Missing,
 }
 
 impl<A: Allocator + Copy> Step<A> {
-    // The first one of a proof about so many variables.
-    pub(crate) fn new(alloc: A, variables: u32) -> Self {
+    // The first one of a proof.
+    pub(crate) fn new(alloc: A) -> Self {
         Step {
-            variables,
             clause: Vec::new(alloc),
             deletes: false,
+            missing: Missing {
+                count: 0,
+                first: None,
+            },
         }
+    }
+
+    // Which deletions were passed over.
+    pub(crate) fn missing(&self) -> Missing {
+        self.missing
     }
 
     // Whether it has a literal, or is a deletion.
@@ -44,52 +60,51 @@ impl<A: Allocator + Copy> Step<A> {
 
     // A literal more.
     pub(crate) fn push(&mut self, number: u64, positive: bool) -> Result<(), Stop> {
-        let l = literal(number, positive, self.variables)?;
+        let l = literal(number, positive)?;
         self.clause.push(l)?;
         Ok(())
     }
 
-    // Ends it, and begins the next one.
-    pub(crate) fn end(&mut self, checker: &mut Checker<A>) -> Result<(), Stop>
+    // Ends it at a place, and begins the next one. A deletion of a clause that is not held is passed over.
+    pub(crate) fn end(&mut self, checker: &mut Checker<A>, place: Place) -> Result<(), Stop>
         ensures { Keeps checker.old checker.new }
     {
-        take_clause(checker, &self.clause, self.deletes)?;
+        if self.deletes {
+            let found = checker.delete(&self.clause)?;
+            self.count_missing(found, place);
+        } else {
+            let shown = checker.add(&self.clause)?;
+            if !shown {
+                return Err(Stop::Refused(Flaw::NotShown));
+            }
+        }
         self.deletes = false;
         self.clause.clear();
         Ok(())
     }
-}
 
-// Adds a clause to a checker, or deletes it.
-fn take_clause<A: Allocator + Copy>(
-    checker: &mut Checker<A>,
-    clause: &[Literal],
-    deletes: bool,
-) -> Result<(), Stop>
-    ensures { Keeps checker.old checker.new }
-{
-    if deletes {
-        let found = checker.delete(clause)?;
-        return if found {
-            Ok(())
-        } else {
-            Err(Stop::Refused(Flaw::Missing))
+    // Counts a deletion whose clause was not found.
+    fn count_missing(&mut self, found: bool, place: Place) {
+        if found {
+            return;
+        }
+        let Missing { count, first } = self.missing;
+        self.missing = Missing {
+            count: count.saturating_add(1),
+            first: first.or(Some(place)),
         };
     }
-    let shown = checker.add(clause)?;
-    if shown {
-        Ok(())
-    } else {
-        Err(Stop::Refused(Flaw::NotShown))
-    }
 }
 
-// The literal of a variable's number, where there are so many variables.
-fn literal(number: u64, positive: bool, variables: u32) -> Result<Literal, Flaw>
+// The literal of a variable's number.
+pub(crate) fn literal(number: u64, positive: bool) -> Result<Literal, Flaw>
     ensures { IfOk result (λ l. l ≡ record { variable = number - 1; positive = positive }) }
 {
-    if number == 0 || number > GREATEST_NUMBER || number > u64::from(variables) {
+    if number == 0 {
         return Err(Flaw::Variable);
+    }
+    if number > GREATEST_NUMBER {
+        return Err(Flaw::Number);
     }
     Ok(Literal::new((number - 1) as u32, positive))
 }

@@ -7,8 +7,10 @@ ghost use Rattle.gipsat_drat.specs.Held.{IsRightOf};
 ghost use Rattle.gipsat_drat.specs.Outcomes.{IsRight, WritesOutcome};
 
 use crate::checker::Checker;
-use crate::error::{DratError, Failure, Outcome};
-use crate::form::{START_SIZE, form_of};
+use crate::error::{DratError, Failure, OtherForm, Outcome};
+use crate::form::{Form, form_of};
+use crate::lrat::LratChecker;
+use crate::lrat_parser::LratParser;
 use crate::parser::Parser;
 use gipsat_cnf::Cnf;
 use gipsat_dimacs::{DimacsError, Reason, read_instance};
@@ -18,11 +20,12 @@ use std::io::{Read, Write};
 // How many bytes are asked for at a time.
 const BUFFER_SIZE: usize = 65_536;
 
-/// Reads a formula in the DIMACS form, and in the DRAT form, as text or binary, a proof that nothing satisfies it;
-/// checks that, and writes `s VERIFIED` or `s NOT VERIFIED`.
+/// Reads a formula in the DIMACS form, and in the DRAT or LRAT form, as text or binary, a proof that nothing satisfies
+/// it; checks that, and writes `s VERIFIED` or `s NOT VERIFIED`.
 ///
-/// Each clause that the proof adds has to be RUP, or RAT on its first literal. The proof is read until the empty clause
-/// is shown, or to its end; where the formula shows it by itself, no byte of the proof is read.
+/// Each clause that the proof adds has to be RUP, or RAT on its first literal; an LRAT proof has hints that show it. The
+/// proof is read until the empty clause is shown, or to its end. Of a DRAT proof only the first bytes are read, and they
+/// may be any, where the formula shows the empty clause by itself.
 ///
 /// # Errors
 /// - [`DratError::Formula`] where the formula is not read, as in [`read_instance`].
@@ -57,7 +60,7 @@ pub fn check_text<A: Allocator + Copy, F: Read, P: Read, W: Write>(
     }
 }
 
-// Checks a proof that nothing satisfies a formula.
+// Checks a proof that nothing satisfies a formula, whatever form it has.
 fn check<A: Allocator + Copy, P: Read>(
     alloc: A,
     formula: Cnf<A>,
@@ -65,16 +68,70 @@ fn check<A: Allocator + Copy, P: Read>(
 ) -> Result<Outcome, Failure>
     ensures { IfOk result (IsRight formula) }
 {
-    let variables = formula.variables() as u32;
-    let mut checker = Checker::over(alloc, formula)?;
-    check_proof(alloc, &mut checker, variables, proof)
+    let start = read_start(alloc, proof)?;
+    match form_of(&start, formula.len()) {
+        Ok(Form::LratText) => {
+            let parser = LratParser::of_text(alloc);
+            check_hinted(alloc, formula, parser, &start, proof)
+        }
+        Ok(Form::LratBinary) => {
+            let parser = LratParser::of_bytes(alloc);
+            check_hinted(alloc, formula, parser, &start, proof)
+        }
+        form => check_plain(alloc, formula, form, &start, proof),
+    }
 }
 
-// Reads a proof and checks it. Where what is held is refuted by itself, none is read.
-fn check_proof<A: Allocator + Copy, P: Read>(
+// Checks a proof with hints, which has begun with some bytes.
+fn check_hinted<A: Allocator + Copy, P: Read>(
+    alloc: A,
+    formula: Cnf<A>,
+    mut parser: LratParser<A>,
+    start: &[u8],
+    proof: &mut P,
+) -> Result<Outcome, Failure>
+    ensures { IfOk result (IsRight formula) }
+{
+    let mut checker = LratChecker::over(alloc, formula)?;
+    check_hinted_steps(alloc, &mut checker, &mut parser, start, proof)
+}
+
+// Checks a proof with hints, which has begun with some bytes.
+fn check_hinted_steps<A: Allocator + Copy, P: Read>(
+    alloc: A,
+    checker: &mut LratChecker<A>,
+    parser: &mut LratParser<A>,
+    start: &[u8],
+    proof: &mut P,
+) -> Result<Outcome, Failure>
+    ensures { IfOk result (IsRightOf checker.old) }
+{
+    if let Err(stop) = parser.feed(checker, start) {
+        return stop.at(parser.place());
+    }
+    check_hinted_rest(alloc, checker, parser, proof)
+}
+
+// Checks a proof without hints, which has begun with some bytes. Where the formula is refuted by itself, they may be any.
+fn check_plain<A: Allocator + Copy, P: Read>(
+    alloc: A,
+    formula: Cnf<A>,
+    form: Result<Form, OtherForm>,
+    start: &[u8],
+    proof: &mut P,
+) -> Result<Outcome, Failure>
+    ensures { IfOk result (IsRight formula) }
+{
+    let mut checker = Checker::over(alloc, formula)?;
+    check_steps(alloc, &mut checker, form, start, proof)
+}
+
+// Checks a proof without hints, which has begun with some bytes.
+fn check_steps<A: Allocator + Copy, P: Read>(
     alloc: A,
     checker: &mut Checker<A>,
-    variables: u32,
+    form: Result<Form, OtherForm>,
+    start: &[u8],
     proof: &mut P,
 ) -> Result<Outcome, Failure>
     ensures { IfOk result (IsRightOf checker.old) }
@@ -82,38 +139,67 @@ fn check_proof<A: Allocator + Copy, P: Read>(
     if checker.is_refuted() {
         return Ok(Outcome::Verified);
     }
-    let start = read_start(alloc, proof)?;
-    let mut parser = Parser::new(alloc, form_of(&start)?, variables);
-    if let Err(stop) = parser.feed(checker, &start) {
+    let mut parser = match form? {
+        Form::Binary | Form::LratBinary => Parser::of_bytes(alloc),
+        Form::Text | Form::LratText => Parser::of_text(alloc),
+    };
+    if let Err(stop) = parser.feed(checker, start) {
         return stop.at(parser.place());
     }
     check_rest(alloc, checker, &mut parser, proof)
 }
 
-// The first bytes of a proof: as many as tell its form, or all of one that is shorter.
+// The first bytes of a proof: so many at least, or all of one that is shorter.
 fn read_start<A: Allocator + Copy, P: Read>(
     alloc: A,
     proof: &mut P,
 ) -> Result<Vec<u8, A>, Failure> {
     let mut start = Vec::new(alloc);
-    let mut buf = [0u8; START_SIZE];
-    for _ in 0..START_SIZE {
+    let mut buf = zeros(alloc, BUFFER_SIZE)?;
+    for _ in 0..BUFFER_SIZE {
         let Ok(n) = proof.read(&mut buf) else {
             return Err(Failure::Proof);
         };
         start.extend_from_slice(&buf[..n])?;
-        if n == 0 || start.len() >= START_SIZE {
+        if n == 0 || start.len() >= BUFFER_SIZE {
             break;
         }
     }
     Ok(start)
 }
 
-// Reads the rest of a proof, as far as the empty clause, and checks it.
+// Reads the rest of a proof without hints, as far as the empty clause, and checks it.
 fn check_rest<A: Allocator + Copy, P: Read>(
     alloc: A,
     checker: &mut Checker<A>,
     parser: &mut Parser<A>,
+    proof: &mut P,
+) -> Result<Outcome, Failure>
+    ensures { IfOk result (IsRightOf checker.old) }
+{
+    let mut buf = zeros(alloc, BUFFER_SIZE)?;
+    for _ in 0..u64::MAX {
+        if checker.is_refuted() {
+            return Ok(Outcome::Verified);
+        }
+        let Ok(n) = proof.read(&mut buf) else {
+            return Err(Failure::Proof);
+        };
+        if n == 0 {
+            return parser.finish(checker);
+        }
+        if let Err(stop) = parser.feed(checker, &buf[..n]) {
+            return stop.at(parser.place());
+        }
+    }
+    Err(Failure::Proof)
+}
+
+// Reads the rest of a proof with hints, as far as the empty clause, and checks it.
+fn check_hinted_rest<A: Allocator + Copy, P: Read>(
+    alloc: A,
+    checker: &mut LratChecker<A>,
+    parser: &mut LratParser<A>,
     proof: &mut P,
 ) -> Result<Outcome, Failure>
     ensures { IfOk result (IsRightOf checker.old) }

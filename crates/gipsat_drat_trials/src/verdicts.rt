@@ -97,14 +97,14 @@ const REFUSED: [(&[u8], &[u8], usize, Flaw); 19] = [
     (
         b"p cnf 2 2\n1 1 2 0 2 1 0\n",
         b"d 1 2 0\nd 2 1 0\nd 1 2 0\n",
-        3,
-        Flaw::Missing,
+        4,
+        Flaw::Unfinished,
     ),
     // What was tried before is taken back.
     (SEVEN, b"1 2 0\n-3 0\n", 2, Flaw::NotShown),
-    // A deletion of what is not there, or not there any more.
-    (EIGHT, b"\nd 1 2 0\n", 2, Flaw::Missing),
-    (EIGHT, b"d 1 2 3 0\nd 3 2 1 0\n", 2, Flaw::Missing),
+    // A deletion of what is not there, or not there any more, is passed over.
+    (EIGHT, b"\nd 1 2 0\n", 3, Flaw::Unfinished),
+    (EIGHT, b"d 1 2 3 0\nd 3 2 1 0\n1 2 0\n", 3, Flaw::NotShown),
     // The end.
     (EIGHT, b"", 1, Flaw::Unfinished),
     (EIGHT, b"1 2 0\n", 2, Flaw::Unfinished),
@@ -115,7 +115,8 @@ const REFUSED: [(&[u8], &[u8], usize, Flaw); 19] = [
     (EIGHT, b"d d 1 2 3 0\n", 1, Flaw::Word),
     (EIGHT, b"1 - 2 0\n", 1, Flaw::Word),
     (EIGHT, b"1 -0\n", 1, Flaw::Variable),
-    (EIGHT, b"c\nc\n1 4 0\n", 3, Flaw::Variable),
+    // A variable that the formula has not.
+    (EIGHT, b"c\nc\n4 0\n-4 0\n", 4, Flaw::NotShown),
     (EIGHT, b"1 2147483648 0\n", 1, Flaw::Number),
 ];
 

@@ -1,9 +1,0 @@
--- What is told of what is held at first is told of the formula.
-use Rattle.std.proofs.lemmas.Result.{IfOk-weaker}
-use Rattle.gipsat_drat.proofs.OutcomeLemmas.{IsRight-of, IsRightOf-before}
-use Rattle.gipsat_drat.proofs.task.check.Goals as goal
-
-pub returns : goal.returns
-returns g c =
-    IfOk-weaker c.check_proof.result _ _
-    (λ outcome right. IsRight-of c.args.formula outcome (IsRightOf-before _ _ outcome c.in_ok-checker.ensures right)) c.check_proof.ensures
