@@ -6,8 +6,8 @@ ghost use Rattle.gipsat_drat.specs.Held.{IsRightOf, Keeps};
 
 use crate::checker::Checker;
 use crate::codes::Codes;
-use crate::error::{Failure, Flaw, Outcome, Place, Stop};
-use crate::step::{GREATEST_NUMBER, Missing, Step};
+use crate::error::{Failure, Flaw, Notes, Outcome, Place, Stop};
+use crate::step::{GREATEST_NUMBER, Step};
 use std::alloc::{Allocator, Global};
 
 // The greatest code.
@@ -36,9 +36,9 @@ impl<A: Allocator + Copy> BinaryParser<A> {
         self.codes.place()
     }
 
-    // Which deletions were passed over.
-    pub(crate) fn missing(&self) -> Missing {
-        self.step.missing()
+    // What was passed over.
+    pub(crate) fn notes(&self) -> Notes {
+        self.step.notes()
     }
 
     // Reads some bytes more, as far as the empty clause.

@@ -100,6 +100,25 @@ impl fmt::Display for Refusal {
     }
 }
 
+/// What a check of a DRAT proof passed over: deletions of clauses that were not held.
+#[derive(Clone, Copy)]
+pub struct Notes {
+    /// How many there are.
+    pub missing: usize,
+    /// Where the first one ends.
+    pub first: Option<Place>,
+}
+
+impl Notes {
+    /// Before a check.
+    pub fn new() -> Self {
+        Notes {
+            missing: 0,
+            first: None,
+        }
+    }
+}
+
 /// What was found out about a proof.
 #[derive(Clone, Copy, Debug, PartialEq, Eq, Hash)]
 pub enum Outcome {

@@ -25,5 +25,5 @@ mod watches;
 mod words;
 
 pub use checker::Checker;
-pub use error::{DratError, Flaw, OtherForm, Outcome, Place, Refusal};
-pub use task::check_text;
+pub use error::{DratError, Flaw, Notes, OtherForm, Outcome, Place, Refusal};
+pub use task::{check_text, check_text_noting};

@@ -126,7 +126,11 @@ fn read_words<A: Allocator + Copy>(
     start: usize,
 ) -> Result<Option<usize>, Stop> {
     for place in start..bytes.len() {
-        let word = words.byte(bytes[place])?;
+        let byte = bytes[place];
+        if words.digit(byte) {
+            continue;
+        }
+        let word = words.byte(byte)?;
         if take_word(step, word)? {
             return Ok(Some(place + 1));
         }

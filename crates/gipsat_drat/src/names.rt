@@ -37,11 +37,6 @@ impl<A: Allocator + Copy> Names<A> {
         })
     }
 
-    // How many clauses there are.
-    pub(crate) fn len(&self) -> usize {
-        self.len
-    }
-
     // The place where the search for a name begins.
     #[inline]
     fn first(&self, name: u64) -> usize {

@@ -4,8 +4,7 @@ ghost use Rattle.gipsat_drat.specs.Held.{IsRightOf, Keeps};
 
 use crate::binary::BinaryParser;
 use crate::checker::Checker;
-use crate::error::{Failure, Outcome, Place, Stop};
-use crate::step::Missing;
+use crate::error::{Failure, Notes, Outcome, Place, Stop};
 use crate::text::TextParser;
 use std::alloc::{Allocator, Global};
 
@@ -27,11 +26,11 @@ impl<A: Allocator + Copy> Parser<A> {
         Parser::Binary(BinaryParser::new(alloc))
     }
 
-    // Which deletions were passed over.
-    pub(crate) fn missing(&self) -> Missing {
+    // What was passed over.
+    pub(crate) fn notes(&self) -> Notes {
         match self {
-            Parser::Text(parser) => parser.missing(),
-            Parser::Binary(parser) => parser.missing(),
+            Parser::Text(parser) => parser.notes(),
+            Parser::Binary(parser) => parser.notes(),
         }
     }
 

@@ -3,27 +3,19 @@ ghost use Rattle.std.specs.Prelude.{◌≡◌, ◌-◌, IfOk};
 ghost use Rattle.gipsat_drat.specs.Held.{Keeps};
 
 use crate::checker::Checker;
-use crate::error::{Flaw, Place, Stop};
+use crate::error::{Flaw, Notes, Place, Stop};
 use gipsat_cnf::Literal;
 use std::alloc::{Allocator, Global};
 
 // The greatest number of a variable that a proof may name.
 pub(crate) const GREATEST_NUMBER: u64 = 2_147_483_647;
 
-// Deletions of clauses that are not held.
-#[derive(Clone, Copy)]
-pub(crate) struct Missing {
-    pub count: usize,
-    // Where the first one ends.
-    pub first: Option<Place>,
-}
-
 // A step that has not ended.
 #[derive(Drop)]
 pub(crate) struct Step<A: Allocator = Global> {
     clause: Vec<Literal, A>,
     deletes: bool,
-    missing: Missing,
+    notes: Notes,
 }
 
 impl<A: Allocator + Copy> Step<A> {
@@ -32,16 +24,13 @@ impl<A: Allocator + Copy> Step<A> {
         Step {
             clause: Vec::new(alloc),
             deletes: false,
-            missing: Missing {
-                count: 0,
-                first: None,
-            },
+            notes: Notes::new(),
         }
     }
 
-    // Which deletions were passed over.
-    pub(crate) fn missing(&self) -> Missing {
-        self.missing
+    // What was passed over.
+    pub(crate) fn notes(&self) -> Notes {
+        self.notes
     }
 
     // Whether it has a literal, or is a deletion.
@@ -88,9 +77,9 @@ impl<A: Allocator + Copy> Step<A> {
         if found {
             return;
         }
-        let Missing { count, first } = self.missing;
-        self.missing = Missing {
-            count: count.saturating_add(1),
+        let Notes { missing, first } = self.notes;
+        self.notes = Notes {
+            missing: missing.saturating_add(1),
             first: first.or(Some(place)),
         };
     }

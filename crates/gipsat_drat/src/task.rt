@@ -7,7 +7,7 @@ ghost use Rattle.gipsat_drat.specs.Held.{IsRightOf};
 ghost use Rattle.gipsat_drat.specs.Outcomes.{IsRight, WritesOutcome};
 
 use crate::checker::Checker;
-use crate::error::{DratError, Failure, OtherForm, Outcome};
+use crate::error::{DratError, Failure, Notes, OtherForm, Outcome};
 use crate::form::{Form, form_of};
 use crate::lrat::LratChecker;
 use crate::lrat_parser::LratParser;
@@ -52,8 +52,34 @@ pub fn check_text<A: Allocator + Copy, F: Read, P: Read, W: Write>(
         WritesNone Strict (F.remaining formula.old) }
     ensures unwritten { IfErr result (λ error. error ≢ DratError.Output → writer.new ≡ writer.old) }
 {
+    let mut notes = Notes::new();
+    check_text_noting(alloc, formula, proof, writer, &mut notes)
+}
+
+/// Does what [`check_text`] does, and notes what was passed over.
+///
+/// # Errors
+/// As [`check_text`].
+pub fn check_text_noting<A: Allocator + Copy, F: Read, P: Read, W: Write>(
+    alloc: A,
+    formula: &mut F,
+    proof: &mut P,
+    writer: &mut W,
+    notes: &mut Notes,
+) -> Result<Outcome, DratError>
+    // Success means that all of a formula of the form was read, and that a right outcome and nothing else was written.
+    ensures read_to_end { OnOk result (IsAtEnd (F.remaining formula.new)) }
+    ensures has_form { OnOk result (HasForm Strict (F.remaining formula.old)) }
+    ensures written { IfOk result (λ outcome. OfProblem Strict (F.remaining formula.old)
+        (λ problem. WritesOutcome problem outcome (W.contents writer.old) (W.contents writer.new))) }
+
+    // When the formula is refused, and what was written then.
+    ensures line { (line : ℕ) (reason : Reason) → IsErrOf result (DratError.Formula (DimacsError.Line line reason)) →
+        WritesNone Strict (F.remaining formula.old) }
+    ensures unwritten { IfErr result (λ error. error ≢ DratError.Output → writer.new ≡ writer.old) }
+{
     let instance = read_instance(alloc, formula)?;
-    let outcome = check(alloc, instance.clauses, proof)?;
+    let outcome = check(alloc, instance.clauses, proof, notes)?;
     match writer.write_all(outcome.text()) {
         Ok(()) => Ok(outcome),
         Err(_) => Err(DratError::Output),
@@ -65,6 +91,7 @@ fn check<A: Allocator + Copy, P: Read>(
     alloc: A,
     formula: Cnf<A>,
     proof: &mut P,
+    notes: &mut Notes,
 ) -> Result<Outcome, Failure>
     ensures { IfOk result (IsRight formula) }
 {
@@ -78,7 +105,7 @@ fn check<A: Allocator + Copy, P: Read>(
             let parser = LratParser::of_bytes(alloc);
             check_hinted(alloc, formula, parser, &start, proof)
         }
-        form => check_plain(alloc, formula, form, &start, proof),
+        form => check_plain(alloc, formula, form, &start, proof, notes),
     }
 }
 
@@ -119,11 +146,12 @@ fn check_plain<A: Allocator + Copy, P: Read>(
     form: Result<Form, OtherForm>,
     start: &[u8],
     proof: &mut P,
+    notes: &mut Notes,
 ) -> Result<Outcome, Failure>
     ensures { IfOk result (IsRight formula) }
 {
     let mut checker = Checker::over(alloc, formula)?;
-    check_steps(alloc, &mut checker, form, start, proof)
+    check_steps(alloc, &mut checker, form, start, proof, notes)
 }
 
 // Checks a proof without hints, which has begun with some bytes.
@@ -133,6 +161,7 @@ fn check_steps<A: Allocator + Copy, P: Read>(
     form: Result<Form, OtherForm>,
     start: &[u8],
     proof: &mut P,
+    notes: &mut Notes,
 ) -> Result<Outcome, Failure>
     ensures { IfOk result (IsRightOf checker.old) }
 {
@@ -143,10 +172,25 @@ fn check_steps<A: Allocator + Copy, P: Read>(
         Form::Binary | Form::LratBinary => Parser::of_bytes(alloc),
         Form::Text | Form::LratText => Parser::of_text(alloc),
     };
+    let outcome = check_parsed(alloc, checker, &mut parser, start, proof);
+    *notes = parser.notes();
+    outcome
+}
+
+// Checks a proof without hints, which has begun with some bytes.
+fn check_parsed<A: Allocator + Copy, P: Read>(
+    alloc: A,
+    checker: &mut Checker<A>,
+    parser: &mut Parser<A>,
+    start: &[u8],
+    proof: &mut P,
+) -> Result<Outcome, Failure>
+    ensures { IfOk result (IsRightOf checker.old) }
+{
     if let Err(stop) = parser.feed(checker, start) {
         return stop.at(parser.place());
     }
-    check_rest(alloc, checker, &mut parser, proof)
+    check_rest(alloc, checker, parser, proof)
 }
 
 // The first bytes of a proof: so many at least, or all of one that is shorter.

@@ -3,8 +3,8 @@ ghost use Rattle.std.specs.Prelude.{IfOk};
 ghost use Rattle.gipsat_drat.specs.Held.{IsRightOf, Keeps};
 
 use crate::checker::Checker;
-use crate::error::{Failure, Flaw, Outcome, Place, Stop};
-use crate::step::{GREATEST_NUMBER, Missing, Step};
+use crate::error::{Failure, Flaw, Notes, Outcome, Place, Stop};
+use crate::step::{GREATEST_NUMBER, Step};
 use crate::words::{Word, Words};
 use std::alloc::{Allocator, Global};
 
@@ -29,9 +29,9 @@ impl<A: Allocator + Copy> TextParser<A> {
         self.words.place()
     }
 
-    // Which deletions were passed over.
-    pub(crate) fn missing(&self) -> Missing {
-        self.step.missing()
+    // What was passed over.
+    pub(crate) fn notes(&self) -> Notes {
+        self.step.notes()
     }
 
     // Reads some bytes more, as far as the empty clause.

@@ -2,6 +2,9 @@
 
 use crate::error::{Flaw, Place};
 
+// With a digit more than a number below, each text may have it.
+const SMALL: u64 = 200_000_000;
+
 // A word, or what there is of one.
 #[derive(Clone, Copy)]
 pub(crate) enum Word {
@@ -47,6 +50,23 @@ impl Words {
     // The line of the byte that was read last.
     pub(crate) fn place(&self) -> Place {
         Place::Line(self.line)
+    }
+
+    // Reads a byte more, if it is a digit of a number that is small so far. Whether it is.
+    #[inline]
+    pub(crate) fn digit(&mut self, byte: u8) -> bool {
+        if !byte.is_ascii_digit() {
+            return false;
+        }
+        let Word::Number { positive, value } = self.word else {
+            return false;
+        };
+        if value >= SMALL {
+            return false;
+        }
+        let value = value * 10 + u64::from(byte - b'0');
+        self.word = Word::Number { positive, value };
+        true
     }
 
     // Reads a byte more: the word that ends before it.

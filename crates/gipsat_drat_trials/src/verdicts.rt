@@ -1,7 +1,7 @@
 //! Proofs that are verified, and proofs that are refused.
 
 use gipsat_dimacs::{DimacsError, Reason};
-use gipsat_drat::{DratError, Flaw, Outcome, Place, Refusal, check_text};
+use gipsat_drat::{DratError, Flaw, Notes, Outcome, Place, Refusal, check_text, check_text_noting};
 use giputils_refusing::devices::{Failure, Sink, Source};
 use std::alloc::Global;
 use std::io::ErrorKind;
@@ -126,6 +126,24 @@ fn names_the_line_and_the_flaw(rt: HostRuntime) {
         let found = refusal(rt.alloc(), formula, proof);
         assert!(rt; found == Some((line, flaw)), "{proof:?}");
     }
+}
+
+#[test]
+fn notes_what_was_passed_over(rt: HostRuntime) {
+    let mut formula = EIGHT;
+    let mut proof = b"1 2 0\nd 1 5 0\nd 3 0\n1 0\n2 0\n".as_slice();
+    let mut writer = Vec::new(rt.alloc());
+    let mut notes = Notes::new();
+    let outcome = check_text_noting(
+        rt.alloc(),
+        &mut formula,
+        &mut proof,
+        &mut writer,
+        &mut notes,
+    );
+    assert!(rt; outcome == Ok(Outcome::Verified));
+    assert!(rt; notes.missing == 2);
+    assert!(rt; notes.first == Some(Place::Line(2)));
 }
 
 #[test]

@@ -4,7 +4,7 @@ use Rattle.std.specs.Io.KnownBytes.{Appends}
 use Rattle.gipsat_drat.specs.Outcomes.{WritesOutcome}
 use Rattle.gipsat_dimacs.proofs.Problems.{of_problem}
 use Rattle.gipsat_drat.proofs.OutcomeLemmas.{not_formula}
-use Rattle.gipsat_drat.proofs.task.check_text.Goals as goal
+use Rattle.gipsat_drat.proofs.task.check_text_noting.Goals as goal
 
 pub returns-in-Ok-clause-written : goal.returns-in-Ok-clause-written
 returns-in-Ok-clause-written g c =
