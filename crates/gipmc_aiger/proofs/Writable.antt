@@ -1,8 +1,9 @@
 -- The two forms have room for each circuit that is well-formed, if its numbers are small enough.
-use Rattle.std.proofs.Common.{◌≡◌, ⊎_elim, ℕ, zero, suc, ◌+◌, ◌<◌, ◌≤◌, ◌^◌, ◌&&◌, ◌||◌, max, Bool, true, false, not, List, [], ◌∷◌, eqb, length, map, IsTrue, arith, refl, sym, subst}
+use Rattle.std.proofs.Common.{◌≡◌, ⊎_elim, ℕ, zero, suc, ◌+◌, ◌<◌, ◌≤◌, ◌^◌, ◌&&◌, ◌||◌, max, Bool, true, false, not, List, [], ◌∷◌, eqb, length, map, IsTrue, arith, refl, sym, subst, ◌∙◌}
+use Rattle.std.specs.Prelude.{nat_le, nat_lt}
 use Rattle.std.specs.List.{list_all}
 use Rattle.std.proofs.Math.Nat.{le-max_left, le-max_right, le_refl}
-use Rattle.std.proofs.lemmas.Bool.{and_parts, eqb-true, false≢true, or_cases, or_right}
+use Rattle.std.proofs.lemmas.Bool.{and_from, and_parts, eqb-true, false≢true, or_cases, or_right}
 use Rattle.gipsat_cnf.specs.Literals.{Lit}
 use Rattle.gipmc_circuits.specs.declared.circuit.And.{And}
 use Rattle.gipmc_circuits.specs.declared.circuit.Circuit.{Circuit}
@@ -10,7 +11,7 @@ use Rattle.gipmc_circuits.specs.declared.circuit.Latch.{Latch}
 use Rattle.gipmc_circuits.specs.WellFormed.{are_in_order, are_new, is_constant, is_source, is_variable, is_well_formed, latch_variables, uses_defined, with_variable, with_variables}
 use Rattle.gipmc_aiger.specs.CircuitTexts.{greatest_input, greatest_latch, greatest_output, greatest_variable}
 use Rattle.gipmc_aiger.specs.Lists.{Every}
-use Rattle.gipmc_aiger.specs.Writable.{FitsGate, FitsLatch, FitsLiteral, FitsVariable, IsWritable}
+use Rattle.gipmc_aiger.specs.Writable.{FitsGate, FitsLatch, FitsLiteral, FitsVariable, IsWritable, has_room}
 
 -- each variable for which the test passes is at most m
 abbrev AreWithin : ℕ → (ℕ → Bool) → Type 0
@@ -158,3 +159,40 @@ IsWritable-formed c formed small counts bads constraints =
       bad_count = bads;
       constraint_count = constraints;
     }
+
+is_less : (m n : ℕ) → nat_lt m n ≡ true → m < n
+is_less m n is = grind (arith, is)
+
+is_most : (m n : ℕ) → nat_le m n ≡ true → m ≤ n
+is_most m n is = grind (arith, is)
+
+less_is : (m n : ℕ) → m < n → nat_lt m n ≡ true
+less_is m n less = grind (arith, less)
+
+most_is : (m n : ℕ) → m ≤ n → nat_le m n ≡ true
+most_is m n most = grind (arith, most)
+
+-- a well-formed circuit whose numbers are small enough is writable
+pub IsWritable-room : {A : Type 0} (c : Circuit A) → IsTrue (is_well_formed c) → IsTrue (has_room c) → IsWritable c
+IsWritable-room c formed room =
+    let rows = length c.inputs.items + length c.latches.items + length c.gates.items in
+    let m = greatest_variable c in
+    let bads = nat_lt (length c.bads.items) (2 ^ 31) in
+    let constraints = nat_lt (length c.constraints.items) (2 ^ 31) in
+    let (first, second) = and_parts (nat_lt m (2 ^ 31) && nat_le rows m) (bads && constraints) room in
+    let (small, counts) = and_parts (nat_lt m (2 ^ 31)) (nat_le rows m) first in
+    let (few_bads, few_constraints) = and_parts bads constraints second in
+    IsWritable-formed c formed (is_less m (2 ^ 31) small) (is_most rows m counts) (is_less (length c.bads.items) (2 ^ 31) few_bads)
+    (is_less (length c.constraints.items) (2 ^ 31) few_constraints)
+
+-- no other circuit is
+pub room-IsWritable : {A : Type 0} (c : Circuit A) → has_room c ≡ false → ¬ (IsWritable c)
+room-IsWritable c none is =
+    let rows = length c.inputs.items + length c.latches.items + length c.gates.items in
+    let m = greatest_variable c in
+    let bads = nat_lt (length c.bads.items) (2 ^ 31) in
+    let constraints = nat_lt (length c.constraints.items) (2 ^ 31) in
+    false≢true (sym none ∙ and_from (nat_lt m (2 ^ 31) && nat_le rows m) (bads && constraints)
+    (and_from (nat_lt m (2 ^ 31)) (nat_le rows m) (less_is m (2 ^ 31) is.small) (most_is rows m is.counts))
+    (and_from bads constraints (less_is (length c.bads.items) (2 ^ 31) is.bad_count)
+    (less_is (length c.constraints.items) (2 ^ 31) is.constraint_count)))

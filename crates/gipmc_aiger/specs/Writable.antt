@@ -1,5 +1,5 @@
 -- Which circuits the two forms have room for.
-use Rattle.std.specs.Prelude.{ℕ, ◌+◌, ◌^◌, ◌<◌, ◌≤◌, length}
+use Rattle.std.specs.Prelude.{ℕ, ◌+◌, ◌^◌, ◌<◌, ◌≤◌, ◌&&◌, nat_le, nat_lt, Bool, length}
 use Rattle.gipmc_aiger.specs.Lists.{Every}
 use Rattle.gipsat_cnf.specs.Literals.{Lit}
 use Rattle.gipmc_circuits.specs.declared.circuit.And.{And}
@@ -35,3 +35,11 @@ pub record IsWritable {A : Type 0} (c : Circuit A) : Type 0 where
   pub counts : length c.inputs.items + length c.latches.items + length c.gates.items ≤ greatest_variable c
   pub bad_count : length c.bads.items < 2 ^ 31
   pub constraint_count : length c.constraints.items < 2 ^ 31
+
+-- the greatest variable is below 2^31, there are no more rows than that, and fewer than 2^31 bad literals and
+-- constraints
+abbrev pub has_room : {A : Type 0} → Circuit A → Bool
+has_room c =
+    (nat_lt (greatest_variable c) (2 ^ 31)
+    && nat_le (length c.inputs.items + length c.latches.items + length c.gates.items) (greatest_variable c))
+    && (nat_lt (length c.bads.items) (2 ^ 31) && nat_lt (length c.constraints.items) (2 ^ 31))

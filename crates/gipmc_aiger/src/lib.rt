@@ -19,4 +19,4 @@ pub use circuits::read_circuit;
 pub use error::{AigerError, Place, Reason};
 pub use invariant::{read_invariant, read_invariant_for, write_invariant};
 pub use witness::{Witness, read_witness, write_witness};
-pub use writer::{WriteError, write_aag, write_aig};
+pub use writer::{WriteError, is_writable, write_aag, write_aig};

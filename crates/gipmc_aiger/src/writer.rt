@@ -1,5 +1,5 @@
 //! A writer of circuits in both forms.
-ghost use Rattle.std.specs.Prelude.{◌≡◌, ◌==◌, ◌<◌, ◌+◌, ◌^◌, ◌++◌, ◌∷◌, [], ℕ, decimal, false, map, min};
+ghost use Rattle.std.specs.Prelude.{◌≡◌, ◌==◌, ◌<◌, ◌+◌, ◌^◌, ◌++◌, ◌∷◌, [], ℕ, decimal, false, length, map, min, nat_le};
 ghost use Rattle.std.specs.Prelude.{IfOk, IsErrOf, IsTrue, None, OnErr, OnOk, Some};
 ghost use Rattle.gipmc_aiger.specs.CircuitTexts.{aag_text, aig_text, and_line, and_lines, are_above, header_line};
 ghost use Rattle.gipmc_aiger.specs.CircuitTexts.{greatest_input, greatest_latch, greatest_output, greatest_variable};
@@ -7,9 +7,10 @@ ghost use Rattle.gipmc_aiger.specs.CircuitTexts.{input_lines, is_above, is_numbe
 ghost use Rattle.gipmc_aiger.specs.CircuitTexts.{literal_lines, literal_number, numbered_behind, reset_number};
 ghost use Rattle.gipmc_aiger.specs.CircuitTexts.{packed_and, packed_ands, packed_header_line, packed_latch_line};
 ghost use Rattle.gipmc_aiger.specs.CircuitTexts.{packed_latch_lines};
+ghost use Rattle.gipmc_aiger.specs.Writable.{IsWritable, has_room};
 ghost use Rattle.giputils_text.specs.Groups.{groups};
 
-use gipmc_circuits::{And, Circuit, Latch};
+use gipmc_circuits::{And, Circuit, Latch, Netlist};
 use gipsat_cnf::Literal;
 use giputils_text::write_groups;
 use std::alloc::{AllocError, AllocFailed, Allocator};
@@ -34,6 +35,38 @@ pub fn write_aag<A: Allocator + Copy>(
     write_literals(&mut text, &circuit.constraints)?;
     write_ands(&mut text, &circuit.gates)?;
     Ok(text)
+}
+
+/// Whether the forms have room for a circuit: its greatest variable is below 2^31, it has no more inputs, latches and
+/// gates than that, and fewer than 2^31 bad literals and constraints.
+pub fn is_writable<A: Allocator>(netlist: &Netlist<A>) -> bool
+    ensures yes { IsTrue result → IsWritable netlist.now.circuit }
+    ensures no { result ≡ false → ¬ (IsWritable netlist.now.circuit) }
+{
+    has_room(&netlist.circuit)
+}
+
+// Whether the circuit's numbers are small enough for the forms.
+fn has_room<A: Allocator>(circuit: &Circuit<A>) -> bool
+    ensures { result ≡ has_room circuit.now }
+{
+    let greatest = greatest_variable(circuit);
+    (greatest < 1 << 31 && has_rows(circuit, greatest as usize))
+        && (circuit.bads.len() < 1 << 31 && circuit.constraints.len() < 1 << 31)
+}
+
+// Whether the circuit has at most so many inputs, latches and gates.
+fn has_rows<A: Allocator>(circuit: &Circuit<A>, most: usize) -> bool
+    ensures { result ≡ nat_le (length circuit.now.inputs.items + length circuit.now.latches.items
+        + length circuit.now.gates.items) most }
+{
+    let Some(left) = most.checked_sub(circuit.inputs.len()) else {
+        return false;
+    };
+    let Some(left) = left.checked_sub(circuit.latches.len()) else {
+        return false;
+    };
+    circuit.gates.len() <= left
 }
 
 /// Why no text was written.
