@@ -140,8 +140,12 @@ try "a circuit that excludes all initial states" 1 "" "s NOT VERIFIED" "$kept" -
 printf '%b' 'aag 1 0 1 0 0 1\n2 2\n0\n' > cert.aag
 try "a circuit that excludes nothing" 1 "" "s NOT VERIFIED" "$kept" --certify cert.aag
 printf '%b' 'aag 2 0 2 0 0 1\n2 2\n4 4\n2\n' > cert.aag
-try "a circuit of more latches" 1 \
-    "cert.aag: not as many inputs and latches as the circuit has" "" "$kept" --certify cert.aag
+try "a circuit of more latches" 0 "" "s VERIFIED" "$kept" --certify cert.aag
+printf '%b' 'aag 3 0 3 0 0 1\n2 2\n4 4 6\n6 6 4\n2\n' > cert.aag
+try "a circuit of resets in a circle" 1 \
+    "cert.aag: a reset that depends on itself, or a name \`= n\` that does not fit" "" "$kept" --certify cert.aag
+printf '%b' 'aag 2 0 2 0 0 1\n2 2\n4 4\n4\nl1 = 2\n' > cert.aag
+try "a circuit whose second latch is the first one" 0 "" "s VERIFIED" "$kept" --certify cert.aag
 printf '%b' 'aag 1 0 1 0 0 1\n2 2\n' > cert.aag
 try "a circuit that ends too early" 1 "cert.aag: line 3: not a number" "" "$kept" --certify cert.aag
 

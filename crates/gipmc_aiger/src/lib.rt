@@ -11,12 +11,15 @@ mod numbers;
 mod order;
 mod place;
 mod rows;
+mod sharing;
 mod tails;
 pub mod witness;
+pub mod witness_circuits;
 pub mod writer;
 
 pub use circuits::read_circuit;
 pub use error::{AigerError, Place, Reason};
 pub use invariant::{read_invariant, read_invariant_for, write_invariant};
 pub use witness::{Witness, read_witness, write_witness};
+pub use witness_circuits::read_witness_circuit;
 pub use writer::{WriteError, is_writable, write_aag, write_aig};

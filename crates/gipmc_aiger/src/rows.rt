@@ -2,12 +2,13 @@
 ghost use Rattle.std.specs.Prelude.{◌≡◌, ◌<◌, ◌^◌, ℕ, List, Option, IfOk};
 ghost use Rattle.gipmc_aiger.specs.Reading.{Gives};
 ghost use Rattle.gipmc_aiger.specs.Circuits.{literal_of, variable_of, reset_of, defined_at, separated_at, input_at, latch_at, leading_at, literal_at, operands_at, written_operands_at, packed_operands_at, gate_at, rows_at};
+ghost use Rattle.gipmc_aiger.specs.WitnessCircuits.{register_at};
 ghost use Rattle.gipmc_aiger.specs.declared.header.Header.{Header};
 
 use crate::error::{Reason, Stop};
 use crate::header::{Form, Header};
 use crate::numbers::{NEWLINE, SPACE, delta, expected, number, optional};
-use gipmc_circuits::{And, Latch};
+use gipmc_circuits::{And, Latch, Register};
 use gipsat_cnf::Literal;
 use std::alloc::Allocator;
 
@@ -41,7 +42,7 @@ pub(crate) fn rows<'a, T: Row, A: Allocator>(
 }
 
 // The literal of a number: twice its variable, and 1 more for the negation.
-fn literal_of(code: u32) -> Literal
+pub(crate) fn literal_of(code: u32) -> Literal
     ensures { result ≡ literal_of code }
 {
     Literal::new(code / 2, code % 2 == 0)
@@ -142,6 +143,30 @@ impl Row for Latch {
             reset,
         };
         Ok((latch, rest))
+    }
+}
+
+impl Row for Register {
+    ghost says = { register_at };
+
+    #[tactic(auto, unfolding(crate::specs::WitnessCircuits::register_at))]
+    fn read<'a>(
+        header: &Header,
+        place: u32,
+        bytes: &'a [u8],
+    ) -> Result<(Register, &'a [u8]), Stop> {
+        let first = u64::from(header.sizes.inputs) + 1;
+        let (variable, rest) = defined(header, first + u64::from(place), bytes)?;
+        let rest = separated(header.form, SPACE, rest)?;
+        let (next, rest) = number(header.greatest_literal(), rest)?;
+        let (code, rest) = optional(header.greatest_literal(), rest)?;
+        let rest = expected(NEWLINE, Reason::Separator, rest)?;
+        let register = Register {
+            variable,
+            next: literal_of(next),
+            reset: literal_of(code.unwrap_or(0)),
+        };
+        Ok((register, rest))
     }
 }
 

@@ -27,7 +27,7 @@ pub(crate) fn tail(header: &Header, bytes: &[u8]) -> Result<(), Stop>
 }
 
 // Whether a comment begins with a line.
-fn begins_comment(line: &[u8]) -> bool
+pub(crate) fn begins_comment(line: &[u8]) -> bool
     ensures { result ≡ begins_comment line.now }
 {
     match line {
@@ -83,4 +83,4 @@ fn name(count: u32, bytes: &[u8]) -> Result<&[u8], Stop>
 }
 
 // The greatest place that a symbol may name.
-const GREATEST_PLACE: u32 = 2_147_483_647;
+pub(crate) const GREATEST_PLACE: u32 = 2_147_483_647;

@@ -1,12 +1,13 @@
 -- Certificates that a circuit is safe, as texts.
 use Rattle.std.specs.Prelude.{◌≡◌, ◌<◌, ℕ, List, length, slice_get, Option, Some, None}
 use Rattle.gipsat_cnf.specs.Literals.{Lit}
-use Rattle.gipmc_aiger.specs.Circuits.{Writes}
 use Rattle.gipmc_aiger.specs.Invariants.{clauses_view, invariant_for}
+use Rattle.gipmc_aiger.specs.WitnessCircuits.{WritesWitness}
 use Rattle.gipmc_circuits.specs.Certificate.{IsSafeByClauses}
 use Rattle.gipmc_circuits.specs.Circuit.{IsSafe}
-use Rattle.gipmc_circuits.specs.Extension.{IsCertifiedBy}
+use Rattle.gipmc_circuits.specs.WitnessCircuits.{IsCertifiedBy}
 use Rattle.gipmc_circuits.specs.declared.circuit.Circuit.{Circuit}
+use Rattle.gipmc_circuits.specs.declared.witness_circuit.WitnessCircuit.{WitnessCircuit}
 use Rattle.gipmc_answers.specs.Answers.{IsCircuitIn}
 use Rattle.gipmc_answers.specs.declared.certificates.Certificate.{Certificate}
 use Rattle.gipmc_answers.specs.declared.certificates.Certificate.TheVariants as certificate
@@ -14,16 +15,16 @@ use Rattle.gipmc_answers.specs.declared.certificates.Certificate.TheVariants as 
 -- the text writes the certificate: clauses over the latches of the circuit, or another circuit
 abbrev pub IsCertificateIn : {A B : Type 0} → Circuit A → List ℕ → Certificate B → Type 0
 IsCertificateIn c text (certificate.Clauses clauses) = invariant_for c text ≡ Some (clauses_view clauses.items)
-IsCertificateIn c text (certificate.Circuit other) = Writes text other.circuit
+IsCertificateIn c text (certificate.Circuit other) = WritesWitness text other
 
 -- by the other circuit it is safe as to the literal
-abbrev pub IsSafeByCircuit : {A B : Type 0} → Circuit A → Circuit B → Lit → Type 0
+abbrev pub IsSafeByCircuit : {A B : Type 0} → Circuit A → WitnessCircuit B → Lit → Type 0
 IsSafeByCircuit c other bad = IsCertifiedBy c bad other × IsSafe c bad
 
 -- by the certificate the circuit is safe as to the literal
 abbrev pub ShowsSafe : {A B : Type 0} → Circuit A → Certificate B → Lit → Type 0
 ShowsSafe c (certificate.Clauses clauses) bad = IsSafeByClauses c clauses.items bad
-ShowsSafe c (certificate.Circuit other) bad = IsSafeByCircuit c other.circuit bad
+ShowsSafe c (certificate.Circuit other) bad = IsSafeByCircuit c other bad
 
 -- the circuit has a bad literal at the place, and by the certificate it is safe as to it
 abbrev pub ShowsSafeAt : {A B : Type 0} → Circuit A → Certificate B → ℕ → Type 0

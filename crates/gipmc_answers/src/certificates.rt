@@ -1,35 +1,68 @@
 //! Certificates that a circuit is safe, from the bytes of texts to the answer.
-ghost use Rattle.std.specs.Prelude.{◌<◌, length, IfOk, IsTrue};
+ghost use Rattle.std.specs.Prelude.{◌<◌, length, IfNone, IfOk, IsTrue};
 ghost use Rattle.gipmc_answers.specs.Certificates.{Certifies, CertifiesCircuit, IsCertificateIn, ShowsSafeAll, ShowsSafeAsked, ShowsSafeAt};
 ghost use Rattle.gipmc_answers.specs.declared.certificates.Certificate.TheVariants as certificate;
 
 use crate::answers::netlist_in;
 use crate::error::TaskError;
-use gipmc_aiger::{read_circuit, read_invariant_for, write_invariant};
+use crate::strengthened::strengthened;
+use gipmc_aiger::{read_invariant_for, read_witness_circuit, write_aag, write_invariant};
 use gipmc_circuits::certificate::Verdict;
-use gipmc_circuits::{Circuit, Netlist, certify, certify_by};
+use gipmc_circuits::{Circuit, Netlist, WitnessCircuit, certify, certify_by};
 use gipsat_cnf::Literal;
 use gipsat_solver::Solver;
 use std::alloc::{AllocError, Allocator};
+use std::fmt::{self, Display};
 
 /// What may show that a circuit is safe.
 #[derive(Drop)]
 pub enum Certificate<A: Allocator> {
     /// The clauses of an invariant, over the circuit's variables.
     Clauses(Vec<Vec<Literal, A>, A>),
-    /// A circuit that tells where an invariant holds.
-    Circuit(Netlist<A>),
+    /// A circuit that tells where an invariant of both holds.
+    Circuit(WitnessCircuit<A>),
 }
 
-/// Whether the certificate that a text writes shows that the circuit of another text is safe: as to the bad literal at
-/// the place that is asked for, or as to all. Each question to the solver may learn `limit` clauses.
+/// Why a certificate is not known to show that a circuit is safe.
+#[derive(Clone, Copy, Debug, PartialEq, Eq)]
+pub struct Doubt {
+    /// The place of the bad literal that is asked about.
+    pub bad: usize,
+    /// What was found out. Its clauses are those of the certificate; of a circuit, what it claims of its bad literals and
+    /// then of its constraints.
+    pub verdict: Verdict,
+}
+
+/// A line that says which clause, counted from 1, and which question.
+impl Display for Doubt {
+    fn fmt<W: fmt::Write>(&self, f: &mut fmt::Formatter<W>) -> fmt::Result {
+        write!(f, "b{}: ", self.bad)?;
+        match self.verdict {
+            Verdict::Certified => write!(f, "it is certified"),
+            Verdict::NotInitial(place) => {
+                write!(
+                    f,
+                    "clause {} is false at an initial moment",
+                    place.saturating_add(1)
+                )
+            }
+            Verdict::NotInductive(place) => {
+                write!(
+                    f,
+                    "clause {} is not kept by a transition",
+                    place.saturating_add(1)
+                )
+            }
+            Verdict::NotSafe => write!(f, "the clauses allow a bad moment"),
+            Verdict::Unknown => write!(f, "a question was left open at the limit"),
+        }
+    }
+}
+
+/// Whether the certificate that a text writes shows that the circuit of another text is safe, as [`doubt_of`] finds out.
 ///
 /// # Errors
-/// - [`TaskError::Circuit`] and [`TaskError::Certificate`] where a text has another form.
-/// - [`TaskError::OtherShape`] where the certificate is a circuit with another number of inputs or latches.
-/// - [`TaskError::NoBad`] where there is no bad literal at the place.
-/// - [`TaskError::NoBads`] where there is none at all.
-/// - [`TaskError::Memory`] where memory is refused.
+/// Those of [`doubt_of`].
 pub fn certifies<A: Allocator + Copy>(
     alloc: A,
     bytes: &[u8],
@@ -39,19 +72,44 @@ pub fn certifies<A: Allocator + Copy>(
 ) -> Result<bool, TaskError>
     ensures { IfOk result (λ safe. IsTrue safe → Certifies A bytes.now text.now asked) }
 {
+    match doubt_of(alloc, bytes, text, asked, limit)? {
+        None => Ok(true),
+        Some(_) => Ok(false),
+    }
+}
+
+/// Why the certificate that a text writes is not known to show that the circuit of another text is safe: as to the bad
+/// literal at the place that is asked for, or as to all. None if it shows it. Each question to the solver may learn
+/// `limit` clauses.
+///
+/// # Errors
+/// - [`TaskError::Circuit`] and [`TaskError::Certificate`] where a text has another form.
+/// - [`TaskError::NoSimulation`] where the certificate is a circuit that cannot go along with the other one.
+/// - [`TaskError::NoBad`] where there is no bad literal at the place.
+/// - [`TaskError::NoBads`] where there is none at all.
+/// - [`TaskError::Memory`] where memory is refused.
+pub fn doubt_of<A: Allocator + Copy>(
+    alloc: A,
+    bytes: &[u8],
+    text: &[u8],
+    asked: Option<usize>,
+    limit: usize,
+) -> Result<Option<Doubt>, TaskError>
+    ensures { IfOk result (λ doubt. IfNone doubt (Certifies A bytes.now text.now asked)) }
+{
     let netlist = netlist_in(alloc, bytes)?;
     certifies_circuit(alloc, &netlist, text, asked, limit)
 }
 
-// Whether the certificate that a text writes shows that the circuit is safe.
+// Why the certificate that a text writes is not known to show that the circuit is safe. None if it shows it.
 fn certifies_circuit<A: Allocator + Copy>(
     alloc: A,
     netlist: &Netlist<A>,
     text: &[u8],
     asked: Option<usize>,
     limit: usize,
-) -> Result<bool, TaskError>
-    ensures { IfOk result (λ safe. IsTrue safe → CertifiesCircuit netlist.now.circuit text.now asked) }
+) -> Result<Option<Doubt>, TaskError>
+    ensures { IfOk result (λ doubt. IfNone doubt (CertifiesCircuit netlist.now.circuit text.now asked)) }
 {
     let certificate = certificate_in(alloc, &netlist.circuit, text)?;
     certifies_asked(alloc, netlist, &certificate, asked, limit)
@@ -74,10 +132,44 @@ pub fn certificate_of<A: Allocator + Copy>(
     ensures { IfOk result (λ text. CertifiesCircuit netlist.now.circuit text.items asked) }
 {
     let text = invariant_text(alloc, netlist, invariant)?;
-    if !certifies_circuit(alloc, netlist, &text, asked, limit)? {
+    if let Some(_) = certifies_circuit(alloc, netlist, &text, asked, limit)? {
         return Err(TaskError::Uncertified);
     }
     Ok(text)
+}
+
+/// The same as a circuit in the ascii form of AIGER, with the same inputs and latches: its bad literal is true where the
+/// bad literal that is asked for is, or one of all, and where a clause of the invariant is false. It is read back, and
+/// certifies the circuit.
+///
+/// # Errors
+/// - [`TaskError::Uncertified`] where the clauses do not show it.
+/// - Those of [`certifies`].
+pub fn witness_circuit_of<A: Allocator + Copy>(
+    alloc: A,
+    netlist: &Netlist<A>,
+    invariant: &[Vec<Literal, A>],
+    asked: Option<usize>,
+    limit: usize,
+) -> Result<Vec<u8, A>, TaskError>
+    ensures { IfOk result (λ text. CertifiesCircuit netlist.now.circuit text.items asked) }
+{
+    let text = strengthened_text(alloc, netlist, invariant, asked)?;
+    if let Some(_) = certifies_circuit(alloc, netlist, &text, asked, limit)? {
+        return Err(TaskError::Uncertified);
+    }
+    Ok(text)
+}
+
+// The text of the circuit whose property is strengthened by the clauses.
+fn strengthened_text<A: Allocator + Copy>(
+    alloc: A,
+    netlist: &Netlist<A>,
+    invariant: &[Vec<Literal, A>],
+    asked: Option<usize>,
+) -> Result<Vec<u8, A>, AllocError> {
+    let circuit = strengthened(alloc, netlist, invariant, asked)?;
+    write_aag(alloc, &circuit)
 }
 
 // The text of some clauses over the latches of the circuit.
@@ -133,15 +225,15 @@ fn over_places<A: Allocator + Copy>(
 // The most latches that the text of an invariant may name.
 const LATCHES: u32 = 2_147_483_647;
 
-// Whether the circuit is safe by a certificate.
+// Why the circuit is not known to be safe by a certificate. None if it is, here and below.
 fn certifies_asked<A: Allocator + Copy>(
     alloc: A,
     netlist: &Netlist<A>,
     certificate: &Certificate<A>,
     asked: Option<usize>,
     limit: usize,
-) -> Result<bool, TaskError>
-    ensures { IfOk result (λ safe. IsTrue safe → ShowsSafeAsked netlist.now.circuit certificate.now asked) }
+) -> Result<Option<Doubt>, TaskError>
+    ensures { IfOk result (λ doubt. IfNone doubt (ShowsSafeAsked netlist.now.circuit certificate.now asked)) }
 {
     match asked {
         None => certifies_all(alloc, netlist, certificate, limit),
@@ -152,36 +244,36 @@ fn certifies_asked<A: Allocator + Copy>(
     }
 }
 
-// Whether the circuit is safe as to all its bad literals, of which it has to have one.
+// Why the circuit is not known to be safe as to all its bad literals, of which it has to have one.
 fn certifies_all<A: Allocator + Copy>(
     alloc: A,
     netlist: &Netlist<A>,
     certificate: &Certificate<A>,
     limit: usize,
-) -> Result<bool, TaskError>
-    ensures { IfOk result (λ safe. IsTrue safe → ShowsSafeAll netlist.now.circuit certificate.now) }
+) -> Result<Option<Doubt>, TaskError>
+    ensures { IfOk result (λ doubt. IfNone doubt (ShowsSafeAll netlist.now.circuit certificate.now)) }
 {
     if netlist.circuit.bads.is_empty() {
         return Err(TaskError::NoBads);
     }
     for place in 0..netlist.circuit.bads.len() {
-        if !certifies_at(alloc, netlist, certificate, place, limit)? {
-            return Ok(false);
+        if let Some(doubt) = certifies_at(alloc, netlist, certificate, place, limit)? {
+            return Ok(Some(doubt));
         }
     }
-    Ok(true)
+    Ok(None)
 }
 
-// Whether the circuit is safe as to the bad literal at a place.
+// Why the circuit is not known to be safe as to the bad literal at a place.
 fn certifies_at<A: Allocator + Copy>(
     alloc: A,
     netlist: &Netlist<A>,
     certificate: &Certificate<A>,
     place: usize,
     limit: usize,
-) -> Result<bool, TaskError>
+) -> Result<Option<Doubt>, TaskError>
     requires { place < length netlist.now.circuit.bads.items }
-    ensures { IfOk result (λ safe. IsTrue safe → ShowsSafeAt netlist.now.circuit certificate.now place) }
+    ensures { IfOk result (λ doubt. IfNone doubt (ShowsSafeAt netlist.now.circuit certificate.now place)) }
 {
     match certificate {
         Certificate::Clauses(clauses) => by_clauses(alloc, netlist, clauses, place, limit),
@@ -189,34 +281,38 @@ fn certifies_at<A: Allocator + Copy>(
     }
 }
 
-// Whether the circuit is safe by the clauses of an invariant.
+// Why the circuit is not known to be safe by the clauses of an invariant.
 fn by_clauses<A: Allocator + Copy>(
     alloc: A,
     netlist: &Netlist<A>,
     clauses: &Vec<Vec<Literal, A>, A>,
     place: usize,
     limit: usize,
-) -> Result<bool, TaskError>
+) -> Result<Option<Doubt>, TaskError>
     requires { place < length netlist.now.circuit.bads.items }
-    ensures { IfOk result (λ safe. IsTrue safe →
-        ShowsSafeAt netlist.now.circuit (certificate.Clauses clauses.now) place) }
+    ensures { IfOk result (λ doubt. IfNone doubt
+        (ShowsSafeAt netlist.now.circuit (certificate.Clauses clauses.now) place)) }
 {
     match certify::<Solver<A>, _>(alloc, netlist, netlist.circuit.bads[place], clauses, limit)? {
-        Verdict::Certified => Ok(true),
-        _ => Ok(false),
+        Verdict::Certified => Ok(None),
+        verdict => Ok(Some(Doubt {
+            bad: place,
+            verdict,
+        })),
     }
 }
 
-// Whether the circuit is safe by another one.
+// Why the circuit is not known to be safe by another one.
 fn by_circuit<A: Allocator + Copy>(
     alloc: A,
     netlist: &Netlist<A>,
-    other: &Netlist<A>,
+    other: &WitnessCircuit<A>,
     place: usize,
     limit: usize,
-) -> Result<bool, TaskError>
+) -> Result<Option<Doubt>, TaskError>
     requires { place < length netlist.now.circuit.bads.items }
-    ensures { IfOk result (λ safe. IsTrue safe → ShowsSafeAt netlist.now.circuit (certificate.Circuit other.now) place) }
+    ensures { IfOk result (λ doubt. IfNone doubt
+        (ShowsSafeAt netlist.now.circuit (certificate.Circuit other.now) place)) }
 {
     let said = certify_by::<Solver<A>, _>(
         alloc,
@@ -226,11 +322,14 @@ fn by_circuit<A: Allocator + Copy>(
         limit,
     )?;
     let Some(verdict) = said else {
-        return Err(TaskError::OtherShape);
+        return Err(TaskError::NoSimulation);
     };
     match verdict {
-        Verdict::Certified => Ok(true),
-        _ => Ok(false),
+        Verdict::Certified => Ok(None),
+        verdict => Ok(Some(Doubt {
+            bad: place,
+            verdict,
+        })),
     }
 }
 
@@ -243,7 +342,7 @@ fn certificate_in<A: Allocator + Copy>(
     ensures { IfOk result (IsCertificateIn circuit.now text.now) }
 {
     if begins_as_circuit(text) {
-        return match read_circuit(alloc, text) {
+        return match read_witness_circuit(alloc, circuit, text) {
             Ok(other) => Ok(Certificate::Circuit(other)),
             Err(error) => Err(TaskError::of_certificate(error)),
         };

@@ -15,9 +15,10 @@ pub enum TaskError {
     /// The certificate's text has another form, or its rows are no circuit.
     #[error("{0}")]
     Certificate(AigerError),
-    /// The certificate is a circuit with another number of inputs or latches.
-    #[error("not as many inputs and latches as the circuit has")]
-    OtherShape,
+    /// The certificate is a circuit that cannot go along with the other one: a reset depends on itself, or a name is that
+    /// of no literal, or of what another name is of.
+    #[error("a reset that depends on itself, or a name `= n` that does not fit")]
+    NoSimulation,
     /// The circuit has no bad literal at this place; it has so many.
     #[error("no bad literal {0}, of {1}")]
     NoBad(usize, usize),

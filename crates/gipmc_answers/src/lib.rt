@@ -7,11 +7,14 @@ pub mod certificates;
 pub mod error;
 pub mod listener;
 pub mod output;
+mod strengthened;
 pub mod witnesses;
 
 pub use answers::{Answered, Outcome, Said, answer};
-pub use certificates::{Certificate, certificate_of, certifies};
+pub use certificates::{
+    Certificate, Doubt, certificate_of, certifies, doubt_of, witness_circuit_of,
+};
 pub use error::TaskError;
 pub use listener::Listener;
 pub use output::{Lost, Output};
-pub use witnesses::replays;
+pub use witnesses::{replays, witness_doubt};

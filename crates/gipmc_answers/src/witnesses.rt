@@ -5,7 +5,7 @@ ghost use Rattle.gipmc_answers.specs.Witnesses.{FailsAt, IsAsked, IsWitnessIn, R
 use crate::answers::netlist_in;
 use crate::error::TaskError;
 use gipmc_aiger::{Witness, read_witness};
-use gipmc_circuits::{Netlist, Trace, replay};
+use gipmc_circuits::{Netlist, Trace, TraceDoubt, replay, trace_doubt};
 use std::alloc::{AllocError, Allocator};
 
 /// Whether the trace that a witness writes is a counterexample to the circuit that a text writes: at the bad literal at
@@ -28,6 +28,27 @@ pub fn replays<A: Allocator + Copy>(
     let witness = witness_in(alloc, &netlist, witness)?;
     is_asked(asked, &witness)?;
     fails_by(alloc, &netlist, &witness)
+}
+
+/// Why the trace that a witness writes is no counterexample. None if it is one. Nothing is proved of it: [`replays`] is
+/// the judge.
+///
+/// # Errors
+/// Those of [`replays`].
+pub fn witness_doubt<A: Allocator + Copy>(
+    alloc: A,
+    bytes: &[u8],
+    witness: &[u8],
+    asked: Option<usize>,
+) -> Result<Option<TraceDoubt>, TaskError> {
+    let netlist = netlist_in(alloc, bytes)?;
+    let witness = witness_in(alloc, &netlist, witness)?;
+    is_asked(asked, &witness)?;
+    let place = witness.property as usize;
+    match netlist.circuit.bads.get(place) {
+        Some(bad) => Ok(trace_doubt(alloc, &netlist, *bad, &witness.trace)?),
+        None => Err(TaskError::OtherBad(place, netlist.circuit.bads.len())),
+    }
 }
 
 // The witness that a text writes for a circuit.

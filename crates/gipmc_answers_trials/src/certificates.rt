@@ -1,12 +1,19 @@
 //! Certificates that are found, and those of others.
 
 use crate::circuits::{HELD, KEPT, TWO};
-use gipmc_answers::{Lost, Output, TaskError, answer, certificate_of, certifies};
+use gipmc_answers::{
+    Lost, Output, TaskError, answer, certificate_of, certifies, witness_circuit_of,
+};
 use gipmc_engines::Plan;
 use std::alloc::Global;
 
-// The certificate that is found for a circuit.
-fn found(alloc: Global, circuit: &[u8], asked: Option<usize>) -> Result<Vec<u8>, TaskError> {
+// The certificate that is found for a circuit, as clauses or as a circuit.
+fn found(
+    alloc: Global,
+    circuit: &[u8],
+    asked: Option<usize>,
+    is_circuit: bool,
+) -> Result<Vec<u8>, TaskError> {
     let mut output = Output::new(Vec::new(alloc), Lost::GoOn);
     let answered = answer(
         alloc,
@@ -17,7 +24,11 @@ fn found(alloc: Global, circuit: &[u8], asked: Option<usize>) -> Result<Vec<u8>,
         &mut output,
     )?;
     let invariant = &answered.said.invariant;
-    certificate_of(alloc, &answered.netlist, invariant, asked, usize::MAX)
+    if is_circuit {
+        witness_circuit_of(alloc, &answered.netlist, invariant, asked, usize::MAX)
+    } else {
+        certificate_of(alloc, &answered.netlist, invariant, asked, usize::MAX)
+    }
 }
 
 // A circuit, the bad literal that is asked about, and whether a certificate of it is found.
@@ -32,9 +43,11 @@ const FOUND: &[(&[u8], Option<usize>, bool)] = &[
 #[test]
 fn a_certificate_is_found_where_it_is_safe(rt: HostRuntime) -> Result<(), TaskError> {
     for &(circuit, asked, is_found) in FOUND {
-        match found(rt.alloc(), circuit, asked) {
-            Ok(_) => assert!(rt; is_found),
-            Err(error) => assert!(rt; !is_found && error == TaskError::Uncertified),
+        for &is_circuit in &[false, true] {
+            match found(rt.alloc(), circuit, asked, is_circuit) {
+                Ok(_) => assert!(rt; is_found),
+                Err(error) => assert!(rt; !is_found && error == TaskError::Uncertified),
+            }
         }
     }
     Ok(())
@@ -47,6 +60,14 @@ const FIRST_STAYS: &[u8] = b"p cnf 2 1\n-1 0\n";
 
 const AS_CIRCUIT: &[u8] = b"aag 1 0 1 0 0 1\n2 2\n2\n";
 
+// Certificates of `TWO` as circuits: its own first latch stays 0. In the others the latches change places by their names,
+// the latch is one of two that begin at each other's value, or no input and one latch is left.
+const TURNED: &[u8] = b"aag 2 0 2 0 0 1\n2 2\n4 4\n4\nl0 = 6\nl1 = 4\n";
+
+const BEHIND: &[u8] = b"aag 3 0 3 0 0 2\n2 2\n4 4 6\n6 6 2\n2\n4\nl0 = 4\n";
+
+const ALONE: &[u8] = b"aag 1 0 1 0 0 1\n2 2\n2\n";
+
 // A circuit, a certificate, the bad literal that is asked about, and whether it is safe by it.
 const JUDGED: &[(&[u8], &[u8], Option<usize>, bool)] = &[
     (KEPT, STAYS, None, true),
@@ -54,6 +75,10 @@ const JUDGED: &[(&[u8], &[u8], Option<usize>, bool)] = &[
     (HELD, STAYS, None, false),
     (TWO, FIRST_STAYS, Some(0), true),
     (TWO, FIRST_STAYS, None, false),
+    (TWO, TURNED, Some(0), true),
+    (TWO, TURNED, Some(1), false),
+    (TWO, BEHIND, Some(0), true),
+    (TWO, ALONE, Some(0), true),
 ];
 
 #[test]

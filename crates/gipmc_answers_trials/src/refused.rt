@@ -73,8 +73,8 @@ const QUESTIONS: &[(&[u8], Question<'static>, Result<bool, TaskError>)] = &[
     ),
     (
         KEPT,
-        Question::Certify(b"aag 2 0 2 0 0 1\n2 2\n4 4\n2\n", None),
-        Err(TaskError::OtherShape),
+        Question::Certify(b"aag 3 0 3 0 0 1\n2 2\n4 4 6\n6 6 4\n2\n", None),
+        Err(TaskError::NoSimulation),
     ),
     (
         KEPT,

@@ -43,6 +43,7 @@ pub record Below {A : Type 0} (n : ℕ) (c : Circuit A) : Type 0 where
   pub inputs : IsTrue (list_all (λ v. ltb v n) c.inputs.items)
   pub latches : IsTrue (list_all (latch_below n) c.latches.items)
   pub gates : IsTrue (list_all (gate_below n) c.gates.items)
+  pub bads : IsTrue (list_all (literal_below n) c.bads.items)
   pub constraints : IsTrue (list_all (literal_below n) c.constraints.items)
 
 pub below-parts : {A : Type 0} (n : ℕ) (c : Circuit A) → IsTrue (is_below n c) → Below n c
@@ -57,17 +58,23 @@ below-parts n c within =
     let (l, d) = and_parts latches (gates && (bads && constraints)) b in
     let (g, e) = and_parts gates (bads && constraints) d in
     let (h, m) = and_parts bads constraints e in
-    record { some = ltb-true 0 n some; inputs = i; latches = l; gates = g; constraints = m }
+    record { some = ltb-true 0 n some; inputs = i; latches = l; gates = g; bads = h; constraints = m }
+
+pub is_valuation-alike : {A : Type 0} (n : ℕ) (c : Circuit A) (a b : Assignment) → IsTrue (is_below n c) → AgreeBelow n a b
+    → is_valuation c a ≡ is_valuation c b
+is_valuation-alike n c a b within agree =
+    let parts = below-parts n c within in
+    both_alike (not (a 0)) (not (b 0)) (list_all (has_value a) c.gates.items) (list_all (has_value b) c.gates.items)
+    (ap not (agree 0 parts.some))
+    (all_alike (gate_below n) (has_value a) (has_value b) c.gates.items (λ g. has_value-alike n a b g agree) parts.gates)
 
 pub is_moment-alike : {A : Type 0} (n : ℕ) (c : Circuit A) (a b : Assignment) → IsTrue (is_below n c) → AgreeBelow n a b
     → is_moment c a ≡ is_moment c b
 is_moment-alike n c a b within agree =
-    let parts = below-parts n c within in
     both_alike (is_valuation c a) (is_valuation c b) (makes_true a c.constraints.items) (makes_true b c.constraints.items)
-    (both_alike (not (a 0)) (not (b 0)) (list_all (has_value a) c.gates.items) (list_all (has_value b) c.gates.items)
-    (ap not (agree 0 parts.some))
-    (all_alike (gate_below n) (has_value a) (has_value b) c.gates.items (λ g. has_value-alike n a b g agree) parts.gates))
-    (all_alike (literal_below n) (is_true a) (is_true b) c.constraints.items (λ l. is_true-alike n a b l agree) parts.constraints)
+    (is_valuation-alike n c a b within agree)
+    (all_alike (literal_below n) (is_true a) (is_true b) c.constraints.items (λ l. is_true-alike n a b l agree)
+    (below-parts n c within).constraints)
 
 pub is_initial-alike : {A : Type 0} (n : ℕ) (c : Circuit A) (a b : Assignment) → IsTrue (is_below n c) → AgreeBelow n a b
     → is_initial c a ≡ is_initial c b

@@ -14,9 +14,10 @@ use Rattle.gipmc_circuits.specs.declared.circuit.Circuit.{Circuit}
 use Rattle.gipsat_cnf.specs.Models.{assignment_in}
 use Rattle.gipmc_circuits.specs.declared.trace.Trace.{Trace}
 use Rattle.gipmc_circuits.specs.Circuit.{FailsAfter, IsSafe, IsTrace, has_value, is_reset, is_valuation}
-use Rattle.gipmc_circuits.specs.Extension.{Accepts, SharesState, are_stacked}
 use Rattle.gipmc_circuits.specs.Traces.{FailsBy, HoldsRow, HoldsRows, fits, have_width}
 use Rattle.gipmc_circuits.specs.WellFormed.{are_in_order, are_new, is_constant, with_variables}
+use Rattle.gipmc_circuits.specs.Widened.{are_stacked}
+use Rattle.gipmc_circuits.specs.WitnessCircuits.{are_defined_from, reset_gate, unlinked}
 
 abbrev yes_of : ℕ → Lit
 yes_of v = record { variable = v; positive = true }
@@ -185,17 +186,20 @@ never_not_stacked = refl
 cycle_not_stacked : are_stacked (cycle ∷ []) 2 ≡ false
 cycle_not_stacked = refl
 
--- a certificate that claims nothing accepts every moment
-no_claims : {A B : Type 0} (c : Circuit A) (w : Circuit B) (a : Assignment) → w.bads.items ≡ [] → w.constraints.items ≡ [] → Accepts c w a
-no_claims c w a bads constraints b is shares =
-    subst (λ ls. IsTrue (makes_true b (map negated w.bads.items ++ ls))) (sym constraints)
-    (subst (λ ls. IsTrue (makes_true b (map negated ls ++ []))) (sym bads) refl)
+-- what a latch holds at first by its reset: 1, and itself
+starts_at_one : reset_gate (record { variable = 2; literal = not_of 0 }) ≡ record { output = 2; left = not_of 0; right = not_of 0 }
+starts_at_one = refl
 
--- where it claims that the constant is true, it accepts none that has a valuation with the same inputs and latches
-claims_too_much : {A B : Type 0} (c : Circuit A) (w : Circuit B) (a b : Assignment) → w.bads.items ≡ [] → w.constraints.items ≡ yes_of 0 ∷ []
-    → IsTrue (is_valuation w b) → SharesState c w a b → ¬ (Accepts c w a)
-claims_too_much c w a b bads constraints is shares accepts =
-    let claimed = subst (λ ls. IsTrue (makes_true b (map negated w.bads.items ++ ls))) constraints (accepts b is shares) in
-    let constant : IsTrue (makes_true b (yes_of 0 ∷ [])) = subst (λ ls. IsTrue (makes_true b (map negated ls ++ yes_of 0 ∷ []))) bads claimed in
-    let zero_false = (and_parts (not (b 0)) (list_all (has_value b) w.gates.items) is).0 in
-    not_both (b 0) (and_parts (beq (b 0) true) true constant).0 (beq_false (b 0) zero_false)
+starts_anywhere : reset_gate (record { variable = 2; literal = yes_of 2 }) ≡ record { output = 2; left = yes_of 0; right = yes_of 0 }
+starts_anywhere = refl
+
+-- two latches that begin at the values of one another do so in no order
+crossed_not_in_order : are_defined_from [] (reset_gate (record { variable = 2; literal = yes_of 3 })
+    ∷ reset_gate (record { variable = 3; literal = yes_of 2 }) ∷ []) ≡ false
+crossed_not_in_order = refl
+
+-- latch 2 is shared, and latch 3 is not
+own_latches : unlinked (record { variable = 2; literal = yes_of 5 } ∷ [])
+    (record { variable = 2; next = yes_of 1; reset = yes_of 0 } ∷ record { variable = 3; next = yes_of 1; reset = yes_of 2 } ∷ [])
+    ≡ record { variable = 3; next = yes_of 1; reset = yes_of 2 } ∷ []
+own_latches = refl

@@ -4,10 +4,11 @@ mod Defined
 mod Ends
 mod Examples
 pub mod Encoded
-pub mod Extensions
 mod Rows
 pub mod Runs
 pub mod Traces
 pub mod Unrolled
 pub mod Valuations
 pub mod Widened
+pub mod Together
+mod Simulated

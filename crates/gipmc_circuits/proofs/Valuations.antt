@@ -93,7 +93,7 @@ uses-part c is =
     let (new, others) = and_parts news (ordered && uses_defined (is_variable c) c) is in
     (and_parts ordered (uses_defined (is_variable c) c) others).1
 
-keeps_defined : (vs : List ℕ) (defined : ℕ → Bool) (v : ℕ) → IsTrue (defined v) → IsTrue (with_variables vs defined v)
+pub keeps_defined : (vs : List ℕ) (defined : ℕ → Bool) (v : ℕ) → IsTrue (defined v) → IsTrue (with_variables vs defined v)
 keeps_defined [] defined v is = is
 keeps_defined (w ∷ vs) defined v is = keeps_defined vs (with_variable w defined) v (or_right (eqb v w) (defined v) is)
 

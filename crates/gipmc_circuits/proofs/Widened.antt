@@ -1,9 +1,10 @@
 -- Circuits with further latches and gates: each trace of a circuit is extended to one of them.
-use Rattle.std.proofs.Common.{◌≡◌, ⊎_elim, ℕ, zero, suc, ◌+◌, ◌<◌, ◌≤◌, ◌++◌, ◌&&◌, eqb, ltb, cond, Bool, true, false, not, List, [], ◌∷◌, Option, Some, None, length, IsTrue, arith, refl, sym, ap, subst, ◌∙◌}
+use Rattle.std.proofs.Common.{◌≡◌, ⊎_elim, ℕ, zero, suc, ◌+◌, ◌<◌, ◌≤◌, ◌++◌, ◌&&◌, ◌||◌, eqb, ltb, cond, Bool, true, false, not, List, [], ◌∷◌, Option, Some, None, length, IsTrue, arith, refl, sym, ap, subst, ◌∙◌}
 use Rattle.std.specs.Bool.{beq}
 use Rattle.std.specs.Cmp.{booleans_Decides}
 use Rattle.std.specs.List.{list_all}
-use Rattle.std.proofs.lemmas.Bool.{and_from, and_parts, cases_Bool, cond-false, cond-true, eq-eqb, eqb-true, lt-ltb}
+use Rattle.std.proofs.Math.Path.{fun_ext}
+use Rattle.std.proofs.lemmas.Bool.{and_from, and_parts, cases_Bool, cases_lt, cond-false, cond-true, eq-eqb, eqb-true, false≢true, le-ltb, lt-ltb}
 use Rattle.std.proofs.lemmas.List.Folds.{list_all-append}
 use Rattle.gipsat_cnf.specs.Assumptions.{makes_true}
 use Rattle.gipsat_cnf.specs.Formulas.{Assignment, is_true}
@@ -11,12 +12,51 @@ use Rattle.gipmc_circuits.specs.declared.circuit.And.{And}
 use Rattle.gipmc_circuits.specs.declared.circuit.Circuit.{Circuit}
 use Rattle.gipmc_circuits.specs.declared.circuit.Latch.{Latch}
 use Rattle.gipmc_circuits.specs.Circuit.{IsTrace, has_value, holds_next, holds_reset, is_initial, is_moment, is_reset, is_transition, is_valuation}
-use Rattle.gipmc_circuits.specs.Encoding.{is_below}
-use Rattle.gipmc_circuits.specs.Widened.{IsWidened, are_numbered}
-use Rattle.gipmc_circuits.specs.WellFormed.{are_in_order}
+use Rattle.gipmc_circuits.specs.Encoding.{is_below, literal_below}
+use Rattle.gipmc_circuits.specs.Widened.{IsWidened, are_numbered, are_stacked}
+use Rattle.gipmc_circuits.specs.WellFormed.{are_in_order, with_variable}
 use Rattle.gipmc_circuits.proofs.Agreeing.{AgreeBelow, is_initial-alike, is_moment-alike, is_transition-alike}
-use Rattle.gipmc_circuits.proofs.Extensions.{stacked-in_order}
 use Rattle.gipmc_circuits.proofs.Valuations.{AgreeAt, values_from}
+
+-- the variables below a number, and the number
+one_more : (n v : ℕ) → with_variable n (λ u. ltb u n) v ≡ ltb v (n + 1)
+one_more n v =
+    ⊎_elim
+    (λ less. ap (λ b. eqb v n || b) (lt-ltb v n less) ∙ or_true (eqb v n) ∙ sym (lt-ltb v (n + 1) (omega (arith, less))))
+    (λ more. ⊎_elim
+    (λ same. ap (λ b. b || ltb v n) same ∙ sym (lt-ltb v (n + 1) (up_to v n (eqb-true v n same))))
+    (λ other. ap (λ b. b || ltb v n) other ∙ le-ltb v n more ∙ sym (le-ltb v (n + 1) (past v n more (λ e. false≢true (sym other ∙ eq-eqb v n e)))))
+    (cases_Bool (eqb v n)))
+    (cases_lt v n)
+  where
+    or_true : (b : Bool) → (b || true) ≡ true
+    or_true true = refl
+    or_true false = refl
+
+    up_to : (v n : ℕ) → v ≡ n → v < n + 1
+    up_to v n same = omega (arith, same)
+
+    past : (v n : ℕ) → n ≤ v → (v ≡ n → ⊥) → n + 1 ≤ v
+    past v n more other = ⊎_elim (λ less. absurd (other (omega (arith, more, less)))) (λ is. is) (cases_lt v (n + 1))
+
+-- gates that are stacked are in order behind all that is below them
+stacked-in_order : (gates : List And) (n : ℕ) → IsTrue (are_stacked gates n) → IsTrue (are_in_order gates (λ v. ltb v n))
+stacked-in_order [] n is = refl
+stacked-in_order (g ∷ gates) n is =
+    let (operands, others) = and_parts (literal_below n g.left && literal_below n g.right) (eqb g.output n && are_stacked gates (g.output + 1)) is in
+    let (output, rest) = and_parts (eqb g.output n) (are_stacked gates (g.output + 1)) others in
+    let here : g.output ≡ n = eqb-true g.output n output in
+    let behind : IsTrue (are_in_order gates (with_variable g.output (λ v. ltb v n))) =
+    subst (λ d. IsTrue (are_in_order gates d)) (sym (fun_ext (λ v. ap (λ o. with_variable o (λ u. ltb u n) v) here ∙ one_more n v)))
+    (subst (λ o. IsTrue (are_in_order gates (λ v. ltb v (o + 1)))) here (stacked-in_order gates (g.output + 1) rest))
+    in
+    let new : not (ltb g.output n) ≡ true = ap not (le-ltb g.output n (at_least g.output n here)) in
+    and_from (literal_below n g.left && literal_below n g.right)
+    (not (ltb g.output n) && are_in_order gates (with_variable g.output (λ v. ltb v n))) operands
+    (and_from (not (ltb g.output n)) (are_in_order gates (with_variable g.output (λ v. ltb v n))) new behind)
+  where
+    at_least : (a b : ℕ) → a ≡ b → b ≤ a
+    at_least a b same = omega (arith, same)
 
 -- the values, with those that latches hold
 abbrev held : List Latch → (Latch → Bool) → Assignment → Assignment

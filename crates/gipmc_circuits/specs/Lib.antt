@@ -1,7 +1,7 @@
 pub mod Circuit
 pub mod Encoding
 pub mod Certificate
-pub mod Extension
 pub mod Traces
 pub mod WellFormed
+pub mod WitnessCircuits
 pub mod Widened

@@ -4,7 +4,13 @@ use lib.Dec.{eqb}
 use Rattle.gipmc_circuits.specs.declared.circuit.And.{And}
 use Rattle.gipmc_circuits.specs.declared.circuit.Circuit.{Circuit}
 use Rattle.gipmc_circuits.specs.declared.circuit.Latch.{Latch}
-use Rattle.gipmc_circuits.specs.Extension.{are_stacked}
+use Rattle.gipmc_circuits.specs.Encoding.{literal_below}
+
+-- the outputs are numbered from n on, and each operand is below its gate's
+abbrev pub are_stacked : List And → ℕ → Bool
+are_stacked [] n = true
+are_stacked (g ∷ gates) n =
+    (literal_below n g.left && literal_below n g.right) && (eqb g.output n && are_stacked gates (g.output + 1))
 
 -- the latches' variables are the numbers from n on
 abbrev pub are_numbered : List Latch → ℕ → Bool

@@ -3,14 +3,20 @@
 
 pub mod certificate;
 pub mod circuit;
+pub mod diagnosis;
 pub mod encoding;
-mod extension;
 pub mod netlist;
+mod simulation;
 pub mod trace;
 pub mod well_formed;
+pub mod witness_circuit;
+pub mod witnessed;
 
-pub use certificate::{Verdict, certify, certify_by};
+pub use certificate::{Verdict, certify};
 pub use circuit::{And, Circuit, Latch};
+pub use diagnosis::{TraceDoubt, trace_doubt};
 pub use netlist::Netlist;
 pub use trace::{Trace, replay};
 pub use well_formed::is_well_formed;
+pub use witness_circuit::{Link, Register, WitnessCircuit};
+pub use witnessed::certify_by;

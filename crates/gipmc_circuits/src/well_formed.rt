@@ -23,7 +23,10 @@ fn grow<A: Allocator>(defined: &mut Vec<bool, A>, len: usize) -> Result<(), Allo
 
 // Notes that a variable is defined.
 #[tactic(auto, using(crate::proofs::Defined::defined_set))]
-fn define<A: Allocator>(defined: &mut Vec<bool, A>, variable: u32) -> Result<(), AllocError>
+pub(crate) fn define<A: Allocator>(
+    defined: &mut Vec<bool, A>,
+    variable: u32,
+) -> Result<(), AllocError>
     ensures { OnOk result
         (assignment_in defined.new.items ≡ with_variable variable (assignment_in defined.old.items)) }
 {
@@ -33,7 +36,7 @@ fn define<A: Allocator>(defined: &mut Vec<bool, A>, variable: u32) -> Result<(),
 }
 
 // Whether none of the inputs is defined before it comes; they are defined then.
-fn define_inputs<A: Allocator>(
+pub(crate) fn define_inputs<A: Allocator>(
     defined: &mut Vec<bool, A>,
     inputs: &[u32],
 ) -> Result<bool, AllocError>
@@ -77,7 +80,10 @@ fn has_operands(defined: &[bool], gate: And) -> bool
 }
 
 // Whether each gate's operands are defined before it and its output is not; the outputs are defined then.
-fn define_gates<A: Allocator>(defined: &mut Vec<bool, A>, gates: &[And]) -> Result<bool, AllocError>
+pub(crate) fn define_gates<A: Allocator>(
+    defined: &mut Vec<bool, A>,
+    gates: &[And],
+) -> Result<bool, AllocError>
     ensures says { IfOk result (λ ordered. ordered ≡ are_in_order gates.now (assignment_in defined.old.items)) }
     ensures defines { IfOk result (λ ordered. IsTrue ordered → assignment_in defined.new.items
         ≡ with_variables (map (λ g. g.output) gates.now) (assignment_in defined.old.items)) }

@@ -1,7 +1,9 @@
 //! Invariants that are certified or refused.
 
 use crate::latched::{latched, netlist};
-use gipmc_circuits::{And, Circuit, Latch, Netlist, Verdict, certify, certify_by};
+use gipmc_circuits::{
+    And, Circuit, Link, Netlist, Register, Verdict, WitnessCircuit, certify, certify_by,
+};
 use gipsat_solver::{Literal, Solver};
 use std::alloc::{AllocError, Global};
 
@@ -52,61 +54,114 @@ fn judges_invariants(rt: HostRuntime) -> Result<(), AllocError> {
     Ok(())
 }
 
-// Inputs, a value and a number of constraints.
-type Form = (&'static [u32], bool, u8);
+// A certificate: its variables that are shared, each with one of the circuit; its own latches, each with what it holds
+// next and first; the operands of its gate 7; and how many constraints it has.
+type Form = (&'static [(u8, u8)], &'static [(u8, u8, u8)], (u8, u8), u8);
 
-// The latch that begins at either value, and is 0 then.
-fn free_latch(variable: u32) -> Latch {
-    Latch {
-        variable,
-        next: Literal::new(0, true),
-        reset: None,
-    }
+// The literal of a number: twice its variable, and 1 more for the negation.
+fn literal_of(code: u8) -> Literal {
+    Literal::new(u32::from(code / 2), code % 2 == 0)
 }
 
-// A certificate of these inputs and of two latches, other variables than those of the circuit. Its gate 3 is true where
-// latch 5 is and latch 6 has the value, and gate 2, which is bad, where gate 3 and latch 5 are. Each constraint is that
-// latch 5 is 1.
-fn certificate(alloc: Global, form: Form) -> Result<Circuit, AllocError> {
-    let (inputs, value, constraints) = form;
-    let mut certificate = Circuit::new(alloc);
-    certificate.inputs.extend_from_slice(inputs)?;
-    certificate.latches.push(free_latch(5))?;
-    certificate.latches.push(free_latch(6))?;
-    certificate.gates.push(And {
-        output: 3,
-        left: Literal::new(5, true),
-        right: Literal::new(6, value),
+// Gates 7 and 8, which is bad, are both true where the operands are. Each constraint is that variable 5 is 1.
+fn gates(alloc: Global, (left, right): (u8, u8), constraints: u8) -> Result<Circuit, AllocError> {
+    let mut circuit = Circuit::new(alloc);
+    circuit.gates.push(And {
+        output: 7,
+        left: literal_of(left),
+        right: literal_of(right),
     })?;
-    certificate.gates.push(And {
-        output: 2,
-        left: Literal::new(3, true),
-        right: Literal::new(5, true),
+    circuit.gates.push(And {
+        output: 8,
+        left: Literal::new(7, true),
+        right: literal_of(left),
     })?;
-    certificate.bads.push(Literal::new(2, true))?;
+    circuit.bads.push(Literal::new(8, true))?;
     for _ in 0..constraints {
-        certificate.constraints.push(Literal::new(5, true))?;
+        circuit.constraints.push(Literal::new(5, true))?;
     }
-    Ok(certificate)
+    Ok(circuit)
+}
+
+// The certificate of a form.
+fn certificate(alloc: Global, form: Form) -> Result<WitnessCircuit, AllocError> {
+    let (shared, latches, operands, constraints) = form;
+    let mut registers = Vec::new(alloc);
+    for &(variable, next, reset) in latches {
+        registers.push(Register {
+            variable: u32::from(variable),
+            next: literal_of(next),
+            reset: literal_of(reset),
+        })?;
+    }
+    let mut links = Vec::new(alloc);
+    for &(variable, other) in shared {
+        links.push(Link {
+            variable: u32::from(variable),
+            literal: Literal::new(u32::from(other), true),
+        })?;
+    }
+    WitnessCircuit::new(
+        alloc,
+        gates(alloc, operands, constraints)?,
+        &registers,
+        links,
+    )
 }
 
 // What is said of a certificate.
 fn verdict_by(alloc: Global, form: Form) -> Result<Option<Verdict>, AllocError> {
     let circuit = constrained(alloc)?;
-    let certificate = netlist(alloc, certificate(alloc, form)?)?;
+    let certificate = certificate(alloc, form)?;
     certify_by::<Solver, _>(alloc, &circuit, Literal::new(4, true), &certificate, 100)
 }
 
+// The latches are 5 and 6, and 12 is the number of the literal that is true where 6 is.
 const CERTIFICATES: &[(Form, Option<Verdict>)] = &[
     // Latches 2 and 3 are not both 1.
-    ((&[9], true, 0), Some(Verdict::Certified)),
+    (
+        (&[(5, 2), (6, 3)], &[], (10, 12), 0),
+        Some(Verdict::Certified),
+    ),
     // Latch 2 may be 1 while latch 3 is 0. The other way round, this would hold always.
-    ((&[9], false, 0), Some(Verdict::NotInductive(0))),
+    (
+        (&[(5, 2), (6, 3)], &[], (10, 13), 0),
+        Some(Verdict::NotInductive(0)),
+    ),
+    (
+        (&[(6, 2), (5, 3)], &[], (10, 13), 0),
+        Some(Verdict::Certified),
+    ),
     // Latch 2 begins at 0; this is the claim behind that of the bad literal.
-    ((&[9], true, 1), Some(Verdict::NotInitial(1))),
-    // No input, and two.
-    ((&[], true, 0), None),
-    ((&[9, 8], true, 0), None),
+    (
+        (&[(5, 2), (6, 3)], &[], (10, 12), 1),
+        Some(Verdict::NotInitial(1)),
+    ),
+    // Latches that are not shared stay as they begin: one at the other's value, at its negation, or at any.
+    (
+        (&[], &[(5, 10, 12), (6, 12, 12)], (10, 13), 0),
+        Some(Verdict::Certified),
+    ),
+    (
+        (&[], &[(5, 10, 13), (6, 12, 12)], (10, 13), 0),
+        Some(Verdict::NotInitial(0)),
+    ),
+    (
+        (&[], &[(5, 10, 10), (6, 12, 12)], (10, 13), 0),
+        Some(Verdict::NotInitial(0)),
+    ),
+    // What begins at 0 becomes 1.
+    (
+        (&[], &[(5, 11, 0)], (10, 10), 0),
+        Some(Verdict::NotInductive(0)),
+    ),
+    // Resets in a circle, a latch that begins at its own negation, and one that is shared twice.
+    ((&[], &[(5, 10, 12), (6, 12, 10)], (10, 13), 0), None),
+    ((&[], &[(5, 10, 11)], (10, 10), 0), None),
+    ((&[(5, 2), (5, 3)], &[], (10, 10), 0), None),
+    // An operand that nothing defines, and a shared variable that is none.
+    ((&[(5, 2)], &[], (10, 12), 0), None),
+    ((&[(5, 2), (6, 9)], &[], (10, 12), 0), None),
 ];
 
 #[test]

@@ -4,7 +4,7 @@ use Rattle.std.proofs.lemmas.Option.{slice_get_read}
 use Rattle.gipmc_answers.proofs.certificates.by_circuit.Goals as goal
 
 pub returns-in-Certified : goal.returns-in-Certified
-returns-in-Certified g c said_so =
+returns-in-Certified g c =
     let bads = c.args.netlist.now.circuit.bads.items in
     let here = slice_get_read bads (length bads) c.args.place c.index.result.now refl c.requires c.index.ensures in
     let said = c.in_ok-said.ensures in

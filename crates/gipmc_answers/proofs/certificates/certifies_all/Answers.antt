@@ -7,10 +7,10 @@ use Rattle.gipmc_answers.proofs.certificates.certifies_all.Goals as goal
 pub loop-place-preserved : goal.loop-place-preserved
 loop-place-preserved g c =
     ShowsSafeAt-more c.args.netlist.now.circuit c.args.certificate.now c.loop-place.place c.loop-place.invariant
-    (c.in_ok-certifies_at.ensures c.if-not-branch.false)
+    (rw (c.in_default.is) at c.in_ok-doubt.ensures)
 
 pub returns : goal.returns
-returns g c safe =
+returns g c =
     let all : c.loop-place.place ≡ length c.args.netlist.now.circuit.bads.items = grind (arith, common_steps) in
     let some : 0 < length c.args.netlist.now.circuit.bads.items = grind (arith, common_steps) in
     (some, rw all at c.loop-place.invariant)

@@ -1,0 +1,132 @@
+//! A reader of circuits that certify another one, as the witness circuits of HWMCC do.
+ghost use Rattle.std.specs.Prelude.{◌≡◌, None, IfErr, IfOk, IsErrOf, map};
+ghost use Rattle.gipmc_aiger.specs.Reading.{Gives};
+ghost use Rattle.gipmc_aiger.specs.Circuits.{IsReordering, rows_of};
+ghost use Rattle.gipmc_aiger.specs.Defects.{IsErrorOf};
+ghost use Rattle.gipmc_aiger.specs.WitnessCircuits.{IsWitnessOf, WritesWitness, witness_body_at, witness_rows, witness_rows_of};
+
+use crate::error::{AigerError, Place, Reason, Stop};
+use crate::header::{Form, Header};
+use crate::headers::header;
+use crate::order::order;
+use crate::place::error_at;
+use crate::rows::rows;
+use crate::sharing::shared;
+use crate::tails::tail;
+use gipmc_circuits::{Circuit, Latch, Link, Register, WitnessCircuit};
+use std::alloc::{AllocError, Allocator};
+
+/// Reads a circuit in either form of AIGER 1.9 as a certificate of another one. The reset of a latch may be any literal.
+///
+/// The certificate shares the inputs and latches whose symbols are `= n` with the literal of number n of the circuit.
+/// Where there is no such symbol, its first inputs and latches are those of the circuit, in the same order.
+///
+/// # Errors
+/// - [`AigerError::Refused`] with the place and the reason where the text has another form.
+/// - [`AigerError::Twice`], [`AigerError::Undefined`] or [`AigerError::Cycle`] with a variable where an `aag` text
+///   writes no circuit.
+/// - [`AigerError::Memory`] where memory is refused.
+pub fn read_witness_circuit<A: Allocator + Copy>(
+    alloc: A,
+    circuit: &Circuit<A>,
+    text: &[u8],
+) -> Result<WitnessCircuit<A>, AigerError>
+    ensures ok { IfOk result (WritesWitness text.now) }
+    ensures refused { (place : Place) (reason : Reason) → IsErrOf result (AigerError.Refused place reason) →
+        witness_rows_of text.now ≡ None }
+{
+    let (header, read, registers, rest) = match whole(alloc, text) {
+        Ok(read) => read,
+        Err(stop) => return Err(error_at(text, stop)),
+    };
+    let links = shared(alloc, circuit, &read, rest)?;
+    made(alloc, header.form, read, &registers, links)
+}
+
+// The header, the circuit and its latches, and what stands behind the rows.
+#[tactic(auto, unfolding(crate::specs::WitnessCircuits::witness_rows_of))]
+fn whole<A: Allocator + Copy>(
+    alloc: A,
+    text: &[u8],
+) -> Result<(Header, Circuit<A>, Vec<Register, A>, &[u8]), Stop>
+    ensures { Gives (λ x. witness_rows x.1 x.2.items) result (witness_rows_of text.now) }
+{
+    let (header, rest) = header(text)?;
+    let (circuit, registers, rest) = body(alloc, &header, rest)?;
+    Ok((header, circuit, registers, rest))
+}
+
+// The circuit and its latches that the rows behind a header write, and what stands behind them.
+#[tactic(auto, unfolding(crate::specs::WitnessCircuits::witness_body_at))]
+fn body<'a, A: Allocator + Copy>(
+    alloc: A,
+    header: &Header,
+    bytes: &'a [u8],
+) -> Result<(Circuit<A>, Vec<Register, A>, &'a [u8]), Stop>
+    ensures { Gives (λ x. witness_rows x.0 x.1.items) result (witness_body_at header.now bytes.now) }
+{
+    let (inputs, rest) = rows(alloc, header, header.sizes.inputs, bytes)?;
+    let (registers, rest) = rows(alloc, header, header.sizes.latches, rest)?;
+    let (outputs, rest) = rows(alloc, header, header.sizes.outputs, rest)?;
+    let (bads, rest) = rows(alloc, header, header.bads, rest)?;
+    let (constraints, rest) = rows(alloc, header, header.constraints, rest)?;
+    let (gates, rest) = rows(alloc, header, header.sizes.gates, rest)?;
+    tail(header, rest)?;
+    let bads = if header.bads == 0 { outputs } else { bads };
+    let latches = latches(alloc, &registers)?;
+    let circuit = Circuit {
+        inputs,
+        latches,
+        gates,
+        bads,
+        constraints,
+    };
+    Ok((circuit, registers, rest))
+}
+
+// The latches, whose resets are left open.
+fn latches<A: Allocator + Copy>(
+    alloc: A,
+    registers: &[Register],
+) -> Result<Vec<Latch, A>, AllocError> {
+    registers
+        .iter()
+        .map(|r| Latch {
+            variable: r.variable,
+            next: r.next,
+            reset: None,
+        })
+        .collect(alloc)
+}
+
+// The certificate of a circuit and its latches.
+fn made<A: Allocator + Copy>(
+    alloc: A,
+    form: Form,
+    circuit: Circuit<A>,
+    registers: &[Register],
+    links: Vec<Link, A>,
+) -> Result<WitnessCircuit<A>, AigerError>
+    ensures ok { IfOk result (IsWitnessOf (witness_rows circuit registers.now)) }
+    ensures error { IfErr result (IsErrorOf (rows_of circuit)) }
+{
+    let circuit = ordered(alloc, form, circuit)?;
+    Ok(WitnessCircuit::new(alloc, circuit, registers, links)?)
+}
+
+// The circuit with its gates in order.
+fn ordered<A: Allocator + Copy>(
+    alloc: A,
+    form: Form,
+    mut circuit: Circuit<A>,
+) -> Result<Circuit<A>, AigerError>
+    ensures ok { IfOk result (λ c. IsReordering (rows_of circuit) (rows_of c)) }
+    ensures error { IfErr result (IsErrorOf (rows_of circuit)) }
+{
+    if let Form::Ascii = form {
+        if let Err(defect) = order(alloc, &mut circuit) {
+            return Err(defect.error());
+        }
+    }
+    Ok(circuit)
+}
