@@ -1,1 +1,2 @@
+mod Allowing
 pub mod Depths

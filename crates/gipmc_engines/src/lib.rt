@@ -3,9 +3,9 @@
 
 pub mod bounded;
 pub mod engines;
-mod property;
 pub mod simulation;
 pub mod turns;
+mod unrolling;
 pub mod verdict;
 pub mod watch;
 
