@@ -4,6 +4,8 @@
 #[cfg(test)]
 mod answers;
 #[cfg(test)]
+mod bads;
+#[cfg(test)]
 mod caller;
 #[cfg(test)]
 mod circuits;
