@@ -112,6 +112,8 @@ const ANSWERS: &[(Kind, (u8, bool), Answer)] = &[
     // No moment meets this.
     (Kind::Register(None, (0, true)), (6, true), Answer::Safe),
     (Kind::Ring, (6, true), Answer::Safe),
+    (Kind::Exchange, (6, true), Answer::Safe),
+    (Kind::Exchange, (2, true), Answer::Fails(2)),
     // A constant.
     (Kind::Ring, (0, true), Answer::Safe),
     (Kind::Ring, (0, false), Answer::Fails(1)),

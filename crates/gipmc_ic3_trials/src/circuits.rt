@@ -87,6 +87,22 @@ fn counter<A: Allocator + Copy>(alloc: A) -> Result<Circuit<A>, AllocError> {
     circuit(alloc, &latches, &gates)
 }
 
+// Latches 2 and 3, which begin at 0 and 1. Where input 1 is true they exchange their values: gates 7 and 10 choose what
+// they hold next. Gate 6 is true where both are.
+fn exchange<A: Allocator + Copy>(alloc: A) -> Result<Circuit<A>, AllocError> {
+    let latches = [latch(2, is(7), Some(false)), latch(3, is(10), Some(true))];
+    let gates = [
+        gate(4, is(1), not(3)),
+        gate(5, not(1), not(2)),
+        gate(6, is(2), is(3)),
+        gate(7, not(4), not(5)),
+        gate(8, not(3), not(1)),
+        gate(9, not(2), is(1)),
+        gate(10, not(8), not(9)),
+    ];
+    circuit(alloc, &latches, &gates)
+}
+
 /// One of these circuits.
 #[derive(Clone, Copy)]
 pub enum Kind {
@@ -96,6 +112,8 @@ pub enum Kind {
     Ring,
     /// The counter.
     Counter,
+    /// The two latches that exchange their values.
+    Exchange,
 }
 
 /// The literal that is true where a variable has a value.
@@ -112,6 +130,7 @@ pub fn made<A: Allocator + Copy>(alloc: A, kind: Kind) -> Result<Netlist<A>, All
         Kind::Register(reset, constraint) => constrained(alloc, reset, literal(constraint))?,
         Kind::Ring => ring(alloc)?,
         Kind::Counter => counter(alloc)?,
+        Kind::Exchange => exchange(alloc)?,
     };
     Netlist::new(alloc, circuit)?.ok_or(AllocError)
 }
