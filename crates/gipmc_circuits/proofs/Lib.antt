@@ -4,7 +4,7 @@ mod Defined
 mod Ends
 mod Examples
 pub mod Encoded
-mod Rows
+pub mod Rows
 pub mod Runs
 pub mod Traces
 pub mod Unrolled
