@@ -1,0 +1,63 @@
+-- Each moment that is reached makes the trace longer, and has its row.
+use Rattle.std.proofs.Common.{◌≡◌, ◌+◌, [], ◌∷◌, ◌++◌, length, arith, refl, sym, ap, subst, ◌∙◌, IsTrue}
+use Rattle.std.proofs.lemmas.Grind.{common_steps}
+use Rattle.gipsat_cnf.specs.Models.{assignment_in}
+use Rattle.gipmc_circuits.specs.Circuit.{is_transition}
+use Rattle.gipmc_circuits.specs.Traces.{HoldsRow}
+use Rattle.gipmc_circuits.specs.WellFormed.{latch_variables}
+use Rattle.gipmc_circuits.proofs.Rows.{holds_first, holds_more, holds_rows}
+use Rattle.gipmc_circuits.proofs.Traces.{IsTrace-first, IsTrace-more, followed_by, followed_by-new, followed_by-old}
+use Rattle.gipmc_traces.proofs.Held.{held-first, held-more}
+use Rattle.gipmc_traces.proofs.rows.rows_of.Goals as goal
+
+pub loop-place-init : goal.loop-place-init
+loop-place-init g c =
+    let (initial, moment, latches, row) = rw (c.in-Some-2.is, c.deref-2.ensures.value, c.deref-3.ensures.value) at c.in_ok-values.ensures in
+    let a = assignment_in c.in-Some-2.values.items in
+    let held = rw (c.deref-4.ensures.value) at c.in_ok-row_of.ensures in (
+      (λ i. a),
+      IsTrace-first c.args.circuit.now a initial moment,
+      refl,
+      latches,
+      holds_first a c.args.circuit.now.inputs.items c.args.trace.now.inputs.items c.in-Some.rest.now
+          c.in-Some.first.now (sym c.deref.ensures.value ∙ c.in-Some.ensures.cases.0) row,
+      grind (arith, common_steps),
+      held-first c.args.circuit.now a c.push.new.self.items c.in_ok-row_of.field-0
+          (c.in_ok-push.ensures.items ∙ ap (λ rs. rs ++ c.in_ok-row_of.field-0 ∷ []) c.new-rows.ensures.items) held,
+    )
+
+pub loop-place-preserved : goal.loop-place-preserved
+loop-place-preserved g c =
+    let (t, is, last, latches, rows, all, are) = c.loop-place.invariant in
+    let (goes, moment, row) = rw (
+      c.in-Some-3.is,
+      c.deref-in-loop-place.ensures.value,
+      c.deref-in-loop-place-2.ensures.value,
+    ) at c.in_ok-now.ensures in
+    let now = assignment_in c.in-Some-3.now.items in
+    let held = rw (c.deref-in-loop-place-3.ensures.value) at c.in_ok-row_of-2.ensures in (
+      followed_by now c.loop-place.place t,
+      IsTrace-more c.args.circuit.now c.loop-place.place t now is
+          (subst (λ a. IsTrue (is_transition c.args.circuit.now a now)) (sym last) goes) moment,
+      followed_by-new now c.loop-place.place t,
+      subst (λ a. HoldsRow a (latch_variables c.args.circuit.now) c.args.trace.now.latches.items)
+          (sym (followed_by-old now c.loop-place.place t 0 (omega arith))) latches,
+      holds_more c.loop-place.place t now c.args.circuit.now.inputs.items c.args.trace.now.inputs.items c.in-Some.rest.now c.in-Some.first.now
+          c.index-rest-place.result (sym c.deref.ensures.value ∙ c.in-Some.ensures.cases.0) c.index-rest-place.is rows row,
+      grind (arith, common_steps),
+      held-more c.args.circuit.now c.loop-place.place t now c.loop-place.rows.items c.push-in-loop-place.new.self.items
+          c.in_ok-row_of-2.field-0 all are c.in_ok-push-2.ensures.items held,
+    )
+
+pub returns : goal.returns
+returns g c =
+    let (t, is, last, latches, rows, many, are) = c.loop-place.invariant in
+    let all : length c.args.trace.now.inputs.items ≡ c.loop-place.place + 1 = grind (arith, common_steps) in (
+      c.loop-place.place,
+      t,
+      many,
+      all,
+      is,
+      (latches, holds_rows c.loop-place.place t c.args.circuit.now.inputs.items c.args.trace.now.inputs.items all rows),
+      are,
+    )

@@ -1,0 +1,2 @@
+-- What is shown of a trace.
+pub mod Rows

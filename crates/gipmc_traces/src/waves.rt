@@ -1,0 +1,150 @@
+//! Traces as value change dumps (VCD), which viewers of waves read.
+use crate::signals::{Kind, Scene, Signal, signals};
+use std::alloc::{AllocError, Allocator};
+use std::io::Write;
+
+/// The value change dump of a trace: a moment is a unit of time, and the last one lasts one unit too. A name `a.b.c` is
+/// the signal `c` in the scope `b` of the scope `a`, and all are in the scope `circuit`.
+///
+/// # Errors
+/// `AllocError` where memory is refused.
+pub fn vcd_text<A: Allocator + Copy>(alloc: A, scene: &Scene<A>) -> Result<Vec<u8, A>, AllocError> {
+    let signals = signals(alloc, scene.names)?;
+    let mut text = Vec::new(alloc);
+    text.extend_from_slice(b"$timescale 1 ns $end\n$scope module circuit $end\n")?;
+    write_variables(&mut text, &signals)?;
+    text.extend_from_slice(b"$upscope $end\n$enddefinitions $end\n")?;
+    for moment in 0..scene.latches.len() {
+        write_moment(&mut text, scene, &signals, moment)?;
+    }
+    write_time(&mut text, scene.latches.len())?;
+    Ok(text)
+}
+
+// Writes the variables in their scopes.
+fn write_variables<A: Allocator>(
+    text: &mut Vec<u8, A>,
+    signals: &[Signal],
+) -> Result<(), AllocError> {
+    let mut scope: &[u8] = &[];
+    for (place, signal) in signals.iter().enumerate() {
+        let (outer, name) = scoped(signal.name);
+        write_scopes(text, scope, outer)?;
+        scope = outer;
+        write_variable(text, place, signal, name)?;
+    }
+    write_scopes(text, scope, &[])
+}
+
+// The scope of a name, and the name in it.
+fn scoped(name: &[u8]) -> (&[u8], &[u8]) {
+    match name.iter().rposition(|byte| *byte == b'.') {
+        Some(at) if at > 0 && at + 1 < name.len() => (&name[..at], &name[at + 1..]),
+        _ => (&[], name),
+    }
+}
+
+// Leaves one scope for another one.
+fn write_scopes<A: Allocator>(
+    text: &mut Vec<u8, A>,
+    last: &[u8],
+    next: &[u8],
+) -> Result<(), AllocError> {
+    if last == next {
+        return Ok(());
+    }
+    if !last.is_empty() {
+        for part in last.split(|byte| *byte == b'.') {
+            text.extend_from_slice(b"$upscope $end\n")?;
+        }
+    }
+    if !next.is_empty() {
+        for part in next.split(|byte| *byte == b'.') {
+            write_scope(text, part)?;
+        }
+    }
+    Ok(())
+}
+
+// Enters a scope.
+fn write_scope<A: Allocator>(text: &mut Vec<u8, A>, name: &[u8]) -> Result<(), AllocError> {
+    text.extend_from_slice(b"$scope module ")?;
+    for byte in name {
+        text.push(if byte.is_ascii_graphic() { *byte } else { b'_' })?;
+    }
+    text.extend_from_slice(b" $end\n")?;
+    Ok(())
+}
+
+// Writes what a variable is.
+fn write_variable<A: Allocator>(
+    text: &mut Vec<u8, A>,
+    place: usize,
+    signal: &Signal,
+    name: &[u8],
+) -> Result<(), AllocError> {
+    let kind = match signal.kind {
+        Kind::Input => "wire",
+        Kind::Latch => "reg",
+    };
+    let width = signal.width;
+    write!(text, "$var {kind} {width} ").map_err(|_| AllocError)?;
+    write_code(text, place)?;
+    text.push(b' ')?;
+    signal.write_name(name, text)?;
+    text.push(b' ')?;
+    signal.write_index(text)?;
+    text.extend_from_slice(b" $end\n")?;
+    Ok(())
+}
+
+// Writes the code of the signal at a place: its digits to the base 94, the lowest first.
+fn write_code<A: Allocator>(text: &mut Vec<u8, A>, mut place: usize) -> Result<(), AllocError> {
+    while place >= 94 {
+        text.push(b'!' + (place % 94) as u8)?;
+        place /= 94;
+    }
+    text.push(b'!' + place as u8)?;
+    Ok(())
+}
+
+// Writes what changes at a moment.
+fn write_moment<A: Allocator>(
+    text: &mut Vec<u8, A>,
+    scene: &Scene<A>,
+    signals: &[Signal],
+    moment: usize,
+) -> Result<(), AllocError> {
+    write_time(text, moment)?;
+    for (place, signal) in signals.iter().enumerate() {
+        if signal.changes(scene, moment) {
+            write_change(text, scene, place, signal, moment)?;
+        }
+    }
+    Ok(())
+}
+
+// Writes the line of a moment.
+fn write_time<A: Allocator>(text: &mut Vec<u8, A>, moment: usize) -> Result<(), AllocError> {
+    writeln!(text, "#{moment}").map_err(|_| AllocError)
+}
+
+// Writes what the signal at a place is at a moment.
+fn write_change<A: Allocator>(
+    text: &mut Vec<u8, A>,
+    scene: &Scene<A>,
+    place: usize,
+    signal: &Signal,
+    moment: usize,
+) -> Result<(), AllocError> {
+    if signal.width > 1 {
+        text.push(b'b')?;
+    }
+    signal.write_value(scene, moment, text)?;
+    if signal.width > 1 {
+        text.push(b' ')?;
+    }
+    write_code(text, place)?;
+    text.push(b'\n')?;
+    Ok(())
+}
