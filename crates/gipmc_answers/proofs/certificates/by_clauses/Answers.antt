@@ -7,7 +7,7 @@ pub returns-in-Certified : goal.returns-in-Certified
 returns-in-Certified g c =
     let bads = c.args.netlist.now.circuit.bads.items in
     let here = slice_get_read bads (length bads) c.args.place c.index.result.now refl c.requires c.index.ensures in
-    let said = c.in_ok-certify.ensures in (
+    let said = c.in_ok-verdict.ensures in (
       c.index.result.now,
       here,
       record {
