@@ -30,10 +30,11 @@ fn write_title<A: Allocator>(
     bad: usize,
 ) -> Result<(), AllocError> {
     write!(text, "c b{bad}").map_err(|_| AllocError)?;
-    if let Some(name) = scene.names.bads.get(bad) {
+    let name: &[u8] = scene.names.bads.get(bad).copied().unwrap_or(&[]);
+    if !name.is_empty() {
         text.push(b' ')?;
-        text.extend_from_slice(name)?;
     }
+    text.extend_from_slice(name)?;
     text.push(b'\n')?;
     Ok(())
 }
