@@ -109,10 +109,10 @@ try "a witness of another literal than is asked for" 1 \
     "wit: it names bad literal 1, and '--bad' asks for 0" "" "$two" --replay wit --bad 0
 witness '2\nb0\n.\n'
 # shellcheck disable=SC2016
-try "no witness" 1 'wit: line 1: no line `1`, with which a witness begins' "" "$held" --replay wit
+try "no witness" 1 'wit:1: no line `1`, with which a witness begins' "" "$held" --replay wit
 witness '1\nb0\n00\n1\n.\n'
 try "a witness with a value too many" 1 \
-    "wit: line 3: more or fewer values than the circuit has latches or inputs" "" "$held" --replay wit
+    "wit:3: more or fewer values than the circuit has latches or inputs" "" "$held" --replay wit
 
 # Certificates of other programs that are clauses.
 invariant() { printf '%b' "$1" > inv; }
@@ -128,7 +128,7 @@ try "an invariant, and no bad literal at all" 1 "<stdin>: no bad literal" "" 'aa
 invariant 'p cnf 9 1\n-1 0\n'
 # shellcheck disable=SC2016
 try "an invariant of another circuit" 1 \
-    'inv: line 1: no header `p cnf LATCHES CLAUSES` that says what follows' "" "$kept" --certify inv
+    'inv:1: no header `p cnf LATCHES CLAUSES` that says what follows' "" "$kept" --certify inv
 
 # Certificates that are circuits: with the same latches, whose bad literal is false where the invariant holds.
 printf '%b' 'aag 1 0 1 0 0 1\n2 2\n2\n' > cert.aag
@@ -147,7 +147,7 @@ try "a circuit of resets in a circle" 1 \
 printf '%b' 'aag 2 0 2 0 0 1\n2 2\n4 4\n4\nl1 = 2\n' > cert.aag
 try "a circuit whose second latch is the first one" 0 "" "s VERIFIED" "$kept" --certify cert.aag
 printf '%b' 'aag 1 0 1 0 0 1\n2 2\n' > cert.aag
-try "a circuit that ends too early" 1 "cert.aag: line 3: not a number" "" "$kept" --certify cert.aag
+try "a circuit that ends too early" 1 "cert.aag:3: not a number" "" "$kept" --certify cert.aag
 
 # Certificates that are written, and checked again. The answer is written first.
 printf '%b' "$two" > two.aag
@@ -159,6 +159,14 @@ status=$?
 told "a certificate that is written" $?
 [ "$("$gipmc" --certify cert two.aag)" = "s NOT VERIFIED" ]
 told "a certificate of the first literal is none of both" $?
+rm -f circuit
+"$gipmc" --bad 0 --certificate circuit --aiger two.aag > out 2> err
+status=$?
+[ "$status" = 20 ] && [ "$(cat out)" = "$safe" ] && [ ! -s err ] && [ "$(head -c 4 circuit)" = "aag " ] &&
+    [ "$("$gipmc" --certify circuit --bad 0 two.aag)" = "s VERIFIED" ]
+told "a certificate that is written as a circuit" $?
+[ "$("$gipmc" --certify circuit two.aag)" = "s NOT VERIFIED" ]
+told "a certificate as a circuit of the first literal is none of both" $?
 cp cert kept
 try "a certificate, and a file that is there" 1 \
     "cert: cannot be made: entity already exists" "" "" --bad 0 --certificate cert two.aag
@@ -284,6 +292,91 @@ told "no time" $?
 grep -q '^c b0: depth [0-9]*, [0-9]* clauses, [0-9]* learned; [0-9]*[.][0-9][0-9][0-9] s$' err
 told "progress in a file" $?
 
+# Traces with names. The circuit has a vector of two inputs and one of two latches, which are given in opposite orders.
+cat > named.aag << 'END'
+aag 6 3 2 0 1 2
+2
+4
+6
+8 2
+10 4
+8
+12
+12 8 10
+i0 top.in[1]
+i1 top.in[0]
+i2 a b
+l0 top.sub.held[0]
+l1 top.sub.held[1]
+b1 both
+c
+b0 of a comment
+END
+table='c b0
+c #0 top.in[1:0] = 1-
+c #0 top.sub.held[1:0] = 00
+c #1 top.sub.held[1:0] = -1'
+# Some inputs may have any value.
+"$gipmc" --engine bmc --bad 0 --names named.aag > out 2> err
+status=$?
+sed -n '/^c/{/a_b = [01]$/d; /^c #1 top.in/d; s/= 1[01]$/= 1-/; s/= [01]1$/= -1/; p}' out > told
+[ "$status" = 10 ] && [ ! -s err ] && [ "$(cat told)" = "$table" ]
+told "names" $?
+"$gipmc" --engine bmc --names named.aag > out 2> err
+[ "$(grep '^c b' out)" = "$(printf 'c b0\nc b1 both')" ] && [ "$("$gipmc" --replay out named.aag)" = "s VERIFIED" ]
+told "names of two literals, which a reader of witnesses passes over" $?
+"$gipmc" --names kept.aag > out 2> err
+status=$?
+[ "$status" = 20 ] && [ "$(cat out)" = "$safe" ] && [ ! -s err ]
+told "no names where nothing fails" $?
+rm -f wave
+"$gipmc" --engine bmc --vcd wave named.aag > out 2> err
+status=$?
+# shellcheck disable=SC2016
+wave='$timescale 1 ns $end
+$scope module circuit $end
+$scope module top $end
+$var wire 2 ! in [1:0] $end
+$upscope $end
+$var wire 1 " a_b  $end
+$scope module top $end
+$scope module sub $end
+$var reg 2 # held [1:0] $end
+$upscope $end
+$upscope $end
+$upscope $end
+$enddefinitions $end'
+[ "$status" = 10 ] && [ ! -s err ] && [ "$(head -n 13 wave)" = "$wave" ] && grep -qx 'b[01]1 #' wave &&
+    [ "$(grep '^#' wave | tr '\n' ' ')" = "#0 #1 #2 " ]
+told "a wave" $?
+try "a wave, and a file that is there" 1 "wave: cannot be made: entity already exists" "" "" --vcd wave named.aag
+rm -f wave
+"$gipmc" --vcd wave kept.aag > out 2> err
+status=$?
+[ "$status" = 20 ] && [ ! -e wave ] && [ ! -s err ]
+told "no wave where nothing fails" $?
+try "a wave on standard output" 2 \
+    "gipmc: '-' names no file to write, since standard output has the answer (try --help)" "" "" --vcd -
+mkdir traces
+"$gipmc" --engine bmc --depth 3 --witness traces/ two.aag > out 2> err
+status=$?
+[ "$status" = 10 ] && [ "$(ls traces)" = b1.aiw ] && [ "$(cat traces/b1.aiw)" = "$(printf '1\nb1\n00\n1\n0\n.')" ] &&
+    [ "$("$gipmc" --replay traces/b1.aiw --bad 1 two.aag)" = "s VERIFIED" ]
+told "files of witnesses" $?
+"$gipmc" --engine bmc --depth 3 --witness traces/ two.aag > out 2> err
+status=$?
+[ "$status" = 1 ] && [ "$(cat err)" = "traces/b1.aiw: cannot be written: entity already exists" ] &&
+    grep -qx b1 out
+told "a file of a witness that is there" $?
+for option in --names --vcd=a --witness=a; do
+    try "$option beside --replay" 2 \
+        "gipmc: '$option' goes with neither '--replay' nor '--certify' (try --help)" "" "" --replay a "$option"
+done
+printf '%b' 'aag 2 1 1 0 0 1\r\n2\r\n4 2\r\n4\r\n' > returns.aag
+try "a circuit with carriage returns" 10 "" "$fails" "" --engine bmc returns.aag
+witness '1\r\nb0\r\n0\r\n1\r\n0\r\n.\r\n'
+try "a witness with carriage returns" 0 "" "s VERIFIED" "$held" --replay wit
+
 # Standard streams that are closed. No file that is opened takes their place.
 unheard='<stdout>: cannot be written: closed, or open the other way alone'
 "$gipmc" --bad 0 --certificate cert two.aag > out 2> err <&-
@@ -326,11 +419,11 @@ rm -f cert
 
 # Texts that are refused.
 # shellcheck disable=SC2016
-try "an empty input" 1 '<stdin>: line 1: no header `aag` or `aig`' "" ""
+try "an empty input" 1 '<stdin>:1: no header `aag` or `aig`' "" ""
 try "a justice property" 1 \
-    "<stdin>: line 1: justice and fairness properties are not supported" "" 'aag 0 0 0 0 0 0 0 1\n'
-try "a latch that is not there" 1 "<stdin>: line 2: not a number" "" 'aag 1 0 1 0 0\n'
-try "a literal that is too great" 1 "<stdin>: line 3: a number that is too great" "" 'aag 1 0 1 0 0 1\n2 2\n4\n'
+    "<stdin>:1: justice and fairness properties are not supported" "" 'aag 0 0 0 0 0 0 0 1\n'
+try "a latch that is not there" 1 "<stdin>:2: not a number" "" 'aag 1 0 1 0 0\n'
+try "a literal that is too great" 1 "<stdin>:3: a number that is too great" "" 'aag 1 0 1 0 0 1\n2 2\n4\n'
 try "a variable that is not defined" 1 "<stdin>: variable 1 is not defined" "" 'aag 1 0 0 0 0 1\n2\n'
 try "a variable that is defined twice" 1 "<stdin>: variable 1 is defined twice" "" 'aag 2 1 1 0 0 1\n2\n2 2\n2\n'
 try "a gate that depends on itself" 1 \
@@ -372,11 +465,9 @@ for option in --engine=bmc --depth=9 --seed=1 --time=9 --stats; do
 done
 try "a limit beside a witness" 2 "gipmc: '--limit' does not go with '--replay' (try --help)" "" "" --replay a --limit 9
 try "standard output for a certificate" 2 \
-    "gipmc: '--certificate' takes the name of a file, since standard output has the answer (try --help)" "" "" \
-    --certificate -
+    "gipmc: '-' names no file to write, since standard output has the answer (try --help)" "" "" --certificate -
 try "standard output for a certificate, joined" 2 \
-    "gipmc: '--certificate' takes the name of a file, since standard output has the answer (try --help)" "" "" \
-    --certificate=-
+    "gipmc: '-' names no file to write, since standard output has the answer (try --help)" "" "" --certificate=-
 try "standard input twice" 2 "gipmc: one file at most is read from standard input (try --help)" "" "" --replay -
 try "the version" 0 "" "gipmc 0.1.0" "" --version
 cp held.aag ./-held.aag

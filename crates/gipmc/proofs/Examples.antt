@@ -34,6 +34,14 @@ certificate : work_asked (codes "--certificate" ∷ codes "c" ∷ codes "a" ∷ 
     ≡ Ok (Answer (record no_request { certificate = Some (codes "c"); file = Some (codes "a") }))
 certificate = refl
 
+certificate-circuit : work_asked (codes "--aiger" ∷ codes "--certificate=c" ∷ [])
+    ≡ Ok (Answer (record no_request { certificate = Some (codes "c"); aiger = true }))
+certificate-circuit = refl
+
+pictures : work_asked (codes "--names" ∷ codes "--vcd" ∷ codes "w" ∷ codes "--witness=t/" ∷ [])
+    ≡ Ok (Answer (record no_request { names = true; vcd = Some (codes "w"); witness = Some (codes "t/") }))
+pictures = refl
+
 -- a setting with its value in one word; the value is all behind the first equals sign
 joined : work_asked (codes "--depth=7" ∷ codes "--engine=ic3" ∷ codes "--certificate=p=q" ∷ [])
     ≡ Ok (Answer (record no_request { depth = Some 7; engine = Ic3; certificate = Some (codes "p=q") }))
@@ -130,6 +138,13 @@ refused-stdin_twice = refl
 
 refused-stdout : work_asked (codes "--certificate=-" ∷ []) ≡ Err OutputTwice
 refused-stdout = refl
+
+refused-vcd_stdout : work_asked (codes "--vcd" ∷ codes "-" ∷ []) ≡ Err OutputTwice
+refused-vcd_stdout = refl
+
+refused-names_of_a_witness : work_asked (codes "--replay" ∷ codes "w" ∷ codes "--names" ∷ [])
+    ≡ Err (NoSearch (codes "--names"))
+refused-names_of_a_witness = refl
 
 -- a file of the name of a minus has another name too
 certificate-minus : work_asked (codes "--certificate" ∷ codes "./-" ∷ [])

@@ -6,7 +6,7 @@ use Rattle.gipmc.specs.declared.errors.UsageError.TheVariants as error
 
 -- words that no options have, one that is no engine, a second file, a witness beside a certificate, an option of a search
 -- beside one of these, a limit beside a witness, standard input as both the circuit and the answer, and standard output
--- for a certificate
+-- for a file that is written
 pub data Misuse : Type 0 where
   Words : items.Misuse → Misuse
   NoEngine : List ℕ → Misuse

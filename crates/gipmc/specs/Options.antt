@@ -8,9 +8,9 @@ use Rattle.gip_program.specs.Options.{Entry, number, switch, text}
 use Rattle.gipmc.specs.declared.about.Number.{Number}
 use Rattle.gipmc.specs.declared.about.Number.TheVariants.{Bad, Depth, Limit, Seed, Time}
 use Rattle.gipmc.specs.declared.about.Switch.{Switch}
-use Rattle.gipmc.specs.declared.about.Switch.TheVariants.{Quiet, Stats, Verbose}
+use Rattle.gipmc.specs.declared.about.Switch.TheVariants.{Aiger, Names, Quiet, Stats, Verbose}
 use Rattle.gipmc.specs.declared.about.Text.{Text}
-use Rattle.gipmc.specs.declared.about.Text.TheVariants.{Certificate, Certify, Engine, Replay}
+use Rattle.gipmc.specs.declared.about.Text.TheVariants.{Certificate, Certify, Engine, Replay, Vcd, Witness}
 use Rattle.gipmc.specs.declared.options.Options.{Options}
 
 -- the options, each with its long and its short name
@@ -25,6 +25,10 @@ table =
     text (codes "--replay") [] Replay ∷
     text (codes "--certify") [] Certify ∷
     text (codes "--certificate") [] Certificate ∷
+    switch (codes "--aiger") [] Aiger ∷
+    switch (codes "--names") [] Names ∷
+    text (codes "--vcd") [] Vcd ∷
+    text (codes "--witness") [] Witness ∷
     switch (codes "--quiet") (codes "-q") Quiet ∷
     switch (codes "--verbose") (codes "-v") Verbose ∷
     switch (codes "--stats") [] Stats ∷
@@ -32,7 +36,8 @@ table =
 
 -- the file of the circuit, if not standard input, the place of its bad literal, if not all, what searches, the most
 -- transitions, if that is said, the most clauses or calls, the seed, the limit in seconds, if there is one, what to
--- write, and where to write a certificate, if one is wanted
+-- write, where to write a certificate, if one is wanted, and whether as a circuit, whether to tell traces with names, and
+-- where to write a wave and witnesses, if these are wanted
 pub record Request : Type 0 where
   pub file : Option (List ℕ)
   pub bad : Option ℕ
@@ -45,6 +50,10 @@ pub record Request : Type 0 where
   pub verbose : Bool
   pub stats : Bool
   pub certificate : Option (List ℕ)
+  pub aiger : Bool
+  pub names : Bool
+  pub vcd : Option (List ℕ)
+  pub witness : Option (List ℕ)
 
 -- what no word asks for
 abbrev pub no_request : Request
@@ -60,6 +69,10 @@ no_request = record {
   verbose = false;
   stats = false;
   certificate = None;
+  aiger = false;
+  names = false;
+  vcd = None;
+  witness = None;
 }
 
 -- the engine of this name
@@ -72,6 +85,8 @@ engine_of word =
 
 -- with what a switch turns on
 abbrev pub switched : Switch → Request → Request
+switched Aiger r = record r { aiger = true }
+switched Names r = record r { names = true }
 switched Quiet r = record r { quiet = true }
 switched Stats r = record r { stats = true }
 switched Verbose r = record r { verbose = true }
@@ -98,4 +113,8 @@ request_of o = record {
   verbose = o.verbose;
   stats = o.stats;
   certificate = option_map (λ name. name.now) o.certificate;
+  aiger = o.aiger;
+  names = o.names;
+  vcd = option_map (λ name. name.now) o.vcd;
+  witness = option_map (λ prefix. prefix.now) o.witness;
 }

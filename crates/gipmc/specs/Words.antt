@@ -37,16 +37,19 @@ no_words = record { request = no_request; info = None; search = None; limit = No
 abbrev pub asking : State → Result Request Misuse → Result State Misuse
 asking s r = result_map_both (λ r. record s { request = r }) (λ e. e) r
 
--- the file of this name for a certificate: it is no minus, since standard output has the answer
+-- the file of this name, which is written: it is no minus, since standard output has the answer
 abbrev pub output_of : List ℕ → Result (List ℕ) Misuse
 output_of name = if bytes_eq name (codes "-") then Err OutputTwice else Ok name
 
--- with this value of an option: the name of an engine, or that of a file
+-- with this value of an option: the name of an engine, that of a file, or the front of such names
 abbrev pub given : Text → State → List ℕ → Result State Misuse
 given text.Engine s word =
     asking s (ok_or (option_map (λ e. record s.request { engine = e }) (engine_of word)) (NoEngine word))
 given text.Certificate s word =
     asking s (result_map_both (λ name. record s.request { certificate = Some name }) (λ e. e) (output_of word))
+given text.Vcd s word =
+    asking s (result_map_both (λ name. record s.request { vcd = Some name }) (λ e. e) (output_of word))
+given text.Witness s word = Ok (record s { request = record s.request { witness = Some word } })
 given text.Replay s word = Ok (record s { replay = Some word })
 given text.Certify s word = Ok (record s { certify = Some word })
 
@@ -58,6 +61,8 @@ after_file s name =
 
 -- the tasks that heed an option
 abbrev pub scope_of_switch : Switch → Scope
+scope_of_switch switch.Aiger = Search
+scope_of_switch switch.Names = Search
 scope_of_switch switch.Stats = Search
 scope_of_switch s = Each
 

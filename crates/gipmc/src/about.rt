@@ -4,6 +4,8 @@ use gip_program::{About, Kind, Opt};
 /// An option of one word.
 #[derive(Clone, Copy)]
 pub enum Switch {
+    Aiger,
+    Names,
     Quiet,
     Stats,
     Verbose,
@@ -26,6 +28,8 @@ pub enum Text {
     Certify,
     Engine,
     Replay,
+    Vcd,
+    Witness,
 }
 
 /// What the program tells of itself.
@@ -47,7 +51,7 @@ pub const ABOUT: About<'static, Switch, Number, Text> = About {
 };
 
 /// The options.
-pub const OPTIONS: [Opt<Switch, Number, Text>; 12] = [
+pub const OPTIONS: [Opt<Switch, Number, Text>; 16] = [
     Opt {
         long: "--bad",
         short: "",
@@ -107,8 +111,8 @@ pub const OPTIONS: [Opt<Switch, Number, Text>; 12] = [
         section: "Answers of other programs",
         help: "write `s VERIFIED` if the certificate in FILE shows that no bad state is reachable, or `s NOT VERIFIED`, \
                also where a question is left open by --limit. A certificate is clauses over latches in the DIMACS form, or \
-               a circuit in a form of AIGER with as many inputs and latches, whose bad literals are false, and constraints \
-               true, where an invariant holds",
+               a circuit in a form of AIGER whose bad literals are false, and constraints true, where an invariant holds. It \
+               may have further inputs and latches; symbols `= n` tell which literals of the circuit it shares",
     },
     Opt {
         long: "--certificate",
@@ -117,6 +121,38 @@ pub const OPTIONS: [Opt<Switch, Number, Text>; 12] = [
         section: "Output",
         help: "write a certificate to the file F, which must not be there, if no bad state is reachable: clauses, which \
                `--certify F` checks. A minus is refused, since standard output has the answer",
+    },
+    Opt {
+        long: "--aiger",
+        short: "",
+        kind: Kind::Switch(Switch::Aiger),
+        section: "Output",
+        help: "write the certificate as a circuit in the ascii form of AIGER: the same inputs and latches, and a bad literal \
+               that is true outside of the invariant too",
+    },
+    Opt {
+        long: "--names",
+        short: "",
+        kind: Kind::Switch(Switch::Names),
+        section: "Output",
+        help: "write behind the answers, for each bad literal that fails, lines that begin with c: its name in the circuit's \
+               file, and what each input and latch is at first, and later where it changes",
+    },
+    Opt {
+        long: "--vcd",
+        short: "",
+        kind: Kind::Text(Text::Vcd, "F", "a file"),
+        section: "Output",
+        help: "write the trace of the first bad literal that fails to the file F, which must not be there, as a value \
+               change dump for a viewer of waves",
+    },
+    Opt {
+        long: "--witness",
+        short: "",
+        kind: Kind::Text(Text::Witness, "PREFIX", "the front of file names"),
+        section: "Output",
+        help: "write the witness of each bad literal that fails to a file of its own, which must not be there: PREFIX, then \
+               b and the literal's place, then .aiw",
     },
     Opt {
         long: "--quiet",

@@ -1,6 +1,8 @@
 //! Why nothing is answered, as it is told.
 use gip_program::{Cause, Fault, FinishError};
+use gipmc_aiger::{AigerError, Place, Reason};
 use gipmc_answers::TaskError;
+use std::alloc::AllocError;
 use std::fmt::{self, Display};
 use std::io;
 
@@ -21,7 +23,7 @@ pub enum UsageError<'a> {
     NoLimit(&'a str),
     /// Standard input is named twice.
     InputTwice,
-    /// A certificate is to be written to standard output.
+    /// A file is to be written, and standard output is named.
     OutputTwice,
 }
 
@@ -41,7 +43,7 @@ impl Display for UsageError<'_> {
             UsageError::NoLimit(word) => write!(f, "'{word}' does not go with '--replay'"),
             UsageError::InputTwice => f.write_str("one file at most is read from standard input"),
             UsageError::OutputTwice => f.write_str(
-                "'--certificate' takes the name of a file, since standard output has the answer",
+                "'-' names no file to write, since standard output has the answer",
             ),
         }
     }
@@ -60,6 +62,8 @@ pub enum Failure<'a> {
     Create(&'a str, io::Error),
     /// A write to the file of this name failed.
     WriteFile(&'a str, io::Error),
+    /// The witness of the bad literal at this place was not written to the file whose name begins so.
+    Witness(&'a str, u32, io::Error),
     /// A file was written, and did not get its name.
     Finish(FinishError<'a>),
     /// No certificate was written to this file.
@@ -91,6 +95,11 @@ impl Display for Failure<'_> {
             Failure::WriteFile(name, error) => {
                 write!(f, "{name}: cannot be written: {}", Cause(Some(error)))
             }
+            Failure::Witness(prefix, place, error) => write!(
+                f,
+                "{prefix}b{place}.aiw: cannot be written: {}",
+                Cause(Some(error))
+            ),
             Failure::Finish(error) => Display::fmt(&error, f),
             Failure::NoCertificate(name, TaskError::Memory) => write!(
                 f,
@@ -113,8 +122,37 @@ impl Display for Failure<'_> {
                 "{}: it names bad literal {named}, and '--bad' asks for {asked}",
                 name.unwrap_or("<stdin>")
             ),
-            Failure::Task(name, error) => write!(f, "{}: {error}", name.unwrap_or("<stdin>")),
+            Failure::Task(name, error) => {
+                let name = name.unwrap_or("<stdin>");
+                match refusal(error) {
+                    Some((line, reason)) => write!(f, "{name}:{line}: {reason}"),
+                    None => write!(f, "{name}: {error}"),
+                }
+            }
             Failure::Memory => f.write_str("memory: refused"),
         }
+    }
+}
+
+// The line where a text is refused, and why, if that is the error.
+fn refusal(error: TaskError) -> Option<(usize, Reason)> {
+    match error {
+        TaskError::Circuit(error) => line_of(error),
+        TaskError::Witness(error) => line_of(error),
+        TaskError::Certificate(error) => line_of(error),
+        _ => None,
+    }
+}
+
+fn line_of(error: AigerError) -> Option<(usize, Reason)> {
+    match error {
+        AigerError::Refused(Place::Line(line), reason) => Some((line, reason)),
+        _ => None,
+    }
+}
+
+impl From<AllocError> for Failure<'_> {
+    fn from(_refused: AllocError) -> Self {
+        Failure::Memory
     }
 }

@@ -19,19 +19,22 @@ mod errors;
 mod files;
 mod options;
 mod progress;
+mod traces;
 
 use about::ABOUT;
 use errors::Failure;
-use files::bytes_of;
-use gip_program::{Existing, NewFile, begin, explain, refuse, tell};
+use files::{bytes_of, new_file, write_out, write_whole};
+use gip_program::{NewFile, begin, explain, refuse, tell};
 use gipmc_answers::{
     Answered, Lost, Outcome, Output, TaskError, answer, certificate_of, certifies, replays,
+    witness_circuit_of,
 };
 use gipmc_engines::{Bounds, Engine, Plan, Tries};
 use options::{Options, Task};
 use progress::Teller;
-use std::io::{Stdout, Write};
+use std::io::Stdout;
 use std::process::ExitCode;
+use traces::tell_traces;
 
 // The exit status where nothing is answered, or an answer is not verified.
 const REFUSED: u8 = 1;
@@ -169,14 +172,6 @@ fn failure<'a>(circuit: Option<&'a str>, beside: Option<&'a str>, error: TaskErr
     }
 }
 
-// Writes a text to standard output.
-fn write_out<'a>(rt: &HostRuntime, text: &[u8]) -> Result<(), Failure<'a>> {
-    match rt.stdout().write_all(text) {
-        Ok(()) => Ok(()),
-        Err(error) => Err(Failure::Write(error)),
-    }
-}
-
 // What the options say of a search.
 fn plan_of(options: &Options) -> Plan {
     Plan {
@@ -202,8 +197,7 @@ fn depth_of(options: &Options) -> usize {
     }
 }
 
-// Answers about a circuit: writes each answer when it is found, and then the certificate, if one is wanted and was
-// found.
+// Answers about a circuit: writes each answer when it is found, and then the files that are wanted.
 fn search_circuit<'a>(
     rt: &HostRuntime,
     options: &Options<'a>,
@@ -211,14 +205,71 @@ fn search_circuit<'a>(
 ) -> Result<Outcome, Failure<'a>>
     ensures { IfOk result (IsAnswered Global bytes.now options.now.bad) }
 {
-    match options.certificate {
-        Some(name) => certified_search(rt, options, bytes, new_file(rt, name)?),
-        None => {
-            let mut output = Output::new(rt.stdout(), Lost::Stop);
-            let answer = search(rt, options, bytes, &mut output)?;
-            written(&output)?;
-            Ok(answer.said.outcome)
-        }
+    let certificate = new_file(rt, options.certificate)?;
+    let wave = new_file(rt, options.vcd)?;
+    search_for(rt, options, bytes, certificate, wave)
+}
+
+// Answers about a circuit, and writes these files, if they are wanted, and others that the options ask for.
+fn search_for<'a>(
+    rt: &HostRuntime,
+    options: &Options<'a>,
+    bytes: &[u8],
+    certificate: Option<NewFile<'a>>,
+    wave: Option<NewFile<'a>>,
+) -> Result<Outcome, Failure<'a>>
+    ensures { IfOk result (IsAnswered Global bytes.now options.now.bad) }
+{
+    let mut output = Output::new(rt.stdout(), lost(options));
+    let answer = search(rt, options, bytes, &mut output)?;
+    let kept = keep(rt, options, bytes, &answer, certificate, wave);
+    written(&output)?;
+    kept?;
+    Ok(answer.said.outcome)
+}
+
+// Writes the certificate that was found for the circuit that the bytes write, and what is told of traces.
+fn keep<'a>(
+    rt: &HostRuntime,
+    options: &Options<'a>,
+    bytes: &[u8],
+    answer: &Answered,
+    certificate: Option<NewFile<'a>>,
+    wave: Option<NewFile<'a>>,
+) -> Result<(), Failure<'a>>
+    requires circuit { IsCircuitIn bytes.now answer.now.netlist.circuit }
+{
+    let certified = keep_certificate(rt, options, bytes, answer, certificate);
+    let told = tell_traces(rt, options, bytes, answer, wave);
+    certified?;
+    told
+}
+
+// Writes the certificate that was found for the circuit that the bytes write, if there is one and a file for it.
+fn keep_certificate<'a>(
+    rt: &HostRuntime,
+    options: &Options<'a>,
+    bytes: &[u8],
+    answer: &Answered,
+    certificate: Option<NewFile<'a>>,
+) -> Result<(), Failure<'a>>
+    requires circuit { IsCircuitIn bytes.now answer.now.netlist.circuit }
+{
+    let Some(file) = certificate else {
+        return Ok(());
+    };
+    match answer.said.outcome {
+        Outcome::Safe => write_certificate(rt, options, bytes, answer, file),
+        _ => Ok(()),
+    }
+}
+
+// What becomes of the search where an answer cannot be written: it goes on for the files that are wanted.
+fn lost(options: &Options) -> Lost {
+    if options.certificate.is_some() || options.vcd.is_some() || options.witness.is_some() {
+        Lost::GoOn
+    } else {
+        Lost::Stop
     }
 }
 
@@ -259,34 +310,6 @@ fn written<'a>(output: &Output<Stdout>) -> Result<(), Failure<'a>> {
     }
 }
 
-// A file for a certificate. Nothing has its name yet.
-fn new_file<'a>(rt: &HostRuntime, name: &'a str) -> Result<NewFile<'a>, Failure<'a>> {
-    match NewFile::begin(rt, name, Existing::Refuse) {
-        Ok(file) => Ok(file),
-        Err(error) => Err(Failure::Create(name, error)),
-    }
-}
-
-// Answers about a circuit, writes each answer when it is found, and then the certificate to the file, if there is one.
-fn certified_search<'a>(
-    rt: &HostRuntime,
-    options: &Options<'a>,
-    bytes: &[u8],
-    file: NewFile<'a>,
-) -> Result<Outcome, Failure<'a>>
-    ensures { IfOk result (IsAnswered Global bytes.now options.now.bad) }
-{
-    let mut output = Output::new(rt.stdout(), Lost::GoOn);
-    let answer = search(rt, options, bytes, &mut output)?;
-    let kept = match answer.said.outcome {
-        Outcome::Safe => write_certificate(rt, options, bytes, &answer, file),
-        _ => Ok(()),
-    };
-    written(&output)?;
-    kept?;
-    Ok(answer.said.outcome)
-}
-
 // The text of the certificate that was found for the circuit that the bytes write.
 fn certificate_text(
     rt: &HostRuntime,
@@ -298,13 +321,11 @@ fn certificate_text(
     ensures { IfOk result (λ text. Certifies Global _bytes.now text.items options.now.bad) }
 {
     let invariant = &answer.said.invariant;
-    certificate_of(
-        rt.alloc(),
-        &answer.netlist,
-        invariant,
-        options.bad,
-        usize::MAX,
-    )
+    let (alloc, netlist, limit) = (rt.alloc(), &answer.netlist, usize::MAX);
+    if options.aiger {
+        return witness_circuit_of(alloc, netlist, invariant, options.bad, limit);
+    }
+    certificate_of(alloc, netlist, invariant, options.bad, limit)
 }
 
 // Writes the certificate that was found for the circuit that the bytes write to the file.
@@ -320,17 +341,6 @@ fn write_certificate<'a>(
     match certificate_text(rt, options, bytes, answer) {
         Ok(text) => write_whole(file, &text),
         Err(error) => Err(Failure::NoCertificate(Some(file.name()), error)),
-    }
-}
-
-// Writes a text to a new file, and gives it its name.
-fn write_whole<'a>(mut file: NewFile<'a>, text: &[u8]) -> Result<(), Failure<'a>> {
-    if let Err(error) = file.write_all(text) {
-        return Err(Failure::WriteFile(file.name(), error));
-    }
-    match file.finish() {
-        Ok(()) => Ok(()),
-        Err(error) => Err(Failure::Finish(error)),
     }
 }
 

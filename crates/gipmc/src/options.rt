@@ -77,6 +77,14 @@ pub struct Options<'a> {
     pub stats: bool,
     /// The file that a certificate is written to, if one is wanted.
     pub certificate: Option<&'a str>,
+    /// Whether it is written as a circuit.
+    pub aiger: bool,
+    /// Whether traces are told with names.
+    pub names: bool,
+    /// The file that a trace is drawn in, if one is wanted.
+    pub vcd: Option<&'a str>,
+    /// The front of the names of files for witnesses, if these are wanted.
+    pub witness: Option<&'a str>,
 }
 
 impl<'a> Options<'a> {
@@ -96,6 +104,10 @@ impl<'a> Options<'a> {
             verbose: false,
             stats: false,
             certificate: None,
+            aiger: false,
+            names: false,
+            vcd: None,
+            witness: None,
         }
     }
 
@@ -104,6 +116,14 @@ impl<'a> Options<'a> {
         ensures { request_of result ≡ switched switch (request_of self.entry) }
     {
         match switch {
+            Switch::Aiger => Options {
+                aiger: true,
+                ..self
+            },
+            Switch::Names => Options {
+                names: true,
+                ..self
+            },
             Switch::Quiet => Options {
                 quiet: true,
                 ..self
@@ -179,7 +199,7 @@ fn input<'a>(name: &'a str) -> Option<&'a str>
     if name == "-" { None } else { Some(name) }
 }
 
-// The file of this name, to which a certificate is written: not standard output.
+// The file of this name, which is written: not standard output.
 fn output<'a>(name: &'a str) -> Result<&'a str, UsageError<'a>>
     ensures { result_map_both (λ name. name.now) misuse_of result ≡ output_of name.now }
 {
@@ -205,7 +225,7 @@ impl Switch {
     {
         match self {
             Switch::Quiet | Switch::Verbose => Scope::Each,
-            Switch::Stats => Scope::Search,
+            Switch::Aiger | Switch::Names | Switch::Stats => Scope::Search,
         }
     }
 }
@@ -228,7 +248,7 @@ impl Text {
     {
         match self {
             Text::Certify | Text::Replay => Scope::Each,
-            Text::Certificate | Text::Engine => Scope::Search,
+            Text::Certificate | Text::Engine | Text::Vcd | Text::Witness => Scope::Search,
         }
     }
 }
@@ -337,6 +357,14 @@ impl<'a> Asked<'a> {
                     certificate,
                     ..options
                 }))
+            }
+            Text::Vcd => {
+                let vcd = Some(output(word)?);
+                Ok(self.with_options(Options { vcd, ..options }))
+            }
+            Text::Witness => {
+                let witness = Some(word);
+                Ok(self.with_options(Options { witness, ..options }))
             }
             Text::Replay => Ok(Asked {
                 replay: Some(word),

@@ -2,6 +2,11 @@
 use Rattle.std.proofs.lemmas.Result.{IfOk-weaker}
 use Rattle.gipmc.proofs.certificate_text.Goals as goal
 
+pub returns-then-options : goal.returns-then-options
+returns-then-options c =
+    IfOk-weaker c.witness_circuit_of.result _ _
+    (λ text is. (c.args.answer.now.netlist.circuit, c.requires.circuit, is)) c.witness_circuit_of.ensures
+
 pub returns : goal.returns
 returns c =
     IfOk-weaker c.certificate_of.result _ _
