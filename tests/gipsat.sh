@@ -127,7 +127,7 @@ help=$("$gipsat" --help)
 try "the help" 0 "" "$help" "" -h
 [ -z "$(printf '%s\n' "$help" | grep '.\{81\}')" ]
 told "the help fits into 80 columns" $?
-for option in --conflicts -t --time -n --no-witness -q --quiet --stats --proof --binary -f --force --relaxed --no-simplify --check -h --help --version --; do
+for option in --conflicts -t --time -n --no-witness -q --quiet --stats --proof --binary --lrat -f --force --relaxed --no-simplify --check -h --help --version --; do
     if printf '%s\n' "$help" | grep -qE -- "^ *([^ ]+ )?${option}[ ,]"; then
         echo "ok: the help tells of $option"
         passed=$((passed + 1))
@@ -160,11 +160,13 @@ try_usage "unknown option '--=9'" --=9
 try_usage "'--conflicts' takes a number below 2^64, not '18446744073709551616'" --conflicts 18446744073709551616
 try_usage "'--conflicts' takes a number below 2^64, not '-1'" --conflicts -1
 try_usage "'--time' takes a number below 2^64, not '1.5'" --time 1.5
+try_usage "'--lrat' needs '--proof'" --lrat a
 try_usage "'--check' takes two files, FORMULA and PROOF" --check
 try_usage "'--check' takes two files, FORMULA and PROOF" --check a
 try_usage "one file too many, 'c'" --check a b c
 try_usage "'--check' takes no option '--stats'" --stats --check a b
 try_usage "'--check' takes no option '--proof'" --check --proof a b c
+try_usage "'--check' takes no option '--lrat'" --check --lrat a b
 try_usage "'--check' takes no option '--time=9'" --check --time=9 a b
 try_usage "'--check' takes one file at most from standard input" --check - -
 
@@ -228,7 +230,9 @@ try_refused "a clause left out" 3 "$not_shown" "$squares" '1 2 0\n4 0\n0\n'
 try_refused "a literal turned" 1 "$not_shown" "$squares" '-1 2 0\n1 0\n4 0\n0\n'
 try_refused "another formula" 4 "$not_shown" 'p cnf 5 2\n1 2 3 0\n1 2 4 0\n' '1 2 0\n1 0\n4 0\n0\n'
 try_refused "a needed clause deleted" 2 "$not_shown" "$squares" 'd 1 2 3 0\n1 2 0\n1 0\n4 0\n0\n'
-try_check "a deletion of what is not there" 0 "" "s VERIFIED" "$squares" 'd 1 2 0\n1 2 0\n1 0\n4 0\n0\n'
+try_check "a deletion of what is not there" 0 \
+    "c $work/proof: deletions of what is not there were passed over: 1, the first at line 1" "s VERIFIED" \
+    "$squares" 'd 1 2 0\n1 2 0\n1 0\n4 0\n0\n'
 try_check "variables of the proof's own" 0 "" "s VERIFIED" "$squares" '9 -1 0\n-9 1 0\n1 2 0\n9 0\n4 0\n0\n'
 lrat='9 1 2 0 1 2 0\n10 1 0 9 3 4 0\n10 d 9 1 2 0\n11 4 0 10 5 6 0\n12 0 11 10 7 8 0\n'
 try_check "a proof with hints" 0 "" "s VERIFIED" "$squares" "$lrat"
@@ -606,6 +610,17 @@ try "a proof is written to a name behind =" 20 "" "s UNSATISFIABLE" "" "--proof=
 try "that proof behind = is checked" 0 "" "s VERIFIED" "" --check "$kept" "$work/joined"
 try "a larger binary proof is written" 20 "" "s UNSATISFIABLE" "" -q --binary --proof "$work/bytes" "$work/crowd"
 try "that larger binary proof is checked" 0 "" "s VERIFIED" "" --check "$work/crowd" "$work/bytes"
+
+# Proofs with hints, as text and as bytes. A step of the text has two ends, and none of DRAT has; the bytes are others.
+try "a proof with hints is written" 20 "" "s UNSATISFIABLE" "" -q --lrat --proof "$work/hints" "$work/crowd"
+try "that proof with hints is checked" 0 "" "s VERIFIED" "" --check "$work/crowd" "$work/hints"
+head -n 1 "$work/hints" | grep -qE '^[0-9]+ (-?[0-9]+ )*0 ([0-9]+ )+0$'
+told "a proof with hints has its form" $?
+try "a binary proof with hints is written" 20 "" "s UNSATISFIABLE" "" \
+    -q --lrat --binary --proof "$work/hints" "$work/crowd"
+try "that binary proof with hints is checked" 0 "" "s VERIFIED" "" --check "$work/crowd" "$work/hints"
+[ "$(head -c 1 "$work/hints")" = a ] && ! cmp -s "$work/hints" "$work/bytes"
+told "a binary proof with hints has its form" $?
 try "a proof without elimination is written" 20 "" "s UNSATISFIABLE" "" -q --no-simplify --proof "$work/plain" "$work/crowd"
 try "that proof without elimination is checked" 0 "" "s VERIFIED" "" --check "$work/crowd" "$work/plain"
 

@@ -8,7 +8,7 @@ use Rattle.gipsat_drat.specs.declared.error.Outcome.TheVariants.{Verified, Refus
 use Rattle.gipsat_drat.specs.declared.error.Place.TheVariants.{Line}
 use Rattle.gip_program.specs.Items.{UnknownOption, NoValue, NoNumber}
 use Rattle.gip_program.specs.declared.items.Info.TheVariants as info
-use Rattle.gipsat.specs.Misuses.{Words, ExtraFile, MissingFile, NotForCheck, InputTwice, OutputTwice}
+use Rattle.gipsat.specs.Misuses.{Words, ExtraFile, MissingFile, MissingProof, NotForCheck, InputTwice, OutputTwice}
 use Rattle.gipsat.specs.Options.{no_request}
 use Rattle.gipsat.specs.Words.{work_asked, Tell, Solve, Check}
 use Rattle.gipsat_dimacs.specs.Inputs.{HasForm, WritesNone, HasClauses, IsRefusedAt}
@@ -25,6 +25,10 @@ all = refl
 switches : work_asked (codes "a" ∷ codes "--stats" ∷ codes "-q" ∷ codes "-n" ∷ codes "-f" ∷ codes "--binary" ∷ [])
     ≡ Ok (Solve (record no_request { stats = true; quiet = true; witness = false; force = true; binary = true; file = Some (codes "a") }))
 switches = refl
+
+lrat : work_asked (codes "--lrat" ∷ codes "--proof" ∷ codes "p" ∷ [])
+    ≡ Ok (Solve (record no_request { proof = Some (codes "p"); lrat = true }))
+lrat = refl
 
 no_simplify : work_asked (codes "--no-simplify" ∷ []) ≡ Ok (Solve (record no_request { simplify = false }))
 no_simplify = refl
@@ -92,6 +96,9 @@ refused-large_number = refl
 
 refused-two_files : work_asked (codes "a" ∷ codes "b" ∷ []) ≡ Err (ExtraFile (codes "b"))
 refused-two_files = refl
+
+refused-lrat_without_a_proof : work_asked (codes "--lrat" ∷ codes "a" ∷ []) ≡ Err MissingProof
+refused-lrat_without_a_proof = refl
 
 refused-check_of_one : work_asked (codes "--check" ∷ codes "a" ∷ []) ≡ Err MissingFile
 refused-check_of_one = refl

@@ -9,7 +9,7 @@ use Rattle.gipsat.specs.Misuses.{Misuse, OutputTwice}
 use Rattle.gipsat.specs.declared.about.Number.{Number}
 use Rattle.gipsat.specs.declared.about.Number.TheVariants.{Conflicts, Time}
 use Rattle.gipsat.specs.declared.about.Switch.{Switch}
-use Rattle.gipsat.specs.declared.about.Switch.TheVariants.{Binary, Check, Force, NoSimplify, NoWitness, Quiet, Relaxed, Stats}
+use Rattle.gipsat.specs.declared.about.Switch.TheVariants.{Binary, Check, Force, Lrat, NoSimplify, NoWitness, Quiet, Relaxed, Stats}
 use Rattle.gipsat.specs.declared.about.Text.{Text}
 use Rattle.gipsat.specs.declared.about.Text.TheVariants.{Proof}
 use Rattle.gipsat.specs.declared.options.Options.{Options}
@@ -26,6 +26,7 @@ table =
     switch (codes "--stats") [] Stats ∷
     text (codes "--proof") [] Proof ∷
     switch (codes "--binary") [] Binary ∷
+    switch (codes "--lrat") [] Lrat ∷
     switch (codes "--force") (codes "-f") Force ∷
     switch (codes "--check") [] Check ∷
     []
@@ -42,6 +43,7 @@ pub record Request : Type 0 where
   pub proof : Option (List ℕ)
   pub force : Bool
   pub binary : Bool
+  pub lrat : Bool
   pub simplify : Bool
   pub rule : HeaderRule
   pub file : Option (List ℕ)
@@ -57,6 +59,7 @@ no_request = record {
   proof = None;
   force = false;
   binary = false;
+  lrat = false;
   simplify = true;
   rule = rule.Strict;
   file = None;
@@ -81,6 +84,7 @@ request_of o = record {
   proof = option_map (λ name. name.now) o.proof;
   force = o.force;
   binary = o.binary;
+  lrat = o.lrat;
   simplify = o.simplify;
   rule = o.rule;
   file = option_map (λ name. name.now) o.file;

@@ -5,7 +5,7 @@ use Rattle.std.specs.Result.{result_map_both}
 use Rattle.std.specs.Str.{bytes_eq}
 use Rattle.gip_program.specs.Items.{Any, Counted, File, Given, Misused, Said, Told, Turned, items_said}
 use Rattle.gip_program.specs.declared.items.Info.{Info}
-use Rattle.gipsat.specs.Misuses.{Misuse, Words, ExtraFile, MissingFile, NotForCheck, InputTwice}
+use Rattle.gipsat.specs.Misuses.{Misuse, Words, ExtraFile, MissingFile, MissingProof, NotForCheck, InputTwice}
 use Rattle.gipsat.specs.Options.{Request, no_request, output_of, request_of, table}
 use Rattle.gipsat_dimacs.specs.declared.rule.HeaderRule.TheVariants as rule
 use Rattle.gipsat.specs.declared.about.Number.{Number}
@@ -40,6 +40,7 @@ abbrev pub switched : Switch → State → List ℕ → State
 switched switch.Binary s word = asking s word (record s.request { binary = true })
 switched switch.Check s word = record s { check = true }
 switched switch.Force s word = asking s word (record s.request { force = true })
+switched switch.Lrat s word = asking s word (record s.request { lrat = true })
 switched switch.NoSimplify s word = asking s word (record s.request { simplify = false })
 switched switch.NoWitness s word = asking s word (record s.request { witness = false })
 switched switch.Quiet s word = asking s word (record s.request { quiet = true })
@@ -74,9 +75,11 @@ pub data Work : Type 0 where
 abbrev pub input_of : List ℕ → Option (List ℕ)
 input_of name = if bytes_eq name (codes "-") then None else Some name
 
--- a search, of one file at most
+-- a search, of one file at most; a proof in the LRAT form has a file
 abbrev pub search_of : State → Option (List ℕ) → Result Work Misuse
-search_of s None = Ok (Solve (record s.request { file = option_and_then input_of s.request.file }))
+search_of s None =
+    if s.request.lrat && is_none s.request.proof then Err MissingProof
+    else Ok (Solve (record s.request { file = option_and_then input_of s.request.file }))
 search_of s (Some name) = Err (ExtraFile name)
 
 abbrev pub search_asked : State → Result Work Misuse

@@ -7,6 +7,7 @@ pub enum Switch {
     Binary,
     Check,
     Force,
+    Lrat,
     NoSimplify,
     NoWitness,
     Quiet,
@@ -46,7 +47,7 @@ pub const ABOUT: About<'static, Switch, Number, Text> = About {
 };
 
 /// The options.
-pub const OPTIONS: [Opt<Switch, Number, Text>; 11] = [
+pub const OPTIONS: [Opt<Switch, Number, Text>; 12] = [
     Opt {
         long: "--relaxed",
         short: "",
@@ -111,6 +112,14 @@ pub const OPTIONS: [Opt<Switch, Number, Text>; 11] = [
         kind: Kind::Switch(Switch::Binary),
         section: "Proofs",
         help: "write it in the binary form",
+    },
+    Opt {
+        long: "--lrat",
+        short: "",
+        kind: Kind::Switch(Switch::Lrat),
+        section: "Proofs",
+        help: "write it in the LRAT form, whose steps name the clauses that they follow from; it is larger, and checked \
+               faster",
     },
     Opt {
         long: "--force",

@@ -15,6 +15,8 @@ pub enum UsageError<'a> {
     ExtraFile(&'a str),
     /// Fewer than two files are named for a check.
     MissingFile,
+    /// `--lrat` is given, and no proof is to be written.
+    MissingProof,
     /// A check takes no such option.
     NotForCheck(&'a str),
     /// Standard input is named as the formula and as the proof.
@@ -29,6 +31,7 @@ impl Display for UsageError<'_> {
             UsageError::Words(fault) => Display::fmt(&fault, f),
             UsageError::ExtraFile(name) => write!(f, "one file too many, '{name}'"),
             UsageError::MissingFile => f.write_str("'--check' takes two files, FORMULA and PROOF"),
+            UsageError::MissingProof => f.write_str("'--lrat' needs '--proof'"),
             UsageError::NotForCheck(word) => write!(f, "'--check' takes no option '{word}'"),
             UsageError::InputTwice => {
                 f.write_str("'--check' takes one file at most from standard input")

@@ -28,8 +28,8 @@ use files::{Output, Source};
 use gip_program::{begin, explain, refuse, tell};
 use gipsat_answers::Verdict;
 use gipsat_dimacs::{DimacsError, Reason};
-use gipsat_drat::error::{DratError, Outcome};
-use gipsat_drat::task::check_text;
+use gipsat_drat::error::{DratError, Notes, Outcome};
+use gipsat_drat::task::check_text_noting;
 use options::{Options, Task};
 use solve::{SolveError, solve};
 use std::io::{Read, Write};
@@ -77,6 +77,17 @@ fn announce(rt: &HostRuntime, source: &Source) {
     }
 }
 
+// Tells how many deletions of the proof in this file were passed over.
+fn warn(rt: &HostRuntime, proof: Option<&str>, notes: Notes) {
+    if let Some(first) = notes.first {
+        let name = proof.unwrap_or("<stdin>");
+        let missing = notes.missing;
+        let _ = eprintln!(rt;
+            "c {name}: deletions of what is not there were passed over: {missing}, the first at {first}"
+        );
+    }
+}
+
 // Solves the formula of the file that the options name, or of standard input, and writes the answer to standard output.
 fn solve_file<'a>(rt: &HostRuntime, options: &Options<'a>) -> Result<Verdict, Failure<'a>> {
     let mut source = Source::open(rt, options.file)?;
@@ -99,23 +110,29 @@ fn check_files<'a>(
     formula: Option<&'a str>,
     proof: Option<&'a str>,
 ) -> Result<Outcome, Failure<'a>> {
+    let name = proof;
     let mut formula = Source::open(rt, formula)?;
     let mut proof = Source::open(rt, proof)?;
     let mut output = Output::new(rt);
+    let mut notes = Notes::new();
     announce(rt, &formula);
     announce(rt, &proof);
-    match check(rt, &mut formula, &mut proof, &mut output) {
-        Ok(outcome) => Ok(outcome),
+    match check(rt, &mut formula, &mut proof, &mut output, &mut notes) {
+        Ok(outcome) => {
+            warn(rt, name, notes);
+            Ok(outcome)
+        }
         Err(error) => Err(formula.check_failure(&proof, &output, error)),
     }
 }
 
-// Checks as `check_text` does.
+// Checks as `check_text_noting` does.
 fn check<F: Read, P: Read, W: Write>(
     rt: &HostRuntime,
     formula: &mut F,
     proof: &mut P,
     writer: &mut W,
+    notes: &mut Notes,
 ) -> Result<Outcome, DratError>
     ensures read_to_end { OnOk result (IsAtEnd (F.remaining formula.new)) }
     ensures has_form { OnOk result (HasForm Strict (F.remaining formula.old)) }
@@ -125,5 +142,5 @@ fn check<F: Read, P: Read, W: Write>(
         WritesNone Strict (F.remaining formula.old) }
     ensures unwritten { IfErr result (λ error. error ≢ DratError.Output → writer.new ≡ writer.old) }
 {
-    check_text(rt.alloc(), formula, proof, writer)
+    check_text_noting(rt.alloc(), formula, proof, writer, notes)
 }

@@ -69,6 +69,8 @@ pub struct Options<'a> {
     pub force: bool,
     /// Whether to write the proof in the binary form.
     pub binary: bool,
+    /// Whether to write the proof in the LRAT form.
+    pub lrat: bool,
     /// Whether to eliminate variables and to shorten learned clauses.
     pub simplify: bool,
     /// What the counts of the header mean.
@@ -91,6 +93,7 @@ impl<'a> Options<'a> {
             proof: None,
             force: false,
             binary: false,
+            lrat: false,
             simplify: true,
             rule: HeaderRule::Strict,
             file: None,
@@ -219,6 +222,10 @@ impl<'a> Asked<'a> {
                 force: true,
                 ..options
             },
+            Switch::Lrat => Options {
+                lrat: true,
+                ..options
+            },
             Switch::NoSimplify => Options {
                 simplify: false,
                 ..options
@@ -274,12 +281,15 @@ impl<'a> Asked<'a> {
         }
     }
 
-    // The search: of one file at most.
+    // The search: of one file at most. A form of the proof needs a proof.
     fn end_search(self) -> Result<Task<'a>, UsageError<'a>>
         ensures { result_map_both work_of misuse_of result ≡ search_asked (state_of self.entry) }
     {
         match self.second {
             Some(name) => Err(UsageError::ExtraFile(name)),
+            None if self.options.lrat && self.options.proof.is_none() => Err(
+                UsageError::MissingProof,
+            ),
             None => {
                 let file = match self.options.file {
                     Some(name) => input(name),

@@ -13,7 +13,7 @@ use gip_program::NewFile;
 use gipsat_answers::{Solved, Task, Verdict, solve_instance};
 use gipsat_cnf::Cnf;
 use gipsat_dimacs::{DimacsError, Instance, Reason, read_instance_by};
-use gipsat_drat_writer::{Fault, Format, ProofWriter};
+use gipsat_drat_writer::{Fault, Form, Format, ProofWriter};
 use gipsat_solver::progress::{Both, Progress};
 use std::alloc::{AllocError, Global};
 use std::io::{Read, Write};
@@ -217,6 +217,7 @@ fn prove_to<'a, W: Write, P: Progress + Drop>(
         ¬ (IsErrOf result (SolveError.Task (DimacsError.Line line reason))) }
 {
     let path = file.name();
+    let form = if options.lrat { Form::Lrat } else { Form::Drat };
     let format = if options.binary {
         Format::Binary
     } else {
@@ -224,7 +225,7 @@ fn prove_to<'a, W: Write, P: Progress + Drop>(
     };
     let mut both = Both {
         first: progress,
-        second: ProofWriter::new(rt.alloc(), file, format),
+        second: ProofWriter::in_form(rt.alloc(), file, form, format),
     };
     let task = task_of(options);
     let solved = match solve_instance(rt.alloc(), instance, writer, task, &mut both) {
