@@ -127,8 +127,8 @@ pub const OPTIONS: [Opt<Switch, Number, Text>; 16] = [
         short: "",
         kind: Kind::Switch(Switch::Aiger),
         section: "Output",
-        help: "write the certificate as a circuit in the ascii form of AIGER: the same inputs and latches, and a bad literal \
-               that is true outside of the invariant too",
+        help: "write the certificate of --certificate as a circuit in the ascii form of AIGER: the same inputs and latches, \
+               and a bad literal that is true outside of the invariant too",
     },
     Opt {
         long: "--names",

@@ -34,7 +34,10 @@ fn write_title<A: Allocator>(
     if !name.is_empty() {
         text.push(b' ')?;
     }
-    text.extend_from_slice(name)?;
+    for byte in name {
+        let is_shown = byte.is_ascii_graphic() || *byte == b' ';
+        text.push(if is_shown { *byte } else { b'_' })?;
+    }
     text.push(b'\n')?;
     Ok(())
 }

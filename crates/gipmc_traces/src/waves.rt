@@ -55,12 +55,16 @@ fn write_scopes<A: Allocator>(
     }
     if !last.is_empty() {
         for part in last.split(|byte| *byte == b'.') {
-            text.extend_from_slice(b"$upscope $end\n")?;
+            if !part.is_empty() {
+                text.extend_from_slice(b"$upscope $end\n")?;
+            }
         }
     }
     if !next.is_empty() {
         for part in next.split(|byte| *byte == b'.') {
-            write_scope(text, part)?;
+            if !part.is_empty() {
+                write_scope(text, part)?;
+            }
         }
     }
     Ok(())
