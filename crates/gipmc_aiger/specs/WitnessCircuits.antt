@@ -70,7 +70,8 @@ witness_rows_of text = do
   header ← header_at text
   witness_body_at header.0 header.1
 
--- the certificate has these rows, the gates in some order, and as its own the latches that are not shared
+-- the certificate has these gates in some order, these bad literals and constraints, and as its own the latches that
+-- are not shared; of inputs, and of what is shared, nothing is said
 pub record IsWitnessOf {A : Type 0} (n : WitnessRows) (w : WitnessCircuit A) : Type 0 where
   pub gates : IsPermutation n.gates w.circuit.gates.items
   pub bads : w.circuit.bads.items ≡ n.bads

@@ -12,7 +12,7 @@ pub(crate) struct Codes {
     value: u64,
     // What one stands for in the next byte.
     scale: u64,
-    // The greatest number that there may be, at most 2^56.
+    // The greatest number that there may be, at most 2^56 + 1.
     greatest: u64,
     // How many bytes were read.
     bytes: usize,

@@ -17,7 +17,7 @@ use std::fmt;
 pub enum Flaw {
     /// A word is no number.
     Word,
-    /// A literal's number is greater than 2^31 - 1, or another number greater than 2^55.
+    /// A literal's number is greater than 2^31 - 1, or another number is greater than the form has.
     Number,
     /// A 0 has a sign.
     Variable,

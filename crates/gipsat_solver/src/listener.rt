@@ -32,7 +32,7 @@ pub trait Progress {
     /// Whether [`Progress::added`] is to tell what each clause was resolved from. It is asked when a search begins.
     fn wants_chains(&self) -> bool;
 
-    /// A slice of the search begins.
+    /// The search begins, or goes on after a pause.
     fn begin(&mut self, report: Report)
         ensures { IsTrue (wants_stop self.old) → IsTrue (wants_stop self.new) };
 
@@ -45,7 +45,7 @@ pub trait Progress {
     fn deleted(&mut self, id: usize, clause: &[Literal])
         ensures { IsTrue (wants_stop self.old) → IsTrue (wants_stop self.new) };
 
-    /// A slice has ended without an answer. `Break` stops the search.
+    /// The search pauses, without an answer so far. `Break` stops it.
     fn note(&mut self, report: Report) -> ControlFlow<()>
         ensures { IsTrue (is_some (break_value result)) → IsTrue (wants_stop self.new) };
 

@@ -1,4 +1,4 @@
-//! A search in slices: between two of them it tells how far it is, and may be stopped.
+//! A search in slices, with pauses: at each it tells how far it is, and may be stopped.
 ghost use Rattle.std.specs.Prelude.{◌≡◌, IfNone, IfOk, IfSome, IsTrue, OnErr, OnOk};
 ghost use Rattle.gipsat_solver.specs.Answers.{HasNoFewer, HasUpTo, IsDecided, IsRight};
 
@@ -34,7 +34,7 @@ pub fn solve_in_slices<A: Allocator + Copy, P: Progress>(
     Ok(found)
 }
 
-// How many pauses a slice has at least.
+// Into how many parts pauses divide the propagations of a first slice.
 const PAUSES: u64 = 16;
 
 // The search, without its end. Between two pauses it goes on where it was.
