@@ -28,9 +28,10 @@ impl Names {
         }
     }
 
-    // Names the clauses of the formula, unless there are names.
+    // Names the clauses of the formula, unless there are names. The clauses move up then, since others may be freed next.
     pub(crate) fn begin(&mut self, clauses: usize) -> Result<(), AllocError> {
         if self.last > 0 {
+            self.move_up();
             return Ok(());
         }
         for _ in 0..clauses {
