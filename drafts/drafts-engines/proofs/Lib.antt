@@ -1,0 +1,3 @@
+mod Allowing
+pub mod Depths
+mod Several

@@ -1,0 +1,33 @@
+//! A listener to a search.
+
+use gipmc_ic3::Statistics;
+use std::ops::ControlFlow;
+
+/// A listener: it is told how far a search is, and may stop it.
+pub trait Watch {
+    /// So many rounds of simulation found nothing. `Break` stops the simulation.
+    fn note_round(&mut self, rounds: usize) -> ControlFlow<()>;
+
+    /// No trace of fewer than `depth` transitions fails, and those of so many come next. Their formula has so many
+    /// clauses, and so many were learned. `Break` stops the search.
+    fn note(&mut self, depth: usize, clauses: usize, learned: usize) -> ControlFlow<()>;
+
+    /// A slice of IC3 ended. It came to this frame, and so much was done up to now. `Break` stops the search, if the
+    /// slice found nothing.
+    fn note_slice(&mut self, frame: usize, statistics: &Statistics) -> ControlFlow<()>;
+}
+
+/// The listener that ignores all it is told, and stops no search.
+impl Watch for () {
+    fn note_round(&mut self, _rounds: usize) -> ControlFlow<()> {
+        ControlFlow::Continue(())
+    }
+
+    fn note(&mut self, _depth: usize, _clauses: usize, _learned: usize) -> ControlFlow<()> {
+        ControlFlow::Continue(())
+    }
+
+    fn note_slice(&mut self, _frame: usize, _statistics: &Statistics) -> ControlFlow<()> {
+        ControlFlow::Continue(())
+    }
+}

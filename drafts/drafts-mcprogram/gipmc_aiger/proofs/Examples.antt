@@ -1,0 +1,127 @@
+-- Worked examples of texts.
+use Rattle.std.proofs.Common.{◌≡◌, ℕ, [], ◌∷◌, ◌++◌, refl, ap, codes, Some, None, true, false}
+use Rattle.std.specs.Fmt.{digits}
+use Rattle.gipsat_cnf.specs.Literals.{Lit}
+use Rattle.gipmc_circuits.specs.declared.circuit.And.{And}
+use Rattle.gipmc_circuits.specs.declared.circuit.Circuit.{Circuit}
+use Rattle.gipmc_aiger.specs.Circuits.{Rows, body_at, circuit_of, gate_at, header_at, latch_at, rows_of, packed_operands_at, properties_at, sizes_at, written_operands_at}
+use Rattle.gipmc_aiger.specs.CircuitTexts.{aig_text, greater_first}
+use Rattle.gipmc_aiger.specs.Witnesses.{stimulus_of, witness_of}
+
+-- a variable and its negation
+abbrev yes_of : ℕ → Lit
+yes_of variable = record { variable = variable; positive = true }
+
+abbrev no_of : ℕ → Lit
+no_of variable = record { variable = variable; positive = false }
+
+-- an input whose negation is bad
+abbrev negated_input : Rows
+negated_input = record { inputs = 1 ∷ []; latches = []; gates = []; bads = no_of 1 ∷ []; constraints = [] }
+
+-- an output is bad where there is no bad literal
+output_is_bad : circuit_of (codes "aag 1 1 0 1 0\n2\n3\ni0 a\no0 b c\nc\nrest") ≡ Some negated_input
+unfolding circuit_of body_at header_at sizes_at properties_at
+output_is_bad = refl
+
+-- it is not where there is one
+output_is_dropped : circuit_of (codes "aag 1 1 0 1 0 1\n2\n2\n3\n") ≡ Some negated_input
+unfolding circuit_of body_at header_at sizes_at properties_at
+output_is_dropped = refl
+
+-- a latch of each reset: none given, 0, 1, and free
+abbrev resets : Rows
+resets = record {
+  inputs = [];
+  latches =
+      record { variable = 1; next = no_of 1; reset = Some false } ∷ record { variable = 2; next = yes_of 2; reset = Some false }
+      ∷ record { variable = 3; next = yes_of 3; reset = Some true } ∷ record { variable = 4; next = no_of 4; reset = None } ∷ [];
+  gates = [];
+  bads = yes_of 2 ∷ [];
+  constraints = no_of 3 ∷ [];
+}
+
+resets_in_ascii : circuit_of (codes "aag 4 0 4 0 0 1 1\n2 3\n4 4 0\n6 6 1\n8 9 8\n4\n7\n") ≡ Some resets
+unfolding circuit_of body_at header_at sizes_at properties_at latch_at
+resets_in_ascii = refl
+
+resets_in_binary : circuit_of (codes "aig 4 0 4 0 0 1 1 0 0\n3\n4 0\n6 1\n9 8\n4\n7\n") ≡ Some resets
+unfolding circuit_of body_at header_at sizes_at properties_at latch_at
+resets_in_binary = refl
+
+-- two gates, the first of which is an operand of the second
+abbrev two_gates : Rows
+two_gates = record {
+  inputs = 1 ∷ [];
+  latches = [];
+  gates =
+      record { output = 2; left = no_of 1; right = yes_of 1 } ∷ record { output = 3; left = no_of 2; right = yes_of 1 } ∷ [];
+  bads = yes_of 3 ∷ [];
+  constraints = [];
+}
+
+gates_in_ascii : circuit_of (codes "aag 3 1 0 1 2\n2\n6\n4 3 2\n6 5 2\n") ≡ Some two_gates
+unfolding circuit_of body_at header_at sizes_at properties_at gate_at written_operands_at
+gates_in_ascii = refl
+
+gates_in_binary : circuit_of (codes "aig 3 1 0 1 2\n6\n" ++ 1 ∷ 1 ∷ 1 ∷ 3 ∷ []) ≡ Some two_gates
+unfolding circuit_of body_at header_at sizes_at properties_at gate_at packed_operands_at
+gates_in_binary = refl
+
+-- the same gates with the lesser operand first
+abbrev turned_gates : Rows
+turned_gates = record {
+  inputs = 1 ∷ [];
+  latches = [];
+  gates =
+      record { output = 2; left = yes_of 1; right = no_of 1 } ∷ record { output = 3; left = yes_of 1; right = no_of 2 } ∷ [];
+  bads = yes_of 3 ∷ [];
+  constraints = [];
+}
+
+-- the binary form turns them again
+turned_gates_in_binary : {A : Type 0} (c : Circuit A) → rows_of c ≡ turned_gates
+    → circuit_of (aig_text c) ≡ Some two_gates
+unfolding circuit_of body_at header_at sizes_at properties_at gate_at packed_operands_at digits
+turned_gates_in_binary c same =
+    rw (
+      ap (λ n. n.inputs) same,
+      ap (λ n. n.latches) same,
+      ap (λ n. n.gates) same,
+      ap (λ n. n.bads) same,
+      ap (λ n. n.constraints) same,
+    )
+    refl
+
+-- a gate whose greater operand is first stays as it is
+abbrev gate_in_order : And
+gate_in_order = record { output = 3; left = no_of 2; right = yes_of 1 }
+
+order_is_kept : greater_first gate_in_order ≡ gate_in_order
+order_is_kept = refl
+
+refused-justice : circuit_of (codes "aag 0 0 0 0 0 0 0 1\n") ≡ None
+unfolding circuit_of body_at header_at sizes_at properties_at
+refused-justice = refl
+
+refused-more_rows : circuit_of (codes "aag 1 1 0 0 0\n2\n4 2 2\n") ≡ None
+unfolding circuit_of body_at header_at sizes_at properties_at
+refused-more_rows = refl
+
+refused-symbol_of_no_row : circuit_of (codes "aag 1 1 0 0 0\n2\ni1 a\n") ≡ None
+unfolding circuit_of body_at header_at sizes_at properties_at
+refused-symbol_of_no_row = refl
+
+refused-cut_off : circuit_of (codes "aag 1 1 0 1 0\n2\n") ≡ None
+unfolding circuit_of body_at header_at sizes_at properties_at
+refused-cut_off = refl
+
+-- an x is false, remarks are read over, and so is what stands behind the end
+two_moments : witness_of 1 2 (codes "u0\n1\nc remark\nb7\nx\n01\n1x\n.\n1\n")
+    ≡ Some (record { property = 7; latches = false ∷ []; inputs = (false ∷ true ∷ []) ∷ (true ∷ false ∷ []) ∷ [] })
+unfolding stimulus_of
+two_moments = refl
+
+refused-no_end : witness_of 1 2 (codes "1\nb0\n0\n00\n") ≡ None
+unfolding stimulus_of
+refused-no_end = refl

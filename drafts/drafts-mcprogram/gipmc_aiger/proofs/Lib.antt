@@ -1,0 +1,14 @@
+mod Examples
+mod ClaimLoops
+mod FrameLoops
+mod Fronts
+pub mod PackedRereads
+mod Refusals
+pub mod Rereads
+mod RowLoops
+mod Stacks
+mod Tables
+pub mod WitnessRereads
+mod Words
+pub mod Writable
+pub mod Written

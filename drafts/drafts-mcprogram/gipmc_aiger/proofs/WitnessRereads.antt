@@ -1,0 +1,188 @@
+-- What was written as a witness is read again.
+use Rattle.std.proofs.Common.{◌≡◌, ℕ, ◌^◌, ◌<◌, Bool, true, false, List, [], ◌∷◌, ◌++◌, length, map, Some, arith, refl}
+use Rattle.std.proofs.Common.{ap, ◌∙◌, append_assoc, cond, decimal}
+use Rattle.std.specs.Prelude.{◌==◌, if◌then◌else◌, codes}
+use Rattle.std.specs.List.{list_all, onto_first}
+use Rattle.std.specs.Str.Parse.{AllDigits}
+use Rattle.std.proofs.lemmas.Str.Parse.{digit_from_value}
+use Rattle.std.proofs.lemmas.List.{length-map}
+use Rattle.std.proofs.lemmas.Fmt.{decimal_is_IsNumeral}
+use Rattle.std.specs.declared.vec.Vec.{Vec}
+use Rattle.gipmc_circuits.specs.declared.trace.Trace.{Trace}
+use Rattle.giputils_text.specs.Lines.{pieces}
+use Rattle.giputils_text.proofs.Pieces.{text_lines-at}
+use Rattle.gipmc_aiger.specs.Lists.{Every}
+use Rattle.gipmc_aiger.proofs.Rereads.{number-reread_alone}
+use Rattle.gipmc_aiger.specs.Traces.{witness_text, witness_view}
+use Rattle.gipmc_aiger.specs.declared.witness.Witness.{Witness}
+use Rattle.gipmc_aiger.specs.Witnesses.{bits_line, bits_of, frames_lines, frames_of, frames_view}
+use Rattle.gipmc_aiger.specs.Claims.{claim_of, claims_from, claims_of, properties_of}
+use Rattle.gipmc_aiger.specs.Witnesses.{is_bit, is_end, is_remark, property_of, said_lines, stimulus_of, witness_of}
+
+-- a byte that ends no line
+abbrev IsInLine : ℕ → Type 0
+IsInLine b = (b == 10) ≡ false
+
+-- bytes that end no line, and a line feed behind them, are a piece
+piece-reread : (line rest : List ℕ) → Every IsInLine line → pieces 10 (line ++ 10 ∷ rest) ≡ line ∷ pieces 10 rest
+piece-reread [] rest within = refl
+piece-reread (b ∷ line) rest (here, within) =
+    ap (λ v. cond v ([] ∷ pieces 10 (line ++ 10 ∷ rest)) (onto_first b (pieces 10 (line ++ 10 ∷ rest)))) here
+    ∙ ap (onto_first b) (piece-reread line rest within)
+
+-- they are a line that is read, unless it is a remark
+line-reread : (line rest : List ℕ) → Every IsInLine line → is_remark line ≡ false
+    → said_lines (line ++ 10 ∷ rest) ≡ line ∷ said_lines rest
+line-reread line rest within said =
+    rw (text_lines-at (line ++ 10 ∷ rest) line rest (piece-reread line rest within), said) refl
+
+-- the byte of a value
+abbrev bit_code : Bool → ℕ
+bit_code bit = if bit then 49 else 48
+
+bits_line-is : (bits : List Bool) (rest : List ℕ) → bits_line bits ++ rest ≡ map bit_code bits ++ 10 ∷ rest
+bits_line-is [] rest = refl
+bits_line-is (true ∷ bits) rest = ap (λ text. 49 ∷ text) (bits_line-is bits rest)
+bits_line-is (false ∷ bits) rest = ap (λ text. 48 ∷ text) (bits_line-is bits rest)
+
+bits-in_line : (bits : List Bool) → Every IsInLine (map bit_code bits)
+bits-in_line [] = tt
+bits-in_line (true ∷ bits) = (refl, bits-in_line bits)
+bits-in_line (false ∷ bits) = (refl, bits-in_line bits)
+
+bits-said : (bits : List Bool) → is_remark (map bit_code bits) ≡ false
+bits-said [] = refl
+bits-said (true ∷ bits) = refl
+bits-said (false ∷ bits) = refl
+
+-- a line of values is read behind what was said
+bits-line : (bits : List Bool) (rest : List ℕ)
+    → said_lines (bits_line bits ++ rest) ≡ map bit_code bits ∷ said_lines rest
+bits-line bits rest =
+    ap said_lines (bits_line-is bits rest) ∙ line-reread (map bit_code bits) rest (bits-in_line bits) (bits-said bits)
+
+bits-all : (bits : List Bool) → list_all is_bit (map bit_code bits) ≡ true
+bits-all [] = refl
+bits-all (true ∷ bits) = bits-all bits
+bits-all (false ∷ bits) = bits-all bits
+
+bits-same : (bits : List Bool) → map (λ b. b == 49) (map bit_code bits) ≡ bits
+bits-same [] = refl
+bits-same (true ∷ bits) = ap (λ bs. true ∷ bs) (bits-same bits)
+bits-same (false ∷ bits) = ap (λ bs. false ∷ bs) (bits-same bits)
+
+bits-reread : (count : ℕ) (bits : List Bool) → length bits ≡ count → bits_of count (map bit_code bits) ≡ Some bits
+bits-reread count bits same =
+    let long = length-map bits bit_code in
+    let counted : (length (map bit_code bits) == count) ≡ true = grind (arith, same, long) in
+    rw (counted, bits-all bits, bits-same bits) refl
+
+bits-no_end : (bits : List Bool) → is_end (map bit_code bits) ≡ false
+bits-no_end [] = refl
+bits-no_end (true ∷ bits) = refl
+bits-no_end (false ∷ bits) = refl
+
+-- the moments are read again, each of so many values
+frames-reread : {A : Type 0} (count : ℕ) (frames : List (Vec Bool A))
+    → Every (λ frame. length frame.items ≡ count) frames
+    → frames_of count (said_lines (frames_lines frames)) ≡ Some (frames_view frames)
+frames-reread count [] same = refl
+frames-reread count (frame ∷ frames) (same, others) =
+    rw (
+      bits-line frame.items (frames_lines frames),
+      bits-no_end frame.items,
+      bits-reread count frame.items same,
+      frames-reread count frames others,
+    )
+    refl
+
+digits-in_line : (ds : List ℕ) → AllDigits 10 ds → Every IsInLine ds
+digits-in_line [] all = tt
+digits-in_line (d ∷ ds) (digit, all) =
+    let (from, to) = digit_from_value d digit in
+    (grind (arith, from, to), digits-in_line ds all)
+
+number-in_line : (n : ℕ) → n < 2 ^ 64 → Every IsInLine (decimal n)
+number-in_line n fits = digits-in_line (decimal n) (decimal_is_IsNumeral n fits).0.1
+
+property-reread : (n : ℕ) → n < 2 ^ 31 → property_of (98 ∷ decimal n) ≡ Some n
+property-reread n small = rw (number-reread_alone 2147483647 n (omega (arith, small)) (omega (arith, small))) refl
+
+of_four : (d bits frames : List ℕ) → d ++ 10 ∷ [] ++ bits ++ frames ≡ d ++ 10 ∷ (bits ++ frames)
+of_four d bits frames = simp append_assoc
+
+-- the lines of the text of a witness
+lines-are : {A : Type 0} (property : ℕ) (trace : Trace A) → property < 2 ^ 31 → said_lines (witness_text property trace)
+    ≡ (49 ∷ []) ∷ (98 ∷ decimal property) ∷ map bit_code trace.latches.items
+    ∷ said_lines (frames_lines trace.inputs.items)
+lines-are property trace small =
+    let bits = bits_line trace.latches.items in
+    let frames = frames_lines trace.inputs.items in
+    ap (λ text. said_lines (49 ∷ 10 ∷ 98 ∷ text)) (of_four (decimal property) bits frames)
+    ∙ line-reread (49 ∷ []) (98 ∷ decimal property ++ 10 ∷ (bits ++ frames)) (refl, tt) refl
+    ∙ ap (λ lines. (49 ∷ []) ∷ lines)
+    (line-reread (98 ∷ decimal property) (bits ++ frames) (refl, number-in_line property (omega (arith, small))) refl)
+    ∙ ap (λ lines. (49 ∷ []) ∷ (98 ∷ decimal property) ∷ lines) (bits-line trace.latches.items frames)
+
+-- a byte that is no `b`
+abbrev IsNoLetter : ℕ → Type 0
+IsNoLetter b = (b == 98) ≡ false
+
+piece-alone : (ds : List ℕ) → Every IsNoLetter ds → pieces 98 ds ≡ ds ∷ []
+piece-alone [] all = refl
+piece-alone (b ∷ ds) (here, others) =
+    ap (λ v. cond v ([] ∷ pieces 98 ds) (onto_first b (pieces 98 ds))) here ∙ ap (onto_first b) (piece-alone ds others)
+
+digits-no_letter : (ds : List ℕ) → AllDigits 10 ds → Every IsNoLetter ds
+digits-no_letter [] all = tt
+digits-no_letter (d ∷ ds) (digit, all) =
+    let (from, to) = digit_from_value d digit in
+    (grind (arith, from, to), digits-no_letter ds all)
+
+-- the one property of a line is read again
+properties-reread : (n : ℕ) → n < 2 ^ 31 → properties_of (98 ∷ decimal n) ≡ Some (n ∷ [])
+properties-reread n small =
+    let digits = digits-no_letter (decimal n) (decimal_is_IsNumeral n (omega (arith, small))).0.1 in
+    rw (
+      piece-alone (decimal n) digits,
+      number-reread_alone 2147483647 n (omega (arith, small)) (omega (arith, small)),
+    )
+    refl
+
+-- behind the moments of a witness no answer follows
+frames-last : {A : Type 0} (latches inputs : ℕ) (frames : List (Vec Bool A))
+    → claims_from latches inputs true (said_lines (frames_lines frames)) ≡ Some []
+frames-last latches inputs [] = refl
+frames-last latches inputs (frame ∷ frames) =
+    rw (bits-line frame.items (frames_lines frames), bits-no_end frame.items) (frames-last latches inputs frames)
+
+-- the text of a witness has one claim: that of the witness, where each moment has so many inputs
+pub claims_reread : {A : Type 0} (latches inputs property : ℕ) (trace : Trace A) → property < 2 ^ 31
+    → length trace.latches.items ≡ latches → Every (λ row. length row.items ≡ inputs) trace.inputs.items
+    → claims_of latches inputs (witness_text property trace)
+    ≡ Some (record { properties = property ∷ []; latches = trace.latches.items; inputs = frames_view trace.inputs.items } ∷ [])
+unfolding claim_of
+claims_reread latches inputs property trace small counted rows =
+    rw (
+      lines-are property trace small,
+      properties-reread property small,
+      bits-reread latches trace.latches.items counted,
+      frames-reread inputs trace.inputs.items rows,
+      bits-no_end trace.latches.items,
+      frames-last latches inputs trace.inputs.items,
+    )
+    refl
+
+-- the witness that the text of a witness writes is that witness, where each moment has so many inputs
+pub witness_rereads : {A : Type 0} (latches inputs : ℕ) (w : Witness A) → w.property < 2 ^ 31
+    → length w.trace.latches.items ≡ latches → Every (λ row. length row.items ≡ inputs) w.trace.inputs.items
+    → witness_of latches inputs (witness_text w.property w.trace) ≡ Some (witness_view w)
+unfolding stimulus_of
+witness_rereads latches inputs w small counted rows =
+    rw (
+      lines-are w.property w.trace small,
+      property-reread w.property small,
+      bits-reread latches w.trace.latches.items counted,
+      frames-reread inputs w.trace.inputs.items rows,
+    )
+    refl

@@ -1,0 +1,57 @@
+-- The circuits that one text writes fail and are safe alike.
+use Rattle.std.proofs.Common.{◌≡◌, ℕ, ◌+◌, ◌&&◌, ◌||◌, Bool, true, false, not, List, [], ◌∷◌, IsTrue, refl, sym, ap, subst, ◌∙◌}
+use Rattle.std.specs.List.{list_all, list_any}
+use Rattle.std.specs.List.Sorted.{IsPermutation}
+use Rattle.std.proofs.lemmas.List.Sorted.{list_any-IsPermutation}
+use Rattle.gipsat_cnf.specs.Formulas.{Assignment}
+use Rattle.gipsat_cnf.specs.Literals.{Lit}
+use Rattle.gipsat_cnf.proofs.Places.{same_some}
+use Rattle.gipmc_circuits.specs.declared.circuit.Circuit.{Circuit}
+use Rattle.gipmc_circuits.specs.Circuit.{FailsAfter, IsSafe, IsTrace, has_value, holds_next, holds_reset, is_moment}
+use Rattle.gipmc_aiger.specs.Circuits.{IsReordering, Rows, Writes, rows_of}
+
+all_unless_any : {X : Type 0} (p : X → Bool) (xs : List X) → list_all p xs ≡ not (list_any (λ x. not (p x)) xs)
+all_unless_any p [] = refl
+all_unless_any p (x ∷ xs) = with_first (p x) (list_all p xs) (list_any (λ y. not (p y)) xs) (all_unless_any p xs)
+  where
+    with_first : (b u v : Bool) → u ≡ not v → (b && u) ≡ not (not b || v)
+    with_first true u v same = same
+    with_first false u v same = refl
+
+-- a list and its permutation pass a test of all alike
+list_all-permuted : {X : Type 0} (p : X → Bool) (xs ys : List X) → IsPermutation xs ys → list_all p xs ≡ list_all p ys
+list_all-permuted p xs ys same =
+    all_unless_any p xs ∙ ap not (list_any-IsPermutation (λ x. not (p x)) xs ys same) ∙ sym (all_unless_any p ys)
+
+-- circuits with the same rows have the same moments
+moments-reordered : {A B : Type 0} (c : Circuit A) (d : Circuit B) (n : Rows) (a : Assignment)
+    → IsReordering n (rows_of c) → IsReordering n (rows_of d) → is_moment c a ≡ is_moment d a
+moments-reordered c d n a first second =
+    let gates : list_all (has_value a) c.gates.items ≡ list_all (has_value a) d.gates.items =
+    sym (list_all-permuted (has_value a) n.gates c.gates.items first.gates)
+    ∙ list_all-permuted (has_value a) n.gates d.gates.items second.gates in
+    let constraints : c.constraints.items ≡ d.constraints.items = first.constraints ∙ sym second.constraints in
+    rw (gates, constraints) refl
+
+-- and the same traces
+IsTrace-reordered : {A B : Type 0} (c : Circuit A) (d : Circuit B) (n : Rows) (m : ℕ) (t : ℕ → Assignment)
+    → IsReordering n (rows_of c) → IsReordering n (rows_of d) → IsTrace c m t → IsTrace d m t
+IsTrace-reordered c d n m t first second is =
+    let latches : c.latches.items ≡ d.latches.items = first.latches ∙ sym second.latches in record {
+      initial = subst (λ ls. IsTrue (list_all (holds_reset (t 0)) ls)) latches is.initial;
+      moments = λ i within. sym (moments-reordered c d n (t i) first second) ∙ is.moments i within;
+      transitions = λ i less.
+          subst (λ ls. IsTrue (list_all (holds_next (t i) (t (i + 1))) ls)) latches (is.transitions i less);
+    }
+
+-- where one circuit that a text writes fails, so does each other one
+pub FailsAfter-written : {A B : Type 0} (text : List ℕ) (c : Circuit A) (d : Circuit B) (bad : Lit) (m : ℕ)
+    → Writes text c → Writes text d → FailsAfter c bad m → FailsAfter d bad m
+FailsAfter-written text c d bad m (n, at, first) (o, other, second) (t, is, fails) =
+    let same : o ≡ n = same_some o n (sym other ∙ at) in
+    (t, IsTrace-reordered c d n m t first (subst (λ x. IsReordering x (rows_of d)) same second) is, fails)
+
+-- where one circuit that a text writes is safe, so is each other one
+pub IsSafe-written : {A B : Type 0} (text : List ℕ) (c : Circuit A) (d : Circuit B) (bad : Lit) → Writes text c
+    → Writes text d → IsSafe c bad → IsSafe d bad
+IsSafe-written text c d bad first second safe m fails = safe m (FailsAfter-written text d c bad m second first fails)

@@ -1,0 +1,13 @@
+-- The values so far, and those that the rest says, are all.
+use Rattle.std.proofs.Common.{◌≡◌, length}
+use Rattle.gipmc_aiger.specs.Witnesses.{said_lines, frames_of, frames_view}
+use Rattle.gipmc_aiger.proofs.FrameLoops.{with_frames}
+use Rattle.gipmc_aiger.proofs.witness.frames.Given as goal
+
+abbrev pub invariant-loop-line : goal.invariant-loop-line
+invariant-loop-line g l =
+    with_frames (frames_view l.frames.items) (frames_of l.count (said_lines l.rest))
+    ≡ frames_of l.count (said_lines l.text)
+
+abbrev pub decreases-loop-line : goal.decreases-loop-line
+decreases-loop-line g l = length l.rest

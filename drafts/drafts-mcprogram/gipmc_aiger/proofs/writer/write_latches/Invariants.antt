@@ -1,0 +1,8 @@
+-- What was written, and what is left to write, are the lines.
+use Rattle.std.proofs.Common.{◌≡◌, ◌++◌, drop}
+use Rattle.gipmc_aiger.specs.CircuitTexts.{latch_lines}
+use Rattle.gipmc_aiger.proofs.writer.write_latches.Given as goal
+
+abbrev pub invariant-loop-latch : goal.invariant-loop-latch
+invariant-loop-latch g l =
+    l.fn.text.items ++ latch_lines l.fn.latches ≡ l.text.items ++ latch_lines (drop l.latch-index l.fn.latches)

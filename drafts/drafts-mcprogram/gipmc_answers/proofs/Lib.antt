@@ -1,0 +1,5 @@
+mod Below
+mod Shown
+mod Told
+mod Witnessed
+mod Written

@@ -1,0 +1,49 @@
+-- The text of an answer that a bad literal fails is a witness that replays.
+use Rattle.std.proofs.Common.{◌≡◌, ℕ, ◌<◌, ◌^◌, true, List, [], ◌∷◌, Some, Vec, Bool, length, IsTrue, arith, refl}
+use Rattle.std.specs.Prelude.{◌==◌, slice_get}
+use Rattle.std.proofs.lemmas.Bool.{and_parts}
+use Rattle.gipsat_cnf.specs.Literals.{Lit}
+use Rattle.gipmc_aiger.specs.Lists.{Every}
+use Rattle.gipmc_aiger.proofs.WitnessRereads.{witness_rereads}
+use Rattle.gipmc_aiger.specs.declared.witness.Witness.{Witness}
+use Rattle.gipmc_circuits.specs.declared.circuit.Circuit.{Circuit}
+use Rattle.gipmc_circuits.specs.Traces.{have_width}
+use Rattle.gipmc_engines.specs.Verdicts.{IsRightVerdict}
+use Rattle.gipmc_engines.specs.declared.verdict.Verdict.{Verdict}
+use Rattle.gipmc_engines.specs.declared.verdict.Verdict.TheVariants as verdict
+use Rattle.gipmc_answers.specs.Answers.{IsCircuitIn, Tells, outcome_of, verdict_text}
+use Rattle.gipmc_answers.specs.Witnesses.{Replays}
+use Rattle.gipmc_answers.specs.declared.answers.Outcome.TheVariants.{Fails, Safe}
+
+-- two numbers that pass the test are equal
+same_of_test : (m n : ℕ) → (m == n) ≡ true → m ≡ n
+same_of_test m n is = grind (arith, is)
+
+-- rows that pass the test of their width have it
+every_row : {A : Type 0} (n : ℕ) (rows : List (Vec Bool A)) → IsTrue (have_width n rows)
+    → Every (λ row. length row.items ≡ n) rows
+every_row n [] all = tt
+every_row n (row ∷ rows) all =
+    let (one, others) = and_parts (length row.items == n) (have_width n rows) all in
+    (same_of_test (length row.items) n one, every_row n rows others)
+
+-- of a right verdict whose text says so
+replays_by : {A : Type 0} (bytes text : List ℕ) (c : Circuit A) (place : ℕ) (bad : Lit) (v : Verdict A)
+    → IsCircuitIn bytes c → slice_get c.bads.items place ≡ Some bad → place < 2 ^ 31 → text ≡ verdict_text place v
+    → Fails ≡ outcome_of v → IsRightVerdict c bad v → Replays A bytes text (Some place)
+replays_by {A} bytes text c place bad (verdict.Fails trace) circuit here small is outcome right =
+    let (latches, rows) = and_parts (length trace.latches.items == length c.latches.items)
+    (have_width (length c.inputs.items) trace.inputs.items) right.0 in
+    let one = some_claim place trace in
+    let rereads = claims_reread (length c.latches.items) (length c.inputs.items) place trace small
+    (same_of_test (length trace.latches.items) (length c.latches.items) latches)
+    (every_row (length c.inputs.items) trace.inputs.items rows) in
+    (c, circuit, one ∷ [], rw is rereads, ?, ?)
+replays_by bytes text c place bad (verdict.Safe invariant) circuit here small is outcome right = absurd cc
+replays_by bytes text c place bad (verdict.NoFailureWithin n) circuit here small is outcome right = absurd cc
+replays_by bytes text c place bad verdict.Unknown circuit here small is outcome right = absurd cc
+
+pub Replays-told : {A : Type 0} (bytes text : List ℕ) (c : Circuit A) (place : ℕ) → IsCircuitIn bytes c
+    → Tells c place Fails text → Replays A bytes text (Some place)
+Replays-told bytes text c place circuit (bad, here, v, right, is, outcome, small) =
+    replays_by bytes text c place bad v circuit here small is outcome right

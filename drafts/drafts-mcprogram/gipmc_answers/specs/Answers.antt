@@ -1,0 +1,69 @@
+-- Texts of answers, and when they are right.
+use Rattle.std.specs.Prelude.{◌≡◌, ℕ, zero, suc, ◌<◌, ◌^◌, List, [], ◌++◌, length, slice_get, codes, decimal, Option, Some, None, IsTrue}
+use Rattle.gipsat_cnf.specs.Literals.{Lit}
+use Rattle.gipmc_aiger.specs.Circuits.{Writes}
+use Rattle.gipmc_aiger.specs.Traces.{witness_text}
+use Rattle.gipmc_circuits.specs.declared.circuit.Circuit.{Circuit}
+use Rattle.gipmc_circuits.specs.WellFormed.{is_well_formed}
+use Rattle.gipmc_engines.specs.Verdicts.{IsRightVerdict}
+use Rattle.gipmc_engines.specs.declared.verdict.Verdict.{Verdict}
+use Rattle.gipmc_engines.specs.declared.verdict.Verdict.TheVariants as verdict
+use Rattle.gipmc_answers.specs.declared.answers.Outcome.{Outcome}
+use Rattle.gipmc_answers.specs.declared.answers.Outcome.TheVariants.{Fails, Safe, Open}
+
+-- the lines that name the bad literal at a place and end an answer
+abbrev pub named : ℕ → List ℕ
+named place = codes "\nb" ++ decimal place ++ codes "\n.\n"
+
+-- the text of a verdict on the bad literal at a place: `1` and a witness, `0`, or `2`; before a `2`, behind a `u`, the
+-- most transitions up to which nothing fails
+abbrev pub verdict_text : {A : Type 0} → ℕ → Verdict A → List ℕ
+verdict_text place (verdict.Fails trace) = witness_text place trace
+verdict_text place (verdict.Safe invariant) = codes "0" ++ named place
+verdict_text place (verdict.NoFailureWithin n) = codes "u" ++ decimal n ++ codes "\n2" ++ named place
+verdict_text place verdict.Unknown = codes "2" ++ named place
+
+-- what a verdict says of its literal
+abbrev pub outcome_of : {A : Type 0} → Verdict A → Outcome
+outcome_of (verdict.Fails trace) = Fails
+outcome_of (verdict.Safe invariant) = Safe
+outcome_of (verdict.NoFailureWithin n) = Open
+outcome_of verdict.Unknown = Open
+
+-- of two: one fails, both are safe, or neither is known
+abbrev pub both : Outcome → Outcome → Outcome
+both Fails other = Fails
+both Safe other = other
+both Open Fails = Fails
+both Open Safe = Open
+both Open Open = Open
+
+-- the text is that of a right verdict on the bad literal at a place, which a text may name
+abbrev pub Tells : {A : Type 0} → Circuit A → ℕ → Outcome → List ℕ → Type 0
+Tells {A} c place outcome text =
+    (bad : Lit) × (slice_get c.bads.items place ≡ Some bad) × (v : Verdict A) × IsRightVerdict c bad v
+    × (text ≡ verdict_text place v) × (outcome ≡ outcome_of v) × (place < 2 ^ 31)
+
+-- the text tells of each of the first n bad literals in turn
+abbrev pub TellsFirst : {A : Type 0} → Circuit A → ℕ → Outcome → List ℕ → Type 0
+TellsFirst c zero outcome text = (outcome ≡ Safe) × (text ≡ [])
+TellsFirst c (suc n) outcome text =
+    (one : Outcome) × (other : Outcome) × (before : List ℕ) × (last : List ℕ) × TellsFirst c n one before
+    × Tells c n other last × (outcome ≡ both one other) × (text ≡ before ++ last)
+
+-- the text tells of the bad literal that is asked for, or of all
+abbrev pub TellsAsked : {A : Type 0} → Circuit A → Option ℕ → Outcome → List ℕ → Type 0
+TellsAsked c None outcome text = TellsFirst c (length c.bads.items) outcome text
+TellsAsked c (Some place) outcome text = Tells c place outcome text
+
+-- the bytes write the circuit, and it is well-formed
+abbrev pub IsCircuitIn : {A : Type 0} → List ℕ → Circuit A → Type 0
+IsCircuitIn bytes c = Writes bytes c × IsTrue (is_well_formed c)
+
+-- the bytes write a circuit of which the text tells so
+abbrev pub Answers : (A : Type 0) → List ℕ → Option ℕ → Outcome → List ℕ → Type 0
+Answers A bytes asked outcome text = (c : Circuit A) × IsCircuitIn bytes c × TellsAsked c asked outcome text
+
+-- some text answers so about the circuit that the bytes write
+abbrev pub IsAnswered : (A : Type 0) → List ℕ → Option ℕ → Outcome → Type 0
+IsAnswered A bytes asked outcome = (text : List ℕ) × Answers A bytes asked outcome text

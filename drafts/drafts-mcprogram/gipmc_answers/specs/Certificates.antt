@@ -1,0 +1,49 @@
+-- Certificates that a circuit is safe, as texts.
+use Rattle.std.specs.Prelude.{◌≡◌, ◌<◌, ℕ, List, length, slice_get, Option, Some, None}
+use Rattle.gipsat_cnf.specs.Literals.{Lit}
+use Rattle.gipmc_aiger.specs.Circuits.{Writes}
+use Rattle.gipmc_aiger.specs.Invariants.{clauses_view, invariant_for}
+use Rattle.gipmc_circuits.specs.Certificate.{IsSafeByClauses}
+use Rattle.gipmc_circuits.specs.Circuit.{IsSafe}
+use Rattle.gipmc_circuits.specs.Extension.{IsCertifiedBy}
+use Rattle.gipmc_circuits.specs.declared.circuit.Circuit.{Circuit}
+use Rattle.gipmc_answers.specs.Answers.{IsCircuitIn}
+use Rattle.gipmc_answers.specs.declared.certificates.Certificate.{Certificate}
+use Rattle.gipmc_answers.specs.declared.certificates.Certificate.TheVariants as certificate
+
+-- the text writes the certificate: clauses over the latches of the circuit, or another circuit
+abbrev pub IsCertificateIn : {A B : Type 0} → Circuit A → List ℕ → Certificate B → Type 0
+IsCertificateIn c text (certificate.Clauses clauses) = invariant_for c text ≡ Some (clauses_view clauses.items)
+IsCertificateIn c text (certificate.Circuit other) = Writes text other.circuit
+
+-- by the other circuit it is safe as to the literal
+abbrev pub IsSafeByCircuit : {A B : Type 0} → Circuit A → Circuit B → Lit → Type 0
+IsSafeByCircuit c other bad = IsCertifiedBy c bad other × IsSafe c bad
+
+-- by the certificate the circuit is safe as to the literal
+abbrev pub ShowsSafe : {A B : Type 0} → Circuit A → Certificate B → Lit → Type 0
+ShowsSafe c (certificate.Clauses clauses) bad = IsSafeByClauses c clauses.items bad
+ShowsSafe c (certificate.Circuit other) bad = IsSafeByCircuit c other.circuit bad
+
+-- the circuit has a bad literal at the place, and by the certificate it is safe as to it
+abbrev pub ShowsSafeAt : {A B : Type 0} → Circuit A → Certificate B → ℕ → Type 0
+ShowsSafeAt c shown place = (bad : Lit) × (slice_get c.bads.items place ≡ Some bad) × ShowsSafe c shown bad
+
+-- the circuit has bad literals, and by the certificate it is safe as to each of them
+abbrev pub ShowsSafeAll : {A B : Type 0} → Circuit A → Certificate B → Type 0
+ShowsSafeAll c shown =
+    (0 < length c.bads.items) × ((place : ℕ) → place < length c.bads.items → ShowsSafeAt c shown place)
+
+-- by the certificate it is safe as to the bad literal that is asked for, which it has, or as to all
+abbrev pub ShowsSafeAsked : {A B : Type 0} → Circuit A → Certificate B → Option ℕ → Type 0
+ShowsSafeAsked c shown None = ShowsSafeAll c shown
+ShowsSafeAsked c shown (Some place) = ShowsSafeAt c shown place
+
+-- the text writes a certificate by which the circuit is safe so
+abbrev pub CertifiesCircuit : {A : Type 0} → Circuit A → List ℕ → Option ℕ → Type 0
+CertifiesCircuit {A} c text asked =
+    (shown : Certificate A) × IsCertificateIn c text shown × ShowsSafeAsked c shown asked
+
+-- the bytes write a circuit, and the text a certificate by which it is safe so
+abbrev pub Certifies : (A : Type 0) → List ℕ → List ℕ → Option ℕ → Type 0
+Certifies A bytes text asked = (c : Circuit A) × IsCircuitIn bytes c × CertifiesCircuit c text asked

@@ -1,0 +1,5 @@
+-- What is answered about a circuit.
+pub mod Answers
+pub mod Certificates
+pub mod Output
+pub mod Witnesses

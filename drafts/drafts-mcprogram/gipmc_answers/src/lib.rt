@@ -1,0 +1,17 @@
+//! What is found out about a circuit, from the bytes of its text to those of answers, and what witnesses and
+//! certificates of other programs show of it.
+#![tactic(auto)]
+
+pub mod answers;
+pub mod certificates;
+pub mod error;
+pub mod listener;
+pub mod output;
+pub mod witnesses;
+
+pub use answers::{Answered, Outcome, Said, answer};
+pub use certificates::{Certificate, certificate_of, certifies};
+pub use error::TaskError;
+pub use listener::Listener;
+pub use output::{Lost, Output};
+pub use witnesses::replays;

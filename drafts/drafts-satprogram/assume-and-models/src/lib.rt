@@ -1,0 +1,15 @@
+//! What is found out about a formula: answers and their texts, and the whole task, from the bytes of a text in the
+//! DIMACS form to those of its answer.
+#![tactic(auto)]
+
+pub mod answers;
+pub mod assumed;
+pub mod models;
+mod names;
+mod naming;
+pub mod task;
+
+pub use answers::{Solved, Verdict};
+pub use assumed::{are_named, assume, read_literals};
+pub use models::{Enumerated, Models, write_models};
+pub use task::{Task, solve_instance, solve_text};

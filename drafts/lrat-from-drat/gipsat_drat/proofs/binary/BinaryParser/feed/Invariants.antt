@@ -1,0 +1,6 @@
+-- What is held stays satisfiable.
+use Rattle.gipsat_drat.specs.Held.{Keeps}
+use Rattle.gipsat_drat.proofs.binary.BinaryParser.feed.Given as goal
+
+abbrev pub invariant-loop-byte : goal.invariant-loop-byte
+invariant-loop-byte g l = Keeps l.initial.checker l.checker

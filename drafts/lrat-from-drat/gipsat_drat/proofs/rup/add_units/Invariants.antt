@@ -1,0 +1,6 @@
+-- What is held stays satisfiable.
+use Rattle.gipsat_kernel.specs.Rat.{KeepsSatisfiable}
+use Rattle.gipsat_drat.proofs.rup.add_units.Given as goal
+
+abbrev pub invariant-loop-place : goal.invariant-loop-place
+invariant-loop-place g l = KeepsSatisfiable l.initial.kernel l.kernel

@@ -1,0 +1,210 @@
+//! Clauses that their hints show. What the hints lead to is derived by the kernel, which adds the clause.
+ghost use Rattle.std.specs.Prelude.{◌≡◌};
+ghost use Rattle.gipsat_kernel.specs.Rat.{KeepsSatisfiable};
+
+use crate::error::{Flaw, Stop};
+use crate::names::Names;
+use crate::rat::{delete_all, resolvent_with};
+use crate::rup::{begin_true, falsify, resolve_steps};
+use crate::trail::{Reason, Trail, Value};
+use gipsat_cnf::Literal;
+use gipsat_kernel::RatKernel;
+use std::alloc::{AllocError, Allocator};
+
+// The name of a clause; a negative one is that of a clause with the pivot's negation.
+#[derive(Clone, Copy)]
+pub(crate) struct Hint {
+    pub name: u64,
+    pub positive: bool,
+}
+
+// What a clause leaves open.
+enum Rest {
+    // No literal: all are false.
+    Nothing,
+    // This one; the others are false.
+    One(Literal),
+    // Another literal, or it has a true one.
+    More,
+}
+
+// What a clause leaves open.
+#[inline]
+fn left<A: Allocator + Copy>(trail: &Trail<A>, clause: &[Literal]) -> Rest {
+    let mut open = None;
+    for l in clause {
+        match trail.value(*l) {
+            Value::False => {}
+            Value::True => return Rest::More,
+            Value::Open if open.is_none() || open == Some(*l) => open = Some(*l),
+            Value::Open => return Rest::More,
+        }
+    }
+    match open {
+        Some(l) => Rest::One(l),
+        None => Rest::Nothing,
+    }
+}
+
+// The id of the clause that a hint names.
+#[inline]
+fn named<A: Allocator + Copy>(names: &Names<A>, hint: Hint) -> Result<usize, Stop> {
+    match names.get(hint.name) {
+        Some(id) => Ok(id),
+        None => Err(Stop::Refused(Flaw::Unnamed)),
+    }
+}
+
+// Makes the literal true that each hint's clause leaves, as far as the first hint with a sign. The id of the first
+// clause whose literals are all false.
+fn follow<A: Allocator + Copy>(
+    kernel: &RatKernel<A>,
+    trail: &mut Trail<A>,
+    names: &Names<A>,
+    hints: &[Hint],
+) -> Result<Option<usize>, Stop> {
+    for hint in hints {
+        if !hint.positive {
+            break;
+        }
+        let id = named(names, *hint)?;
+        match left(trail, kernel.clause(id).unwrap_or(&[])) {
+            Rest::Nothing => return Ok(Some(id)),
+            Rest::One(l) => trail.assign(l, Reason::Clause(id))?,
+            Rest::More => return Err(Stop::Refused(Flaw::Hint)),
+        }
+    }
+    Ok(None)
+}
+
+// Adds a clause that its hints show, by resolution or as RAT on its first literal: its id.
+pub(crate) fn add_hinted<A: Allocator + Copy>(
+    alloc: A,
+    kernel: &mut RatKernel<A>,
+    trail: &mut Trail<A>,
+    names: &Names<A>,
+    clause: &[Literal],
+    hints: &[Hint],
+) -> Result<usize, Stop>
+    ensures { KeepsSatisfiable kernel.old kernel.new }
+{
+    if begin_hinted(kernel, trail, names, clause, hints)? {
+        return conclude(kernel, trail, clause);
+    }
+    let mut resolvents = Vec::new(alloc);
+    let added = add_rat(alloc, kernel, trail, names, clause, hints, &mut resolvents);
+    delete_all(kernel, &resolvents);
+    added
+}
+
+// Makes the literals of a clause false, and follows hints. Begins to derive the clause if it is shown, and answers
+// whether.
+fn begin_hinted<A: Allocator + Copy>(
+    kernel: &mut RatKernel<A>,
+    trail: &mut Trail<A>,
+    names: &Names<A>,
+    clause: &[Literal],
+    hints: &[Hint],
+) -> Result<bool, Stop>
+    ensures { kernel.new ≡ kernel.old }
+{
+    if let Some(l) = falsify(trail, clause)? {
+        return Ok(begin_true(kernel, trail, l)?);
+    }
+    match follow(kernel, trail, names, hints)? {
+        Some(conflict) => Ok(kernel.begin(conflict)?),
+        None => Ok(false),
+    }
+}
+
+// Resolves the clause that is being derived with the reasons of its literals, and adds a clause if it has all literals
+// that are left: its id.
+fn conclude<A: Allocator + Copy>(
+    kernel: &mut RatKernel<A>,
+    trail: &mut Trail<A>,
+    clause: &[Literal],
+) -> Result<usize, Stop>
+    ensures { KeepsSatisfiable kernel.old kernel.new }
+{
+    resolve_steps(kernel, trail, 0)?;
+    match kernel.conclude(clause)? {
+        Some(id) => Ok(id),
+        None => Err(Stop::Refused(Flaw::NotHinted)),
+    }
+}
+
+// Adds a clause that is RAT on its first literal: its id. Behind each hint with a sign are those that show a resolvent;
+// the resolvents that were added are listed.
+fn add_rat<A: Allocator + Copy>(
+    alloc: A,
+    kernel: &mut RatKernel<A>,
+    trail: &mut Trail<A>,
+    names: &Names<A>,
+    clause: &[Literal],
+    hints: &[Hint],
+    resolvents: &mut Vec<usize, A>,
+) -> Result<usize, Stop>
+    ensures { KeepsSatisfiable kernel.old kernel.new }
+{
+    // The resolvent with each clause, by its id.
+    let mut found = vec![in alloc; None; kernel.len()]?;
+    let settled = trail.len();
+    for place in 0..hints.len() {
+        let hint = hints[place];
+        if hint.positive {
+            continue;
+        }
+        trail.backtrack_to(settled);
+        let id = named(names, hint)?;
+        resolvents.reserve(1)?;
+        let added = add_resolvent(alloc, kernel, trail, names, clause, id, &hints[place + 1..])?;
+        resolvents.push_reserved(added);
+        if let Some(slot) = found.get_mut(id) {
+            *slot = Some(added);
+        }
+    }
+    let ordered = found_in_order(alloc, &found)?;
+    match kernel.add_rat(clause, &ordered)? {
+        Some(id) => Ok(id),
+        None => Err(Stop::Refused(Flaw::NotHinted)),
+    }
+}
+
+// The ids that were found, in the order of the clauses that they were found for.
+fn found_in_order<A: Allocator + Copy>(
+    alloc: A,
+    found: &[Option<usize>],
+) -> Result<Vec<usize, A>, AllocError> {
+    let mut ordered = Vec::new(alloc);
+    for id in found {
+        if let Some(id) = *id {
+            ordered.push(id)?;
+        }
+    }
+    Ok(ordered)
+}
+
+// Adds the resolvent on the first literal of a clause with the clause of an id, if hints show it: its id.
+fn add_resolvent<A: Allocator + Copy>(
+    alloc: A,
+    kernel: &mut RatKernel<A>,
+    trail: &mut Trail<A>,
+    names: &Names<A>,
+    clause: &[Literal],
+    id: usize,
+    hints: &[Hint],
+) -> Result<usize, Stop>
+    ensures { KeepsSatisfiable kernel.old kernel.new }
+{
+    let Some(pivot) = clause.first().copied() else {
+        return Err(Stop::Refused(Flaw::NotHinted));
+    };
+    let Some(resolvent) = resolvent_with(alloc, kernel, id, clause, pivot)? else {
+        return Err(Stop::Refused(Flaw::NotHinted));
+    };
+    if begin_hinted(kernel, trail, names, &resolvent, hints)? {
+        conclude(kernel, trail, &resolvent)
+    } else {
+        Err(Stop::Refused(Flaw::NotHinted))
+    }
+}

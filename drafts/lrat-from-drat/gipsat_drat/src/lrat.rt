@@ -1,0 +1,152 @@
+//! The checker of proofs with hints.
+ghost use Rattle.std.specs.Prelude.{◌≡◌, IfOk};
+ghost use Rattle.std.specs.Bool.{OnTrue};
+ghost use Rattle.gipsat_drat.specs.Held.{IsConsistent, Keeps, held_of};
+
+use crate::checker::list_ids;
+use crate::error::{Flaw, Stop};
+use crate::hints::{Hint, add_hinted};
+use crate::names::Names;
+use crate::trail::Trail;
+use gipsat_cnf::{Cnf, Literal};
+use gipsat_kernel::RatKernel;
+use std::alloc::{AllocError, Allocator, Global};
+use std::marker::Model;
+
+// Clauses with names, to which others are added only where their hints show them. It neither watches clauses nor looks
+// for any, and what the hints lead to is derived by the kernel.
+#[derive(Drop)]
+pub(crate) struct LratChecker<A: Allocator = Global> {
+    alloc: A,
+    kernel: RatKernel<A>,
+    trail: Trail<A>,
+    names: Names<A>,
+    // The greatest name of all that were given.
+    last: u64,
+    // How many literals the clauses have.
+    literals: usize,
+    // Whether the empty clause was shown.
+    refuted: bool,
+}
+
+impl<A: Allocator> Model for LratChecker<A> {
+    ghost use Rattle.gipsat_drat.specs.Held.{Held};
+
+    ghost Value = { Held };
+
+    ghost view = { λ c. record { clauses = c.kernel; refuted = c.refuted } };
+}
+
+// Of so many literals, those that deleted clauses leave behind are not many.
+const FEW_LITERALS: usize = 65_536;
+
+impl<A: Allocator + Copy> LratChecker<A> {
+    // A checker that holds the clauses of a formula, named from 1 on. It takes the formula over without a copy.
+    pub(crate) fn over(alloc: A, formula: Cnf<A>) -> Result<Self, AllocError>
+        ensures { IfOk result (λ c. c ≡ held_of formula) }
+    {
+        let len = formula.len();
+        let literals = formula.literals().len();
+        let mut trail = Trail::new(alloc, 0)?;
+        trail.cover(formula.variables())?;
+        let names = first_names(alloc, len)?;
+        let kernel = RatKernel::over(alloc, formula)?;
+        Ok(LratChecker {
+            alloc,
+            kernel,
+            trail,
+            names,
+            last: len as u64,
+            literals,
+            refuted: false,
+        })
+    }
+
+    // Whether the empty clause was shown.
+    pub(crate) fn is_refuted(&self) -> bool
+        ensures value { result ≡ self.now.refuted }
+        ensures refutes { OnTrue result (¬ (IsConsistent self.now)) }
+    {
+        self.refuted
+    }
+
+    // Adds a clause that its hints show, with a name that is greater than all before.
+    #[tactic(auto, using(crate::proofs::HeldLemmas::not_shown))]
+    pub(crate) fn add(&mut self, name: u64, clause: &[Literal], hints: &[Hint]) -> Result<(), Stop>
+        ensures { Keeps self.old self.new }
+    {
+        if name <= self.last {
+            return Err(Stop::Refused(Flaw::Name));
+        }
+        self.collect_if_sparse()?;
+        self.trail.cover_clause(clause)?;
+        let added = add_hinted(
+            self.alloc,
+            &mut self.kernel,
+            &mut self.trail,
+            &self.names,
+            clause,
+            hints,
+        );
+        self.trail.backtrack();
+        let id = added?;
+        self.names.insert(self.alloc, name, id)?;
+        self.last = name;
+        self.literals = self.literals.saturating_add(clause.len());
+        self.refuted = self.kernel.is_refuted(id);
+        Ok(())
+    }
+
+    // Deletes the clauses with these names.
+    pub(crate) fn delete_all(&mut self, names: &[Hint]) -> Result<(), Stop>
+        ensures { Keeps self.old self.new }
+    {
+        for hint in names {
+            self.delete(hint.name)?;
+        }
+        Ok(())
+    }
+
+    // Deletes the clause with a name.
+    fn delete(&mut self, name: u64) -> Result<(), Stop>
+        ensures { Keeps self.old self.new }
+    {
+        let Some(id) = self.names.remove(name) else {
+            return Err(Stop::Refused(Flaw::Unnamed));
+        };
+        let len = self.kernel.clause(id).unwrap_or(&[]).len();
+        self.literals = self.literals.saturating_sub(len);
+        self.kernel.delete(id);
+        Ok(())
+    }
+
+    // Whether most of the literals, or of the clauses, are not of clauses that are held.
+    fn is_sparse(&self) -> bool {
+        let few = self.literals.saturating_add(FEW_LITERALS);
+        self.kernel.literals().len() / 3 > few || self.kernel.len() / 3 > few
+    }
+
+    // Gives the memory of deleted clauses back, if they are many.
+    fn collect_if_sparse(&mut self) -> Result<(), AllocError>
+        ensures { self.new ≡ self.old }
+    {
+        if !self.is_sparse() {
+            return Ok(());
+        }
+        let mut stays = Vec::new(self.alloc);
+        let mut ids = Vec::new(self.alloc);
+        list_ids(&self.kernel, &mut stays, &mut ids)?;
+        self.kernel.collect(self.alloc)?;
+        self.names.renumber(&ids);
+        Ok(())
+    }
+}
+
+// The names of so many clauses of a formula.
+fn first_names<A: Allocator + Copy>(alloc: A, len: usize) -> Result<Names<A>, AllocError> {
+    let mut names = Names::new(alloc)?;
+    for id in 0..len {
+        names.insert(alloc, (id as u64).saturating_add(1), id)?;
+    }
+    Ok(names)
+}

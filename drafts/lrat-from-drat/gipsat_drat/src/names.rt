@@ -1,0 +1,139 @@
+//! Which clause of the kernel has a name of the proof. A wrong answer makes a step fail, and no more.
+
+use crate::watches::GONE;
+use std::alloc::{AllocError, Allocator, Global};
+
+// A name, 0 if there is none, and the id of its clause, `GONE` if that was deleted.
+#[derive(Clone, Copy)]
+struct Slot {
+    name: u64,
+    id: usize,
+}
+
+const FREE: Slot = Slot { name: 0, id: GONE };
+
+// The ids by names, in a table of open addressing that takes the memory of the clauses which were not deleted. No name
+// is given twice, so that the slot of a deleted clause stays as it is until the table is made anew.
+#[derive(Drop)]
+pub(crate) struct Names<A: Allocator = Global> {
+    // As many as a power of 2, and half of them are free at least.
+    slots: Vec<Slot, A>,
+    // How many are not free.
+    used: usize,
+    // How many clauses there are.
+    len: usize,
+}
+
+// How many slots there are at first.
+const LEAST_SLOTS: usize = 1024;
+
+impl<A: Allocator + Copy> Names<A> {
+    // Of no clause.
+    pub(crate) fn new(alloc: A) -> Result<Self, AllocError> {
+        Ok(Names {
+            slots: vec![in alloc; FREE; LEAST_SLOTS]?,
+            used: 0,
+            len: 0,
+        })
+    }
+
+    // How many clauses there are.
+    pub(crate) fn len(&self) -> usize {
+        self.len
+    }
+
+    // The place where the search for a name begins.
+    #[inline]
+    fn first(&self, name: u64) -> usize {
+        let mixed = name.wrapping_mul(0x9e37_79b9_7f4a_7c15) >> 24;
+        self.wrapped(mixed as usize)
+    }
+
+    // A place among the slots.
+    #[inline]
+    fn wrapped(&self, place: usize) -> usize {
+        place & self.slots.len().saturating_sub(1)
+    }
+
+    // The place of a name's slot, or of the free one where it belongs.
+    #[inline]
+    fn place(&self, name: u64) -> Option<usize> {
+        let mut place = self.first(name);
+        for _ in 0..self.slots.len() {
+            let slot = *self.slots.get(place)?;
+            if slot.name == name || slot.name == 0 {
+                return Some(place);
+            }
+            place = self.wrapped(place.wrapping_add(1));
+        }
+        None
+    }
+
+    // The id of the clause with a name, if there is one.
+    #[inline]
+    pub(crate) fn get(&self, name: u64) -> Option<usize> {
+        let slot = *self.slots.get(self.place(name)?)?;
+        if slot.id == GONE {
+            return None;
+        }
+        Some(slot.id)
+    }
+
+    // Writes the slot of a name.
+    fn set(&mut self, name: u64, id: usize) {
+        let Some(place) = self.place(name) else {
+            return;
+        };
+        if let Some(slot) = self.slots.get_mut(place) {
+            *slot = Slot { name, id };
+        }
+    }
+
+    // Gives a clause a name that none had.
+    pub(crate) fn insert(&mut self, alloc: A, name: u64, id: usize) -> Result<(), AllocError> {
+        if self.used >= self.slots.len() / 2 {
+            self.rebuild(alloc)?;
+        }
+        self.used = self.used.saturating_add(1);
+        self.len = self.len.saturating_add(1);
+        self.set(name, id);
+        Ok(())
+    }
+
+    // Takes the name of a clause out: its id, if there is one.
+    pub(crate) fn remove(&mut self, name: u64) -> Option<usize> {
+        let id = self.get(name)?;
+        self.set(name, GONE);
+        self.len = self.len.saturating_sub(1);
+        Some(id)
+    }
+
+    // Makes a table of the clauses that there are, with room for as many again.
+    fn rebuild(&mut self, alloc: A) -> Result<(), AllocError> {
+        let wanted = self.len.saturating_mul(4);
+        let mut size = LEAST_SLOTS;
+        for _ in 0..usize::BITS {
+            if size < wanted {
+                size = size.saturating_mul(2);
+            }
+        }
+        let slots = vec![in alloc; FREE; size]?;
+        let old = std::mem::replace(&mut self.slots, slots);
+        for slot in old.iter() {
+            if slot.id != GONE {
+                self.set(slot.name, slot.id);
+            }
+        }
+        self.used = self.len;
+        Ok(())
+    }
+
+    // Names the clauses by their new ids.
+    pub(crate) fn renumber(&mut self, ids: &[usize]) {
+        for slot in self.slots.iter_mut() {
+            if slot.id != GONE {
+                slot.id = ids.get(slot.id).copied().unwrap_or(GONE);
+            }
+        }
+    }
+}

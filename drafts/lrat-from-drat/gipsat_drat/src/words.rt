@@ -1,0 +1,155 @@
+//! The words of a proof as text: numbers and `d` between blanks, and comments.
+
+use crate::error::{Flaw, Place};
+
+// With a digit more than a number below, each text may have it.
+const SMALL: u64 = 200_000_000;
+
+// A word, or what there is of one.
+#[derive(Clone, Copy)]
+pub(crate) enum Word {
+    // There is none.
+    None,
+    // `d`.
+    Delete,
+    // A minus, and no digit yet.
+    Minus,
+    // A number that is so great, with a sign.
+    Number { positive: bool, value: u64 },
+}
+
+// What has been read of a text.
+#[derive(Clone, Copy)]
+pub(crate) struct Words {
+    // The word that has not ended.
+    word: Word,
+    // The greatest number that there may be, at most 2^56.
+    greatest: u64,
+    // Whether this line has no word.
+    begins_line: bool,
+    in_comment: bool,
+    // Whether the byte that was read last ends its line.
+    ends_line: bool,
+    // The number of the line.
+    line: usize,
+}
+
+impl Words {
+    // Before a text with numbers up to one.
+    pub(crate) fn new(greatest: u64) -> Self {
+        Words {
+            word: Word::None,
+            greatest,
+            begins_line: true,
+            in_comment: false,
+            ends_line: false,
+            line: 1,
+        }
+    }
+
+    // The line of the byte that was read last.
+    pub(crate) fn place(&self) -> Place {
+        Place::Line(self.line)
+    }
+
+    // Reads a byte more, if it is a digit of a number that is small so far. Whether it is.
+    #[inline]
+    pub(crate) fn digit(&mut self, byte: u8) -> bool {
+        match self.word {
+            Word::Number { positive, value } if value < SMALL && byte.is_ascii_digit() => {
+                let value = value * 10 + u64::from(byte - b'0');
+                self.word = Word::Number { positive, value };
+                true
+            }
+            _ => false,
+        }
+    }
+
+    // Reads a byte more: the word that ends before it.
+    #[inline]
+    pub(crate) fn byte(&mut self, byte: u8) -> Result<Word, Flaw> {
+        if byte.is_ascii_digit() && !self.in_comment && !self.ends_line {
+            self.begins_line = false;
+            self.word = word_with(self.word, byte, self.greatest)?;
+            return Ok(Word::None);
+        }
+        self.other_byte(byte)
+    }
+
+    // Reads a byte more, which may begin a line or end a word: the word that ends before it.
+    fn other_byte(&mut self, byte: u8) -> Result<Word, Flaw> {
+        self.begin_line();
+        if byte == b'\n' {
+            self.ends_line = true;
+            return Ok(self.end_word());
+        }
+        if self.in_comment {
+            return Ok(Word::None);
+        }
+        if matches!(byte, b' ' | b'\t' | b'\r') {
+            return Ok(self.end_word());
+        }
+        if byte == b'c' && self.begins_line {
+            self.in_comment = true;
+            return Ok(Word::None);
+        }
+        self.begins_line = false;
+        self.word = word_with(self.word, byte, self.greatest)?;
+        Ok(Word::None)
+    }
+
+    // Begins a line if the last one has ended.
+    fn begin_line(&mut self) {
+        if self.ends_line {
+            self.ends_line = false;
+            self.in_comment = false;
+            self.begins_line = true;
+            self.line = self.line.saturating_add(1);
+        }
+    }
+
+    // Ends the word, if there is one.
+    fn end_word(&mut self) -> Word {
+        let word = self.word;
+        self.word = Word::None;
+        word
+    }
+
+    // Ends the text: its last word.
+    pub(crate) fn finish(&mut self) -> Word {
+        self.begin_line();
+        self.end_word()
+    }
+}
+
+// The word with a byte more.
+#[inline]
+fn word_with(word: Word, byte: u8, greatest: u64) -> Result<Word, Flaw> {
+    match word {
+        Word::None if byte == b'd' => Ok(Word::Delete),
+        Word::None if byte == b'-' => Ok(Word::Minus),
+        Word::None => number_with(true, 0, byte, greatest),
+        Word::Minus => number_with(false, 0, byte, greatest),
+        Word::Number { positive, value } => number_with(positive, value, byte, greatest),
+        Word::Delete => Err(Flaw::Word),
+    }
+}
+
+// The greatest number that a text may have.
+const GREATEST: u64 = 1 << 56;
+
+// The number with a digit more.
+#[inline]
+fn number_with(positive: bool, value: u64, digit: u8, greatest: u64) -> Result<Word, Flaw> {
+    if !digit.is_ascii_digit() {
+        return Err(Flaw::Word);
+    }
+    if value > GREATEST {
+        return Err(Flaw::Number);
+    }
+    let value = value * 10 + u64::from(digit - b'0');
+    if value > greatest {
+        return Err(Flaw::Number);
+    }
+    Ok(Word::Number { positive, value })
+}
