@@ -12,7 +12,7 @@ pub mod well_formed;
 pub mod witness_circuit;
 pub mod witnessed;
 
-pub use certificate::{Verdict, certify};
+pub use certificate::{Verdict, certify, exclusions, invariant_doubt};
 pub use circuit::{And, Circuit, Latch};
 pub use diagnosis::{TraceDoubt, trace_doubt};
 pub use netlist::Netlist;
