@@ -1,0 +1,5 @@
+pub mod Counted
+mod Examples
+pub mod Looped
+mod Replayed
+mod Stages

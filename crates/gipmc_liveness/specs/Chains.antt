@@ -1,0 +1,87 @@
+-- Chains of latches, by which a circuit counts how often literals are met in turn.
+use Rattle.std.specs.Prelude.{◌≡◌, ℕ, ◌+◌, ◌*◌, ◌++◌, true, false, List, [], ◌∷◌, Some, length}
+use Rattle.std.specs.Prelude.{◌⊎◌}
+use Rattle.gipsat_cnf.specs.Formulas.{Has}
+use Rattle.gipsat_cnf.specs.Literals.{Lit}
+use Rattle.gipmc_circuits.specs.declared.circuit.And.{And}
+use Rattle.gipmc_circuits.specs.declared.circuit.Circuit.{Circuit}
+use Rattle.gipmc_circuits.specs.declared.circuit.Latch.{Latch}
+
+-- the literal that is always true
+abbrev pub always : Lit
+always = record { variable = 0; positive = false }
+
+-- the literal of a variable, and its negation
+abbrev pub yes_of : ℕ → Lit
+yes_of v = record { variable = v; positive = true }
+
+abbrev pub not_of : ℕ → Lit
+not_of v = record { variable = v; positive = false }
+
+-- the gate of a stage: the stage before it is passed, and its literal is true
+abbrev pub passing : ℕ → Lit → Lit → And
+passing g before l = record { output = g; left = before; right = l }
+
+-- the other gate of a stage: it is not passed, nor is it now
+abbrev pub waiting : ℕ → ℕ → And
+waiting x g = record { output = g + 1; left = not_of x; right = not_of g }
+
+-- the latch of a stage: from now on it is passed
+abbrev pub passed : ℕ → ℕ → Latch
+passed x g = record { variable = x; next = not_of (g + 1); reset = Some false }
+
+-- the gates of stages, each of which waits for one of the literals, with the variables of its latch and its first gate
+abbrev pub stage_gates : ℕ → ℕ → Lit → List Lit → List And
+stage_gates x g before [] = []
+stage_gates x g before (l ∷ ls) = passing g before l ∷ waiting x g ∷ stage_gates (x + 1) (g + 2) (yes_of x) ls
+
+-- their latches
+abbrev pub stage_latches : ℕ → ℕ → List Lit → List Latch
+stage_latches x g [] = []
+stage_latches x g (l ∷ ls) = passed x g ∷ stage_latches (x + 1) (g + 2) ls
+
+-- the literal that all of them are passed
+abbrev pub all_passed : ℕ → Lit → List Lit → Lit
+all_passed x before [] = before
+all_passed x before (l ∷ ls) = all_passed (x + 1) (yes_of x) ls
+
+-- the variable of the last gate
+abbrev pub top : ℕ → List Lit → ℕ
+top n stages = n + length stages + 2 * length stages
+
+-- the gate that tells that all of them are passed, and one more literal is true
+abbrev pub last_gate : ℕ → List Lit → Lit → And
+last_gate n stages last = passing (top n stages) (all_passed n always stages) last
+
+-- the new circuit is the old one with the latch and the gates of a stage
+pub record AddsStage {A : Type 0} (old new : Circuit A) (x g : ℕ) (before l : Lit) : Type 0 where
+  pub latches : new.latches.items ≡ old.latches.items ++ passed x g ∷ []
+  pub gates : new.gates.items ≡ (old.gates.items ++ passing g before l ∷ []) ++ waiting x g ∷ []
+  pub constraints : new.constraints.items ≡ old.constraints.items
+
+-- the new circuit is the old one with the latches and gates of stages
+pub record AddsStages {A : Type 0} (old new : Circuit A) (n : ℕ) (stages : List Lit) : Type 0 where
+  pub latches : new.latches.items ≡ old.latches.items ++ stage_latches n (n + length stages) stages
+  pub gates : new.gates.items ≡ old.gates.items ++ stage_gates n (n + length stages) always stages
+  pub constraints : new.constraints.items ≡ old.constraints.items
+
+-- e is c with the latches and gates of stages, and a last gate
+pub record IsChained {A B : Type 0} (n : ℕ) (c : Circuit A) (e : Circuit B) (stages : List Lit) (last : Lit) : Type 0 where
+  pub latches : e.latches.items ≡ c.latches.items ++ stage_latches n (n + length stages) stages
+  pub gates : e.gates.items
+      ≡ c.gates.items ++ (stage_gates n (n + length stages) always stages ++ last_gate n stages last ∷ [])
+  pub constraints : e.constraints.items ≡ c.constraints.items
+
+-- the literal is one of the list, or always true
+abbrev pub IsAwaited : List Lit → Lit → Type 0
+IsAwaited literals l = Has literals l ⊎ (l ≡ always)
+
+-- each of the stages waits for such a literal
+abbrev pub AllAwaited : List Lit → List Lit → Type 0
+AllAwaited literals stages = (l : Lit) → Has stages l → IsAwaited literals l
+
+-- e has the latches, gates and constraints of c
+pub record IsCopied {A : Type 0} (c e : Circuit A) : Type 0 where
+  pub latches : e.latches.items ≡ c.latches.items
+  pub gates : e.gates.items ≡ c.gates.items
+  pub constraints : e.constraints.items ≡ c.constraints.items

@@ -1,0 +1,3 @@
+pub mod Liveness
+pub mod Lassos
+pub mod Chains
