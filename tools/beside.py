@@ -96,7 +96,7 @@ def run(program, path, bads, seconds, processor):
 
 def of_abc(text, bads, trace):
     answers, traces = ["-"] * bads, {}
-    for place in map(int, re.findall(r"Output (\d+) .*?was asserted in frame", text)):
+    for place in map(int, re.findall(r"Output +(\d+) .*?was asserted in frame", text)):
         answers[place] = "f"
         if trace:
             # Its latches are those that it kept, and one for the constraints.
