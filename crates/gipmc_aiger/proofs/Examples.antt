@@ -1,11 +1,16 @@
 -- Worked examples of texts.
-use Rattle.std.proofs.Common.{◌≡◌, ℕ, [], ◌∷◌, ◌++◌, refl, ap, codes, Some, None, true, false}
+use Rattle.std.proofs.Common.{◌≡◌, ℕ, List, [], ◌∷◌, ◌++◌, refl, ap, codes, Some, None, true, false}
 use Rattle.std.specs.Fmt.{digits}
 use Rattle.gipsat_cnf.specs.Literals.{Lit}
 use Rattle.gipmc_circuits.specs.declared.circuit.And.{And}
 use Rattle.gipmc_circuits.specs.declared.circuit.Circuit.{Circuit}
+use Rattle.gipmc_circuits.specs.declared.circuit.Latch.{Latch}
+use Rattle.gipmc_circuits.specs.declared.witness_circuit.Link.{Link}
+use Rattle.gipmc_circuits.specs.declared.witness_circuit.Register.{Register}
 use Rattle.gipmc_aiger.specs.Circuits.{Rows, body_at, circuit_of, gate_at, header_at, latch_at, rows_of, packed_operands_at, properties_at, sizes_at, written_operands_at}
 use Rattle.gipmc_aiger.specs.CircuitTexts.{aig_text, greater_first}
+use Rattle.gipmc_aiger.specs.Sharing.{shared_with}
+use Rattle.gipmc_aiger.specs.WitnessCircuits.{WitnessRows, register_at, witness_body_at, witness_rows_of}
 use Rattle.gipmc_aiger.specs.Witnesses.{stimulus_of, witness_of}
 
 -- a variable and its negation
@@ -125,3 +130,43 @@ two_moments = refl
 refused-no_end : witness_of 1 2 (codes "1\nb0\n0\n00\n") ≡ None
 unfolding stimulus_of
 refused-no_end = refl
+
+-- a certificate of two latches, the first of which begins at the negation of the second
+abbrev begins_at : ℕ → Lit → Register
+begins_at variable reset = record { variable = variable; next = yes_of variable; reset = reset }
+
+abbrev two_registers : List Register
+two_registers = begins_at 1 (no_of 2) ∷ begins_at 2 (yes_of 0) ∷ []
+
+certificate_in_ascii : witness_rows_of (codes "aag 2 0 2 0 0 1\n2 2 5\n4 4\n4\nl0 = 6\nc\n")
+    ≡ Some (record {
+      inputs = [];
+      registers = two_registers;
+      gates = [];
+      bads = yes_of 2 ∷ [];
+      constraints = [];
+      symbols = codes "l0 = 6\nc\n";
+    })
+unfolding witness_rows_of witness_body_at header_at sizes_at properties_at register_at
+certificate_in_ascii = refl
+
+abbrev link_of : ℕ → Lit → Link
+link_of variable literal = record { variable = variable; literal = literal }
+
+-- latches have the values of the literals that symbols name, in any order
+shared_by_names : {A : Type 0} (c : Circuit A) → shared_with c [] two_registers (codes "l1 = 7\nl0 = 4\n")
+    ≡ link_of 2 (no_of 3) ∷ link_of 1 (yes_of 2) ∷ []
+shared_by_names c = refl
+
+-- the other latch is not shared; what stands behind a comment names nothing
+shared_by_one_name : {A : Type 0} (c : Circuit A) → shared_with c [] two_registers (codes "l0 = 6\nc\nl1 = 4\n")
+    ≡ link_of 1 (yes_of 3) ∷ []
+shared_by_one_name c = refl
+
+-- by other names, as by none, inputs and latches are those at the same places, here of an input and one latch
+abbrev latch_of : ℕ → Latch
+latch_of variable = record { variable = variable; next = yes_of variable; reset = None }
+
+shared_in_order : {A : Type 0} (c : Circuit A) → c.inputs.items ≡ 3 ∷ [] → c.latches.items ≡ latch_of 5 ∷ []
+    → shared_with c (4 ∷ []) two_registers (codes "l0 a\nl1 = 4 \ni0 =4\n") ≡ link_of 4 (yes_of 3) ∷ link_of 1 (yes_of 5) ∷ []
+shared_in_order c inputs latches = rw (inputs, latches) refl

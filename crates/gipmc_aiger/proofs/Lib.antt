@@ -5,6 +5,7 @@ pub mod PackedRereads
 mod Refusals
 pub mod Rereads
 mod RowLoops
+mod Shared
 mod Stacks
 mod Tables
 pub mod WitnessRereads

@@ -5,6 +5,7 @@ pub mod Tails
 pub mod Circuits
 pub mod CircuitTexts
 pub mod Writable
+pub mod Sharing
 pub mod WitnessCircuits
 pub mod Witnesses
 pub mod Traces

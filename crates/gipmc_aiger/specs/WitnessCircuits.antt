@@ -7,10 +7,11 @@ use Rattle.gipmc_circuits.specs.declared.circuit.And.{And}
 use Rattle.gipmc_circuits.specs.declared.circuit.Circuit.{Circuit}
 use Rattle.gipmc_circuits.specs.declared.witness_circuit.Register.{Register}
 use Rattle.gipmc_circuits.specs.declared.witness_circuit.WitnessCircuit.{WitnessCircuit}
-use Rattle.gipmc_circuits.specs.WitnessCircuits.{next_link, reset_link, unlinked}
+use Rattle.gipmc_circuits.specs.WitnessCircuits.{next_link, reset_link, unlinked, unlinked_variables}
 use Rattle.gipmc_aiger.specs.declared.header.Header.{Header}
 use Rattle.gipmc_aiger.specs.Circuits.{bads_of, defined_at, gate_at, greatest_literal, header_at, input_at, literal_at, literal_of, rows_at, separated_at}
 use Rattle.gipmc_aiger.specs.Reading.{◌>>=◌, expected_at, number_at, optional_at}
+use Rattle.gipmc_aiger.specs.Sharing.{shared_with}
 use Rattle.gipmc_aiger.specs.Tails.{is_tail}
 
 -- the latch at a place: its variable in the ascii form, its next literal, and the literal of its reset, 0 where there is
@@ -27,22 +28,24 @@ register_at h place bytes = do
     rest,
   )
 
--- the rows of a certificate, without where they lie in memory
+-- the rows of a certificate, without where they lie in memory, and the bytes behind them: symbols, and a comment
 pub record WitnessRows : Type 0 where
   pub inputs : List ℕ
   pub registers : List Register
   pub gates : List And
   pub bads : List Lit
   pub constraints : List Lit
+  pub symbols : List ℕ
 
--- the rows of a circuit with these latches
-abbrev pub witness_rows : {A : Type 0} → Circuit A → List Register → WitnessRows
-witness_rows c registers = record {
+-- the rows of a circuit with these latches, and such bytes behind them
+abbrev pub witness_rows : {A : Type 0} → Circuit A → List Register → List ℕ → WitnessRows
+witness_rows c registers symbols = record {
   inputs = c.inputs.items;
   registers = registers;
   gates = c.gates.items;
   bads = c.bads.items;
   constraints = c.constraints.items;
+  symbols = symbols;
 }
 
 -- the certificate that the rows behind a header write: as those of a circuit, with such latches
@@ -61,6 +64,7 @@ witness_body_at h bytes = do
         gates = gates.0;
         bads = bads_of h outputs.0 bads.0;
         constraints = constraints.0;
+        symbols = gates.1;
       })
       else None
 
@@ -70,15 +74,17 @@ witness_rows_of text = do
   header ← header_at text
   witness_body_at header.0 header.1
 
--- the certificate has these gates in some order, these bad literals and constraints, and as its own the latches that
--- are not shared; of inputs, and of what is shared, nothing is said
-pub record IsWitnessOf {A : Type 0} (n : WitnessRows) (w : WitnessCircuit A) : Type 0 where
+-- the certificate has these gates in some order, these bad literals and constraints; it shares with the circuit what its
+-- symbols say, and as its own it has the other latches and inputs
+pub record IsWitnessOf {A B : Type 0} (c : Circuit A) (n : WitnessRows) (w : WitnessCircuit B) : Type 0 where
   pub gates : IsPermutation n.gates w.circuit.gates.items
   pub bads : w.circuit.bads.items ≡ n.bads
   pub constraints : w.circuit.constraints.items ≡ n.constraints
+  pub shared : w.shared.items ≡ shared_with c n.inputs n.registers n.symbols
   pub resets : w.resets.items ≡ map reset_link (unlinked w.shared.items n.registers)
   pub nexts : w.nexts.items ≡ map next_link (unlinked w.shared.items n.registers)
+  pub inputs : w.inputs.items ≡ unlinked_variables w.shared.items n.inputs
 
--- a text writes a certificate
-abbrev pub WritesWitness : {A : Type 0} → List ℕ → WitnessCircuit A → Type 0
-WritesWitness text w = (n : WitnessRows) × (witness_rows_of text ≡ Some n) × IsWitnessOf n w
+-- a text writes a certificate of the circuit
+abbrev pub WritesWitness : {A B : Type 0} → Circuit A → List ℕ → WitnessCircuit B → Type 0
+WritesWitness c text w = (n : WitnessRows) × (witness_rows_of text ≡ Some n) × IsWitnessOf c n w

@@ -13,34 +13,33 @@ use crate::place::error_at;
 use crate::rows::rows;
 use crate::sharing::shared;
 use crate::tails::tail;
-use gipmc_circuits::{Circuit, Latch, Link, Register, WitnessCircuit};
+use gipmc_circuits::{Circuit, Latch, Register, WitnessCircuit};
 use std::alloc::{AllocError, Allocator};
 
 /// Reads a circuit in either form of AIGER 1.9 as a certificate of another one. The reset of a latch may be any literal.
 ///
 /// The certificate shares the inputs and latches whose symbols are `= n` with the literal of number n of the circuit.
-/// Where there is no such symbol, its first inputs and latches are those of the circuit, in the same order.
+/// Where there is no such symbol, it shares inputs and latches with those of the circuit at the same places.
 ///
 /// # Errors
 /// - [`AigerError::Refused`] with the place and the reason where the text has another form.
 /// - [`AigerError::Twice`], [`AigerError::Undefined`] or [`AigerError::Cycle`] with a variable where an `aag` text
 ///   writes no circuit.
-/// - [`AigerError::Memory`] where memory is refused.
+/// - [`AigerError::Memory`] where memory is refused, or where a variable of the circuit is 2^31 or more.
 pub fn read_witness_circuit<A: Allocator + Copy>(
     alloc: A,
     circuit: &Circuit<A>,
     text: &[u8],
 ) -> Result<WitnessCircuit<A>, AigerError>
-    ensures ok { IfOk result (WritesWitness text.now) }
+    ensures ok { IfOk result (WritesWitness circuit.now text.now) }
     ensures refused { (place : Place) (reason : Reason) → IsErrOf result (AigerError.Refused place reason) →
         witness_rows_of text.now ≡ None }
 {
-    let (header, read, registers, rest) = match whole(alloc, text) {
+    let (header, read, registers, symbols) = match whole(alloc, text) {
         Ok(read) => read,
         Err(stop) => return Err(error_at(text, stop)),
     };
-    let links = shared(alloc, circuit, &read, rest)?;
-    made(alloc, header.form, read, &registers, links)
+    made(alloc, circuit, header.form, read, &registers, symbols)
 }
 
 // The header, the circuit and its latches, and what stands behind the rows.
@@ -49,7 +48,7 @@ fn whole<A: Allocator + Copy>(
     alloc: A,
     text: &[u8],
 ) -> Result<(Header, Circuit<A>, Vec<Register, A>, &[u8]), Stop>
-    ensures { Gives (λ x. witness_rows x.1 x.2.items) result (witness_rows_of text.now) }
+    ensures { Gives (λ x. witness_rows x.1 x.2.items x.3.now) result (witness_rows_of text.now) }
 {
     let (header, rest) = header(text)?;
     let (circuit, registers, rest) = body(alloc, &header, rest)?;
@@ -63,7 +62,7 @@ fn body<'a, A: Allocator + Copy>(
     header: &Header,
     bytes: &'a [u8],
 ) -> Result<(Circuit<A>, Vec<Register, A>, &'a [u8]), Stop>
-    ensures { Gives (λ x. witness_rows x.0 x.1.items) result (witness_body_at header.now bytes.now) }
+    ensures { Gives (λ x. witness_rows x.0 x.1.items x.2.now) result (witness_body_at header.now bytes.now) }
 {
     let (inputs, rest) = rows(alloc, header, header.sizes.inputs, bytes)?;
     let (registers, rest) = rows(alloc, header, header.sizes.latches, rest)?;
@@ -99,19 +98,21 @@ fn latches<A: Allocator + Copy>(
         .collect(alloc)
 }
 
-// The certificate of a circuit and its latches.
+// The certificate of the circuit that consists of these rows, and what it shares.
 fn made<A: Allocator + Copy>(
     alloc: A,
+    circuit: &Circuit<A>,
     form: Form,
-    circuit: Circuit<A>,
+    read: Circuit<A>,
     registers: &[Register],
-    links: Vec<Link, A>,
+    symbols: &[u8],
 ) -> Result<WitnessCircuit<A>, AigerError>
-    ensures ok { IfOk result (IsWitnessOf (witness_rows circuit registers.now)) }
-    ensures error { IfErr result (IsErrorOf (rows_of circuit)) }
+    ensures ok { IfOk result (IsWitnessOf circuit.now (witness_rows read registers.now symbols.now)) }
+    ensures error { IfErr result (IsErrorOf (rows_of read)) }
 {
-    let circuit = ordered(alloc, form, circuit)?;
-    Ok(WitnessCircuit::new(alloc, circuit, registers, links)?)
+    let links = shared(alloc, circuit, &read.inputs, registers, symbols)?;
+    let read = ordered(alloc, form, read)?;
+    Ok(WitnessCircuit::new(alloc, read, registers, links)?)
 }
 
 // The circuit with its gates in order.

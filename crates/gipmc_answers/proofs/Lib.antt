@@ -1,4 +1,4 @@
 mod Shown
 mod Told
-mod Witnessed
+pub mod Witnessed
 mod Written

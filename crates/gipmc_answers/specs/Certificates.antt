@@ -12,10 +12,11 @@ use Rattle.gipmc_answers.specs.Answers.{IsCircuitIn}
 use Rattle.gipmc_answers.specs.declared.certificates.Certificate.{Certificate}
 use Rattle.gipmc_answers.specs.declared.certificates.Certificate.TheVariants as certificate
 
--- the text writes the certificate: clauses over the latches of the circuit, or another circuit
+-- the text writes the certificate: clauses over the latches of the circuit, or another circuit that shares with it what
+-- the text says
 abbrev pub IsCertificateIn : {A B : Type 0} → Circuit A → List ℕ → Certificate B → Type 0
 IsCertificateIn c text (certificate.Clauses clauses) = invariant_for c text ≡ Some (clauses_view clauses.items)
-IsCertificateIn c text (certificate.Circuit other) = WritesWitness text other
+IsCertificateIn c text (certificate.Circuit other) = WritesWitness c text other
 
 -- by the other circuit it is safe as to the literal
 abbrev pub IsSafeByCircuit : {A B : Type 0} → Circuit A → WitnessCircuit B → Lit → Type 0

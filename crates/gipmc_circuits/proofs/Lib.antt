@@ -1,3 +1,4 @@
+pub mod Accepted
 pub mod Agreeing
 pub mod Certified
 mod Defined

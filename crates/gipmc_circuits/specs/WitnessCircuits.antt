@@ -105,3 +105,7 @@ next_link r = record { variable = r.variable; literal = r.next }
 -- the latches whose variables are not among those of the links
 abbrev pub unlinked : List Link → List Register → List Register
 unlinked links registers = filter (λ r. not (with_variables (link_variables links) is_constant r.variable)) registers
+
+-- the variables that are not among those of the links
+abbrev pub unlinked_variables : List Link → List ℕ → List ℕ
+unlinked_variables links variables = filter (λ v. not (with_variables (link_variables links) is_constant v)) variables

@@ -2,7 +2,7 @@
 ghost use Rattle.std.specs.Prelude.{◌≡◌, map, not, filter, IfOk, OnOk};
 ghost use Rattle.gipsat_cnf.specs.Models.{assignment_in};
 ghost use Rattle.gipmc_circuits.specs.WellFormed.{is_constant, with_variables};
-ghost use Rattle.gipmc_circuits.specs.WitnessCircuits.{link_variables, next_link, reset_link, unlinked};
+ghost use Rattle.gipmc_circuits.specs.WitnessCircuits.{link_variables, next_link, reset_link, unlinked, unlinked_variables};
 
 use crate::circuit::Circuit;
 use crate::trace::value_of;
@@ -61,6 +61,8 @@ impl<A: Allocator + Copy> WitnessCircuit<A> {
         ensures resets { IfOk result
             (λ w. w.resets.items ≡ map reset_link (unlinked shared.items registers.now)) }
         ensures nexts { IfOk result (λ w. w.nexts.items ≡ map next_link (unlinked shared.items registers.now)) }
+        ensures inputs { IfOk result
+            (λ w. w.inputs.items ≡ unlinked_variables shared.items circuit.inputs.items) }
     {
         let marks = marks(alloc, &shared)?;
         let own = unlinked(alloc, &marks, registers)?;
@@ -155,12 +157,15 @@ fn unmarked<A: Allocator + Copy>(
     alloc: A,
     marks: &[bool],
     variables: &[u32],
-) -> Result<Vec<u32, A>, AllocError> {
+) -> Result<Vec<u32, A>, AllocError>
+    ensures { IfOk result (λ left. left.items ≡ filter (λ v. not (assignment_in marks.now v)) variables.now) }
+{
     let mut left = Vec::new(alloc);
     for variable in variables {
-        if !value_of(marks, *variable) {
-            left.push(*variable)?;
+        if value_of(marks, *variable) {
+            continue;
         }
+        left.push(*variable)?;
     }
     Ok(left)
 }
