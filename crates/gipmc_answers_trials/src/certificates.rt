@@ -68,6 +68,9 @@ const BEHIND: &[u8] = b"aag 3 0 3 0 0 2\n2 2\n4 4 6\n6 6 2\n2\n4\nl0 = 4\n";
 
 const ALONE: &[u8] = b"aag 1 0 1 0 0 1\n2 2\n2\n";
 
+// Its second gate is an operand of the first one.
+const UNORDERED: &[u8] = b"aag 3 0 1 0 2 1\n2 2\n6\n6 4 2\n4 2 2\n";
+
 // A circuit, a certificate, the bad literal that is asked about, and whether it is safe by it.
 const JUDGED: &[(&[u8], &[u8], Option<usize>, bool)] = &[
     (KEPT, STAYS, None, true),
@@ -79,6 +82,7 @@ const JUDGED: &[(&[u8], &[u8], Option<usize>, bool)] = &[
     (TWO, TURNED, Some(1), false),
     (TWO, BEHIND, Some(0), true),
     (TWO, ALONE, Some(0), true),
+    (KEPT, UNORDERED, None, true),
 ];
 
 #[test]
