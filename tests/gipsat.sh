@@ -375,6 +375,18 @@ try "a proof that can't be opened" 1 "$work/none/proof: no such file" "" "" --pr
 try "a proof in a folder's place" 1 "$work: is a directory" "" "" --proof "$work" "$work/formula"
 try "a proof to a full device" 1 "/dev/full: cannot be written: no space left" "" "" --proof /dev/full "$work/formula"
 
+# More variables have numbers than occur. Memory goes with the text: a table of so many takes gigabytes.
+sparse='p cnf 1000003 4\n1000001 1000003 0\n1000001 -1000003 0\n-1000001 1000003 0\n-1000001 -1000003 0\n'
+printf '%b' "$sparse" > "$work/sparse"
+try "a proof of a formula with great numbers is written" 20 "" "s UNSATISFIABLE" "" -q --proof "$work/written" "$work/sparse"
+try "the proof of a formula with great numbers is checked" 0 "" "s VERIFIED" "" --check "$work/sparse" "$work/written"
+try "a model of a formula with great numbers" 10 "" "$(printf 's SATISFIABLE\nv -1 -2 -3 -4 5 -6 -7 8 -9 0')" \
+    'p cnf 9 2\n8 0\n-8 5 0\n'
+printf 'p cnf 16777216 1\n16777216 0\n' > "$work/great"
+(ulimit -v 200000 && "$gipsat" -n "$work/great") > "$work/out" 2> "$work/err"
+[ $? = 10 ] && [ "$(cat "$work/out")" = "s SATISFIABLE" ]
+told "a great number takes little memory" $?
+
 # What is told at the end, on standard error. One clause is learned, of one literal, and then the empty one, which does
 # not count among the clauses kept.
 told='c 2 conflicts, 0 restarts, 5 clauses kept, 0 deleted, 1.000000 literals in each of the last learned'

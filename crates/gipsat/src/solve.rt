@@ -2,6 +2,7 @@
 ghost use Rattle.std.specs.Prelude.{◌≡◌, ◌≢◌, ℕ, is_some, IfOk, IfErr, IsTrue, OnOk, IsErrOf};
 ghost use Rattle.std.specs.Io.KnownBytes.{IsAtEnd};
 ghost use Rattle.gipsat_answers.specs.Answers.{problem_of, WritesAnswerWith};
+ghost use Rattle.gipsat_answers.specs.Names.{formula_of};
 ghost use Rattle.gipsat_dimacs.specs.Inputs.{HasClauses, HasForm, IsRefusedAt, OfProblem, WritesNone};
 ghost use Rattle.gipsat_dimacs.specs.declared.error.DimacsError.TheVariants as dimacs_error;
 ghost use Rattle.gipsat.specs.declared.solve.SolveError.TheVariants as solve_error;
@@ -50,7 +51,7 @@ pub fn solve<'a, R: Read, W: Write>(
         WritesAnswerWith options.now.witness problem options.now.conflicts solved
         (W.contents writer.old) (W.contents writer.new))) }
     ensures formula { IfOk result (λ solved.
-        HasClauses options.now.rule (R.remaining reader.old) solved.solver.formula) }
+        HasClauses options.now.rule (R.remaining reader.old) (formula_of solved)) }
     ensures stopped { IfOk result (λ solved. solved.verdict ≡ Verdict.Stopped → IsTrue (is_some options.now.time)) }
     ensures line { (line : ℕ) (reason : Reason) → IsErrOf result (SolveError.Task (DimacsError.Line line reason)) →
         WritesNone options.now.rule (R.remaining reader.old) }
@@ -110,7 +111,7 @@ fn answer<'a, W: Write>(
     ensures written { IfOk result (λ solved. WritesAnswerWith options.now.witness
         (problem_of instance.variables instance.clauses) options.now.conflicts solved
         (W.contents writer.old) (W.contents writer.new)) }
-    ensures formula { IfOk result (λ solved. solved.solver.formula ≡ instance.clauses) }
+    ensures formula { IfOk result (λ solved. formula_of solved ≡ instance.clauses) }
     ensures stopped { IfOk result (λ solved. solved.verdict ≡ Verdict.Stopped → IsTrue (is_some options.now.time)) }
     ensures other { (line : ℕ) (reason : Reason) →
         ¬ (IsErrOf result (SolveError.Task (DimacsError.Line line reason))) }
@@ -148,7 +149,7 @@ fn answer_told<'a, W: Write, P: Progress + Drop>(
     ensures written { IfOk result (λ told. WritesAnswerWith options.now.witness
         (problem_of instance.variables instance.clauses) options.now.conflicts told.solved
         (W.contents writer.old) (W.contents writer.new)) }
-    ensures formula { IfOk result (λ told. told.solved.solver.formula ≡ instance.clauses) }
+    ensures formula { IfOk result (λ told. formula_of told.solved ≡ instance.clauses) }
     ensures stopped { IfOk result (λ told.
         told.solved.verdict ≡ Verdict.Stopped → IsTrue (P.wants_stop told.progress)) }
     ensures other { (line : ℕ) (reason : Reason) →
@@ -177,7 +178,7 @@ fn prove<'a, W: Write, P: Progress + Drop>(
     ensures written { IfOk result (λ told. WritesAnswerWith options.now.witness
         (problem_of instance.variables instance.clauses) options.now.conflicts told.solved
         (W.contents writer.old) (W.contents writer.new)) }
-    ensures formula { IfOk result (λ told. told.solved.solver.formula ≡ instance.clauses) }
+    ensures formula { IfOk result (λ told. formula_of told.solved ≡ instance.clauses) }
     ensures stopped { IfOk result (λ told.
         told.solved.verdict ≡ Verdict.Stopped → IsTrue (P.wants_stop told.progress)) }
     ensures other { (line : ℕ) (reason : Reason) →
@@ -210,7 +211,7 @@ fn prove_to<'a, W: Write, P: Progress + Drop>(
     ensures written { IfOk result (λ told. WritesAnswerWith options.now.witness
         (problem_of instance.variables instance.clauses) options.now.conflicts told.solved
         (W.contents writer.old) (W.contents writer.new)) }
-    ensures formula { IfOk result (λ told. told.solved.solver.formula ≡ instance.clauses) }
+    ensures formula { IfOk result (λ told. formula_of told.solved ≡ instance.clauses) }
     ensures stopped { IfOk result (λ told.
         told.solved.verdict ≡ Verdict.Stopped → IsTrue (P.wants_stop told.progress)) }
     ensures other { (line : ℕ) (reason : Reason) →

@@ -1,2 +1,4 @@
 mod Examples
+mod Renaming
+mod Resuming
 mod ValueLines

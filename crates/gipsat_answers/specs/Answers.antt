@@ -72,10 +72,16 @@ TellsRight witness variables answer verdict text =
     (old new : SolverState) (limit : ℕ) → old.learned ≡ 0 → IsRight old new limit answer
     → IsRightText witness (problem_of variables old.formula) limit new verdict text
 
+-- a writer that held the one holds the other after the text of a right answer of this verdict, with values if they are
+-- wanted, where a solver knows so much
+abbrev pub WritesVerdict : Bool → Problem → ℕ → SolverState → Verdict → Option (List ℕ) → Option (List ℕ) → Type 0
+WritesVerdict witness problem limit known verdict old new =
+    (text : List ℕ) × IsRightText witness problem limit known verdict text × Appends old new text
+
 -- a writer that held the one holds the other after the text of a right answer, with values if they are wanted
 abbrev pub WritesAnswerWith : {A : Type 0} → Bool → Problem → ℕ → Solved A → Option (List ℕ) → Option (List ℕ) → Type 0
 WritesAnswerWith witness problem limit solved old new =
-    (text : List ℕ) × IsRightText witness problem limit solved.solver solved.verdict text × Appends old new text
+    WritesVerdict witness problem limit solved.solver solved.verdict old new
 
 -- a writer that held the one holds the other after the text of a right answer
 abbrev pub WritesAnswer : {A : Type 0} → Problem → ℕ → Solved A → Option (List ℕ) → Option (List ℕ) → Type 0

@@ -1,10 +1,12 @@
 //! Answers, and their texts.
-ghost use Rattle.std.specs.Prelude.{◌≡◌, ◌≢◌, ◌++◌, ◌<◌, ◌-◌, ◌^◌, ◌∷◌, [], List, codes, decimal, IfOk, OnOk};
+ghost use Rattle.std.specs.Prelude.{◌≡◌, ◌≢◌, ◌++◌, ◌<◌, ◌-◌, ◌^◌, ◌∷◌, [], List, codes, decimal, IfErr, IfOk, OnOk};
+ghost use Rattle.std.specs.Io.KnownBytes.{Appends};
 ghost use Rattle.gipsat_cnf.specs.Models.{assignment_in};
 ghost use Rattle.gipsat_dimacs.specs.Texts.{Word};
 ghost use Rattle.gipsat_dimacs.specs.Writer.{literal_word};
 ghost use Rattle.gipsat_answers.specs.Answers.{laid_out, values_text, verdict_status, witness_text, TellsRight};
 
+use gipsat_dimacs::DimacsError;
 use gipsat_solver::{Answer, Solver};
 use std::alloc::{AllocError, Allocator, Global};
 use std::io::Write;
@@ -42,6 +44,8 @@ pub struct Solved<A: Allocator = Global> {
     pub verdict: Verdict,
     /// The solver that was given the formula, with all that it has learned.
     pub solver: Solver<A>,
+    /// Which variable of the formula each of the solver's is. One past the end has the same number in both.
+    pub names: Vec<u32, A>,
 }
 
 // The most bytes of a line.
@@ -69,7 +73,7 @@ pub(crate) fn answer_text<A: Allocator + Copy>(
 }
 
 // These bytes.
-fn bytes<A: Allocator>(alloc: A, text: &[u8]) -> Result<Vec<u8, A>, AllocError>
+pub(crate) fn bytes<A: Allocator>(alloc: A, text: &[u8]) -> Result<Vec<u8, A>, AllocError>
     ensures { IfOk result (λ made. made.items ≡ text.now) }
 {
     let mut made = Vec::new(alloc);
@@ -107,7 +111,7 @@ fn satisfiable_text<A: Allocator + Copy>(
     let mut column = 1;
     for variable in 0..variables {
         word.clear();
-        write_value(&mut word, variable, value_in(model, variable))?;
+        write_value(&mut word, variable, value_in(model, variable as usize))?;
         column = write_word(&mut text, column, &word)?;
     }
     write_word(&mut text, column, b"0")?;
@@ -116,10 +120,10 @@ fn satisfiable_text<A: Allocator + Copy>(
 }
 
 // The value of a variable in a model.
-fn value_in(model: &[bool], variable: u32) -> bool
+pub(crate) fn value_in(model: &[bool], variable: usize) -> bool
     ensures { result ≡ assignment_in model.now variable }
 {
-    match model.get(variable as usize) {
+    match model.get(variable) {
         Some(value) => *value,
         None => false,
     }
@@ -167,4 +171,15 @@ fn write_word<A: Allocator>(
     text.extend_from_slice(b"\nv ")?;
     text.extend_from_slice(word)?;
     Ok(2 + word.len())
+}
+
+// Writes a text.
+pub(crate) fn write<W: Write>(writer: &mut W, text: &[u8]) -> Result<(), DimacsError>
+    ensures written { OnOk result (Appends (W.contents writer.old) (W.contents writer.new) text.now) }
+    ensures output { IfErr result (λ error. error ≡ DimacsError.Output) }
+{
+    match writer.write_all(text) {
+        Ok(()) => Ok(()),
+        Err(_) => Err(DimacsError::Output),
+    }
 }

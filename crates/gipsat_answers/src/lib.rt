@@ -3,6 +3,8 @@
 #![tactic(auto)]
 
 pub mod answers;
+mod names;
+mod naming;
 pub mod task;
 
 pub use answers::{Solved, Verdict};

@@ -1,16 +1,19 @@
 //! The whole task: from the bytes of a text to those of an answer.
 ghost use Rattle.std.specs.Prelude.{◌≡◌, ◌≢◌, ℕ, IfOk, IfErr, OnOk, IsErrOf, IsTrue};
-ghost use Rattle.std.specs.Io.KnownBytes.{Appends, IsAtEnd};
+ghost use Rattle.std.specs.Io.KnownBytes.{IsAtEnd};
 ghost use Rattle.gipsat_dimacs.specs.Inputs.{HasClauses, HasForm, IsRefusedAt, OfProblem, WritesNone};
 ghost use Rattle.gipsat_dimacs.specs.declared.rule.HeaderRule.TheVariants.{Strict};
-ghost use Rattle.gipsat_answers.specs.Answers.{problem_of, WritesAnswer, WritesAnswerWith};
+ghost use Rattle.gipsat_answers.specs.Answers.{problem_of, IsRightText, WritesAnswer, WritesAnswerWith, WritesVerdict};
+ghost use Rattle.gipsat_answers.specs.Names.{formula_of, named, AreNamesOf};
 
-use crate::answers::{Solved, Verdict, answer_text};
+use crate::answers::{Solved, Verdict, answer_text, bytes, write};
+use crate::names::{Renumbered, answer_under, renumber};
+use crate::naming::solve_named;
 use gipsat_cnf::Cnf;
 use gipsat_dimacs::{DimacsError, Instance, Reason, read_instance};
 use gipsat_solver::Solver;
-use gipsat_solver::progress::{Progress, solve_in_slices};
-use std::alloc::Allocator;
+use gipsat_solver::progress::Progress;
+use std::alloc::{AllocError, Allocator};
 use std::io::{Read, Write};
 
 /// How a formula is to be solved, and what is to be written.
@@ -48,7 +51,7 @@ pub fn solve_text<A: Allocator + Copy, R: Read, W: Write, P: Progress>(
     ensures has_form { OnOk result (HasForm Strict (R.remaining reader.old)) }
     ensures written { IfOk result (λ solved. OfProblem Strict (R.remaining reader.old)
         (λ problem. WritesAnswer problem limit solved (W.contents writer.old) (W.contents writer.new))) }
-    ensures formula { IfOk result (λ solved. HasClauses Strict (R.remaining reader.old) solved.solver.formula) }
+    ensures formula { IfOk result (λ solved. HasClauses Strict (R.remaining reader.old) (formula_of solved)) }
     ensures stopped { IfOk result (λ solved. solved.verdict ≡ Verdict.Stopped → IsTrue (P.wants_stop progress.new)) }
 
     // When the text is refused, in which line, and what was written then.
@@ -84,34 +87,79 @@ pub fn solve_instance<A: Allocator + Copy, W: Write, P: Progress>(
     ensures written { IfOk result (λ solved. WritesAnswerWith task.witness
         (problem_of instance.variables instance.clauses) task.limit solved
         (W.contents writer.old) (W.contents writer.new)) }
-    ensures formula { IfOk result (λ solved. solved.solver.formula ≡ instance.clauses) }
+    ensures formula { IfOk result (λ solved. formula_of solved ≡ instance.clauses) }
     ensures stopped { IfOk result (λ solved. solved.verdict ≡ Verdict.Stopped → IsTrue (P.wants_stop progress.new)) }
     ensures other { (line : ℕ) (reason : Reason) → ¬ (IsErrOf result (DimacsError.Line line reason)) }
     ensures unwritten { IfErr result (λ error. error ≢ DimacsError.Output → writer.new ≡ writer.old) }
 {
     let variables = instance.variables;
-    let mut solver = Solver::over(alloc, instance.clauses)?;
+    let Renumbered { names, clauses } = renumber(alloc, instance.clauses)?;
+    let mut solver = Solver::over(alloc, clauses)?;
     solver.set_inprocessing(task.simplify);
-    let Some(answer) = solve_in_slices(&mut solver, task.limit, progress)? else {
-        return write_solved(writer, b"s UNKNOWN\n", Verdict::Stopped, solver);
-    };
-    let (verdict, text) = answer_text(alloc, task.witness, variables, &answer)?;
-    write_solved(writer, &text, verdict, solver)
+    match write_answer(
+        alloc,
+        &mut solver,
+        &names,
+        variables,
+        writer,
+        task,
+        progress,
+    ) {
+        Ok(verdict) => Ok(Solved {
+            verdict,
+            solver,
+            names,
+        }),
+        Err(error) => Err(error),
+    }
 }
 
-// Writes the text of an answer.
-fn write_solved<A: Allocator + Copy, W: Write>(
+// Finds out whether anything satisfies the formula of a solver that is new, and writes the answer for so many variables.
+// The solver's variables have these names in the answer.
+fn write_answer<A: Allocator + Copy, W: Write, P: Progress>(
+    alloc: A,
+    solver: &mut Solver<A>,
+    names: &[u32],
+    variables: u32,
     writer: &mut W,
-    text: &[u8],
-    verdict: Verdict,
-    solver: Solver<A>,
-) -> Result<Solved<A>, DimacsError>
-    ensures written { OnOk result (Appends (W.contents writer.old) (W.contents writer.new) text.now) }
-    ensures solved { IfOk result (λ solved. solved ≡ record { verdict = verdict; solver = solver }) }
-    ensures output { IfErr result (λ error. error ≡ DimacsError.Output) }
+    task: Task,
+    progress: &mut P,
+) -> Result<Verdict, DimacsError>
+    requires names { AreNamesOf solver.old.formula names.now }
+    requires new { solver.old.learned ≡ 0 }
+    ensures written { IfOk result (λ verdict. WritesVerdict task.witness
+        (problem_of variables (named names.now solver.old.formula)) task.limit solver.new verdict
+        (W.contents writer.old) (W.contents writer.new)) }
+    ensures formula { solver.new.formula ≡ solver.old.formula }
+    ensures stopped { IfOk result (λ verdict. verdict ≡ Verdict.Stopped → IsTrue (P.wants_stop progress.new)) }
+    ensures other { (line : ℕ) (reason : Reason) → ¬ (IsErrOf result (DimacsError.Line line reason)) }
+    ensures unwritten { IfErr result (λ error. error ≢ DimacsError.Output → writer.new ≡ writer.old) }
 {
-    match writer.write_all(text) {
-        Ok(()) => Ok(Solved { verdict, solver }),
-        Err(_) => Err(DimacsError::Output),
-    }
+    let (verdict, text) = answer_named(alloc, solver, names, variables, task, progress)?;
+    write(writer, &text)?;
+    Ok(verdict)
+}
+
+// What is found out about the formula of a solver that is new, with its text for so many variables. The solver's
+// variables have these names in the text.
+fn answer_named<A: Allocator + Copy, P: Progress>(
+    alloc: A,
+    solver: &mut Solver<A>,
+    names: &[u32],
+    variables: u32,
+    task: Task,
+    progress: &mut P,
+) -> Result<(Verdict, Vec<u8, A>), AllocError>
+    requires names { AreNamesOf solver.old.formula names.now }
+    requires new { solver.old.learned ≡ 0 }
+    ensures right { IfOk result (λ made. IsRightText task.witness
+        (problem_of variables (named names.now solver.old.formula)) task.limit solver.new made.0 made.1.items) }
+    ensures formula { solver.new.formula ≡ solver.old.formula }
+    ensures stopped { IfOk result (λ made. made.0 ≡ Verdict.Stopped → IsTrue (P.wants_stop progress.new)) }
+{
+    let Some(answer) = solve_named(alloc, solver, names, task.limit, progress)? else {
+        return Ok((Verdict::Stopped, bytes(alloc, b"s UNKNOWN\n")?));
+    };
+    let answer = answer_under(alloc, names, answer)?;
+    answer_text(alloc, task.witness, variables, &answer)
 }

@@ -20,7 +20,7 @@ fn answers(alloc: Global, text: &[u8], verdict: Verdict, wanted: &[u8]) -> bool 
     }
 }
 
-const ANSWERED: [(&[u8], Verdict, &[u8]); 17] = [
+const ANSWERED: [(&[u8], Verdict, &[u8]); 19] = [
     (
         b"p cnf 2 2\n-1 0\n1 2 0\n",
         Verdict::Satisfiable,
@@ -103,6 +103,17 @@ const ANSWERED: [(&[u8], Verdict, &[u8]); 17] = [
     ),
     (
         b"p cnf 0 1\n0\n",
+        Verdict::Unsatisfiable,
+        b"s UNSATISFIABLE\n",
+    ),
+    // More variables than literals.
+    (
+        b"p cnf 9 2\n8 0\n-8 5 0\n",
+        Verdict::Satisfiable,
+        b"s SATISFIABLE\nv -1 -2 -3 -4 5 -6 -7 8 -9 0\n",
+    ),
+    (
+        b"p cnf 9 2\n8 0\n-8 0\n",
         Verdict::Unsatisfiable,
         b"s UNSATISFIABLE\n",
     ),

@@ -1,0 +1,140 @@
+//! A search whose listener hears of clauses under the names of their variables.
+ghost use Rattle.std.specs.Prelude.{◌≡◌, ◌||◌, IfNone, IfOk, IfSome, IsTrue};
+ghost use Rattle.gipsat_solver.specs.Answers.{HasNoFewer, IsRight};
+
+use gipsat_cnf::{Answer, Literal};
+use gipsat_solver::Solver;
+use gipsat_solver::progress::{Progress, Report, solve_in_slices};
+use std::alloc::{AllocError, Allocator, Global};
+use std::ops::ControlFlow;
+
+// Searches as `solve_in_slices` does, and tells `progress` of clauses under the names of their variables, if there are
+// names.
+pub(crate) fn solve_named<A: Allocator + Copy, P: Progress>(
+    alloc: A,
+    solver: &mut Solver<A>,
+    names: &[u32],
+    limit: usize,
+    progress: &mut P,
+) -> Result<Option<Answer<A>>, AllocError>
+    ensures right { IfOk result (λ found. IfSome found (IsRight solver.old solver.new limit)) }
+    ensures stopped { IfOk result (λ found. IfNone found (IsTrue (P.wants_stop progress.new))) }
+    ensures formula { solver.new.formula ≡ solver.old.formula }
+{
+    if names.is_empty() {
+        return solve_in_slices(solver, limit, progress);
+    }
+    let before = solver.learned();
+    let mut left = limit;
+    for _ in 0..usize::MAX {
+        if let Some(answer) = search_named(alloc, solver, names, left, progress)? {
+            return Ok(Some(answer));
+        }
+        // Nothing is known of what the listener wants where another one was asked, so that it is asked itself.
+        if progress.note(report_of(solver)).is_break() {
+            return Ok(None);
+        }
+        let spent = solver.learned().saturating_sub(before);
+        left = limit.checked_sub(spent).ok_or(AllocError)?;
+    }
+    Err(AllocError)
+}
+
+// How far a solver is.
+pub(crate) fn report_of<A: Allocator + Copy>(solver: &Solver<A>) -> Report {
+    Report {
+        stats: solver.stats(),
+        clauses: solver.len(),
+    }
+}
+
+// Searches as `solve_in_slices` does, and tells `progress` of clauses under the names of their variables.
+fn search_named<A: Allocator + Copy, P: Progress>(
+    alloc: A,
+    solver: &mut Solver<A>,
+    names: &[u32],
+    limit: usize,
+    progress: &mut P,
+) -> Result<Option<Answer<A>>, AllocError>
+    ensures right { IfOk result (λ found. IfSome found (IsRight solver.old solver.new limit)) }
+    ensures formula { solver.new.formula ≡ solver.old.formula }
+    ensures learned { HasNoFewer solver.old solver.new }
+{
+    let mut naming = Naming {
+        names,
+        progress,
+        clause: Vec::new(alloc),
+        is_lost: false,
+    };
+    let found = solve_in_slices(solver, limit, &mut naming)?;
+    if naming.is_lost {
+        return Err(AllocError);
+    }
+    Ok(found)
+}
+
+// Tells a listener what it is told, under the names of the variables.
+#[derive(Drop)]
+struct Naming<'a, P: Progress, A: Allocator = Global> {
+    names: &'a [u32],
+    progress: &'a mut P,
+    // The last clause, under the names.
+    clause: Vec<Literal, A>,
+    // Whether memory for a clause was refused, so that it was not told.
+    is_lost: bool,
+}
+
+// Puts a clause under names in place of another one.
+fn name_clause<A: Allocator>(
+    named: &mut Vec<Literal, A>,
+    names: &[u32],
+    clause: &[Literal],
+) -> Result<(), AllocError> {
+    named.clear();
+    for l in clause {
+        named.push(name_of(names, *l))?;
+    }
+    Ok(())
+}
+
+// A literal under the name of its variable; one that has none stays as it is.
+fn name_of(names: &[u32], l: Literal) -> Literal {
+    match names.get(l.variable() as usize) {
+        Some(name) if *name < 1 << 31 => Literal::new(*name, l.is_positive()),
+        _ => l,
+    }
+}
+
+impl<P: Progress, A: Allocator> Progress for Naming<'_, P, A> {
+    ghost wants_stop = { λ naming. P.wants_stop naming.progress.now || naming.is_lost };
+
+    fn wants_chains(&self) -> bool {
+        self.progress.wants_chains()
+    }
+
+    fn begin(&mut self, report: Report) {
+        self.progress.begin(report);
+    }
+
+    fn added(&mut self, id: usize, clause: &[Literal], chain: &[usize]) {
+        match name_clause(&mut self.clause, self.names, clause) {
+            Ok(()) => self.progress.added(id, &self.clause, chain),
+            Err(AllocError) => self.is_lost = true,
+        }
+    }
+
+    fn deleted(&mut self, id: usize, clause: &[Literal]) {
+        match name_clause(&mut self.clause, self.names, clause) {
+            Ok(()) => self.progress.deleted(id, &self.clause),
+            Err(AllocError) => self.is_lost = true,
+        }
+    }
+
+    fn note(&mut self, report: Report) -> ControlFlow<()> {
+        self.progress.note(report)
+    }
+
+    fn end(&mut self, report: Report) {
+        self.progress.end(report);
+    }
+}
