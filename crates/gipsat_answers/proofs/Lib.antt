@@ -1,3 +1,5 @@
+mod Assuming
+mod Enumerating
 mod Examples
 mod Renaming
 mod Resuming

@@ -82,7 +82,7 @@ pub(crate) fn bytes<A: Allocator>(alloc: A, text: &[u8]) -> Result<Vec<u8, A>, A
 }
 
 // The text of an answer by a model of so many variables, with their values if they are wanted.
-fn model_text<A: Allocator + Copy>(
+pub(crate) fn model_text<A: Allocator + Copy>(
     alloc: A,
     witness: bool,
     variables: u32,

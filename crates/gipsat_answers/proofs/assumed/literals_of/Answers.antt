@@ -1,0 +1,13 @@
+-- The literals of a clause more.
+use Rattle.std.proofs.Common.{◌≡◌, ◌∙◌, ◌<◌, ◌+◌, ◌++◌, ◌∷◌, [], ap, sym, length, take}
+use Rattle.std.proofs.lemmas.List.{take_more}
+use Rattle.std.proofs.lemmas.Grind.{flat_map-append}
+use Rattle.std.proofs.lemmas.Option.{get_or_from_slice_get, slice_get_within}
+use Rattle.gipsat_answers.proofs.Assuming.{literals_of-more}
+use Rattle.gipsat_answers.proofs.assumed.literals_of.Goals as goal
+
+pub loop-place-preserved : goal.loop-place-preserved
+loop-place-preserved g c =
+    c.in_ok-extend_from_slice.ensures.items
+    ∙ literals_of-more c.args.clauses.now c.loop-place.place c.clause.result.now c.loop-place.literals.items
+    c.loop-place.invariant c.clause.ensures
