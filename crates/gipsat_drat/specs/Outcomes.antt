@@ -7,7 +7,7 @@ use Rattle.gipsat_dimacs.specs.Texts.{Problem}
 use Rattle.gipsat_drat.specs.declared.error.Flaw.{Flaw}
 use Rattle.gipsat_drat.specs.declared.error.Flaw.TheVariants.{Word, Number, Variable, NotShown, Name, Unnamed, Hint, NotHinted, Step, OpenClause, Unfinished}
 use Rattle.gipsat_drat.specs.declared.error.OtherForm.{OtherForm}
-use Rattle.gipsat_drat.specs.declared.error.OtherForm.TheVariants.{Gzip, Xz, Bzip2, Zstd, Rup, Frat}
+use Rattle.gipsat_drat.specs.declared.error.OtherForm.TheVariants.{Gzip, Xz, Bzip2, Zstd, Rup, Frat, Lrat}
 use Rattle.gipsat_drat.specs.declared.error.Place.{Place}
 use Rattle.gipsat_drat.specs.declared.error.Place.TheVariants.{Line, Byte}
 use Rattle.gipsat_drat.specs.declared.error.Refusal.{Refusal}
@@ -49,6 +49,7 @@ form_text Bzip2 = codes "bzip2 data (try: bzip2 -dc PROOF | gipsat --check FORMU
 form_text Zstd = codes "zstd data (try: zstd -dc PROOF | gipsat --check FORMULA -)"
 form_text Rup = codes "a first line with % (try: sed 1d PROOF | gipsat --check FORMULA -)"
 form_text Frat = codes "the FRAT form, which is not read (DRAT is)"
+form_text Lrat = codes "the LRAT form, which has hints already"
 
 -- the text of an error
 abbrev pub error_text : DratError → List ℕ

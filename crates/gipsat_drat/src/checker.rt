@@ -4,6 +4,7 @@ ghost use Rattle.std.specs.Bool.{OnFalse, OnTrue};
 ghost use Rattle.gipsat_drat.specs.Held.{IsConsistent, Keeps, StaysRefuted, held_of, held_with};
 
 use crate::index::Index;
+use crate::log::Log;
 use crate::rat::add_rat;
 use crate::rup::{add_rup, enter};
 use crate::trail::Trail;
@@ -29,6 +30,8 @@ pub struct Checker<A: Allocator = Global> {
     trail: Trail<A>,
     watches: Watches<A>,
     index: Index<A>,
+    // The steps, if they are wanted.
+    log: Log<A>,
     // Whether the empty clause was shown.
     refuted: bool,
 }
@@ -59,11 +62,43 @@ impl<A: Allocator + Copy> Checker<A> {
     pub fn over(alloc: A, formula: Cnf<A>) -> Result<Self, AllocError>
         ensures { IfOk result (Keeps (held_of formula)) }
     {
+        Checker::over_with(alloc, formula, false)
+    }
+
+    // The same, and the steps are noted if they are wanted.
+    pub(crate) fn over_with(alloc: A, formula: Cnf<A>, keeps_log: bool) -> Result<Self, AllocError>
+        ensures { IfOk result (Keeps (held_of formula)) }
+    {
         let variables = formula.variables() as u32;
         let kernel = RatKernel::over(alloc, formula)?;
         let mut checker = Checker::of(alloc, kernel, variables)?;
-        checker.enter_all()?;
+        checker.keep_log(keeps_log)?;
+        checker.enter_given()?;
         Ok(checker)
+    }
+
+    // The steps, if they were wanted.
+    pub(crate) fn log(&self) -> &Log<A> {
+        &self.log
+    }
+
+    // Notes the steps from now on, if they are wanted.
+    fn keep_log(&mut self, is_kept: bool) -> Result<(), AllocError>
+        ensures { self.new ≡ self.old }
+    {
+        if !is_kept {
+            return Ok(());
+        }
+        self.trail.keep_derivations();
+        self.log.keep(self.kernel.len())
+    }
+
+    // Enters each clause of the kernel, and notes what is derived of them.
+    fn enter_given(&mut self) -> Result<(), AllocError>
+        ensures { Keeps self.old self.new }
+    {
+        self.enter_all()?;
+        self.note_derived()
     }
 
     // A checker of a kernel whose clauses were not entered.
@@ -76,6 +111,7 @@ impl<A: Allocator + Copy> Checker<A> {
             trail: Trail::new(alloc, variables)?,
             watches: Watches::new(alloc, variables)?,
             index: Index::new(alloc, variables)?,
+            log: Log::new(alloc),
             refuted: false,
         })
     }
@@ -123,6 +159,7 @@ impl<A: Allocator + Copy> Checker<A> {
             return Ok(false);
         };
         self.enter(id)?;
+        self.note_derived()?;
         Ok(true)
     }
 
@@ -145,6 +182,26 @@ impl<A: Allocator + Copy> Checker<A> {
         self.kernel.delete(id);
         self.index.delete(id);
         Ok(true)
+    }
+
+    // Notes what was derived, if it is wanted.
+    fn note_derived(&mut self) -> Result<(), AllocError>
+        ensures { self.new ≡ self.old }
+    {
+        self.log
+            .note_derived(&self.kernel, self.trail.derivations())?;
+        self.trail.forget_derivations();
+        Ok(())
+    }
+
+    // Notes a clause that is RAT, if it is wanted.
+    fn note_rat(&mut self, id: usize) -> Result<(), AllocError>
+        ensures { self.new ≡ self.old }
+    {
+        self.log
+            .note_rat(&self.kernel, self.trail.derivations(), id)?;
+        self.trail.forget_derivations();
+        Ok(())
     }
 
     // Has room for the variables of a clause.
@@ -192,7 +249,11 @@ impl<A: Allocator + Copy> Checker<A> {
         let more = self.kernel.len().saturating_sub(len);
         let kept = usize::from(matches!(added, Ok(Some(_))));
         self.index.count_dead(more.saturating_sub(kept));
-        added
+        let Some(id) = added? else {
+            return Ok(None);
+        };
+        self.note_rat(id)?;
+        Ok(Some(id))
     }
 
     // Enters each clause of the kernel, as far as the empty clause is shown.
@@ -245,6 +306,7 @@ impl<A: Allocator + Copy> Checker<A> {
         // No request is refused from here on.
         self.kernel.collect(self.alloc)?;
         self.index.replace(entries);
+        self.log.collect(&stays);
         self.watches.renumber(&ids);
         self.trail.renumber(&ids);
         Ok(())

@@ -155,6 +155,8 @@ pub enum OtherForm {
     Rup,
     /// FRAT, as text or binary.
     Frat,
+    /// LRAT, where a proof without hints is wanted.
+    Lrat,
 }
 
 impl fmt::Display for OtherForm {
@@ -178,6 +180,7 @@ impl fmt::Display for OtherForm {
                 "a first line with % (try: sed 1d PROOF | gipsat --check FORMULA -)",
             ),
             OtherForm::Frat => f.write_str("the FRAT form, which is not read (DRAT is)"),
+            OtherForm::Lrat => f.write_str("the LRAT form, which has hints already"),
         }
     }
 }
@@ -212,6 +215,14 @@ impl fmt::Display for DratError {
 }
 
 impl Error for DratError {}
+
+impl From<AllocError> for DratError {
+    ghost from_gives = { λ _ e. e ≡ error.Memory };
+
+    fn from(_refused: AllocError) -> DratError {
+        DratError::Memory
+    }
+}
 
 impl From<DimacsError> for DratError {
     ghost from_gives = { λ why e. e ≡ error.Formula why };

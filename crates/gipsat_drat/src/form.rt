@@ -9,6 +9,9 @@ use crate::words::{Word, Words};
 // step without a repeated literal has another byte among these: its 0, if no other.
 const SIGNATURE_SIZE: usize = 32;
 
+// A first step that is so long is no deletion of one clause.
+const LONG_STEP: usize = 65_536;
+
 // A form that is read.
 #[derive(Clone, Copy)]
 pub(crate) enum Form {
@@ -37,12 +40,14 @@ pub(crate) fn form_of(start: &[u8], clauses: usize) -> Result<Form, OtherForm> {
 }
 
 // The form of a binary proof. With hints, a step that adds a clause begins with a name that no clause of the formula
-// has, and somewhere a byte behind a 0 is none that a step begins with.
+// has, and somewhere a byte behind a 0 is none that a step begins with. A first deletion that is longer than these bytes
+// is taken for one of names, since clauses are shorter.
 fn binary_form(start: &[u8], clauses: usize) -> Form {
     let mut codes = Codes::new(GREATEST_NAME);
     let mut in_step = false;
     let mut kind = 0;
     let mut named = false;
+    let mut is_first = true;
     for byte in start {
         if !in_step {
             if !matches!(*byte, b'a' | b'd') {
@@ -67,8 +72,13 @@ fn binary_form(start: &[u8], clauses: usize) -> Form {
         }
         named = named || kind == b'a';
         in_step = code != 0;
+        is_first = is_first && in_step;
     }
-    Form::Binary
+    if is_first && kind == b'd' && start.len() >= LONG_STEP {
+        Form::LratBinary
+    } else {
+        Form::Binary
+    }
 }
 
 // The form of a text. With hints, the first line of a step has `d` as its second word, or a name that no clause of the

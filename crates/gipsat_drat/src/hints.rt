@@ -109,7 +109,7 @@ fn begin_hinted<A: Allocator + Copy>(
     ensures { kernel.new ≡ kernel.old }
 {
     if let Some(l) = falsify(trail, clause)? {
-        return Ok(begin_true(kernel, l, trail.reason(l))?);
+        return Ok(begin_true(kernel, trail, l)?);
     }
     match follow(kernel, trail, names, hints)? {
         Some(conflict) => Ok(kernel.begin(conflict)?),
@@ -121,7 +121,7 @@ fn begin_hinted<A: Allocator + Copy>(
 // that are left: its id.
 fn conclude<A: Allocator + Copy>(
     kernel: &mut RatKernel<A>,
-    trail: &Trail<A>,
+    trail: &mut Trail<A>,
     clause: &[Literal],
 ) -> Result<usize, Stop>
     ensures { KeepsSatisfiable kernel.old kernel.new }

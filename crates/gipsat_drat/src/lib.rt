@@ -5,13 +5,16 @@
 mod binary;
 pub mod checker;
 mod codes;
+mod derivations;
 pub mod error;
 mod form;
 mod hints;
 mod index;
+mod log;
 mod lrat;
 mod lrat_parser;
 mod lrat_step;
+pub mod lrat_writer;
 mod names;
 mod parser;
 mod propagation;
@@ -26,4 +29,5 @@ mod words;
 
 pub use checker::Checker;
 pub use error::{DratError, Flaw, Notes, OtherForm, Outcome, Place, Refusal};
-pub use task::{check_text, check_text_noting};
+pub use lrat_writer::LratFormat;
+pub use task::{check_text, check_text_noting, lrat_from_drat};

@@ -110,7 +110,7 @@ pub(crate) fn resolvent_with<A: Allocator + Copy>(
 }
 
 // Whether a literal is one of the clause's.
-fn has(clause: &[Literal], l: Literal) -> bool {
+pub(crate) fn has(clause: &[Literal], l: Literal) -> bool {
     for m in clause {
         if m.code() == l.code() {
             return true;

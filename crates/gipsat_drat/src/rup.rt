@@ -55,25 +55,39 @@ fn begin_rup<A: Allocator + Copy>(
     ensures { KeepsSatisfiable kernel.old kernel.new }
 {
     if let Some(l) = falsify(trail, clause)? {
-        return begin_true(kernel, l, trail.reason(l));
+        return begin_true(kernel, trail, l);
     }
     match propagate(alloc, kernel, trail, watches)? {
-        Some(conflict) => kernel.begin(conflict),
+        Some(conflict) => begin(kernel, trail, conflict),
         None => Ok(false),
     }
+}
+
+// Begins to derive a clause from another one.
+pub(crate) fn begin<A: Allocator + Copy>(
+    kernel: &mut RatKernel<A>,
+    trail: &mut Trail<A>,
+    id: usize,
+) -> Result<bool, AllocError>
+    ensures { kernel.new ≡ kernel.old }
+{
+    trail.begin_derivation();
+    trail.note_used(id)?;
+    kernel.begin(id)
 }
 
 // Begins to derive a clause that has a true literal.
 pub(crate) fn begin_true<A: Allocator + Copy>(
     kernel: &mut RatKernel<A>,
+    trail: &mut Trail<A>,
     l: Literal,
-    reason: Reason,
 ) -> Result<bool, AllocError>
     ensures { kernel.new ≡ kernel.old }
 {
-    match reason {
-        Reason::Clause(id) => kernel.begin(id),
+    match trail.reason(l) {
+        Reason::Clause(id) => begin(kernel, trail, id),
         Reason::Assumed => {
+            trail.begin_derivation();
             kernel.begin_tautology(l)?;
             Ok(true)
         }
@@ -99,21 +113,24 @@ pub(crate) fn falsify<A: Allocator + Copy>(
 // has all literals that are left: its id.
 fn conclude<A: Allocator + Copy>(
     kernel: &mut RatKernel<A>,
-    trail: &Trail<A>,
+    trail: &mut Trail<A>,
     clause: &[Literal],
 ) -> Result<Option<usize>, AllocError>
     ensures { KeepsSatisfiable kernel.old kernel.new }
 {
-    resolve_steps(kernel, trail, trail.root())?;
+    let root = trail.root();
+    resolve_steps(kernel, trail, root)?;
     resolve_rooted(kernel, trail)?;
-    kernel.conclude(clause)
+    let id = kernel.conclude(clause)?;
+    trail.note_derived(id)?;
+    Ok(id)
 }
 
 // Resolves the clause that is being derived with the reasons of the literals that are true from one place on, the latest
 // first.
 pub(crate) fn resolve_steps<A: Allocator + Copy>(
     kernel: &mut RatKernel<A>,
-    trail: &Trail<A>,
+    trail: &mut Trail<A>,
     from: usize,
 ) -> Result<(), AllocError>
     ensures { kernel.new ≡ kernel.old }
@@ -122,7 +139,7 @@ pub(crate) fn resolve_steps<A: Allocator + Copy>(
         let Some(l) = trail.step(place) else {
             continue;
         };
-        resolve(kernel, l, trail.reason(l))?;
+        resolve(kernel, trail, l)?;
     }
     Ok(())
 }
@@ -130,13 +147,15 @@ pub(crate) fn resolve_steps<A: Allocator + Copy>(
 // Resolves the clause that is being derived with the reason of a true literal, if it has the negation.
 fn resolve<A: Allocator + Copy>(
     kernel: &mut RatKernel<A>,
+    trail: &mut Trail<A>,
     l: Literal,
-    reason: Reason,
 ) -> Result<(), AllocError>
     ensures { kernel.new ≡ kernel.old }
 {
-    if let Reason::Clause(id) = reason {
-        kernel.resolve(l, id)?;
+    if let Reason::Clause(id) = trail.reason(l) {
+        if kernel.resolve(l, id)? {
+            trail.note_used(id)?;
+        }
     }
     Ok(())
 }
@@ -144,7 +163,7 @@ fn resolve<A: Allocator + Copy>(
 // Takes the literals that are false by the clauses alone out of the clause that is being derived.
 fn resolve_rooted<A: Allocator + Copy>(
     kernel: &mut RatKernel<A>,
-    trail: &Trail<A>,
+    trail: &mut Trail<A>,
 ) -> Result<(), AllocError>
     ensures { kernel.new ≡ kernel.old }
 {
@@ -153,7 +172,7 @@ fn resolve_rooted<A: Allocator + Copy>(
             continue;
         };
         if trail.is_false(l) {
-            resolve(kernel, l.negated(), trail.reason(l))?;
+            resolve(kernel, trail, l.negated())?;
         }
     }
     Ok(())
@@ -181,14 +200,16 @@ fn add_units<A: Allocator + Copy>(
 // Adds the clause of a literal that is true by the clauses alone: its id.
 fn add_unit<A: Allocator + Copy>(
     kernel: &mut RatKernel<A>,
-    trail: &Trail<A>,
+    trail: &mut Trail<A>,
     l: Literal,
 ) -> Result<Option<usize>, AllocError>
     ensures { KeepsSatisfiable kernel.old kernel.new }
 {
-    begin_true(kernel, l, trail.reason(l))?;
+    begin_true(kernel, trail, l)?;
     resolve_rooted(kernel, trail)?;
-    kernel.conclude(&[l])
+    let id = kernel.conclude(&[l])?;
+    trail.note_derived(id)?;
+    Ok(id)
 }
 
 // Lets a clause of the kernel watch two literals, and propagates what it makes true, for good. Whether the empty clause
@@ -236,11 +257,11 @@ fn settle<A: Allocator + Copy>(
 // Adds the empty clause, where all literals of a clause are false by the clauses alone: its id.
 fn add_empty<A: Allocator + Copy>(
     kernel: &mut RatKernel<A>,
-    trail: &Trail<A>,
+    trail: &mut Trail<A>,
     conflict: usize,
 ) -> Result<Option<usize>, AllocError>
     ensures { KeepsSatisfiable kernel.old kernel.new }
 {
-    kernel.begin(conflict)?;
+    begin(kernel, trail, conflict)?;
     conclude(kernel, trail, &[])
 }

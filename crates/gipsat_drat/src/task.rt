@@ -11,6 +11,7 @@ use crate::error::{DratError, Failure, Notes, OtherForm, Outcome};
 use crate::form::{Form, form_of};
 use crate::lrat::LratChecker;
 use crate::lrat_parser::LratParser;
+use crate::lrat_writer::{LratFormat, write_log};
 use crate::parser::Parser;
 use gipsat_cnf::Cnf;
 use gipsat_dimacs::{DimacsError, Reason, read_instance};
@@ -84,6 +85,95 @@ pub fn check_text_noting<A: Allocator + Copy, F: Read, P: Read, W: Write>(
         Ok(()) => Ok(outcome),
         Err(_) => Err(DratError::Output),
     }
+}
+
+/// Reads a formula in the DIMACS form, and in the DRAT form, as text or binary, a proof that nothing satisfies it; checks
+/// that as [`check_text`] does, and writes an LRAT proof: the steps that were needed, in their order, each with the names
+/// of the clauses that it follows from in the order in which they become unit. A clause is deleted behind the last step
+/// that needs it. Where the proof is refused, nothing is written.
+///
+/// It takes the memory of all steps: 4 bytes for each literal, 8 for each hint, and 24 for each clause.
+///
+/// # Errors
+/// As [`check_text`], and [`DratError::Form`] where the proof is in the LRAT form. At [`DratError::Output`] and
+/// [`DratError::Memory`] it is open what was written by then.
+pub fn lrat_from_drat<A: Allocator + Copy, F: Read, P: Read, W: Write>(
+    alloc: A,
+    formula: &mut F,
+    proof: &mut P,
+    format: LratFormat,
+    writer: &mut W,
+    notes: &mut Notes,
+) -> Result<Outcome, DratError>
+    // Success means that all of a formula of the form was read, and that the outcome is right.
+    ensures read_to_end { OnOk result (IsAtEnd (F.remaining formula.new)) }
+    ensures has_form { OnOk result (HasForm Strict (F.remaining formula.old)) }
+    ensures right { IfOk result (λ outcome. OfProblem Strict (F.remaining formula.old)
+        (λ problem. IsRight problem.clauses outcome)) }
+
+    // Where the proof is refused nothing was written.
+    ensures unwritten { IfOk result (λ outcome. outcome ≢ Outcome.Verified → writer.new ≡ writer.old) }
+{
+    let instance = read_instance(alloc, formula)?;
+    convert(alloc, instance.clauses, proof, format, writer, notes)
+}
+
+// Checks a proof without hints, and writes one with hints where it is verified.
+fn convert<A: Allocator + Copy, P: Read, W: Write>(
+    alloc: A,
+    formula: Cnf<A>,
+    proof: &mut P,
+    format: LratFormat,
+    writer: &mut W,
+    notes: &mut Notes,
+) -> Result<Outcome, DratError>
+    ensures right { IfOk result (IsRight formula) }
+    ensures unwritten { IfOk result (λ outcome. outcome ≢ Outcome.Verified → writer.new ≡ writer.old) }
+{
+    let clauses = formula.len();
+    let mut checker = Checker::over_with(alloc, formula, true)?;
+    convert_steps(alloc, &mut checker, clauses, proof, format, writer, notes)
+}
+
+// Checks a proof without hints about so many clauses, and writes one with hints where it is verified.
+fn convert_steps<A: Allocator + Copy, P: Read, W: Write>(
+    alloc: A,
+    checker: &mut Checker<A>,
+    clauses: usize,
+    proof: &mut P,
+    format: LratFormat,
+    writer: &mut W,
+    notes: &mut Notes,
+) -> Result<Outcome, DratError>
+    ensures right { IfOk result (IsRightOf checker.old) }
+    ensures unwritten { IfOk result (λ outcome. outcome ≢ Outcome.Verified → writer.new ≡ writer.old) }
+{
+    let outcome = check_unhinted(alloc, checker, clauses, proof, notes)?;
+    match outcome {
+        Outcome::Verified => {
+            write_log(alloc, checker.log(), format, writer)?;
+            Ok(outcome)
+        }
+        Outcome::Refused(_) => Ok(outcome),
+    }
+}
+
+// Checks a proof about so many clauses that has no hints.
+fn check_unhinted<A: Allocator + Copy, P: Read>(
+    alloc: A,
+    checker: &mut Checker<A>,
+    clauses: usize,
+    proof: &mut P,
+    notes: &mut Notes,
+) -> Result<Outcome, Failure>
+    ensures { IfOk result (IsRightOf checker.old) }
+{
+    let start = read_start(alloc, proof)?;
+    let form = match form_of(&start, clauses) {
+        Ok(Form::LratText | Form::LratBinary) => Err(OtherForm::Lrat),
+        form => form,
+    };
+    check_steps(alloc, checker, form, &start, proof, notes)
 }
 
 // Checks a proof that nothing satisfies a formula, whatever form it has.

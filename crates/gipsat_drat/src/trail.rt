@@ -1,4 +1,5 @@
 //! The literals that are true, in the order in which they became so, and why.
+use crate::derivations::Derivations;
 use gipsat_cnf::Literal;
 use std::alloc::{AllocError, Allocator, Global};
 
@@ -31,6 +32,8 @@ pub(crate) struct Trail<A: Allocator = Global> {
     root: usize,
     // The literals before this place have been propagated.
     head: usize,
+    // What was derived of it.
+    derivations: Derivations<A>,
 }
 
 impl<A: Allocator + Copy> Trail<A> {
@@ -43,7 +46,38 @@ impl<A: Allocator + Copy> Trail<A> {
             steps: Vec::new(alloc),
             root: 0,
             head: 0,
+            derivations: Derivations::new(alloc),
         })
+    }
+
+    // What was derived since it was forgotten last.
+    pub(crate) fn derivations(&self) -> &Derivations<A> {
+        &self.derivations
+    }
+
+    // Asks for what is derived from now on.
+    pub(crate) fn keep_derivations(&mut self) {
+        self.derivations.keep();
+    }
+
+    // Forgets what was derived.
+    pub(crate) fn forget_derivations(&mut self) {
+        self.derivations.clear();
+    }
+
+    // A derivation begins, with no clause so far.
+    pub(crate) fn begin_derivation(&mut self) {
+        self.derivations.begin();
+    }
+
+    // A derivation uses a clause.
+    pub(crate) fn note_used(&mut self, id: usize) -> Result<(), AllocError> {
+        self.derivations.push(id)
+    }
+
+    // A derivation has ended with a clause, if it has.
+    pub(crate) fn note_derived(&mut self, id: Option<usize>) -> Result<(), AllocError> {
+        self.derivations.conclude(id)
     }
 
     // What is known of the literal.

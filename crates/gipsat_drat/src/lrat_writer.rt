@@ -1,0 +1,209 @@
+//! Proofs with hints, written as text or binary.
+use crate::error::DratError;
+use crate::log::{Added, Log, Trim, Use};
+use gipsat_cnf::Literal;
+use giputils_text::write_groups;
+use std::alloc::{AllocError, Allocator};
+use std::io::Write;
+
+// From how many bytes on they are written.
+const BUFFER_SIZE: usize = 65_536;
+
+/// How an LRAT proof is written.
+#[derive(Clone, Copy, Debug, PartialEq, Eq, Hash)]
+pub enum LratFormat {
+    /// A line for each step, with numbers in decimal digits.
+    Text,
+    /// A byte `a` or `d` for each step, and numbers in groups of 7 bits.
+    Binary,
+}
+
+// Writes the steps that the last one needs, in their order. Each clause is deleted behind the last step that uses it, and
+// those of the formula that none uses are deleted at first.
+pub(crate) fn write_log<A: Allocator + Copy, W: Write>(
+    alloc: A,
+    log: &Log<A>,
+    format: LratFormat,
+    writer: &mut W,
+) -> Result<(), DratError> {
+    let mut trim = log.trim(alloc)?;
+    let mut gone = unneeded(alloc, log, &trim)?;
+    let mut bytes = Vec::new(alloc);
+    for number in 0..log.len() {
+        let Some(step) = log.step(number) else {
+            continue;
+        };
+        if !trim.is_needed(step.name) {
+            continue;
+        }
+        write_step(&mut bytes, format, log.given(), step, &mut trim, &mut gone)?;
+        if bytes.len() >= BUFFER_SIZE {
+            flush(&mut bytes, writer)?;
+        }
+    }
+    flush(&mut bytes, writer)
+}
+
+// The names of the formula's clauses that no step uses.
+fn unneeded<A: Allocator + Copy>(
+    alloc: A,
+    log: &Log<A>,
+    trim: &Trim<A>,
+) -> Result<Vec<u32, A>, AllocError> {
+    let mut names = Vec::new(alloc);
+    for name in 1..log.given().saturating_add(1) {
+        if !trim.is_needed(name) {
+            names.push(name)?;
+        }
+    }
+    Ok(names)
+}
+
+// Writes a step that adds a clause, and deletions: of clauses that wait for it, and of those that it uses last. Those that
+// wait may be candidates of a clause that is RAT, and go before it then.
+fn write_step<A: Allocator + Copy>(
+    bytes: &mut Vec<u8, A>,
+    format: LratFormat,
+    given: u32,
+    step: Added<'_>,
+    trim: &mut Trim<A>,
+    gone: &mut Vec<u32, A>,
+) -> Result<(), AllocError> {
+    if step.uses.iter().any(|used| used.is_candidate) {
+        write_deletion(bytes, format, given, gone)?;
+        gone.clear();
+    }
+    write_addition(bytes, format, step)?;
+    for used in step.uses {
+        if trim.ends(used.name, step.name) {
+            gone.push(used.name)?;
+        }
+    }
+    if !step.literals.is_empty() {
+        write_deletion(bytes, format, step.name, gone)?;
+        gone.clear();
+    }
+    Ok(())
+}
+
+// Writes what was not written yet.
+fn flush<A: Allocator + Copy, W: Write>(
+    bytes: &mut Vec<u8, A>,
+    writer: &mut W,
+) -> Result<(), DratError> {
+    let done = writer.write_all(bytes);
+    bytes.clear();
+    match done {
+        Ok(()) => Ok(()),
+        Err(_) => Err(DratError::Output),
+    }
+}
+
+// Writes a number with a blank behind it.
+fn write_number<A: Allocator>(bytes: &mut Vec<u8, A>, number: u32) -> Result<(), AllocError> {
+    write!(bytes, "{number} ").map_err(|_| AllocError)
+}
+
+// Writes a number with its sign.
+fn write_signed<A: Allocator>(
+    bytes: &mut Vec<u8, A>,
+    format: LratFormat,
+    number: u32,
+    positive: bool,
+) -> Result<(), AllocError> {
+    match format {
+        LratFormat::Text => {
+            bytes.extend_from_slice(if positive { b"" } else { b"-" })?;
+            write_number(bytes, number)
+        }
+        LratFormat::Binary => write_groups(bytes, 2 * u64::from(number) + u64::from(!positive)),
+    }
+}
+
+// Writes the names of clauses that are deleted behind a step, if there are any.
+fn write_deletion<A: Allocator>(
+    bytes: &mut Vec<u8, A>,
+    format: LratFormat,
+    behind: u32,
+    names: &[u32],
+) -> Result<(), AllocError> {
+    if names.is_empty() {
+        return Ok(());
+    }
+    match format {
+        LratFormat::Text => {
+            write_number(bytes, behind)?;
+            bytes.extend_from_slice(b"d ")?;
+        }
+        LratFormat::Binary => bytes.push(b'd')?,
+    }
+    for name in names {
+        write_name(bytes, format, *name)?;
+    }
+    end_list(bytes, format, b"0\n")
+}
+
+// Writes the name of a clause that is added, or deleted.
+fn write_name<A: Allocator>(
+    bytes: &mut Vec<u8, A>,
+    format: LratFormat,
+    name: u32,
+) -> Result<(), AllocError> {
+    match format {
+        LratFormat::Text => write_number(bytes, name),
+        LratFormat::Binary => write_groups(bytes, u64::from(name)),
+    }
+}
+
+// Writes a step that adds a clause.
+fn write_addition<A: Allocator>(
+    bytes: &mut Vec<u8, A>,
+    format: LratFormat,
+    step: Added<'_>,
+) -> Result<(), AllocError> {
+    if format == LratFormat::Binary {
+        bytes.push(b'a')?;
+    }
+    write_name(bytes, format, step.name)?;
+    write_literals(bytes, format, step.literals)?;
+    write_hints(bytes, format, step.uses)
+}
+
+// Writes the literals of a clause.
+fn write_literals<A: Allocator>(
+    bytes: &mut Vec<u8, A>,
+    format: LratFormat,
+    literals: &[Literal],
+) -> Result<(), AllocError> {
+    for l in literals {
+        write_signed(bytes, format, l.variable() + 1, l.is_positive())?;
+    }
+    end_list(bytes, format, b"0 ")
+}
+
+// Writes the hints of a step.
+fn write_hints<A: Allocator>(
+    bytes: &mut Vec<u8, A>,
+    format: LratFormat,
+    uses: &[Use],
+) -> Result<(), AllocError> {
+    for used in uses {
+        write_signed(bytes, format, used.name, !used.is_candidate)?;
+    }
+    end_list(bytes, format, b"0\n")
+}
+
+// Writes the end of a list, which is this in a text.
+fn end_list<A: Allocator>(
+    bytes: &mut Vec<u8, A>,
+    format: LratFormat,
+    end: &[u8],
+) -> Result<(), AllocError> {
+    match format {
+        LratFormat::Text => bytes.extend_from_slice(end),
+        LratFormat::Binary => {
+            bytes.push(0)?;
+            Ok(())
+        }
+    }
+}
