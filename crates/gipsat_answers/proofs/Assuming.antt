@@ -1,5 +1,5 @@
 -- The literals of some clauses, in order.
-use Rattle.std.proofs.Common.{◌≡◌, ◌<◌, ℕ, List, [], ◌∷◌, length, take, ◌++◌, ◌+◌, refl, sym, ap, ◌∙◌, true, add-one}
+use Rattle.std.proofs.Common.{◌≡◌, ◌<◌, ℕ, List, [], ◌∷◌, length, take, ◌++◌, ◌+◌, sym, ap, ◌∙◌, true, add-one}
 use Rattle.std.specs.Prelude.{slice_get, Some}
 use Rattle.std.proofs.lemmas.Grind.{flat_map-append}
 use Rattle.std.proofs.lemmas.List.{append-nil, take_more}

@@ -1,11 +1,8 @@
 -- Formulas under other names: what satisfies them.
-use Rattle.std.proofs.Common.{◌≡◌, ◌≢◌, ◌<◌, ◌≤◌, ℕ, zero, suc, List, [], ◌∷◌, map, length, take, ◌++◌, ◌+◌, Bool, IsTrue, true, refl, sym, ap, ◌∙◌, subst, ◌⊎◌, ⊎_elim, inl, arith}
-use Rattle.std.specs.Prelude.{slice_get, slice_index_or, Some, IfOk, Result, Ok, Err}
-use Rattle.std.specs.List.{list_all, list_any}
-use Rattle.std.specs.Bool.{beq}
+use Rattle.std.proofs.Common.{◌≡◌, ◌≢◌, ◌<◌, ◌≤◌, ℕ, zero, suc, List, [], ◌∷◌, length, take, ◌++◌, ◌+◌, Bool, refl, sym, ap, ◌∙◌, subst, ⊎_elim, inl, arith}
+use Rattle.std.specs.Prelude.{slice_get, Some, IfOk, Result, Ok, Err}
 use Rattle.gipsat_cnf.specs.Formulas.{Assignment, AreBelow, Clause, Formula, IsSatisfiable, satisfies, satisfies_clause}
 use Rattle.gipsat_cnf.specs.Models.{assignment_in, IsModel}
-use Rattle.gipsat_cnf.specs.Literals.{Lit}
 use Rattle.gipsat_cnf.specs.Lists.{AreAllBelow}
 use Rattle.gipsat_cnf.proofs.Places.{none_some}
 use Rattle.gipsat_answers.specs.Names.{name_in, named, named_clause, AreNamesOf}

@@ -1,5 +1,5 @@
 -- A variable more.
-use Rattle.std.proofs.Common.{rules, ◌≡◌}
+use Rattle.std.proofs.Common.{rules}
 use Rattle.gipsat_answers.proofs.Assuming.{first_variables-more}
 use Rattle.gipsat_answers.proofs.assumed.first_variables.Goals as goal
 

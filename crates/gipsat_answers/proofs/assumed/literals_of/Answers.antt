@@ -1,8 +1,5 @@
 -- The literals of a clause more.
-use Rattle.std.proofs.Common.{◌≡◌, ◌∙◌, ◌<◌, ◌+◌, ◌++◌, ◌∷◌, [], ap, sym, length, take}
-use Rattle.std.proofs.lemmas.List.{take_more}
-use Rattle.std.proofs.lemmas.Grind.{flat_map-append}
-use Rattle.std.proofs.lemmas.Option.{get_or_from_slice_get, slice_get_within}
+use Rattle.std.proofs.Common.{◌∙◌}
 use Rattle.gipsat_answers.proofs.Assuming.{literals_of-more}
 use Rattle.gipsat_answers.proofs.assumed.literals_of.Goals as goal
 

@@ -1,5 +1,5 @@
 -- A model was written and excluded.
-use Rattle.std.proofs.Common.{◌≡◌, IsTrue, subst, sym}
+use Rattle.std.proofs.Common.{IsTrue, subst, sym}
 use Rattle.gipsat_cnf.specs.Formulas.{satisfies}
 use Rattle.gipsat_cnf.specs.Models.{assignment_in}
 use Rattle.gipsat_answers.proofs.Enumerating.{WritesNext-model}

@@ -1,5 +1,5 @@
 -- A clause more, and the end.
-use Rattle.std.proofs.Common.{rules, inr, sym, subst, ap, ◌≡◌, ◌∙◌, length, ◌≤◌, arith}
+use Rattle.std.proofs.Common.{rules, inr, ap, ◌≡◌, ◌∙◌, length}
 use Rattle.gipsat_answers.specs.Names.{named, named_clause}
 use Rattle.gipsat_answers.proofs.Renaming.{named-more, AreAllBelow-more}
 use Rattle.gipsat_answers.proofs.names.numbered_by.Goals as goal

@@ -1,5 +1,5 @@
 -- The formula as it is, or under new numbers.
-use Rattle.std.proofs.Common.{inl, sym, subst, ap, ◌≡◌, ◌∙◌, []}
+use Rattle.std.proofs.Common.{ap, ◌∙◌}
 use Rattle.gipsat_answers.specs.Names.{named}
 use Rattle.gipsat_answers.proofs.Renaming.{named-none, AreNamesOf-none}
 use Rattle.gipsat_answers.proofs.names.renumber.Goals as goal
