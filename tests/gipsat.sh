@@ -127,7 +127,7 @@ help=$("$gipsat" --help)
 try "the help" 0 "" "$help" "" -h
 [ -z "$(printf '%s\n' "$help" | grep '.\{81\}')" ]
 told "the help fits into 80 columns" $?
-for option in --conflicts -t --time -n --no-witness -q --quiet --stats --proof --binary --lrat -f --force --relaxed --no-simplify --check -h --help --version --; do
+for option in --conflicts -t --time -n --no-witness -q --quiet --stats --proof --binary --lrat -f --force --relaxed --no-simplify --check --lrat-from-drat -h --help --version --; do
     if printf '%s\n' "$help" | grep -qE -- "^ *([^ ]+ )?${option}[ ,]"; then
         echo "ok: the help tells of $option"
         passed=$((passed + 1))
@@ -153,8 +153,8 @@ try_usage "'--conflicts' takes a number below 2^64, not 'x'" --conflicts x
 try_usage "'--conflicts' takes a number below 2^64, not 'x'" --conflicts=x
 try_usage "'--time' takes a number below 2^64, not ''" --time=
 try_usage "unknown option '-t=9'" -t=9
-try_usage "'--proof' takes the name of a file, since standard output has the answer" --proof -
-try_usage "'--proof' takes the name of a file, since standard output has the answer" --proof=-
+try_usage "a proof is written to a file, since standard output has the answer" --proof -
+try_usage "a proof is written to a file, since standard output has the answer" --proof=-
 try_usage "unknown option '--stats=9'" --stats=9
 try_usage "unknown option '--=9'" --=9
 try_usage "'--conflicts' takes a number below 2^64, not '18446744073709551616'" --conflicts 18446744073709551616
@@ -168,7 +168,11 @@ try_usage "'--check' takes no option '--stats'" --stats --check a b
 try_usage "'--check' takes no option '--proof'" --check --proof a b c
 try_usage "'--check' takes no option '--lrat'" --check --lrat a b
 try_usage "'--check' takes no option '--time=9'" --check --time=9 a b
+try_usage "'--check' takes no option '--binary'" --check --binary a b
 try_usage "'--check' takes one file at most from standard input" --check - -
+try_usage "'--check' takes two files, FORMULA and PROOF" --lrat-from-drat a b
+try_usage "'--check' takes no option '--lrat'" --lrat-from-drat a --lrat b c
+try_usage "a proof is written to a file, since standard output has the answer" --lrat-from-drat - a b
 
 # On a terminal it tells that it reads standard input, but for `-q`.
 # NAME ERROR [ARGUMENT..]: types a formula, and expects this on standard error.
@@ -301,6 +305,42 @@ else
     failed=$((failed + 1))
 fi
 try "a proof beside a formula on standard input" 0 "" "s VERIFIED" "$squares" --check - "$work/proof"
+
+# A proof with hints that comes of one without. It appears where that one is verified, and has only what was needed.
+printf '%b' "$squares" > "$work/formula"
+printf '1 2 5 0\n1 2 0\n1 0\n4 0\n0\n' > "$work/proof"
+try "a proof without hints is given hints" 0 "" "s VERIFIED" "" \
+    --lrat-from-drat "$work/hinted" "$work/formula" "$work/proof"
+[ "$(grep -cv d "$work/hinted")" = 4 ]
+told "that proof has no step that is not needed" $?
+try "that proof is checked by its hints" 0 "" "s VERIFIED" "" --check "$work/formula" "$work/hinted"
+try "that proof is written in bytes" 0 "" "s VERIFIED" "" \
+    --check --binary --lrat-from-drat "$work/hinted.bytes" "$work/formula" "$work/proof"
+try "those bytes are checked by their hints" 0 "" "s VERIFIED" "" --check "$work/formula" "$work/hinted.bytes"
+try "a proof that has hints already" 1 "$work/hinted: the LRAT form, which has hints already" "" "" \
+    --lrat-from-drat "$work/again" "$work/formula" "$work/hinted"
+printf '1 2 0\n4 0\n0\n' > "$work/proof"
+try "a proof that is refused is given no hints" 1 "$work/proof:3: $not_shown" "s NOT VERIFIED" "" \
+    --lrat-from-drat "$work/again" "$work/formula" "$work/proof"
+[ ! -e "$work/again" ]
+told "no file appears where a proof is not verified" $?
+printf '1 2 0\n1 0\n4 0\n0\n' > "$work/proof"
+cp "$work/proof" "$work/before"
+try "a proof is not written over by the one with hints" 1 \
+    "$work/proof: is the proof that is read (--force writes over it)" "" "" \
+    --lrat-from-drat "$work/proof" "$work/formula" "$work/proof"
+cmp -s "$work/proof" "$work/before"
+told "that proof stays as it was" $?
+try "a formula is not written over by a proof with hints" 1 \
+    "$work/formula: begins as a formula does (--force writes over it)" "" "" \
+    --lrat-from-drat "$work/formula" "$work/formula" "$work/proof"
+try "a proof is written over by force" 0 "" "s VERIFIED" "" -f --lrat-from-drat "$work/proof" "$work/formula" "$work/proof"
+try "that proof has hints" 0 "" "s VERIFIED" "" --check "$work/formula" "$work/proof"
+if [ -e /dev/full ]; then
+    try "a proof with hints to a full device" 1 \
+        "/dev/full: cannot be written: no space left" "" "" \
+        --lrat-from-drat /dev/full "$work/formula" "$work/before"
+fi
 
 # Many deletions: of clauses with a repeated literal, of a clause that is there often, and of one that comes and goes.
 # Each run takes a fraction of a second. It takes some 20 where a deletion looks at each clause.

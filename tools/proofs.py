@@ -5,6 +5,8 @@
     tools/proofs.py --stored                 judges each proof in the tests of gipsat_drat_trials
     tools/proofs.py --hostile N GIPSAT       changes right proofs at random, N times: `GIPSAT --check` may verify none of a
                                              satisfiable formula, and has to judge all as this checker does
+    tools/proofs.py --convert N GIPSAT CADICAL    has GIPSAT turn the stored DRAT proofs, and those that CADICAL writes of N
+                                             random formulas, into LRAT, and judges what is written
 
 It is for small formulas: propagation looks at all clauses again and again, and whether something satisfies a formula is
 found by trying all values.
@@ -430,12 +432,55 @@ def hostile(count, gipsat):
     return wrong == 0 and differing == 0
 
 
+def random_formula(rng):
+    """Clauses of three literals, so many that mostly nothing satisfies them all."""
+    count = rng.randrange(20, 70)
+    clauses = [[v * rng.choice((1, -1)) for v in rng.sample(range(1, count + 1), 3)] for _ in range(5 * count)]
+    return b"p cnf %d %d\n" % (count, len(clauses)) + b"".join(b"%d %d %d 0\n" % tuple(clause) for clause in clauses)
+
+
+def convert(count, gipsat, cadical):
+    rng = random.Random(52)
+    converted = failed = 0
+    with tempfile.TemporaryDirectory() as folder:
+        formula, proof, out = (pathlib.Path(folder) / name for name in ("formula", "proof", "out"))
+
+        def drat():
+            for _, text, data, wanted in stored():
+                if wanted:
+                    yield text, data
+            for _ in range(count):
+                text = random_formula(rng)
+                formula.write_bytes(text)
+                form = rng.choice(("--no-binary", "--binary"))
+                subprocess.run([cadical, "-q", form, formula, proof], capture_output=True)
+                yield text, proof.read_bytes()
+
+        for text, data in drat():
+            formula.write_bytes(text)
+            proof.write_bytes(data)
+            out.unlink(missing_ok=True)
+            form = rng.choice(([], ["--binary"]))
+            run = subprocess.run([gipsat, "--lrat-from-drat", out, *form, formula, proof], capture_output=True)
+            if not run.stdout.startswith(b"s VERIFIED"):
+                failed += out.exists()
+                continue
+            verified = subprocess.run([gipsat, "--check", formula, out], capture_output=True).stdout == b"s VERIFIED\n"
+            converted += 1
+            if not judge(text, out.read_bytes()) or not verified:
+                failed += 1
+                print(f"not verified once it is converted: {text!r} {data!r} {out.read_bytes()!r}")
+    print(f"{converted} proofs converted, {failed} failed")
+    return failed == 0 and converted > 0
+
+
 def main():
     parser = argparse.ArgumentParser(description=__doc__, formatter_class=argparse.RawDescriptionHelpFormatter)
     work = parser.add_mutually_exclusive_group(required=True)
     work.add_argument("--check", nargs=2, metavar=("FORMULA", "PROOF"))
     work.add_argument("--stored", action="store_true")
     work.add_argument("--hostile", nargs=2, metavar=("N", "GIPSAT"))
+    work.add_argument("--convert", nargs=3, metavar=("N", "GIPSAT", "CADICAL"))
     words = parser.parse_args()
     if words.check:
         verdict = judge(*(pathlib.Path(path).read_bytes() for path in words.check))
@@ -443,8 +488,10 @@ def main():
         sys.exit(0 if verdict else 1)
     if words.stored:
         sys.exit(0 if judge_stored() else 1)
-    if not words.hostile[0].isdigit():
-        parser.error(f"no number: {words.hostile[0]}")
+    if not (words.hostile or words.convert)[0].isdigit():
+        parser.error(f"no number: {(words.hostile or words.convert)[0]}")
+    if words.convert:
+        sys.exit(0 if convert(int(words.convert[0]), *words.convert[1:]) else 1)
     sys.exit(0 if hostile(int(words.hostile[0]), words.hostile[1]) else 1)
 
 

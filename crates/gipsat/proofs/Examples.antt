@@ -10,7 +10,7 @@ use Rattle.gip_program.specs.Items.{UnknownOption, NoValue, NoNumber}
 use Rattle.gip_program.specs.declared.items.Info.TheVariants as info
 use Rattle.gipsat.specs.Misuses.{Words, ExtraFile, MissingFile, MissingProof, NotForCheck, InputTwice, OutputTwice}
 use Rattle.gipsat.specs.Options.{no_request}
-use Rattle.gipsat.specs.Words.{work_asked, Tell, Solve, Check}
+use Rattle.gipsat.specs.Words.{work_asked, Tell, Solve, Check, Convert}
 use Rattle.gipsat_dimacs.specs.Inputs.{HasForm, WritesNone, HasClauses, IsRefusedAt}
 use Rattle.gipsat_dimacs.specs.declared.rule.HeaderRule.TheVariants as rule
 use Rattle.gipsat.specs.Statuses.{checking_status, solving_status}
@@ -70,6 +70,22 @@ check-two_files = refl
 
 check-stdin : work_asked (codes "--check" ∷ codes "-" ∷ codes "b" ∷ []) ≡ Ok (Check None (Some (codes "b")))
 check-stdin = refl
+
+-- a check that writes a proof with hints, with the options of that alone
+convert : work_asked (codes "--lrat-from-drat" ∷ codes "o" ∷ codes "a" ∷ codes "b" ∷ [])
+    ≡ Ok (Convert (record no_request { file = Some (codes "a") }) (Some (codes "b")) (codes "o"))
+convert = refl
+
+convert-binary : work_asked (codes "--check" ∷ codes "--binary" ∷ codes "a" ∷ codes "-" ∷ codes "--lrat-from-drat=o" ∷ codes "-f" ∷ [])
+    ≡ Ok (Convert (record no_request { file = Some (codes "a"); binary = true; force = true }) None (codes "o"))
+convert-binary = refl
+
+refused-check_in_binary : work_asked (codes "--check" ∷ codes "--binary" ∷ codes "a" ∷ codes "b" ∷ []) ≡ Err (NotForCheck (codes "--binary"))
+refused-check_in_binary = refl
+
+refused-convert_with_option : work_asked (codes "--lrat-from-drat" ∷ codes "o" ∷ codes "--lrat" ∷ codes "a" ∷ codes "b" ∷ [])
+    ≡ Err (NotForCheck (codes "--lrat"))
+refused-convert_with_option = refl
 
 -- the help is told whatever stands behind it
 help : work_asked (codes "--stats" ∷ codes "-h" ∷ codes "--other" ∷ []) ≡ Ok (Tell info.Help)

@@ -1,5 +1,5 @@
 -- What the options of a search ask for.
-use Rattle.std.specs.Prelude.{ℕ, ◌^◌, ◌-◌, Bool, true, false, List, [], ◌∷◌, if◌then◌else◌, codes, Option, Some, None, Result, Ok, Err}
+use Rattle.std.specs.Prelude.{ℕ, ◌^◌, ◌-◌, Bool, true, false, List, [], ◌∷◌, if◌then◌else◌, codes, Option, None, Result, Ok, Err}
 use Rattle.std.specs.Option.{option_map, option_map_or}
 use Rattle.std.specs.Str.{bytes_eq}
 use Rattle.gip_program.specs.Options.{Entry, number, switch, text}
@@ -11,7 +11,7 @@ use Rattle.gipsat.specs.declared.about.Number.TheVariants.{Conflicts, Time}
 use Rattle.gipsat.specs.declared.about.Switch.{Switch}
 use Rattle.gipsat.specs.declared.about.Switch.TheVariants.{Binary, Check, Force, Lrat, NoSimplify, NoWitness, Quiet, Relaxed, Stats}
 use Rattle.gipsat.specs.declared.about.Text.{Text}
-use Rattle.gipsat.specs.declared.about.Text.TheVariants.{Proof}
+use Rattle.gipsat.specs.declared.about.Text.TheVariants.{LratFromDrat, Proof}
 use Rattle.gipsat.specs.declared.options.Options.{Options}
 
 -- the options, each with its long and its short name
@@ -29,6 +29,7 @@ table =
     switch (codes "--lrat") [] Lrat ∷
     switch (codes "--force") (codes "-f") Force ∷
     switch (codes "--check") [] Check ∷
+    text (codes "--lrat-from-drat") [] LratFromDrat ∷
     []
 
 -- the limits of a search in conflicts and in seconds, what to write, where to write a proof, if anywhere, and in which

@@ -15,21 +15,24 @@ use Rattle.gipsat.specs.declared.about.Switch.TheVariants as switch
 use Rattle.gipsat.specs.declared.about.Text.{Text}
 use Rattle.gipsat.specs.declared.about.Text.TheVariants as text
 use Rattle.gipsat.specs.declared.options.Asked.{Asked}
+use Rattle.gipsat.specs.declared.options.Inputs.{Inputs}
 use Rattle.gipsat.specs.declared.options.Task.{Task}
 use Rattle.gipsat.specs.declared.options.Task.TheVariants as task
 
--- what the words so far ask of a search, what they ask to be told, the last option but `--check`, whether a check is
--- asked for, and the second file
+-- what the words so far ask of a search, what they ask to be told, the last option but those of checks, whether a check
+-- is asked for, the last option that says how a proof is written, where a check writes one, and the second file
 pub record State : Type 0 where
   pub request : Request
   pub info : Option Info
   pub option : Option (List ℕ)
   pub check : Bool
+  pub form : Option (List ℕ)
+  pub hinted : Option (List ℕ)
   pub second : Option (List ℕ)
 
 -- before the first word
 abbrev pub no_words : State
-no_words = record { request = no_request; info = None; option = None; check = false; second = None }
+no_words = record { request = no_request; info = None; option = None; check = false; form = None; hinted = None; second = None }
 
 -- with this request, which the option of this name changed
 abbrev pub asking : State → List ℕ → Request → State
@@ -37,9 +40,9 @@ asking s word r = record s { request = r; option = Some word }
 
 -- after a switch, which this word names
 abbrev pub switched : Switch → State → List ℕ → State
-switched switch.Binary s word = asking s word (record s.request { binary = true })
+switched switch.Binary s word = record s { request = record s.request { binary = true }; form = Some word }
 switched switch.Check s word = record s { check = true }
-switched switch.Force s word = asking s word (record s.request { force = true })
+switched switch.Force s word = record s { request = record s.request { force = true }; form = Some word }
 switched switch.Lrat s word = asking s word (record s.request { lrat = true })
 switched switch.NoSimplify s word = asking s word (record s.request { simplify = false })
 switched switch.NoWitness s word = asking s word (record s.request { witness = false })
@@ -60,16 +63,19 @@ after s (Counted number.Conflicts n word) = Ok (asking s word (record s.request 
 after s (Counted number.Time n word) = Ok (asking s word (record s.request { time = Some n }))
 after s (Given text.Proof name word) =
     result_map_both (λ name. asking s word (record s.request { proof = Some name })) (λ e. e) (output_of name)
+after s (Given text.LratFromDrat name word) =
+    result_map_both (λ name. record s { check = true; hinted = Some name }) (λ e. e) (output_of name)
 after s (File name) = after_file s name
 after s (Told info) = Ok (record s { info = Some info })
 after s (Misused misuse) = Err (Words misuse)
 
--- the help or the version is told, a formula is to be solved, or a proof to be checked beside a formula, whose files
--- have these names; standard input has none
+-- the help or the version is told, a formula is to be solved, a proof to be checked beside a formula, whose files have
+-- these names, or a proof to be checked and written with hints; standard input has no name
 pub data Work : Type 0 where
   Tell : Info → Work
   Solve : Request → Work
   Check : Option (List ℕ) → Option (List ℕ) → Work
+  Convert : Request → Option (List ℕ) → List ℕ → Work
 
 -- the file of this name: a minus is standard input
 abbrev pub input_of : List ℕ → Option (List ℕ)
@@ -85,16 +91,35 @@ search_of s (Some name) = Err (ExtraFile name)
 abbrev pub search_asked : State → Result Work Misuse
 search_asked s = search_of s s.second
 
--- a check of two files, which are not both standard input
-abbrev pub check_of : Option (List ℕ) → Option (List ℕ) → Result Work Misuse
-check_of (Some formula) (Some proof) =
+-- the names of two files, each none for standard input
+abbrev pub names_of : Inputs → Option (List ℕ) × Option (List ℕ)
+names_of files = (option_map (λ name. name.now) files.formula, option_map (λ name. name.now) files.proof)
+
+-- the two files of a check, which are not both standard input
+abbrev pub files_of : Option (List ℕ) → Option (List ℕ) → Result (Option (List ℕ) × Option (List ℕ)) Misuse
+files_of (Some formula) (Some proof) =
     if bytes_eq formula (codes "-") && bytes_eq proof (codes "-") then Err InputTwice
-    else Ok (Check (input_of formula) (input_of proof))
-check_of formula proof = Err MissingFile
+    else Ok (input_of formula, input_of proof)
+files_of formula proof = Err MissingFile
+
+-- a check that writes no proof, and so takes no option that says how one is written
+abbrev pub plain_check : State → Option (List ℕ) → Result Work Misuse
+plain_check s None = result_map_both (λ files. Check files.0 files.1) (λ e. e) (files_of s.request.file s.second)
+plain_check s (Some word) = Err (NotForCheck word)
+
+-- a check that writes a proof with hints to this file
+abbrev pub conversion : State → List ℕ → Result Work Misuse
+conversion s out =
+    result_map_both (λ files. Convert (record s.request { file = files.0 }) files.1 out) (λ e. e)
+    (files_of s.request.file s.second)
+
+abbrev pub check_writing : State → Option (List ℕ) → Result Work Misuse
+check_writing s None = plain_check s s.form
+check_writing s (Some out) = conversion s out
 
 -- a check, with no option besides
 abbrev pub check_with : State → Option (List ℕ) → Result Work Misuse
-check_with s None = check_of s.request.file s.second
+check_with s None = check_writing s s.hinted
 check_with s (Some word) = Err (NotForCheck word)
 
 abbrev pub check_asked : State → Result Work Misuse
@@ -129,6 +154,8 @@ state_of a = record {
   info = a.info;
   option = option_map (λ word. word.now) a.option;
   check = a.check;
+  form = option_map (λ word. word.now) a.form;
+  hinted = option_map (λ name. name.now) a.hinted;
   second = option_map (λ name. name.now) a.second;
 }
 
@@ -136,4 +163,5 @@ state_of a = record {
 abbrev pub work_of : Task → Work
 work_of (task.Tell info) = Tell info
 work_of (task.Solve options) = Solve (request_of options)
+work_of (task.Convert options proof out) = Convert (request_of options) (option_map (λ name. name.now) proof) out.now
 work_of (task.Check formula proof) = Check (option_map (λ name. name.now) formula) (option_map (λ name. name.now) proof)

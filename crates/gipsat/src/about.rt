@@ -25,6 +25,7 @@ pub enum Number {
 /// An option that takes a word.
 #[derive(Clone, Copy)]
 pub enum Text {
+    LratFromDrat,
     Proof,
 }
 
@@ -34,6 +35,7 @@ pub const ABOUT: About<'static, Switch, Number, Text> = About {
     usage: &[
         "gipsat [OPTION]... [FORMULA]",
         "gipsat --check FORMULA PROOF",
+        "gipsat --lrat-from-drat OUT FORMULA PROOF",
     ],
     summary: &[
         "Reads a formula in the DIMACS form from the file FORMULA, or from standard input where none is named or its name \
@@ -47,7 +49,7 @@ pub const ABOUT: About<'static, Switch, Number, Text> = About {
 };
 
 /// The options.
-pub const OPTIONS: [Opt<Switch, Number, Text>; 12] = [
+pub const OPTIONS: [Opt<Switch, Number, Text>; 13] = [
     Opt {
         long: "--relaxed",
         short: "",
@@ -136,5 +138,13 @@ pub const OPTIONS: [Opt<Switch, Number, Text>; 12] = [
         section: "Proofs",
         help: "read a formula and a proof that nothing satisfies it, and write `s VERIFIED` or `s NOT VERIFIED`; each \
                clause of the proof has to be RUP or RAT",
+    },
+    Opt {
+        long: "--lrat-from-drat",
+        short: "",
+        kind: Kind::Text(Text::LratFromDrat, "OUT", "a file"),
+        section: "Proofs",
+        help: "check a DRAT proof as --check does, and write the steps that were needed to the file OUT, in the LRAT form; \
+               --binary and --force stand for OUT then. The file appears where the proof is verified",
     },
 ];

@@ -37,7 +37,7 @@ impl Display for UsageError<'_> {
                 f.write_str("'--check' takes one file at most from standard input")
             }
             UsageError::OutputTwice => f.write_str(
-                "'--proof' takes the name of a file, since standard output has the answer",
+                "a proof is written to a file, since standard output has the answer",
             ),
         }
     }

@@ -44,6 +44,11 @@ impl<'a> Source<'a> {
         })
     }
 
+    /// The name of its file; standard input has none.
+    pub fn name(&self) -> Option<&'a str> {
+        self.name
+    }
+
     /// Whether it is read from a terminal.
     pub fn is_terminal(&self) -> bool {
         match &self.stream {
@@ -112,8 +117,8 @@ impl Output {
         }
     }
 
-    // That a write failed.
-    fn unwritten<'a>(&self) -> Failure<'a> {
+    /// That a write failed.
+    pub fn unwritten<'a>(&self) -> Failure<'a> {
         Failure::Write(None, self.error)
     }
 }

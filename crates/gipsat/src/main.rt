@@ -15,6 +15,7 @@ ghost use Rattle.gipsat_dimacs.specs.declared.rule.HeaderRule.TheVariants.{Stric
 ghost use Rattle.gipsat.specs.Statuses.{checking_status, solving_status};
 
 mod about;
+mod convert;
 mod errors;
 mod files;
 mod options;
@@ -23,6 +24,7 @@ mod solve;
 mod watch;
 
 use about::ABOUT;
+use convert::convert_files;
 use errors::Failure;
 use files::{Output, Source};
 use gip_program::{begin, explain, refuse, tell};
@@ -45,6 +47,9 @@ fn main(rt: HostRuntime) -> ExitCode {
         Ok(Task::Tell(info)) => tell(&rt, &ABOUT, info),
         Ok(Task::Solve(options)) => end_search(&rt, solve_file(&rt, &options)),
         Ok(Task::Check(formula, proof)) => end_check(&rt, proof, check_files(&rt, formula, proof)),
+        Ok(Task::Convert(options, proof, out)) => {
+            end_check(&rt, proof, convert_proof(&rt, &options, proof, out))
+        }
         Err(error) => explain(&rt, "gipsat", &error),
     }
 }
@@ -124,6 +129,21 @@ fn check_files<'a>(
         }
         Err(error) => Err(formula.check_failure(&proof, &output, error)),
     }
+}
+
+// Checks the proof in a file, and writes one with hints to another. None is standard input.
+fn convert_proof<'a>(
+    rt: &HostRuntime,
+    options: &Options<'a>,
+    proof: Option<&'a str>,
+    out: &'a str,
+) -> Result<Outcome, Failure<'a>> {
+    let mut source = Source::open(rt, proof)?;
+    let mut notes = Notes::new();
+    announce(rt, &source);
+    let outcome = convert_files(rt, options, &mut source, out, &mut notes)?;
+    warn(rt, proof, notes);
+    Ok(outcome)
 }
 
 // Checks as `check_text_noting` does.

@@ -6,8 +6,8 @@ ghost use Rattle.gip_program.specs.Items.{left_said, said_of};
 ghost use Rattle.gip_program.specs.Options.{entry_of};
 ghost use Rattle.gipsat.specs.Misuses.{misuse_of};
 ghost use Rattle.gipsat.specs.Options.{no_request, output_of, request_of, table};
-ghost use Rattle.gipsat.specs.Words.{after, after_file, asked_for, check_asked, input_of, no_words, search_asked};
-ghost use Rattle.gipsat.specs.Words.{state_of, switched, work_asked, work_of, work_said};
+ghost use Rattle.gipsat.specs.Words.{after, after_file, asked_for, check_asked, conversion, files_of, input_of, no_words};
+ghost use Rattle.gipsat.specs.Words.{names_of, plain_check, search_asked, state_of, switched, work_asked, work_of, work_said};
 
 use crate::about::{Number, OPTIONS, Switch, Text};
 use crate::errors::UsageError;
@@ -24,6 +24,9 @@ pub enum Task<'a> {
     /// To check a proof that nothing satisfies a formula: the files of the formula and of the proof. None is standard
     /// input.
     Check(Option<&'a str>, Option<&'a str>),
+    /// To check a proof without hints, and to write one with hints in the form that the options say: the file of the proof,
+    /// and that of the new one. None is standard input.
+    Convert(Options<'a>, Option<&'a str>, &'a str),
 }
 
 impl<'a> Task<'a> {
@@ -118,15 +121,43 @@ fn input<'a>(name: &'a str) -> Option<&'a str>
     if name == "-" { None } else { Some(name) }
 }
 
+// The files of a formula and of a proof. None is standard input.
+#[derive(Clone, Copy)]
+struct Inputs<'a> {
+    formula: Option<&'a str>,
+    proof: Option<&'a str>,
+}
+
+// The files of these names, one of which may be standard input.
+fn files<'a>(formula: Option<&'a str>, proof: Option<&'a str>) -> Result<Inputs<'a>, UsageError<'a>>
+    ensures { result_map_both names_of misuse_of result
+        ≡ files_of (option_map (λ name. name.now) formula.entry) (option_map (λ name. name.now) proof.entry) }
+{
+    let (Some(formula), Some(proof)) = (formula, proof) else {
+        return Err(UsageError::MissingFile);
+    };
+    if formula == "-" && proof == "-" {
+        return Err(UsageError::InputTwice);
+    }
+    Ok(Inputs {
+        formula: input(formula),
+        proof: input(proof),
+    })
+}
+
 /// What some words of a command line ask for.
 #[derive(Clone, Copy)]
 pub struct Asked<'a> {
     options: Options<'a>,
     // What is told in place of an answer.
     info: Option<Info>,
-    // The last option but `--check`.
+    // The last option but those of checks.
     option: Option<&'a str>,
     check: bool,
+    // The last option that says how a proof is written.
+    form: Option<&'a str>,
+    // Where a check writes a proof with hints.
+    hinted: Option<&'a str>,
     // The second file.
     second: Option<&'a str>,
 }
@@ -141,6 +172,8 @@ impl<'a> Asked<'a> {
             info: None,
             option: None,
             check: false,
+            form: None,
+            hinted: None,
             second: None,
         }
     }
@@ -183,6 +216,11 @@ impl<'a> Asked<'a> {
                 let proof = Some(output(name)?);
                 Ok(self.with_options(Options { proof, ..options }, word))
             }
+            Item::Text(Text::LratFromDrat, name, _) => Ok(Asked {
+                check: true,
+                hinted: Some(output(name)?),
+                ..self
+            }),
             Item::File(name) => self.file(name),
             Item::Info(info) => Ok(Asked {
                 info: Some(info),
@@ -214,13 +252,21 @@ impl<'a> Asked<'a> {
                 check: true,
                 ..self
             },
-            Switch::Binary => Options {
-                binary: true,
-                ..options
+            Switch::Binary => return Asked {
+                options: Options {
+                    binary: true,
+                    ..options
+                },
+                form: Some(word),
+                ..self
             },
-            Switch::Force => Options {
-                force: true,
-                ..options
+            Switch::Force => return Asked {
+                options: Options {
+                    force: true,
+                    ..options
+                },
+                form: Some(word),
+                ..self
             },
             Switch::Lrat => Options {
                 lrat: true,
@@ -303,19 +349,39 @@ impl<'a> Asked<'a> {
         }
     }
 
-    // The check: of two files, and with no option besides.
+    // The check: of two files, and with no option besides but those of the proof that it writes.
     fn end_check(self) -> Result<Task<'a>, UsageError<'a>>
         ensures { result_map_both work_of misuse_of result ≡ check_asked (state_of self.entry) }
     {
         if let Some(word) = self.option {
             return Err(UsageError::NotForCheck(word));
         }
-        let (Some(formula), Some(proof)) = (self.options.file, self.second) else {
-            return Err(UsageError::MissingFile);
-        };
-        if formula == "-" && proof == "-" {
-            return Err(UsageError::InputTwice);
+        match self.hinted {
+            Some(out) => self.end_conversion(out),
+            None => self.end_plain_check(),
         }
-        Ok(Task::Check(input(formula), input(proof)))
+    }
+
+    // The check that writes no proof.
+    fn end_plain_check(self) -> Result<Task<'a>, UsageError<'a>>
+        ensures { result_map_both work_of misuse_of result ≡ plain_check (state_of self.entry) (state_of self.entry).form }
+    {
+        if let Some(word) = self.form {
+            return Err(UsageError::NotForCheck(word));
+        }
+        let Inputs { formula, proof } = files(self.options.file, self.second)?;
+        Ok(Task::Check(formula, proof))
+    }
+
+    // The check that writes a proof to this file.
+    fn end_conversion(self, out: &'a str) -> Result<Task<'a>, UsageError<'a>>
+        ensures { result_map_both work_of misuse_of result ≡ conversion (state_of self.entry) out.now }
+    {
+        let Inputs { formula, proof } = files(self.options.file, self.second)?;
+        let options = Options {
+            file: formula,
+            ..self.options
+        };
+        Ok(Task::Convert(options, proof, out))
     }
 }

@@ -18,6 +18,8 @@ const FRONT: u64 = 65_536;
 pub enum ProofError<'a> {
     /// The file begins as a formula does, or is the one that was read.
     IsFormula(&'a str),
+    /// The file is the proof that is read.
+    IsProof(&'a str),
     /// The file is not empty, and may be the formula: no file of one was named, or it may have no header.
     Exists(&'a str),
     /// The file could not be opened.
@@ -35,6 +37,12 @@ impl Display for ProofError<'_> {
                 write!(
                     f,
                     "{path}: begins as a formula does (--force writes over it)"
+                )
+            }
+            ProofError::IsProof(path) => {
+                write!(
+                    f,
+                    "{path}: is the proof that is read (--force writes over it)"
                 )
             }
             ProofError::Exists(path) => {
@@ -71,6 +79,34 @@ pub fn create<'a, R: Read>(
     if !options.force {
         guard(rt, options, path)?;
     }
+    begin(rt, path)
+}
+
+/// Begins the file of a proof that comes of another one, which is in this file. It appears when it is whole.
+///
+/// Where it is not forced, a file is left as it is that is one of those that are read, or that begins as a formula does.
+///
+/// # Errors
+/// A [`ProofError`]. The file is as it was then.
+pub fn create_beside<'a>(
+    rt: &HostRuntime,
+    options: &Options<'a>,
+    path: &'a str,
+    proof: Option<&str>,
+) -> Result<NewFile<'a>, ProofError<'a>>
+    ensures other_file { IsTrue (reads (request_of options.now) path.now) → options.now.force ≡ false → IsErr result }
+{
+    if !options.force {
+        if proof == Some(path) {
+            return Err(ProofError::IsProof(path));
+        }
+        guard(rt, options, path)?;
+    }
+    begin(rt, path)
+}
+
+// Begins a file, in the place of one that is there.
+fn begin<'a>(rt: &HostRuntime, path: &'a str) -> Result<NewFile<'a>, ProofError<'a>> {
     match NewFile::begin(rt, path, Existing::Replace) {
         Ok(file) => Ok(file),
         Err(error) => Err(ProofError::Open(path, error)),
