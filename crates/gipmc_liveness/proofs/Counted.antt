@@ -1,21 +1,26 @@
--- A circuit that counts: a run on which the literals recur passes each chain of them.
-use Rattle.std.proofs.Common.{◌≡◌, ⊎_elim, ℕ, zero, suc, ◌+◌, ◌-◌, ◌*◌, ◌<◌, ◌≤◌, ◌++◌, ◌&&◌, eqb, Bool, true, false, not, List, [], ◌∷◌, length, IsTrue, arith, refl, sym, ap, subst, ◌∙◌}
+-- A circuit that counts: it fails exactly where literals are met in turn, and a run on which they recur meets them.
+use Rattle.std.proofs.Common.{◌≡◌, ◌⊎◌, ⊎_elim, inl, inr, ℕ, zero, suc, ◌+◌, ◌-◌, ◌*◌, ◌%◌, ◌<◌, ◌≤◌, ◌++◌, ◌&&◌, eqb, ltb, get_or, Bool, true, false, not, List, [], ◌∷◌, length, IsTrue, arith, refl, sym, ap, append_assoc, subst, ◌∙◌}
+use Rattle.std.specs.Prelude.{slice_get, Some}
 use Rattle.std.specs.Bool.{beq}
 use Rattle.std.specs.Cmp.{booleans_Decides}
 use Rattle.std.specs.List.{list_all}
-use Rattle.std.proofs.lemmas.Bool.{and_from, and_parts, and_right, eq-eqb, lt-ltb, ltb-true, not-true}
+use Rattle.std.proofs.lemmas.Bool.{and_cases, and_from, and_parts, and_right, cases_Bool, eq-eqb, false≢true, lt-ltb, ltb-true, not-true}
 use Rattle.std.proofs.lemmas.List.Folds.{list_all-append}
 use Rattle.gipsat_cnf.specs.Assumptions.{makes_true}
-use Rattle.gipsat_cnf.specs.Formulas.{Assignment, is_true}
+use Rattle.gipsat_cnf.specs.Formulas.{Assignment, Has, is_true}
 use Rattle.gipsat_cnf.specs.Literals.{Lit}
+use Rattle.gipsat_cnf.proofs.Places.{each_push, none_some, stands_last, stays_before}
+use Rattle.gipmc_circuits.specs.declared.circuit.And.{And}
 use Rattle.gipmc_circuits.specs.declared.circuit.Circuit.{Circuit}
-use Rattle.gipmc_circuits.specs.Circuit.{IsSafe, IsTrace, has_value, holds_next, is_moment, is_transition, is_valuation}
+use Rattle.gipmc_circuits.specs.declared.circuit.Latch.{Latch}
+use Rattle.gipmc_circuits.specs.Circuit.{FailsAfter, IsSafe, IsTrace, has_value, holds_next, holds_reset, is_initial, is_moment, is_transition, is_valuation}
 use Rattle.gipmc_circuits.specs.Encoding.{is_below, literal_below}
 use Rattle.gipmc_circuits.specs.Widened.{IsWidened, are_numbered, are_stacked}
 use Rattle.gipmc_circuits.proofs.Agreeing.{AgreeBelow, is_true-alike}
 use Rattle.gipmc_circuits.proofs.Widened.{IsTrace-widened}
-use Rattle.gipmc_liveness.specs.Chains.{AllAwaited, IsAwaited, IsChained, all_passed, always, last_gate, not_of, passed, passing, stage_gates, stage_latches, top, waiting, yes_of}
-use Rattle.gipmc_liveness.specs.Liveness.{AllRecur, IsLive, IsRun, Recurs}
+use Rattle.gipmc_liveness.specs.Chains.{IsChained, all_passed, last_gate, not_of, passed, passing, stage_gates, stage_latches, top, waiting, yes_of}
+use Rattle.gipmc_liveness.specs.Liveness.{AllRecur, FailsForever, IsLive, IsRun, Recurs}
+use Rattle.gipmc_liveness.specs.Turns.{CountsTo, MeetsMore, MetBetween, always, turn, turns}
 
 -- the parts of a run are traces
 pub IsTrace-run : {A : Type 0} (c : Circuit A) (t : ℕ → Assignment) (n : ℕ) → IsRun c t → IsTrace c n t
@@ -25,22 +30,18 @@ IsTrace-run c t n is = record {
   transitions = λ i less. is.transitions i;
 }
 
--- each of the literals recurs
-abbrev EachRecurs : (ℕ → Assignment) → List Lit → Type 0
-EachRecurs t [] = Unit {0}
-EachRecurs t (l ∷ ls) = Recurs t l × EachRecurs t ls
+MetBetween-within : (t : ℕ → Assignment) (m n : ℕ) (ls : List Lit) → MetBetween t m n ls → m ≤ n
+MetBetween-within t m n [] met = met
+MetBetween-within t m n (l ∷ ls) (i, from, is, rest) =
+    let later = MetBetween-within t (i + 1) n ls rest in omega (arith, from, later)
 
--- the moment behind the one at which the last of them has been met in turn
-abbrev met_after : (t : ℕ → Assignment) (ls : List Lit) → EachRecurs t ls → ℕ → ℕ
-met_after t [] recur m = m
-met_after t (l ∷ ls) recur m = met_after t ls recur.1 (suc (recur.0 m).0)
+MetBetween-before : (t : ℕ → Assignment) (m k n : ℕ) (ls : List Lit) → k ≤ m → MetBetween t m n ls → MetBetween t k n ls
+MetBetween-before t m k n [] less met = let upto : m ≤ n = met in omega (arith, less, upto)
+MetBetween-before t m k n (l ∷ ls) less (i, from, is, rest) = (i, omega (arith, less, from), is, rest)
 
-met_after-from : (t : ℕ → Assignment) (ls : List Lit) (recur : EachRecurs t ls) (m : ℕ) → m ≤ met_after t ls recur m
-met_after-from t [] recur m = omega arith
-met_after-from t (l ∷ ls) recur m =
-    let later = met_after-from t ls recur.1 (suc (recur.0 m).0) in
-    let from = (recur.0 m).1 in
-    omega (arith, later, from)
+MetBetween-behind : (t : ℕ → Assignment) (m n k : ℕ) (ls : List Lit) → n ≤ k → MetBetween t m n ls → MetBetween t m k ls
+MetBetween-behind t m n k [] more met = let upto : m ≤ n = met in omega (arith, more, upto)
+MetBetween-behind t m n k (l ∷ ls) more (i, from, is, rest) = (i, from, is, MetBetween-behind t (i + 1) n k ls more rest)
 
 -- the literal is true at each of these moments
 abbrev TrueFrom : ℕ → ℕ → (ℕ → Assignment) → Lit → Type 0
@@ -75,8 +76,9 @@ stage_stays x g u n m gates latches first (suc d) within =
     (stage_on x g (u (m + d)) (u (m + d + 1)) (gates (m + d) (omega (arith, within))) (latches (m + d) (omega (arith, within)))
     (ap (λ b. b && is_true (u (m + d)) (not_of g)) (false_sign (u (m + d)) x (true_sign (u (m + d)) x before))))
 
--- the gates of the stages have their values, and their latches are kept
+-- the gates of the stages have their values; their latches are 0 at first, and are kept
 record Counts (x g n : ℕ) (before : Lit) (stages : List Lit) (u : ℕ → Assignment) : Type 0 where
+  first : IsTrue (list_all (holds_reset (u 0)) (stage_latches x g stages))
   gates : (i : ℕ) → i ≤ n → IsTrue (list_all (has_value (u i)) (stage_gates x g before stages))
   latches : (i : ℕ) → i < n → IsTrue (list_all (holds_next (u i) (u (i + 1))) (stage_latches x g stages))
 
@@ -94,10 +96,17 @@ first_latch x g n before l ls u counts i less =
     (and_parts (holds_next (u i) (u (i + 1)) (passed x g)) (list_all (holds_next (u i) (u (i + 1))) (stage_latches (x + 1) (g + 2) ls))
     (counts.latches i less)).0
 
+first_reset : (x g n : ℕ) (before l : Lit) (ls : List Lit) (u : ℕ → Assignment) → Counts x g n before (l ∷ ls) u
+    → u 0 x ≡ false
+first_reset x g n before l ls u counts =
+    (booleans_Decides (u 0 x) false).0
+    (and_parts (holds_reset (u 0) (passed x g)) (list_all (holds_reset (u 0)) (stage_latches (x + 1) (g + 2) ls)) counts.first).0
+
 -- of the others
 counts_rest : (x g n : ℕ) (before l : Lit) (ls : List Lit) (u : ℕ → Assignment) → Counts x g n before (l ∷ ls) u
     → Counts (x + 1) (g + 2) n (yes_of x) ls u
 counts_rest x g n before l ls u counts = record {
+  first = (and_parts (holds_reset (u 0) (passed x g)) (list_all (holds_reset (u 0)) (stage_latches (x + 1) (g + 2) ls)) counts.first).1;
   gates = λ i within.
       let rest = list_all (has_value (u i)) (stage_gates (x + 1) (g + 2) (yes_of x) ls) in
       let (first, others) = and_parts (has_value (u i) (passing g before l)) (has_value (u i) (waiting x g) && rest) (counts.gates i within) in
@@ -110,37 +119,70 @@ counts_rest x g n before l ls u counts = record {
 both_true : (x y b : Bool) → x ≡ true → y ≡ true → IsTrue (beq b (x && y)) → b ≡ true
 both_true x y b left right is = (booleans_Decides b (x && y)).0 is ∙ and_from x y left right
 
--- the values of the circuit and of the one that counts are the same at the literals of the stages
-abbrev SameAt : ℕ → (ℕ → Assignment) → (ℕ → Assignment) → List Lit → Type 0
-SameAt n t u [] = Unit {0}
-SameAt n t u (l ∷ ls) = ((i : ℕ) → is_true (u i) l ≡ is_true (t i) l) × SameAt n t u ls
+-- the stages are passed behind the moments at which their literals are met in turn
+stages-pass : (ls : List Lit) (x g n m k : ℕ) (before : Lit) (u : ℕ → Assignment) → MetBetween u m k ls → k ≤ n
+    → Counts x g n before ls u → TrueFrom m n u before → TrueFrom k n u (all_passed x before ls)
+stages-pass [] x g n m k before u met within counts on =
+    let from : m ≤ k = met in λ i after upto. on i (omega (arith, from, after)) upto
+stages-pass (l ∷ ls) x g n m k before u (i, from, is, rest) within counts on =
+    let later = MetBetween-within u (i + 1) k ls rest in
+    let less : i < n = omega (arith, later, within) in
+    let gates = first_gates x g n before l ls u counts i (omega (arith, less)) in
+    let now : u i g ≡ true = both_true (is_true (u i) before) (is_true (u i) l) (u i g) (on i from (omega (arith, less))) is gates.0 in
+    let either : (is_true (u i) (not_of x) && is_true (u i) (not_of g)) ≡ false =
+    and_right (is_true (u i) (not_of x)) (is_true (u i) (not_of g)) (false_sign (u i) g now) in
+    let begun : IsTrue (is_true (u (i + 1)) (yes_of x)) =
+    stage_on x g (u i) (u (i + 1)) gates.1 (first_latch x g n before l ls u counts i less) either in
+    stages-pass ls (x + 1) (g + 2) n (i + 1) k (yes_of x) u rest within (counts_rest x g n before l ls u counts)
+    (λ j after upto.
+    let whole : (i + 1) + (j - (i + 1)) ≡ j = omega (arith, after) in
+    subst (λ h. IsTrue (is_true (u h) (yes_of x))) whole
+    (stage_stays x g u n (i + 1) (λ h h_within. (first_gates x g n before l ls u counts h h_within).1)
+    (λ h h_less. first_latch x g n before l ls u counts h h_less) begun (j - (i + 1)) (omega (arith, after, upto))))
 
--- the stages are passed behind the moment at which the last of their literals has been met in turn
-stages-pass : (ls : List Lit) (x g n m : ℕ) (before : Lit) (t u : ℕ → Assignment) (recur : EachRecurs t ls)
-    → SameAt n t u ls → Counts x g n before ls u → TrueFrom m n u before → met_after t ls recur m ≤ n
-    → TrueFrom (met_after t ls recur m) n u (all_passed x before ls)
-stages-pass [] x g n m before t u recur same counts on within = on
-stages-pass (l ∷ ls) x g n m before t u recur same counts on within =
-    let k = (recur.0 m).0 in
-    let from = (recur.0 m).1 in
-    let later = met_after-from t ls recur.1 (suc k) in
-    let k_less : k < n = omega (arith, later, within) in
-    let gates = first_gates x g n before l ls u counts k (omega (arith, k_less)) in
-    let awaited : is_true (u k) l ≡ true = same.0 k ∙ (recur.0 m).2 in
-    let passing_now : u k g ≡ true =
-    both_true (is_true (u k) before) (is_true (u k) l) (u k g) (on k from (omega (arith, k_less))) awaited gates.0 in
-    let either : (is_true (u k) (not_of x) && is_true (u k) (not_of g)) ≡ false =
-    and_right (is_true (u k) (not_of x)) (is_true (u k) (not_of g)) (false_sign (u k) g passing_now) in
-    let next : k + 1 ≡ suc k = omega arith in
-    let begun : IsTrue (is_true (u (suc k)) (yes_of x)) = subst (λ i. IsTrue (is_true (u i) (yes_of x))) next
-    (stage_on x g (u k) (u (k + 1)) gates.1 (first_latch x g n before l ls u counts k k_less) either) in
-    stages-pass ls (x + 1) (g + 2) n (suc k) (yes_of x) t u recur.1 same.1 (counts_rest x g n before l ls u counts)
-    (λ i after upto.
-    let whole : suc k + (i - suc k) ≡ i = omega (arith, after) in
-    subst (λ j. IsTrue (is_true (u j) (yes_of x))) whole
-    (stage_stays x g u n (suc k) (λ j j_within. (first_gates x g n before l ls u counts j j_within).1)
-    (λ j j_less. first_latch x g n before l ls u counts j j_less) begun (i - suc k) (omega (arith, after, upto))))
-    within
+beq_off : (v : Bool) → beq v false ≡ false → v ≡ true
+beq_off true is = refl
+beq_off false is = absurd (false≢true (sym is))
+
+-- where a stage is passed, its literal was met before, where the stage before was passed
+passed-since : (x g n : ℕ) (before l : Lit) (ls : List Lit) (u : ℕ → Assignment) → Counts x g n before (l ∷ ls) u
+    → (m : ℕ) → m ≤ n → u m x ≡ true
+    → (i : ℕ) × (i + 1 ≤ m) × IsTrue (is_true (u i) before) × IsTrue (is_true (u i) l)
+passed-since x g n before l ls u counts zero within on =
+    absurd (false≢true (sym (first_reset x g n before l ls u counts) ∙ on))
+passed-since x g n before l ls u counts (suc m) within on =
+    let next : m + 1 ≡ suc m = omega arith in
+    let less : m < n = omega (arith, within) in
+    let gates = first_gates x g n before l ls u counts m (omega (arith, less)) in
+    let goes : u (m + 1) x ≡ is_true (u m) (not_of (g + 1)) =
+    (booleans_Decides (u (m + 1) x) (is_true (u m) (not_of (g + 1)))).0 (first_latch x g n before l ls u counts m less) in
+    let off : u m (g + 1) ≡ false =
+    (booleans_Decides (u m (g + 1)) false).0 (sym goes ∙ ap (λ i. u i x) next ∙ on) in
+    let either : (is_true (u m) (not_of x) && is_true (u m) (not_of g)) ≡ false =
+    sym ((booleans_Decides (u m (g + 1)) (is_true (u m) (not_of x) && is_true (u m) (not_of g))).0 gates.1) ∙ off in
+    ⊎_elim
+    (λ was.
+    let (i, earlier, begun, met) =
+    passed-since x g n before l ls u counts m (omega (arith, within)) (beq_off (u m x) was) in
+    (i, omega (arith, earlier), begun, met))
+    (λ now.
+    let both : (is_true (u m) before && is_true (u m) l) ≡ true =
+    sym ((booleans_Decides (u m g) (is_true (u m) before && is_true (u m) l)).0 gates.0) ∙ beq_off (u m g) now in
+    let (begun, met) = and_parts (is_true (u m) before) (is_true (u m) l) both in
+    (m, omega arith, begun, met))
+    (and_cases (is_true (u m) (not_of x)) (is_true (u m) (not_of g)) either)
+
+-- where the stages are passed, their literals were met in turn
+stages-back : (ls : List Lit) (x g n k : ℕ) (before : Lit) (u : ℕ → Assignment) → k ≤ n → Counts x g n before ls u
+    → IsTrue (is_true (u k) (all_passed x before ls))
+    → (m : ℕ) × IsTrue (is_true (u m) before) × MetBetween u m k ls
+stages-back [] x g n k before u within counts is = (k, is, omega arith)
+stages-back (l ∷ ls) x g n k before u within counts is =
+    let (m, on, met) = stages-back ls (x + 1) (g + 2) n k (yes_of x) u within (counts_rest x g n before l ls u counts) is in
+    let upto = MetBetween-within u m k ls met in
+    let (i, earlier, begun, here) =
+    passed-since x g n before l ls u counts m (omega (arith, upto, within)) (true_sign (u m) x on) in
+    (i, begun, (i, omega arith, here, MetBetween-before u m (i + 1) k ls earlier met))
 
 below_more : (n g : ℕ) (l : Lit) → n ≤ g → IsTrue (literal_below n l) → IsTrue (literal_below g l)
 below_more n g l more is = let less = ltb-true l.variable n is in lt-ltb l.variable g (omega (arith, more, less))
@@ -207,31 +249,11 @@ always_true c a is =
     let zero_false = not-true (a 0) (and_parts (not (a 0)) (list_all (has_value a) c.gates.items) valuation).0 in
     (booleans_Decides (a 0) false).1 zero_false
 
--- on a run a literal of which the circuit waits recurs, if all of them do
-Recurs-awaited : {A : Type 0} (c : Circuit A) (t : ℕ → Assignment) (literals : List Lit) (l : Lit) → IsRun c t
-    → AllRecur t literals → IsAwaited literals l → Recurs t l
-Recurs-awaited c t literals l run recur awaited =
-    ⊎_elim (λ has. recur l has) (λ same. subst (Recurs t) (sym same) (λ m. (m, omega arith, always_true c (t m) (run.moments m)))) awaited
-
-EachRecurs-awaited : {A : Type 0} (c : Circuit A) (t : ℕ → Assignment) (literals stages : List Lit) → IsRun c t
-    → AllRecur t literals → AllAwaited literals stages → EachRecurs t stages
-EachRecurs-awaited c t literals [] run recur awaited = tt
-EachRecurs-awaited c t literals (l ∷ ls) run recur awaited = (
-  Recurs-awaited c t literals l run recur (awaited l (0, refl)),
-  EachRecurs-awaited c t literals ls run recur (λ m (k, at). awaited m (suc k, at)),
-)
-
-same_at : (n : ℕ) (t u : ℕ → Assignment) (ls : List Lit) → ((i : ℕ) → AgreeBelow n (u i) (t i))
-    → IsTrue (list_all (literal_below n) ls) → SameAt n t u ls
-same_at n t u [] agree all = tt
-same_at n t u (l ∷ ls) agree all =
-    let (first, rest) = and_parts (literal_below n l) (list_all (literal_below n) ls) all in
-    ((λ i. is_true-alike n (u i) (t i) l (agree i) first), same_at n t u ls agree rest)
-
 -- the gates and latches that were added
 more_gates : {A B : Type 0} (n : ℕ) (c : Circuit A) (e : Circuit B) (stages : List Lit) (last : Lit) (a : Assignment)
     → IsChained n c e stages last → IsTrue (is_moment e a)
-    → IsTrue (list_all (has_value a) (stage_gates n (n + length stages) always stages)) × IsTrue (has_value a (last_gate n stages last))
+    → IsTrue (is_moment c a) × IsTrue (list_all (has_value a) (stage_gates n (n + length stages) always stages))
+    × IsTrue (has_value a (last_gate n stages last))
 more_gates n c e stages last a is moment =
     let some = stage_gates n (n + length stages) always stages in
     let (valuation, constraints) = and_parts (is_valuation e a) (makes_true a e.constraints.items) moment in
@@ -241,37 +263,137 @@ more_gates n c e stages last a is moment =
     let (old, new) = and_parts (list_all (has_value a) c.gates.items) (list_all (has_value a) (some ++ last_gate n stages last ∷ []))
     (sym (list_all-append (has_value a) c.gates.items (some ++ last_gate n stages last ∷ [])) ∙ all) in
     let (here, end) = and_parts (list_all (has_value a) some) (list_all (has_value a) (last_gate n stages last ∷ []))
-    (sym (list_all-append (has_value a) some (last_gate n stages last ∷ [])) ∙ new) in
-    (here, (and_parts (has_value a (last_gate n stages last)) true end).0)
+    (sym (list_all-append (has_value a) some (last_gate n stages last ∷ [])) ∙ new) in (
+      and_from (is_valuation c a) (makes_true a c.constraints.items)
+          (and_from (not (a 0)) (list_all (has_value a) c.gates.items) zero_false old)
+          (subst (λ ls. IsTrue (makes_true a ls)) is.constraints constraints),
+      here,
+      (and_parts (has_value a (last_gate n stages last)) true end).0,
+    )
 
 more_latches : {A B : Type 0} (n : ℕ) (c : Circuit A) (e : Circuit B) (stages : List Lit) (last : Lit) (a b : Assignment)
     → IsChained n c e stages last → IsTrue (is_transition e a b)
-    → IsTrue (list_all (holds_next a b) (stage_latches n (n + length stages) stages))
+    → IsTrue (is_transition c a b) × IsTrue (list_all (holds_next a b) (stage_latches n (n + length stages) stages))
 more_latches n c e stages last a b is goes =
     let more = stage_latches n (n + length stages) stages in
     let all : IsTrue (list_all (holds_next a b) (c.latches.items ++ more)) =
     subst (λ ls. IsTrue (list_all (holds_next a b) ls)) is.latches goes in
-    (and_parts (list_all (holds_next a b) c.latches.items) (list_all (holds_next a b) more)
-    (sym (list_all-append (holds_next a b) c.latches.items more) ∙ all)).1
+    and_parts (list_all (holds_next a b) c.latches.items) (list_all (holds_next a b) more)
+    (sym (list_all-append (holds_next a b) c.latches.items more) ∙ all)
 
--- where the circuit that counts is safe, the circuit is live
-pub IsLive-chained : {A B : Type 0} (n : ℕ) (c : Circuit A) (e : Circuit B) (fairness justice stages : List Lit) (last : Lit)
-    → IsChained n c e stages last → IsTrue (is_below n c) → 0 < n → IsTrue (list_all (literal_below n) stages)
-    → IsTrue (literal_below n last) → AllAwaited (fairness ++ justice) stages → IsAwaited (fairness ++ justice) last
-    → IsSafe e (yes_of (top n stages)) → IsLive c fairness justice
-IsLive-chained n c e fairness justice stages last is within some all below awaited ends safe (t, run, recur) =
-    let literals = fairness ++ justice in
-    let each = EachRecurs-awaited c t literals stages run recur awaited in
-    let (m, from, at_end) = Recurs-awaited c t literals last run recur ends (met_after t stages each 0) in
-    let (u, trace, agree) = IsTrace-widened n c e m t (IsWidened-chained n c e stages last is some all below) within (IsTrace-run c t m run) in
-    let counts : Counts n (n + length stages) m always stages u = record {
-      gates = λ i i_within. (more_gates n c e stages last (u i) is (trace.moments i i_within)).0;
-      latches = λ i i_less. more_latches n c e stages last (u i) (u (i + 1)) is (trace.transitions i i_less);
-    } in
-    let pass = stages-pass stages n (n + length stages) m 0 always t u each (same_at n t u stages agree all) counts
-    (λ i after upto. always_true e (u i) (trace.moments i upto)) from in
-    let now : is_true (u m) last ≡ true = is_true-alike n (u m) (t m) last (agree m) below ∙ at_end in
+first_latches : {A B : Type 0} (n : ℕ) (c : Circuit A) (e : Circuit B) (stages : List Lit) (last : Lit) (a : Assignment)
+    → IsChained n c e stages last → IsTrue (is_initial e a)
+    → IsTrue (is_initial c a) × IsTrue (list_all (holds_reset a) (stage_latches n (n + length stages) stages))
+first_latches n c e stages last a is first =
+    let more = stage_latches n (n + length stages) stages in
+    let all : IsTrue (list_all (holds_reset a) (c.latches.items ++ more)) =
+    subst (λ ls. IsTrue (list_all (holds_reset a) ls)) is.latches first in
+    and_parts (list_all (holds_reset a) c.latches.items) (list_all (holds_reset a) more)
+    (sym (list_all-append (holds_reset a) c.latches.items more) ∙ all)
+
+counts_along : {A B : Type 0} (n : ℕ) (c : Circuit A) (e : Circuit B) (stages : List Lit) (last : Lit) (m : ℕ) (u : ℕ → Assignment)
+    → IsChained n c e stages last → IsTrace e m u → Counts n (n + length stages) m always stages u
+counts_along n c e stages last m u is trace = record {
+  first = (first_latches n c e stages last (u 0) is trace.initial).1;
+  gates = λ i within. (more_gates n c e stages last (u i) is (trace.moments i within)).1;
+  latches = λ i less. (more_latches n c e stages last (u i) (u (i + 1)) is (trace.transitions i less)).1;
+}
+
+-- a trace of the circuit that counts is one of the circuit
+IsTrace-chained : {A B : Type 0} (n : ℕ) (c : Circuit A) (e : Circuit B) (stages : List Lit) (last : Lit) (m : ℕ) (u : ℕ → Assignment)
+    → IsChained n c e stages last → IsTrace e m u → IsTrace c m u
+IsTrace-chained n c e stages last m u is trace = record {
+  initial = (first_latches n c e stages last (u 0) is trace.initial).0;
+  moments = λ i within. (more_gates n c e stages last (u i) is (trace.moments i within)).0;
+  transitions = λ i less. (more_latches n c e stages last (u i) (u (i + 1)) is (trace.transitions i less)).0;
+}
+
+-- literals that are met in turn are so by values that agree with them
+MetBetween-alike : (n : ℕ) (t u : ℕ → Assignment) (m k : ℕ) (ls : List Lit) → ((i : ℕ) → AgreeBelow n (u i) (t i))
+    → IsTrue (list_all (literal_below n) ls) → MetBetween t m k ls → MetBetween u m k ls
+MetBetween-alike n t u m k [] agree all met = met
+MetBetween-alike n t u m k (l ∷ ls) agree all (i, from, is, rest) =
+    let (first, others) = and_parts (literal_below n l) (list_all (literal_below n) ls) all in
+    (i, from, is_true-alike n (u i) (t i) l (agree i) first ∙ is, MetBetween-alike n t u (i + 1) k ls agree others rest)
+
+-- the circuit that counts fails where the stages and the last literal are met in turn
+FailsAfter-chained : {A B : Type 0} (n : ℕ) (c : Circuit A) (e : Circuit B) (stages : List Lit) (last : Lit) (m : ℕ)
+    (t : ℕ → Assignment) → IsChained n c e stages last → IsTrue (is_below n c) → 0 < n → IsTrue (list_all (literal_below n) stages)
+    → IsTrue (literal_below n last) → IsTrace c m t → MetBetween t 0 m stages → IsTrue (is_true (t m) last)
+    → FailsAfter e (yes_of (top n stages)) m
+FailsAfter-chained n c e stages last m t is within some all below trace met ends =
+    let (u, longer, agree) = IsTrace-widened n c e m t (IsWidened-chained n c e stages last is some all below) within trace in
+    let pass = stages-pass stages n (n + length stages) m 0 m always u (MetBetween-alike n t u 0 m stages agree all met)
+    (omega arith) (counts_along n c e stages last m u is longer)
+    (λ i after upto. always_true e (u i) (longer.moments i upto)) in
+    let now : is_true (u m) last ≡ true = is_true-alike n (u m) (t m) last (agree m) below ∙ ends in
     let on : u m (top n stages) ≡ true =
     both_true (is_true (u m) (all_passed n always stages)) (is_true (u m) last) (u m (top n stages))
-    (pass m from (omega arith)) now (more_gates n c e stages last (u m) is (trace.moments m (omega arith))).1 in
-    safe m (u, trace, (booleans_Decides (u m (top n stages)) true).1 on)
+    (pass m (omega arith) (omega arith)) now (more_gates n c e stages last (u m) is (longer.moments m (omega arith))).2 in
+    (u, longer, (booleans_Decides (u m (top n stages)) true).1 on)
+
+-- and only there
+FailsAfter-met : {A B : Type 0} (n : ℕ) (c : Circuit A) (e : Circuit B) (stages : List Lit) (last : Lit) (m : ℕ)
+    → IsChained n c e stages last → FailsAfter e (yes_of (top n stages)) m
+    → (t : ℕ → Assignment) × IsTrace c m t × MetBetween t 0 m stages × IsTrue (is_true (t m) last)
+FailsAfter-met n c e stages last m is (u, trace, fails) =
+    let both : (is_true (u m) (all_passed n always stages) && is_true (u m) last) ≡ true =
+    sym ((booleans_Decides (u m (top n stages)) (is_true (u m) (all_passed n always stages) && is_true (u m) last)).0
+    (more_gates n c e stages last (u m) is (trace.moments m (omega arith))).2) ∙ true_sign (u m) (top n stages) fails in
+    let (pass, ends) = and_parts (is_true (u m) (all_passed n always stages)) (is_true (u m) last) both in
+    let (k, on, met) = stages-back stages n (n + length stages) m m always u (omega arith) (counts_along n c e stages last m u is trace) pass in
+    (u, IsTrace-chained n c e stages last m u is trace, MetBetween-before u k 0 m stages (omega arith) met, ends)
+
+-- so it counts the literals in turn
+pub CountsTo-chained : {A B : Type 0} (n : ℕ) (c : Circuit A) (e : Circuit B) (literals : List Lit) (k : ℕ)
+    → IsChained n c e (turns literals k) (turn literals k) → IsTrue (is_below n c) → 0 < n
+    → IsTrue (list_all (literal_below n) (turns literals k)) → IsTrue (literal_below n (turn literals k))
+    → CountsTo c literals k e (yes_of (top n (turns literals k)))
+CountsTo-chained n c e literals k is within some all below m = (
+  FailsAfter-met n c e (turns literals k) (turn literals k) m is,
+  λ (t, trace, met, ends).
+      FailsAfter-chained n c e (turns literals k) (turn literals k) m t is within some all below trace met ends,
+)
+
+-- each literal recurs whose turn it is
+Recurs-at : {A : Type 0} (c : Circuit A) (t : ℕ → Assignment) (ls : List Lit) (i : ℕ) → IsRun c t → AllRecur t ls
+    → Recurs t (get_or ls i always)
+Recurs-at c t [] i run recur = λ m. (m, omega arith, always_true c (t m) (run.moments m))
+Recurs-at c t (l ∷ ls) zero run recur = recur l (0, refl)
+Recurs-at c t (l ∷ ls) (suc i) run recur = Recurs-at c t ls i run (λ m (k, at). recur m (suc k, at))
+
+-- literals that recur are met in turn from each moment on
+MetBetween-recur : (t : ℕ → Assignment) (ls : List Lit) → ((l : Lit) → Has ls l → Recurs t l) → (m : ℕ)
+    → (n : ℕ) × MetBetween t m n ls
+MetBetween-recur t [] recur m = (m, omega arith)
+MetBetween-recur t (l ∷ ls) recur m =
+    let (i, from, is) = recur l (0, refl) m in
+    let (n, rest) = MetBetween-recur t ls (λ j (k, at). recur j (suc k, at)) (i + 1) in
+    (n, (i, from, is, rest))
+
+Recurs-turns : {A : Type 0} (c : Circuit A) (t : ℕ → Assignment) (literals : List Lit) → IsRun c t → AllRecur t literals
+    → (k : ℕ) (l : Lit) → Has (turns literals k) l → Recurs t l
+Recurs-turns c t literals run recur zero l (i, at) = none_some l at
+Recurs-turns c t literals run recur (suc k) l (i, at) =
+    each_push (Recurs t) (turns literals k) (turn literals k) (λ j m there. Recurs-turns c t literals run recur k m (j, there))
+    (Recurs-at c t literals (k % length literals) run recur) i l at
+
+-- on a run on which the literals recur, any number of them is met in turn
+MeetsMore-run : {A : Type 0} (c : Circuit A) (t : ℕ → Assignment) (literals : List Lit) (k : ℕ) → IsRun c t → AllRecur t literals
+    → (n : ℕ) × MeetsMore c literals k n
+MeetsMore-run c t literals k run recur =
+    let (m, met) = MetBetween-recur t (turns literals k) (Recurs-turns c t literals run recur k) 0 in
+    let (n, from, is) = Recurs-at c t literals (k % length literals) run recur m in
+    (n, (t, IsTrace-run c t n run, MetBetween-behind t 0 m n (turns literals k) from met, is))
+
+-- where no trace meets more than k of them, the circuit is live
+pub IsLive-met : {A : Type 0} (c : Circuit A) (fairness justice : List Lit) (k : ℕ)
+    → ((n : ℕ) → ¬ (MeetsMore c (fairness ++ justice) k n)) → IsLive c fairness justice
+IsLive-met c fairness justice k never (t, run, recur) =
+    let (n, meets) = MeetsMore-run c t (fairness ++ justice) k run recur in never n meets
+
+-- where the circuit that counts is safe, the circuit is live
+pub IsLive-counted : {A B : Type 0} (c : Circuit A) (e : Circuit B) (fairness justice : List Lit) (k : ℕ) (bad : Lit)
+    → CountsTo c (fairness ++ justice) k e bad → IsSafe e bad → IsLive c fairness justice
+IsLive-counted c e fairness justice k bad counts safe =
+    IsLive-met c fairness justice k (λ n meets. safe n ((counts n).1 meets))

@@ -1,22 +1,23 @@
 -- Worked examples: an arbiter that is fair and one that starves, fairness that no run meets, a constraint that ends every
 -- run, and lassos.
-use Rattle.std.proofs.Common.{◌≡◌, ℕ, zero, suc, ◌+◌, ◌≤◌, ◌-◌, ◌&&◌, ◌||◌, eqb, Bool, true, false, not, List, [], ◌∷◌, Some, IsTrue, arith, refl, sym, ap, subst, ◌∙◌}
+use Rattle.std.proofs.Common.{◌≡◌, ℕ, zero, suc, ◌+◌, ◌<◌, ◌≤◌, ◌++◌, ◌-◌, ◌&&◌, ◌||◌, eqb, Bool, true, false, not, List, [], ◌∷◌, Vec, Some, None, length, map, IsTrue, arith, refl, sym, ap, subst, ◌∙◌}
 use Rattle.std.specs.Prelude.{slice_get}
 use Rattle.std.specs.Bool.{beq}
 use Rattle.std.specs.Cmp.{booleans_Decides}
 use Rattle.std.specs.List.{list_all}
 use Rattle.std.proofs.lemmas.Bool.{and_parts, eqb-true, false≢true, not-true}
 use Rattle.gipsat_cnf.specs.Assumptions.{makes_true}
-use Rattle.gipsat_cnf.specs.Formulas.{Assignment, is_true}
+use Rattle.gipsat_cnf.specs.Formulas.{Assignment, Has, is_true}
 use Rattle.gipsat_cnf.specs.Literals.{Lit}
 use Rattle.gipsat_cnf.proofs.Places.{none_some, same_some}
 use Rattle.gipmc_circuits.specs.declared.circuit.And.{And}
 use Rattle.gipmc_circuits.specs.declared.circuit.Circuit.{Circuit}
 use Rattle.gipmc_circuits.specs.declared.circuit.Latch.{Latch}
-use Rattle.gipmc_circuits.specs.Circuit.{has_value, holds_next, holds_reset, is_moment, is_valuation}
-use Rattle.gipmc_liveness.specs.Chains.{all_passed, always, not_of, stage_gates, stage_latches, top, yes_of}
+use Rattle.gipmc_circuits.specs.Circuit.{has_value, holds_next, holds_reset, is_initial, is_moment, is_transition, is_valuation}
+use Rattle.gipmc_liveness.specs.Chains.{all_passed, not_of, stage_gates, stage_latches, top, yes_of}
 use Rattle.gipmc_liveness.specs.Lassos.{IsMet}
-use Rattle.gipmc_liveness.specs.Liveness.{FailsForever, IsLive, IsRun}
+use Rattle.gipmc_liveness.specs.Liveness.{AllRecur, FailsForever, IsLive, IsRun, Recurs}
+use Rattle.gipmc_liveness.specs.Turns.{MetBetween, always, turn, turns}
 
 -- an arbiter grants by turns: its turn changes at each transition; another one never lets it change
 abbrev changes : Latch
@@ -145,6 +146,22 @@ before_the_loop (suc m, from, upto, is) =
 
 in_the_loop : IsMet 0 2 at_first (yes_of 1)
 in_the_loop = (0, omega arith, omega arith, refl)
+
+-- two literals take turns; where there is none, it is the turn of what is always true
+in_turn : turns (yes_of 1 ∷ yes_of 2 ∷ []) 3 ≡ yes_of 1 ∷ yes_of 2 ∷ yes_of 1 ∷ []
+in_turn = refl
+
+turn_of_none : turn [] 5 ≡ always
+turn_of_none = refl
+
+-- what is true at one moment is met once, and not twice
+met_once : MetBetween at_first 0 1 (yes_of 1 ∷ [])
+met_once = (0, omega arith, refl, omega arith)
+
+not_twice : (n : ℕ) → ¬ (MetBetween at_first 0 n (yes_of 1 ∷ yes_of 1 ∷ []))
+not_twice n (i, from, is, (zero, behind, again, rest)) = absurd (omega (arith, behind))
+not_twice n (i, from, is, (suc j, behind, again, rest)) =
+    let none = eqb-true (suc j) 0 (value_of (at_first (suc j) 1) true again) in absurd (omega (arith, none))
 
 -- a chain of one stage for the literal 1 behind the variables below 2: its latch is 2, its gates are 3 and 4, the last gate
 -- is 5

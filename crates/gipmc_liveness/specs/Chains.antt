@@ -1,15 +1,10 @@
 -- Chains of latches, by which a circuit counts how often literals are met in turn.
-use Rattle.std.specs.Prelude.{◌≡◌, ℕ, ◌+◌, ◌*◌, ◌++◌, true, false, List, [], ◌∷◌, Some, length}
-use Rattle.std.specs.Prelude.{◌⊎◌}
-use Rattle.gipsat_cnf.specs.Formulas.{Has}
+use Rattle.std.specs.Prelude.{◌≡◌, ℕ, ◌+◌, ◌*◌, ◌++◌, Bool, true, false, List, [], ◌∷◌, Some, length}
 use Rattle.gipsat_cnf.specs.Literals.{Lit}
 use Rattle.gipmc_circuits.specs.declared.circuit.And.{And}
 use Rattle.gipmc_circuits.specs.declared.circuit.Circuit.{Circuit}
 use Rattle.gipmc_circuits.specs.declared.circuit.Latch.{Latch}
-
--- the literal that is always true
-abbrev pub always : Lit
-always = record { variable = 0; positive = false }
+use Rattle.gipmc_liveness.specs.Turns.{always}
 
 -- the literal of a variable, and its negation
 abbrev pub yes_of : ℕ → Lit
@@ -71,14 +66,6 @@ pub record IsChained {A B : Type 0} (n : ℕ) (c : Circuit A) (e : Circuit B) (s
   pub gates : e.gates.items
       ≡ c.gates.items ++ (stage_gates n (n + length stages) always stages ++ last_gate n stages last ∷ [])
   pub constraints : e.constraints.items ≡ c.constraints.items
-
--- the literal is one of the list, or always true
-abbrev pub IsAwaited : List Lit → Lit → Type 0
-IsAwaited literals l = Has literals l ⊎ (l ≡ always)
-
--- each of the stages waits for such a literal
-abbrev pub AllAwaited : List Lit → List Lit → Type 0
-AllAwaited literals stages = (l : Lit) → Has stages l → IsAwaited literals l
 
 -- e has the latches, gates and constraints of c
 pub record IsCopied {A : Type 0} (c e : Circuit A) : Type 0 where

@@ -1,3 +1,4 @@
-pub mod Liveness
-pub mod Lassos
 pub mod Chains
+pub mod Lassos
+pub mod Liveness
+pub mod Turns

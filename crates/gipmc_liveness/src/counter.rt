@@ -1,12 +1,12 @@
 //! k-liveness: a circuit with a chain of latches, which counts how often literals are met in turn.
-ghost use Rattle.std.specs.Prelude.{◌≡◌, ◌+◌, ◌*◌, ◌^◌, ◌<◌, length, IfOk, IfSome, IsTrue};
+ghost use Rattle.std.specs.Prelude.{◌≡◌, ◌+◌, ◌++◌, ◌*◌, ◌^◌, ◌<◌, length, IfOk, IfSome, IsTrue};
 ghost use Rattle.std.specs.List.{list_all};
 ghost use Rattle.gipmc_circuits.specs.Certificate.{is_certified};
 ghost use Rattle.gipmc_circuits.specs.Circuit.{IsSafe};
 ghost use Rattle.gipmc_circuits.specs.Encoding.{literal_below};
-ghost use Rattle.gipmc_liveness.specs.Chains.{AddsStage, AddsStages, AllAwaited, IsAwaited, IsChained, IsCopied};
-ghost use Rattle.gipmc_liveness.specs.Chains.{all_passed, always, top, yes_of};
+ghost use Rattle.gipmc_liveness.specs.Chains.{AddsStage, AddsStages, IsChained, IsCopied, all_passed, top, yes_of};
 ghost use Rattle.gipmc_liveness.specs.Liveness.{IsLive};
+ghost use Rattle.gipmc_liveness.specs.Turns.{CountsTo, always, turn, turns};
 
 use crate::lasso::both;
 use gipmc_circuits::{And, Circuit, Latch, Netlist, Verdict, certify};
@@ -36,7 +36,7 @@ fn are_below(n: usize, literals: &[Literal]) -> bool
 
 // The literal whose turn it is; always true where there is none.
 fn in_turn(literals: &[Literal], place: usize) -> Literal
-    ensures { IsAwaited literals.now result }
+    ensures { result ≡ turn literals.now place }
 {
     if literals.is_empty() {
         return always();
@@ -50,7 +50,7 @@ fn stages_in_turn<A: Allocator + Copy>(
     literals: &[Literal],
     count: usize,
 ) -> Result<Vec<Literal, A>, AllocError>
-    ensures { IfOk result (λ stages. AllAwaited literals.now stages.items) }
+    ensures { IfOk result (λ stages. stages.items ≡ turns literals.now count) }
 {
     let mut stages = Vec::new(alloc);
     for place in 0..count {
@@ -60,7 +60,10 @@ fn stages_in_turn<A: Allocator + Copy>(
 }
 
 // The circuit without its bad literals.
-fn copied<A: Allocator + Copy>(alloc: A, circuit: &Circuit<A>) -> Result<Circuit<A>, AllocError>
+pub(crate) fn copied<A: Allocator + Copy>(
+    alloc: A,
+    circuit: &Circuit<A>,
+) -> Result<Circuit<A>, AllocError>
     ensures { IfOk result (IsCopied circuit.now) }
 {
     let mut copy = Circuit::new(alloc);
@@ -163,7 +166,9 @@ pub fn counting<A: Allocator + Copy>(
     justice: &[Literal],
     k: usize,
 ) -> Result<Option<(Netlist<A>, Literal)>, AllocError>
-    ensures { IfOk result (λ made. IfSome made
+    ensures counts { IfOk result (λ made. IfSome made
+        (λ m. CountsTo netlist.now.circuit (fairness.now ++ justice.now) k m.0.circuit m.1)) }
+    ensures live { IfOk result (λ made. IfSome made
         (λ m. IsSafe m.0.circuit m.1 → IsLive netlist.now.circuit fairness.now justice.now)) }
 {
     let n = netlist.variables;

@@ -5,6 +5,8 @@
 mod arbiters;
 pub mod example;
 #[cfg(test)]
+mod loops;
+#[cfg(test)]
 mod plain;
 #[cfg(test)]
 mod small;

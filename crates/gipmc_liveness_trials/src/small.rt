@@ -4,19 +4,20 @@ use crate::plain::{
     all_true, at, bits, chance, circuit, is_true, literals, may_begin, next_of, number, values_of,
 };
 use gipmc_circuits::{Circuit, Netlist, Trace};
-use gipmc_liveness::{Lasso, counting, replay_lasso};
+use gipmc_liveness::{Lasso, closed, counting, replay_lasso};
 use gipsat_cnf::Literal;
 use std::alloc::{AllocError, Global};
 
-// A circuit with its fairness constraints and a justice property.
+/// A circuit with its fairness constraints and a justice property.
 #[derive(Drop)]
-struct Question {
-    netlist: Netlist,
-    fairness: Vec<Literal>,
-    justice: Vec<Literal>,
+pub struct Question {
+    pub netlist: Netlist,
+    pub fairness: Vec<Literal>,
+    pub justice: Vec<Literal>,
 }
 
-fn by_chance(alloc: Global, seed: &mut u32) -> Result<Question, AllocError> {
+/// A question by chance.
+pub fn by_chance(alloc: Global, seed: &mut u32) -> Result<Question, AllocError> {
     let circuit = circuit(alloc, seed)?;
     let netlist = Netlist::new(alloc, circuit)?.ok_or(AllocError)?;
     let fairness = literals(alloc, seed, 1)?;
@@ -36,8 +37,8 @@ fn wanted(alloc: Global, question: &Question) -> Result<Vec<Literal>, AllocError
     Ok(wanted)
 }
 
-// A lasso by chance, of up to four moments.
-fn lasso(alloc: Global, seed: &mut u32) -> Result<Lasso, AllocError> {
+/// A lasso by chance, of up to four moments.
+pub fn lasso(alloc: Global, seed: &mut u32) -> Result<Lasso, AllocError> {
     let latches = bits(alloc, chance(seed, 4) as usize, 2)?;
     let mut inputs = Vec::new(alloc);
     let moments = chance(seed, 4) % 4;
@@ -51,8 +52,8 @@ fn lasso(alloc: Global, seed: &mut u32) -> Result<Lasso, AllocError> {
     Ok(Lasso { trace, start })
 }
 
-// Whether it is a lasso, found plainly.
-fn is_lasso(alloc: Global, question: &Question, lasso: &Lasso) -> Result<bool, AllocError> {
+/// Whether it is a lasso, found plainly.
+pub fn is_lasso(alloc: Global, question: &Question, lasso: &Lasso) -> Result<bool, AllocError> {
     let circuit = &question.netlist.circuit;
     let mut left = wanted(alloc, question)?;
     let mut latches = bits(alloc, number(&lasso.trace.latches), 2)?;
@@ -103,7 +104,14 @@ fn replays(alloc: Global, seed: &mut u32) -> Result<(bool, bool), AllocError> {
         &question.justice,
         &lasso,
     )?;
-    Ok((said == plain, plain))
+    let found = closed(
+        alloc,
+        &question.netlist,
+        &question.fairness,
+        &question.justice,
+        lasso.trace,
+    )?;
+    Ok((said == plain && (found.is_some() || !plain), plain))
 }
 
 #[test]

@@ -2,4 +2,4 @@
 use Rattle.gipmc_liveness.proofs.counter.certify_live.Goals as goal
 
 pub returns : goal.returns
-returns g c certified = (rw c.in-Some.is at c.in_ok-made.ensures) (c.in_ok-verdict.ensures.safe certified)
+returns g c certified = (rw c.in-Some.is at c.in_ok-made.ensures.live) (c.in_ok-verdict.ensures.safe certified)
