@@ -1,0 +1,5 @@
+pub mod Paths
+pub mod Inductive
+mod Values
+mod Reading
+mod Circuits
