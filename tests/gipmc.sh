@@ -420,8 +420,9 @@ rm -f cert
 # Texts that are refused.
 # shellcheck disable=SC2016
 try "an empty input" 1 '<stdin>:1: no header `aag` or `aig`' "" ""
-try "a justice property" 1 \
-    "<stdin>:1: justice and fairness properties are not supported" "" 'aag 0 0 0 0 0 0 0 1\n'
+try "a justice property alone" 1 \
+    "<stdin>:1: justice or fairness without bad literals is not supported" "" 'aag 0 0 0 0 0 0 0 1\n'
+try "a justice property beside a bad literal" 20 "" "$safe" 'aag 1 0 1 0 0 1 0 1\n2 2\n2\n1\n3\n'
 try "a latch that is not there" 1 "<stdin>:2: not a number" "" 'aag 1 0 1 0 0\n'
 try "a literal that is too great" 1 "<stdin>:3: a number that is too great" "" 'aag 1 0 1 0 0 1\n2 2\n4\n'
 try "a variable that is not defined" 1 "<stdin>: variable 1 is not defined" "" 'aag 1 0 0 0 0 1\n2\n'

@@ -1,3 +1,4 @@
+mod ClaimLoops
 mod Examples
 mod FrameLoops
 mod Fronts

@@ -24,7 +24,7 @@ use Rattle.gipmc_aiger.specs.CircuitTexts.{packed_header_line, packed_latch_line
 use Rattle.gipmc_aiger.specs.CircuitTexts.{packed_rows_of, reset_number}
 use Rattle.gipmc_aiger.specs.Writable.{FitsGate, FitsLatch, FitsLiteral, FitsVariable, IsWritable}
 use Rattle.gipmc_aiger.proofs.Rereads.{bads_are, header-reread, header_in, latch-behind, limit_is, literal-reread}
-use Rattle.gipmc_aiger.proofs.Rereads.{literals-reread, no_rows, of_eight}
+use Rattle.gipmc_aiger.proofs.Rereads.{literals-reread, no_liveness, no_rows, of_eight}
 
 -- a group and so many more hold the numbers below this one
 abbrev room : ℕ → ℕ
@@ -336,6 +336,7 @@ body-reread c h m greatest is numbered are header =
           (λ x. Every (FitsLiteral x) c.bads.items) (sym greatest) is.bads),
       literals-reread h m limit small c.constraints.items h.constraints gates (ap (λ x. x.constraints) header) (subst
           (λ x. Every (FitsLiteral x) c.constraints.items) (sym greatest) is.constraints),
+      no_liveness h gates (ap (λ x. x.justice) header) (ap (λ x. x.fairness) header),
       gates_again,
       bads_are h c.bads.items (ap (λ x. x.bads) header),
     )

@@ -19,7 +19,7 @@ use Rattle.gipmc_aiger.specs.declared.header.Form.TheVariants.{Ascii}
 use Rattle.gipmc_aiger.specs.declared.header.Header.{Header}
 use Rattle.gipmc_aiger.specs.Reading.{◌>>=◌, digits_at, number_at}
 use Rattle.gipmc_aiger.specs.Circuits.{bads_of, body_at, circuit_of, count_at, defined_at, form_at, gate_at}
-use Rattle.gipmc_aiger.specs.Circuits.{greatest_literal, has_counts, header_at, input_at, latch_at, leading_at}
+use Rattle.gipmc_aiger.specs.Circuits.{behind_liveness, greatest_literal, justice_at, has_counts, header_at, input_at, latch_at, leading_at}
 use Rattle.gipmc_aiger.specs.Circuits.{literal_at, literal_of, rows_of, optional_count_at, properties_at, reset_of}
 use Rattle.gipmc_aiger.specs.Circuits.{rows_at, separated_at, sizes_at, variable_of, written_operands_at}
 use Rattle.gipmc_aiger.specs.CircuitTexts.{aag_text, and_line, and_lines, greatest_variable, header_line, input_lines}
@@ -257,6 +257,8 @@ header_in form m i l a b k =
       sizes = record { maximum = m; inputs = i; latches = l; outputs = 0; gates = a };
       bads = b;
       constraints = k;
+      justice = 0;
+      fairness = 0;
     }
 
 sizes-reread : (m i l a : ℕ) (rest : List ℕ) → m < 2 ^ 31 → i + l + a ≤ m
@@ -322,6 +324,12 @@ pub no_rows : {X : Type 0} (one_at : ℕ → List ℕ → Option (X × List ℕ)
 no_rows one_at zero bytes same = refl
 no_rows one_at (suc n) bytes same = absurd (omega (arith, same))
 
+-- without justice and fairness nothing is read over
+pub no_liveness : (h : Header) (bytes : List ℕ) → h.justice ≡ 0 → h.fairness ≡ 0 → behind_liveness h bytes ≡ Some bytes
+unfolding behind_liveness
+no_liveness h bytes justice fairness =
+    rw (no_rows (justice_at h) h.justice bytes justice, no_rows (literal_at h) h.fairness bytes fairness) refl
+
 of_six : (o a b c d e : List ℕ) → o ++ a ++ b ++ c ++ d ++ e ≡ o ++ (a ++ (b ++ (c ++ (d ++ (e ++ [])))))
 of_six o a b c d e = simp (append_assoc, append-nil)
 
@@ -354,6 +362,7 @@ body-reread c h m greatest is header =
           (λ x. Every (FitsLiteral x) c.bads.items) (sym greatest) is.bads),
       literals-reread h m limit small c.constraints.items h.constraints gates (ap (λ x. x.constraints) header) (subst
           (λ x. Every (FitsLiteral x) c.constraints.items) (sym greatest) is.constraints),
+      no_liveness h gates (ap (λ x. x.justice) header) (ap (λ x. x.fairness) header),
       rows-reread (gate_at h) and_line and_lines (FitsGate m) refl (λ g gs. refl)
           (λ place g rest fits. gate-reread h m ascii limit small place g rest fits) c.gates.items h.sizes.gates 0 []
           (ap (λ x. x.sizes.gates) header) (subst (λ x. Every (FitsGate x) c.gates.items) (sym greatest) is.gates),

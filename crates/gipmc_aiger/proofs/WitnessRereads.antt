@@ -1,8 +1,8 @@
 -- What was written as a witness is read again.
 use Rattle.std.proofs.Common.{◌≡◌, ℕ, ◌^◌, ◌<◌, Bool, true, false, List, [], ◌∷◌, ◌++◌, length, map, Some, arith, refl}
 use Rattle.std.proofs.Common.{ap, ◌∙◌, append_assoc, cond, decimal}
-use Rattle.std.specs.Prelude.{◌==◌, if◌then◌else◌, codes}
-use Rattle.std.specs.List.{list_all, onto_first}
+use Rattle.std.specs.Prelude.{◌==◌, if◌then◌else◌}
+use Rattle.std.specs.List.{list_all, list_any, onto_first}
 use Rattle.std.specs.Str.Parse.{AllDigits}
 use Rattle.std.proofs.lemmas.Str.Parse.{digit_from_value}
 use Rattle.std.proofs.lemmas.List.{length-map}
@@ -12,7 +12,9 @@ use Rattle.gipmc_circuits.specs.declared.trace.Trace.{Trace}
 use Rattle.giputils_text.specs.Lines.{pieces}
 use Rattle.giputils_text.proofs.Pieces.{text_lines-at}
 use Rattle.gipmc_aiger.specs.Lists.{Every}
+use Rattle.gipmc_aiger.proofs.ClaimLoops.{within_more}
 use Rattle.gipmc_aiger.proofs.Rereads.{number-reread_alone}
+use Rattle.gipmc_aiger.specs.Claims.{claim_by, claim_of, claims_from, claims_of, is_last, properties_of}
 use Rattle.gipmc_aiger.specs.Traces.{witness_text, witness_view}
 use Rattle.gipmc_aiger.specs.declared.witness.Witness.{Witness}
 use Rattle.gipmc_aiger.specs.Witnesses.{bits_line, bits_of, frames_lines, frames_of, frames_view}
@@ -134,5 +136,77 @@ witness_rereads latches inputs w small counted rows =
       property-reread w.property small,
       bits-reread latches w.trace.latches.items counted,
       frames-reread inputs w.trace.inputs.items rows,
+    )
+    refl
+
+-- a byte that is no `b`
+abbrev IsNoLetter : ℕ → Type 0
+IsNoLetter b = (b == 98) ≡ false
+
+piece-alone : (ds : List ℕ) → Every IsNoLetter ds → pieces 98 ds ≡ ds ∷ []
+piece-alone [] all = refl
+piece-alone (b ∷ ds) (here, others) =
+    ap (λ v. cond v ([] ∷ pieces 98 ds) (onto_first b (pieces 98 ds))) here ∙ ap (onto_first b) (piece-alone ds others)
+
+digits-no_letter : (ds : List ℕ) → AllDigits 10 ds → Every IsNoLetter ds
+digits-no_letter [] all = tt
+digits-no_letter (d ∷ ds) (digit, all) =
+    let (from, to) = digit_from_value d digit in
+    (grind (arith, from, to), digits-no_letter ds all)
+
+-- the one property of a line is read again
+properties-reread : (n : ℕ) → n < 2 ^ 31 → properties_of (98 ∷ decimal n) ≡ Some (n ∷ [])
+properties-reread n small =
+    let digits = digits-no_letter (decimal n) (decimal_is_IsNumeral n (omega (arith, small))).0.1 in
+    rw (
+      piece-alone (decimal n) digits,
+      number-reread_alone 2147483647 n (omega (arith, small)) (omega (arith, small)),
+    )
+    refl
+
+-- behind the moments of a witness no answer follows
+frames-last : {A : Type 0} (latches inputs : ℕ) (frames : List (Vec Bool A))
+    → claims_from latches inputs true (said_lines (frames_lines frames)) ≡ Some []
+frames-last latches inputs [] = refl
+frames-last latches inputs (frame ∷ frames) =
+    rw (bits-line frame.items (frames_lines frames))
+    (within_more latches inputs (map bit_code frame.items) (said_lines (frames_lines frames)) (bits-no_end frame.items)
+    ∙ frames-last latches inputs frames)
+
+-- digits and values have no `#`
+digits-no_mark : (ds : List ℕ) → AllDigits 10 ds → is_last ds ≡ false
+digits-no_mark [] all = refl
+digits-no_mark (d ∷ ds) (digit, all) =
+    let (from, to) = digit_from_value d digit in
+    let here : (d == 35) ≡ false = grind (arith, from, to) in
+    rw (here, digits-no_mark ds all) refl
+
+bits-no_mark : (bits : List Bool) → is_last (map bit_code bits) ≡ false
+bits-no_mark [] = refl
+bits-no_mark (true ∷ bits) = bits-no_mark bits
+bits-no_mark (false ∷ bits) = bits-no_mark bits
+
+frames-no_mark : {A : Type 0} (frames : List (Vec Bool A)) → list_any is_last (said_lines (frames_lines frames)) ≡ false
+frames-no_mark [] = refl
+frames-no_mark (frame ∷ frames) =
+    rw (bits-line frame.items (frames_lines frames), bits-no_mark frame.items) (frames-no_mark frames)
+
+-- the text of a witness has one claim: that of the witness, where each moment has so many inputs
+pub claims_reread : {A : Type 0} (latches inputs property : ℕ) (trace : Trace A) → property < 2 ^ 31
+    → length trace.latches.items ≡ latches → Every (λ row. length row.items ≡ inputs) trace.inputs.items
+    → claims_of latches inputs (witness_text property trace) ≡ Some (claim_by (property ∷ []) trace ∷ [])
+unfolding claim_of
+claims_reread latches inputs property trace small counted rows =
+    let digits = digits-no_mark (decimal property) (decimal_is_IsNumeral property (omega (arith, small))).0.1 in
+    rw (
+      lines-are property trace small,
+      digits,
+      bits-no_mark trace.latches.items,
+      frames-no_mark trace.inputs.items,
+      properties-reread property small,
+      bits-reread latches trace.latches.items counted,
+      frames-reread inputs trace.inputs.items rows,
+      bits-no_end trace.latches.items,
+      frames-last latches inputs trace.inputs.items,
     )
     refl

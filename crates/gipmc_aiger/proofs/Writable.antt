@@ -1,5 +1,5 @@
 -- The two forms have room for each circuit that is well-formed, if its numbers are small enough.
-use Rattle.std.proofs.Common.{◌≡◌, ⊎_elim, ℕ, zero, suc, ◌+◌, ◌<◌, ◌≤◌, ◌^◌, ◌&&◌, ◌||◌, max, Bool, true, false, not, List, [], ◌∷◌, eqb, length, map, IsTrue, arith, refl, sym, subst, ◌∙◌}
+use Rattle.std.proofs.Common.{◌≡◌, ⊎_elim, ℕ, zero, suc, ◌+◌, ◌<◌, ◌≤◌, ◌^◌, ◌&&◌, max, Bool, true, false, not, List, [], ◌∷◌, eqb, length, map, IsTrue, arith, refl, sym, subst, ◌∙◌}
 use Rattle.std.specs.Prelude.{nat_le, nat_lt}
 use Rattle.std.specs.List.{list_all}
 use Rattle.std.proofs.Math.Nat.{le-max_left, le-max_right, le_refl}

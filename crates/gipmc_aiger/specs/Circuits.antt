@@ -1,5 +1,5 @@
 -- Which circuit a text in a form of AIGER writes.
-use Rattle.std.specs.Prelude.{◌≡◌, ℕ, zero, suc, ◌+◌, ◌-◌, ◌*◌, ◌/◌, ◌%◌, min, Bool, true, false, List, [], ◌∷◌, Option, Some, None, nat_lt, nat_le, ◌==◌, if◌then◌else◌, unwrap_or}
+use Rattle.std.specs.Prelude.{◌≡◌, ℕ, zero, suc, ◌+◌, ◌-◌, ◌*◌, ◌/◌, ◌%◌, ◌&&◌, ◌||◌, min, Bool, true, false, List, [], ◌∷◌, Option, Some, None, nat_lt, nat_le, ◌==◌, if◌then◌else◌, unwrap_or}
 use Rattle.std.specs.List.Sorted.{IsPermutation}
 use Rattle.std.specs.Str.{byte}
 use Rattle.gipsat_cnf.specs.Literals.{Lit}
@@ -11,6 +11,7 @@ use Rattle.gipmc_aiger.specs.declared.header.Form.TheVariants.{Ascii, Binary}
 use Rattle.gipmc_aiger.specs.declared.header.Sizes.{Sizes}
 use Rattle.gipmc_aiger.specs.declared.header.Properties.{Properties}
 use Rattle.gipmc_aiger.specs.declared.header.Header.{Header}
+use Rattle.gipmc_aiger.specs.declared.header.Justice.{Justice}
 use Rattle.giputils_text.specs.Lines.{line_feed, space}
 use Rattle.gipmc_aiger.specs.Reading.{◌>>=◌, expected_at, number_at, optional_at, delta_at}
 use Rattle.gipmc_aiger.specs.Tails.{is_tail}
@@ -66,20 +67,35 @@ abbrev pub has_counts : Form → Sizes → Bool
 has_counts Ascii sizes = nat_le (sizes.inputs + sizes.latches + sizes.gates) sizes.maximum
 has_counts Binary sizes = (sizes.inputs + sizes.latches + sizes.gates) == sizes.maximum
 
--- the header of a text, and the bytes behind its line; it has neither justice nor fairness
+-- there are justice properties or fairness constraints, and no bad literals
+abbrev pub is_live_alone : Properties → Bool
+is_live_alone p = (nat_lt 0 p.justice || nat_lt 0 p.fairness) && (p.bads == 0)
+
+-- the header of a text, and the bytes behind its line; justice and fairness stand beside bad literals alone
 unfoldable pub header_at : List ℕ → Option (Header × List ℕ)
 header_at bytes = do
   form ← form_at bytes
   sizes ← sizes_at form.1
   properties ← properties_at sizes.1
   rest ← expected_at line_feed properties.1
-  if nat_lt 0 properties.0.justice then None else if nat_lt 0 properties.0.fairness then None
+  if is_live_alone properties.0 then None
       else if has_counts form.0 sizes.0
       then Some (
-        record { form = form.0; sizes = sizes.0; bads = properties.0.bads; constraints = properties.0.constraints },
+        record {
+          form = form.0;
+          sizes = sizes.0;
+          bads = properties.0.bads;
+          constraints = properties.0.constraints;
+          justice = properties.0.justice;
+          fairness = properties.0.fairness;
+        },
         rest,
       )
       else None
+
+-- this is the header of the text
+abbrev pub IsHeaderOf : List ℕ → Header → Type 0
+IsHeaderOf text h = (rest : List ℕ) × (header_at text ≡ Some (h, rest))
 
 -- so many rows, by what the row at each place says
 abbrev pub rows_at : {X : Type 0} → (ℕ → List ℕ → Option (X × List ℕ)) → ℕ → ℕ → List ℕ → Option (List X × List ℕ)
@@ -184,6 +200,27 @@ gate_at h place bytes = do
   operands ← operands_at h output.0 output.1
   Some (record { output = output.0; left = literal_of operands.0; right = literal_of operands.1 }, operands.2)
 
+-- how many literals the justice property at a place has: a line with a number
+abbrev pub justice_at : Header → ℕ → List ℕ → Option (Justice × List ℕ)
+justice_at h place bytes =
+    number_at greatest_count bytes >>= λ n. expected_at line_feed n.1 >>= λ rest.
+    Some (record { literals = n.0 }, rest)
+
+-- what stands behind the literals of some justice properties, each of which has so many lines
+abbrev pub behind_justice : Header → List Justice → List ℕ → Option (List ℕ)
+behind_justice h [] bytes = Some bytes
+behind_justice h (property ∷ properties) bytes =
+    rows_at (literal_at h) 0 property.literals bytes >>= λ literals. behind_justice h properties literals.1
+
+-- what stands behind the justice properties, first the number of literals of each and then the literals, and the
+-- fairness constraints
+unfoldable pub behind_liveness : Header → List ℕ → Option (List ℕ)
+behind_liveness h bytes = do
+  properties ← rows_at (justice_at h) 0 h.justice bytes
+  rest ← behind_justice h properties.0 properties.1
+  fairness ← rows_at (literal_at h) 0 h.fairness rest
+  Some fairness.1
+
 -- the rows of a circuit, without where they lie in memory
 pub record Rows : Type 0 where
   pub inputs : List ℕ
@@ -206,7 +243,8 @@ rows_of c = record {
 abbrev pub bads_of : Header → List Lit → List Lit → List Lit
 bads_of h outputs bads = if h.bads == 0 then outputs else bads
 
--- the circuit that the rows behind a header write: inputs, latches, outputs, bad literals, constraints, gates
+-- the circuit that the rows behind a header write: inputs, latches, outputs, bad literals, constraints, what is read over
+-- of justice and fairness, gates
 unfoldable pub body_at : Header → List ℕ → Option Rows
 body_at h bytes = do
   inputs ← rows_at (input_at h) 0 h.sizes.inputs bytes
@@ -214,7 +252,8 @@ body_at h bytes = do
   outputs ← rows_at (literal_at h) 0 h.sizes.outputs latches.1
   bads ← rows_at (literal_at h) 0 h.bads outputs.1
   constraints ← rows_at (literal_at h) 0 h.constraints bads.1
-  gates ← rows_at (gate_at h) 0 h.sizes.gates constraints.1
+  rest ← behind_liveness h constraints.1
+  gates ← rows_at (gate_at h) 0 h.sizes.gates rest
   if is_tail h gates.1
       then Some (record {
         inputs = inputs.0;

@@ -9,5 +9,6 @@ pub mod Sharing
 pub mod WitnessCircuits
 pub mod Witnesses
 pub mod Traces
+pub mod Claims
 pub mod Invariants
 pub mod Defects

@@ -18,12 +18,13 @@ abbrev pub begins_comment : List ℕ → Bool
 begins_comment [] = false
 begins_comment (first ∷ rest) = (first == byte "c") && not (begins_number rest)
 
--- how many rows of a kind the header has: `i` for inputs, `l`, `o`, `b`, and `c` for constraints
+-- how many rows of a kind the header has: `i` for inputs, `l`, `o`, `b`, `c` for constraints, `j` and `f`
 abbrev pub count_of : Header → ℕ → ℕ
 count_of h kind =
     if kind == byte "i" then h.sizes.inputs else if kind == byte "l" then h.sizes.latches
     else if kind == byte "o" then h.sizes.outputs else if kind == byte "b" then h.bads
-    else if kind == byte "c" then h.constraints else 0
+    else if kind == byte "c" then h.constraints else if kind == byte "j" then h.justice
+    else if kind == byte "f" then h.fairness else 0
 
 -- the name that a line gives to a row, behind its kind, its place and a space
 abbrev pub name_at : ℕ → List ℕ → Option (List ℕ)

@@ -9,7 +9,7 @@ use Rattle.gipmc_circuits.specs.declared.witness_circuit.Register.{Register}
 use Rattle.gipmc_circuits.specs.declared.witness_circuit.WitnessCircuit.{WitnessCircuit}
 use Rattle.gipmc_circuits.specs.WitnessCircuits.{next_link, reset_link, unlinked, unlinked_variables}
 use Rattle.gipmc_aiger.specs.declared.header.Header.{Header}
-use Rattle.gipmc_aiger.specs.Circuits.{bads_of, defined_at, gate_at, greatest_literal, header_at, input_at, literal_at, literal_of, rows_at, separated_at}
+use Rattle.gipmc_aiger.specs.Circuits.{bads_of, behind_liveness, defined_at, gate_at, greatest_literal, header_at, input_at, literal_at, literal_of, rows_at, separated_at}
 use Rattle.gipmc_aiger.specs.Reading.{◌>>=◌, expected_at, number_at, optional_at}
 use Rattle.gipmc_aiger.specs.Sharing.{shared_with}
 use Rattle.gipmc_aiger.specs.Tails.{is_tail}
@@ -56,7 +56,8 @@ witness_body_at h bytes = do
   outputs ← rows_at (literal_at h) 0 h.sizes.outputs registers.1
   bads ← rows_at (literal_at h) 0 h.bads outputs.1
   constraints ← rows_at (literal_at h) 0 h.constraints bads.1
-  gates ← rows_at (gate_at h) 0 h.sizes.gates constraints.1
+  rest ← behind_liveness h constraints.1
+  gates ← rows_at (gate_at h) 0 h.sizes.gates rest
   if is_tail h gates.1
       then Some (record {
         inputs = inputs.0;

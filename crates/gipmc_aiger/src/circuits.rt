@@ -7,6 +7,7 @@ ghost use Rattle.gipmc_aiger.specs.Circuits.{body_at, circuit_of, rows_of, IsReo
 use crate::error::{AigerError, Place, Reason, Stop};
 use crate::header::{Form, Header};
 use crate::headers::header;
+use crate::liveness::behind_liveness;
 use crate::order::order;
 use crate::place::error_at;
 use crate::rows::rows;
@@ -14,7 +15,9 @@ use crate::tails::tail;
 use gipmc_circuits::{Circuit, Netlist};
 use std::alloc::Allocator;
 
-/// Reads a circuit in either form of AIGER 1.9. Where the text has no bad literals, its outputs are taken for them.
+/// Reads a circuit in either form of AIGER 1.9. Where the text has no bad literals, its outputs are taken for them. Beside
+/// bad literals, justice properties and fairness constraints are read over; [`read_header`](crate::read_header) counts
+/// them.
 ///
 /// Gates of an `aag` text may stand in any order; the circuit has each behind those that it depends on.
 ///
@@ -61,6 +64,7 @@ fn body<A: Allocator + Copy>(alloc: A, header: &Header, bytes: &[u8]) -> Result<
     let (outputs, rest) = rows(alloc, header, header.sizes.outputs, rest)?;
     let (bads, rest) = rows(alloc, header, header.bads, rest)?;
     let (constraints, rest) = rows(alloc, header, header.constraints, rest)?;
+    let rest = behind_liveness(alloc, header, rest)?;
     let (gates, rest) = rows(alloc, header, header.sizes.gates, rest)?;
     tail(header, rest)?;
     let bads = if header.bads == 0 { outputs } else { bads };

@@ -49,6 +49,17 @@ pub struct Header {
     pub bads: u32,
     /// How many constraints there are.
     pub constraints: u32,
+    /// How many justice properties there are.
+    pub justice: u32,
+    /// How many fairness constraints there are.
+    pub fairness: u32,
+}
+
+/// How many literals a justice property has.
+#[derive(Clone, Copy)]
+pub(crate) struct Justice {
+    // How many.
+    pub(crate) literals: u32,
 }
 
 impl Header {

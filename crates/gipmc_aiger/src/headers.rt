@@ -1,14 +1,15 @@
 //! A reader of headers.
-ghost use Rattle.std.specs.Prelude.{◌≡◌, ◌<◌, ◌^◌, IfOk};
+ghost use Rattle.std.specs.Prelude.{◌≡◌, ◌<◌, ◌^◌, None, IfOk, IsErrOf};
 ghost use Rattle.gipmc_aiger.specs.Reading.{Gives};
-ghost use Rattle.gipmc_aiger.specs.Circuits.{form_at, letter_at, count_at, optional_count_at, sizes_at, properties_at, header_at, has_counts};
+ghost use Rattle.gipmc_aiger.specs.Circuits.{form_at, letter_at, count_at, optional_count_at, sizes_at, properties_at, header_at, has_counts, is_live_alone, IsHeaderOf};
 
-use crate::error::{Reason, Stop};
+use crate::error::{AigerError, Place, Reason, Stop};
 use crate::header::{Form, Header, Properties, Sizes};
 use crate::numbers::{NEWLINE, SPACE, expected, number, optional};
+use crate::place::error_at;
 
 // The greatest number of a header.
-const GREATEST_COUNT: u32 = 2_147_483_647;
+pub(crate) const GREATEST_COUNT: u32 = 2_147_483_647;
 
 // The form that the first word names.
 fn form(bytes: &[u8]) -> Result<(Form, &[u8]), Stop>
@@ -104,6 +105,13 @@ fn has_counts(form: Form, sizes: &Sizes) -> bool
     }
 }
 
+// Whether there are justice properties or fairness constraints, and no bad literals.
+fn is_live_alone(properties: &Properties) -> bool
+    ensures { result ≡ is_live_alone properties.now }
+{
+    (properties.justice > 0 || properties.fairness > 0) && properties.bads == 0
+}
+
 // The header at the front of a text, and the bytes behind its line.
 #[tactic(auto, unfolding(crate::specs::Circuits::header_at))]
 pub(crate) fn header(bytes: &[u8]) -> Result<(Header, &[u8]), Stop>
@@ -113,10 +121,7 @@ pub(crate) fn header(bytes: &[u8]) -> Result<(Header, &[u8]), Stop>
     let (sizes, rest) = sizes(rest)?;
     let (properties, rest) = properties(rest)?;
     let rest = expected(NEWLINE, Reason::Separator, rest)?;
-    if properties.justice > 0 {
-        return Err(Stop::Refused(Reason::Liveness, rest.len().saturating_add(1)));
-    }
-    if properties.fairness > 0 {
+    if is_live_alone(&properties) {
         return Err(Stop::Refused(Reason::Liveness, rest.len().saturating_add(1)));
     }
     if !has_counts(form, &sizes) {
@@ -127,6 +132,23 @@ pub(crate) fn header(bytes: &[u8]) -> Result<(Header, &[u8]), Stop>
         sizes,
         bads: properties.bads,
         constraints: properties.constraints,
+        justice: properties.justice,
+        fairness: properties.fairness,
     };
     Ok((header, rest))
+}
+
+/// Reads the header of the text of a circuit: which form it has, and how many rows of each kind.
+///
+/// # Errors
+/// [`AigerError::Refused`] where the text does not begin with a header.
+pub fn read_header(text: &[u8]) -> Result<Header, AigerError>
+    ensures ok { IfOk result (IsHeaderOf text.now) }
+    ensures refused { (place : Place) (reason : Reason) → IsErrOf result (AigerError.Refused place reason) →
+        header_at text.now ≡ None }
+{
+    match header(text) {
+        Ok((header, _)) => Ok(header),
+        Err(stop) => Err(error_at(text, stop)),
+    }
 }

@@ -3,10 +3,12 @@
 #![tactic(auto)]
 
 pub mod circuits;
+pub mod claims;
 pub mod error;
 pub mod header;
-mod headers;
+pub mod headers;
 pub mod invariant;
+mod liveness;
 mod numbers;
 mod order;
 mod place;
@@ -18,7 +20,10 @@ pub mod witness_circuits;
 pub mod writer;
 
 pub use circuits::read_circuit;
+pub use claims::{Claim, read_claims};
 pub use error::{AigerError, Place, Reason};
+pub use header::Header;
+pub use headers::read_header;
 pub use invariant::{read_invariant, read_invariant_for, write_invariant};
 pub use witness::{Witness, read_witness, write_witness};
 pub use witness_circuits::read_witness_circuit;

@@ -1,12 +1,13 @@
 //! The rows behind a header: a line each, but for the gates of the binary form, which are bytes.
 ghost use Rattle.std.specs.Prelude.{◌≡◌, ◌<◌, ◌^◌, ℕ, List, Option, IfOk};
 ghost use Rattle.gipmc_aiger.specs.Reading.{Gives};
-ghost use Rattle.gipmc_aiger.specs.Circuits.{literal_of, variable_of, reset_of, defined_at, separated_at, input_at, latch_at, leading_at, literal_at, operands_at, written_operands_at, packed_operands_at, gate_at, rows_at};
+ghost use Rattle.gipmc_aiger.specs.Circuits.{literal_of, variable_of, reset_of, defined_at, separated_at, input_at, latch_at, leading_at, literal_at, operands_at, written_operands_at, packed_operands_at, gate_at, rows_at, justice_at};
 ghost use Rattle.gipmc_aiger.specs.WitnessCircuits.{register_at};
 ghost use Rattle.gipmc_aiger.specs.declared.header.Header.{Header};
 
 use crate::error::{Reason, Stop};
-use crate::header::{Form, Header};
+use crate::header::{Form, Header, Justice};
+use crate::headers::GREATEST_COUNT;
 use crate::numbers::{NEWLINE, SPACE, delta, expected, number, optional};
 use gipmc_circuits::{And, Latch, Register};
 use gipsat_cnf::Literal;
@@ -167,6 +168,20 @@ impl Row for Register {
             reset: literal_of(code.unwrap_or(0)),
         };
         Ok((register, rest))
+    }
+}
+
+impl Row for Justice {
+    ghost says = { justice_at };
+
+    fn read<'a>(
+        _header: &Header,
+        _place: u32,
+        bytes: &'a [u8],
+    ) -> Result<(Justice, &'a [u8]), Stop> {
+        let (literals, rest) = number(GREATEST_COUNT, bytes)?;
+        let rest = expected(NEWLINE, Reason::Separator, rest)?;
+        Ok((Justice { literals }, rest))
     }
 }
 

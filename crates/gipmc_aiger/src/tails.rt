@@ -56,6 +56,8 @@ fn count_of(header: &Header, kind: u8) -> u32
         b'o' => header.sizes.outputs,
         b'b' => header.bads,
         b'c' => header.constraints,
+        b'j' => header.justice,
+        b'f' => header.fairness,
         _ => 0,
     }
 }

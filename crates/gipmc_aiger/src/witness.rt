@@ -64,7 +64,7 @@ fn stimulus<A: Allocator + Copy>(
 }
 
 // The text behind the line `1`.
-fn status(text: &[u8]) -> Result<&[u8], Stop>
+pub(crate) fn status(text: &[u8]) -> Result<&[u8], Stop>
     ensures { Gives (λ rest. said_lines rest.now) result (status_at (said_lines text.now)) }
 {
     let Some((line, rest)) = said_line(text) else {
@@ -113,10 +113,10 @@ fn property_of(line: &[u8]) -> Result<u32, Stop>
 }
 
 // The greatest number of a property.
-const GREATEST_PROPERTY: u32 = 2_147_483_647;
+pub(crate) const GREATEST_PROPERTY: u32 = 2_147_483_647;
 
 // So many values in a line, and the text behind it.
-fn bits<A: Allocator + Copy>(
+pub(crate) fn bits<A: Allocator + Copy>(
     alloc: A,
     count: usize,
     text: &[u8],
@@ -131,7 +131,7 @@ fn bits<A: Allocator + Copy>(
 }
 
 // The values in a line.
-fn bits_in<A: Allocator + Copy>(
+pub(crate) fn bits_in<A: Allocator + Copy>(
     alloc: A,
     count: usize,
     line: &[u8],
@@ -170,7 +170,7 @@ fn values<A: Allocator + Copy>(alloc: A, line: &[u8]) -> Result<Vec<bool, A>, Al
 }
 
 // The values at each moment, up to the line `.`.
-fn frames<A: Allocator + Copy>(
+pub(crate) fn frames<A: Allocator + Copy>(
     alloc: A,
     count: usize,
     text: &[u8],
@@ -191,7 +191,7 @@ fn frames<A: Allocator + Copy>(
 }
 
 // Whether a line ends a witness.
-fn is_end(line: &[u8]) -> bool
+pub(crate) fn is_end(line: &[u8]) -> bool
     ensures { result ≡ is_end line.now }
 {
     match line {
@@ -211,7 +211,7 @@ fn is_remark(line: &[u8]) -> bool
 }
 
 // The first line of a text that says something, and what comes after it.
-fn said_line(text: &[u8]) -> Option<(&[u8], &[u8])>
+pub(crate) fn said_line(text: &[u8]) -> Option<(&[u8], &[u8])>
     ensures lines { MatchOption result (said_lines text.now ≡ [])
         (λ split. said_lines text.now ≡ split.0.now ∷ said_lines split.1.now) }
     ensures shorter { IfSome result (λ split. length split.1.now < length text.now) }
@@ -227,7 +227,7 @@ fn said_line(text: &[u8]) -> Option<(&[u8], &[u8])>
 }
 
 // How many bytes are left at a place within a line, by the line and what comes after it.
-fn left_at(line: &[u8], after: &[u8]) -> usize {
+pub(crate) fn left_at(line: &[u8], after: &[u8]) -> usize {
     after.len().saturating_add(line.len().max(1))
 }
 

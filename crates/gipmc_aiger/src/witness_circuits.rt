@@ -8,6 +8,7 @@ ghost use Rattle.gipmc_aiger.specs.WitnessCircuits.{IsWitnessOf, WritesWitness, 
 use crate::error::{AigerError, Place, Reason, Stop};
 use crate::header::{Form, Header};
 use crate::headers::header;
+use crate::liveness::behind_liveness;
 use crate::order::order;
 use crate::place::error_at;
 use crate::rows::rows;
@@ -69,6 +70,7 @@ fn body<'a, A: Allocator + Copy>(
     let (outputs, rest) = rows(alloc, header, header.sizes.outputs, rest)?;
     let (bads, rest) = rows(alloc, header, header.bads, rest)?;
     let (constraints, rest) = rows(alloc, header, header.constraints, rest)?;
+    let rest = behind_liveness(alloc, header, rest)?;
     let (gates, rest) = rows(alloc, header, header.sizes.gates, rest)?;
     tail(header, rest)?;
     let bads = if header.bads == 0 { outputs } else { bads };

@@ -46,7 +46,7 @@ fn is_text(written: Option<Vec<u8>>, wanted: &[u8]) -> bool {
 }
 
 // A text, and the circuit in the ascii form and in the binary form.
-const CIRCUITS: [(&[u8], &[u8], &[u8]); 5] = [
+const CIRCUITS: [(&[u8], &[u8], &[u8]); 6] = [
     (
         b"aag 0 0 0 0 0\n",
         b"aag 0 0 0 0 0 0 0\n",
@@ -63,6 +63,12 @@ const CIRCUITS: [(&[u8], &[u8], &[u8]); 5] = [
         b"aag 4 0 4 1 0 1 1\n2 3\n4 4 0\n6 6 1\n8 9 8\n2\n4\n7\n",
         b"aag 4 0 4 0 0 1 1\n2 3 0\n4 4 0\n6 6 1\n8 9 8\n4\n7\n",
         b"aig 4 0 4 0 0 1 1\n3 0\n4 0\n6 1\n9 8\n4\n7\n",
+    ),
+    // Two justice properties, one of them of two literals, and a fairness constraint.
+    (
+        b"aag 2 0 1 0 1 1 1 2 1\n2 2\n2\n3\n1\n2\n2\n0\n3\n1\n4 2 3\nj1 live\nf0 fair\n",
+        b"aag 2 0 1 0 1 1 1\n2 2 0\n2\n3\n4 2 3\n",
+        b"aig 2 0 1 0 1 1 1\n2 0\n2\n3\n\x01\x01",
     ),
     // Gates in another order, and a number of two groups.
     (

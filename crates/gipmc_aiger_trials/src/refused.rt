@@ -1,6 +1,8 @@
 //! Texts that are refused, with the place and the reason.
 
-use gipmc_aiger::{AigerError, Place, Reason, read_circuit, read_invariant, read_witness};
+use gipmc_aiger::{
+    AigerError, Place, Reason, read_circuit, read_claims, read_invariant, read_witness,
+};
 use std::alloc::Global;
 
 // How a text of a circuit is refused; None where it is read.
@@ -13,12 +15,17 @@ fn witness_refusal(alloc: Global, text: &[u8]) -> Option<AigerError> {
     read_witness(alloc, 1, 2, text).err()
 }
 
+// How a text of witnesses with one latch and two inputs is refused.
+fn claims_refusal(alloc: Global, text: &[u8]) -> Option<AigerError> {
+    read_claims(alloc, 1, 2, text).err()
+}
+
 // How a text of an invariant over two latches is refused.
 fn invariant_refusal(alloc: Global, text: &[u8]) -> Option<AigerError> {
     read_invariant(alloc, 2, text).err()
 }
 
-const CIRCUITS: [(&[u8], AigerError); 35] = [
+const CIRCUITS: [(&[u8], AigerError); 39] = [
     (b"", AigerError::Refused(Place::Line(1), Reason::Format)),
     (
         b"abg 0 0 0 0 0\n",
@@ -47,6 +54,24 @@ const CIRCUITS: [(&[u8], AigerError); 35] = [
     (
         b"aag 0 0 0 0 0 0 0 0 1\n",
         AigerError::Refused(Place::Line(1), Reason::Liveness),
+    ),
+    // Beside a bad literal: no number of literals of a property, one literal too few, a literal that is too great, and a
+    // symbol of a property that is not there.
+    (
+        b"aag 0 0 0 0 0 1 0 1\n1\n",
+        AigerError::Refused(Place::Line(3), Reason::Number),
+    ),
+    (
+        b"aag 0 0 0 0 0 1 0 2\n1\n1\n2\n0\n1\n",
+        AigerError::Refused(Place::Line(7), Reason::Number),
+    ),
+    (
+        b"aag 0 0 0 0 0 1 0 0 1\n1\n2\n",
+        AigerError::Refused(Place::Line(3), Reason::Great),
+    ),
+    (
+        b"aag 0 0 0 0 0 1 0 1\n1\n1\n0\nj1 x\n",
+        AigerError::Refused(Place::Line(5), Reason::Symbol),
     ),
     (
         b"aag 0 0 0 0 0 0 0 0 0 0\n",
@@ -271,6 +296,49 @@ const INVARIANTS: [(&[u8], AigerError); 15] = [
         AigerError::Refused(Place::Line(2), Reason::Great),
     ),
 ];
+
+// In the second of two answers, and in a trace that abc wrote.
+const CLAIMS: [(&[u8], AigerError); 8] = [
+    (
+        b"3\nb0\n.\n",
+        AigerError::Refused(Place::Line(1), Reason::Status),
+    ),
+    (
+        b"0\nb0\n.\n1\n0\n0\n",
+        AigerError::Refused(Place::Line(5), Reason::Property),
+    ),
+    (
+        b"2\nb0\n.\n1\nb0b\n0\n00\n.\n",
+        AigerError::Refused(Place::Line(5), Reason::Number),
+    ),
+    (
+        b"1\nb0\n0\n00\n.\n1\nb1\n0\n0\n.\n",
+        AigerError::Refused(Place::Line(9), Reason::Length),
+    ),
+    (
+        b"1\nb0\n0\n00\n.\n1\nb1\n0\n00\n",
+        AigerError::Refused(Place::Line(10), Reason::End),
+    ),
+    (
+        b"00\n00# DONE\n",
+        AigerError::Refused(Place::Line(1), Reason::Length),
+    ),
+    (
+        b"0\n00\n0# DONE\n",
+        AigerError::Refused(Place::Line(3), Reason::Length),
+    ),
+    (
+        b"0# DONE\n",
+        AigerError::Refused(Place::Line(1), Reason::Length),
+    ),
+];
+
+#[test]
+fn claims_are_refused(rt: HostRuntime) {
+    for (text, wanted) in &CLAIMS {
+        assert!(rt; claims_refusal(rt.alloc(), text) == Some(*wanted));
+    }
+}
 
 #[test]
 fn circuits_are_refused(rt: HostRuntime) {
