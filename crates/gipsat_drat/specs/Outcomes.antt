@@ -59,11 +59,12 @@ error_text (error.Form form) = codes "proof: " ++ form_text form
 error_text error.Memory = codes "memory: refused"
 error_text error.Output = codes "output: cannot be written"
 
--- the error of a proof that was not checked to its end
+-- the error of a proof that was not checked to its end, or of a check whose result was not written
 abbrev pub failure_error : Failure → DratError
 failure_error failure.Proof = error.Proof
 failure_error (failure.Form form) = error.Form form
 failure_error failure.Memory = error.Memory
+failure_error failure.Output = error.Output
 
 -- the line that an outcome is
 abbrev pub outcome_text : Outcome → List ℕ

@@ -52,7 +52,9 @@ impl<A: Allocator + Copy> Checker<A> {
     pub fn new(alloc: A, variables: u32) -> Result<Self, AllocError>
         ensures { IfOk result (λ c. c ≡ held_of []) }
     {
-        Checker::of(alloc, RatKernel::new(alloc), variables)
+        let mut checker = Checker::of(alloc, RatKernel::new(alloc));
+        checker.cover_variables(variables as usize)?;
+        Ok(checker)
     }
 
     /// A checker that holds the clauses of a formula. It takes the formula over without a copy.
@@ -69,11 +71,9 @@ impl<A: Allocator + Copy> Checker<A> {
     pub(crate) fn over_with(alloc: A, formula: Cnf<A>, keeps_log: bool) -> Result<Self, AllocError>
         ensures { IfOk result (Keeps (held_of formula)) }
     {
-        let variables = formula.variables() as u32;
         let kernel = RatKernel::over(alloc, formula)?;
-        let mut checker = Checker::of(alloc, kernel, variables)?;
-        checker.keep_log(keeps_log)?;
-        checker.enter_given()?;
+        let mut checker = Checker::of(alloc, kernel);
+        checker.enter_given(keeps_log)?;
         Ok(checker)
     }
 
@@ -93,27 +93,30 @@ impl<A: Allocator + Copy> Checker<A> {
         self.log.keep(self.kernel.len())
     }
 
-    // Enters each clause of the kernel, and notes what is derived of them.
-    fn enter_given(&mut self) -> Result<(), AllocError>
+    // Enters each clause of the kernel, and notes what is derived of them, and the steps from then on, if it is wanted.
+    fn enter_given(&mut self, keeps_log: bool) -> Result<(), AllocError>
         ensures { Keeps self.old self.new }
     {
+        let variables = self.kernel.variables();
+        self.cover_variables(variables)?;
+        self.keep_log(keeps_log)?;
         self.enter_all()?;
         self.note_derived()
     }
 
-    // A checker of a kernel whose clauses were not entered.
-    fn of(alloc: A, kernel: RatKernel<A>, variables: u32) -> Result<Self, AllocError>
-        ensures { IfOk result (λ c. c ≡ held_of kernel) }
+    // A checker of a kernel whose clauses were not entered, with room for no variable.
+    fn of(alloc: A, kernel: RatKernel<A>) -> Self
+        ensures { result ≡ held_of kernel }
     {
-        Ok(Checker {
+        Checker {
             alloc,
             kernel,
-            trail: Trail::new(alloc, variables)?,
-            watches: Watches::new(alloc, variables)?,
-            index: Index::new(alloc, variables)?,
+            trail: Trail::new(alloc),
+            watches: Watches::new(alloc),
+            index: Index::new(alloc),
             log: Log::new(alloc),
             refuted: false,
-        })
+        }
     }
 
     /// Whether the empty clause was shown.
@@ -210,6 +213,14 @@ impl<A: Allocator + Copy> Checker<A> {
     {
         self.trail.cover_clause(clause)?;
         let variables = self.trail.capacity();
+        self.cover_variables(variables)
+    }
+
+    // Has room for so many variables, if there are more than before.
+    fn cover_variables(&mut self, variables: usize) -> Result<(), AllocError>
+        ensures { self.new ≡ self.old }
+    {
+        self.trail.cover(variables)?;
         self.watches.cover(self.alloc, variables)?;
         self.index.cover(variables)
     }
@@ -301,14 +312,25 @@ impl<A: Allocator + Copy> Checker<A> {
         }
         let mut stays = Vec::new(self.alloc);
         let mut ids = Vec::new(self.alloc);
-        list_ids(&self.kernel, &mut stays, &mut ids)?;
-        let entries = self.index.kept(self.alloc, &stays)?;
+        self.collect(&mut stays, &mut ids)
+    }
+
+    // Gives that memory back, with lists for whether each clause stays, and for its new id.
+    fn collect(
+        &mut self,
+        stays: &mut Vec<bool, A>,
+        ids: &mut Vec<usize, A>,
+    ) -> Result<(), AllocError>
+        ensures { self.new ≡ self.old }
+    {
+        list_ids(&self.kernel, stays, ids)?;
+        let entries = self.index.kept(self.alloc, stays)?;
         // No request is refused from here on.
         self.kernel.collect(self.alloc)?;
         self.index.replace(entries);
-        self.log.collect(&stays);
-        self.watches.renumber(&ids);
-        self.trail.renumber(&ids);
+        self.log.collect(stays);
+        self.watches.renumber(ids);
+        self.trail.renumber(ids);
         Ok(())
     }
 }

@@ -241,6 +241,8 @@ pub(crate) enum Failure {
     Form(OtherForm),
     // Memory was refused.
     Memory,
+    // The output could not be written.
+    Output,
 }
 
 impl From<AllocError> for Failure {
@@ -267,6 +269,7 @@ impl From<Failure> for DratError {
             Failure::Proof => DratError::Proof,
             Failure::Form(form) => DratError::Form(form),
             Failure::Memory => DratError::Memory,
+            Failure::Output => DratError::Output,
         }
     }
 }

@@ -92,7 +92,17 @@ pub(crate) fn add_hinted<A: Allocator + Copy>(
         return conclude(kernel, trail, clause);
     }
     let mut resolvents = Vec::new(alloc);
-    let added = add_rat(alloc, kernel, trail, names, clause, hints, &mut resolvents);
+    let mut found = Vec::new(alloc);
+    let added = add_rat(
+        alloc,
+        kernel,
+        trail,
+        names,
+        clause,
+        hints,
+        &mut resolvents,
+        &mut found,
+    );
     delete_all(kernel, &resolvents);
     added
 }
@@ -134,7 +144,7 @@ fn conclude<A: Allocator + Copy>(
 }
 
 // Adds a clause that is RAT on its first literal: its id. Behind each hint with a sign are those that show a resolvent;
-// the resolvents that were added are listed.
+// the resolvents that were added are listed, and found by the ids of the clauses that they were added for.
 fn add_rat<A: Allocator + Copy>(
     alloc: A,
     kernel: &mut RatKernel<A>,
@@ -143,11 +153,11 @@ fn add_rat<A: Allocator + Copy>(
     clause: &[Literal],
     hints: &[Hint],
     resolvents: &mut Vec<usize, A>,
+    found: &mut Vec<Option<usize>, A>,
 ) -> Result<usize, Stop>
     ensures { KeepsSatisfiable kernel.old kernel.new }
 {
-    // The resolvent with each clause, by its id.
-    let mut found = vec![in alloc; None; kernel.len()]?;
+    found.resize(kernel.len(), None)?;
     let settled = trail.len();
     for place in 0..hints.len() {
         let hint = hints[place];
@@ -163,7 +173,7 @@ fn add_rat<A: Allocator + Copy>(
             *slot = Some(added);
         }
     }
-    let ordered = found_in_order(alloc, &found)?;
+    let ordered = found_in_order(alloc, found)?;
     match kernel.add_rat(clause, &ordered)? {
         Some(id) => Ok(id),
         None => Err(Stop::Refused(Flaw::NotHinted)),

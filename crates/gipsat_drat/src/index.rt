@@ -24,18 +24,18 @@ pub(crate) struct Index<A: Allocator = Global> {
     places: Vec<usize, A>,
 }
 
-// How many buckets there are at first.
+// How many buckets there are with the first clause.
 const LEAST_BUCKETS: usize = 1024;
 
 impl<A: Allocator + Copy> Index<A> {
-    // Of no clause, over so many variables.
-    pub(crate) fn new(alloc: A, variables: u32) -> Result<Self, AllocError> {
-        Ok(Index {
+    // Of no clause, over no variable.
+    pub(crate) fn new(alloc: A) -> Self {
+        Index {
             entries: Vec::new(alloc),
-            buckets: vec![in alloc; None; LEAST_BUCKETS]?,
+            buckets: Vec::new(alloc),
             dead: 0,
-            places: vec![in alloc; 0usize; 2 * variables as usize]?,
-        })
+            places: Vec::new(alloc),
+        }
     }
 
     // Has room for so many variables, if there are more than before.
@@ -63,7 +63,7 @@ impl<A: Allocator + Copy> Index<A> {
 
     // Makes more buckets.
     fn grow(&mut self) -> Result<(), AllocError> {
-        let more = self.buckets.len();
+        let more = self.buckets.len().max(LEAST_BUCKETS);
         self.buckets.reserve(more)?;
         for _ in 0..more {
             self.buckets.push(None)?;

@@ -45,21 +45,37 @@ impl<A: Allocator + Copy> LratChecker<A> {
     pub(crate) fn over(alloc: A, formula: Cnf<A>) -> Result<Self, AllocError>
         ensures { IfOk result (λ c. c ≡ held_of formula) }
     {
-        let len = formula.len();
-        let literals = formula.literals().len();
-        let mut trail = Trail::new(alloc, 0)?;
-        trail.cover(formula.variables())?;
-        let names = first_names(alloc, len)?;
         let kernel = RatKernel::over(alloc, formula)?;
-        Ok(LratChecker {
+        let mut checker = LratChecker::of(alloc, kernel);
+        checker.name_given()?;
+        Ok(checker)
+    }
+
+    // A checker of a kernel whose clauses have no names, with room for no variable.
+    fn of(alloc: A, kernel: RatKernel<A>) -> Self
+        ensures { result ≡ held_of kernel }
+    {
+        LratChecker {
             alloc,
             kernel,
-            trail,
-            names,
-            last: len as u64,
-            literals,
+            trail: Trail::new(alloc),
+            names: Names::new(alloc),
+            last: 0,
+            literals: 0,
             refuted: false,
-        })
+        }
+    }
+
+    // Has room for the variables of the kernel, and names its clauses from 1 on.
+    fn name_given(&mut self) -> Result<(), AllocError>
+        ensures { self.new ≡ self.old }
+    {
+        let len = self.kernel.len();
+        self.trail.cover(self.kernel.variables())?;
+        name_first(self.alloc, &mut self.names, len)?;
+        self.last = len as u64;
+        self.literals = self.kernel.literals().len();
+        Ok(())
     }
 
     // Whether the empty clause was shown.
@@ -135,18 +151,32 @@ impl<A: Allocator + Copy> LratChecker<A> {
         }
         let mut stays = Vec::new(self.alloc);
         let mut ids = Vec::new(self.alloc);
-        list_ids(&self.kernel, &mut stays, &mut ids)?;
+        self.collect(&mut stays, &mut ids)
+    }
+
+    // Gives that memory back, with lists for whether each clause stays, and for its new id.
+    fn collect(
+        &mut self,
+        stays: &mut Vec<bool, A>,
+        ids: &mut Vec<usize, A>,
+    ) -> Result<(), AllocError>
+        ensures { self.new ≡ self.old }
+    {
+        list_ids(&self.kernel, stays, ids)?;
         self.kernel.collect(self.alloc)?;
-        self.names.renumber(&ids);
+        self.names.renumber(ids);
         Ok(())
     }
 }
 
-// The names of so many clauses of a formula.
-fn first_names<A: Allocator + Copy>(alloc: A, len: usize) -> Result<Names<A>, AllocError> {
-    let mut names = Names::new(alloc)?;
+// Names so many clauses of a formula from 1 on.
+fn name_first<A: Allocator + Copy>(
+    alloc: A,
+    names: &mut Names<A>,
+    len: usize,
+) -> Result<(), AllocError> {
     for id in 0..len {
         names.insert(alloc, (id as u64).saturating_add(1), id)?;
     }
-    Ok(names)
+    Ok(())
 }

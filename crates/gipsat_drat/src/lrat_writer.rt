@@ -1,5 +1,7 @@
 //! Proofs with hints, written as text or binary.
-use crate::error::DratError;
+ghost use Rattle.std.specs.Prelude.{◌≡◌, ◌≢◌, IfErr};
+
+use crate::error::Failure;
 use crate::log::{Added, Log, Trim, Use};
 use gipsat_cnf::Literal;
 use giputils_text::write_groups;
@@ -25,10 +27,27 @@ pub(crate) fn write_log<A: Allocator + Copy, W: Write>(
     log: &Log<A>,
     format: LratFormat,
     writer: &mut W,
-) -> Result<(), DratError> {
+) -> Result<(), Failure>
+    ensures { IfErr result (λ why. why ≢ Failure.Output → why ≢ Failure.Memory → writer.new ≡ writer.old) }
+{
     let mut trim = log.trim(alloc)?;
-    let mut gone = unneeded(alloc, log, &trim)?;
+    let mut gone = Vec::new(alloc);
     let mut bytes = Vec::new(alloc);
+    write_steps(log, format, writer, &mut trim, &mut gone, &mut bytes)
+}
+
+// Writes the needed steps, with the names of clauses that wait to be deleted, and bytes that wait to be written.
+fn write_steps<A: Allocator + Copy, W: Write>(
+    log: &Log<A>,
+    format: LratFormat,
+    writer: &mut W,
+    trim: &mut Trim<A>,
+    gone: &mut Vec<u32, A>,
+    bytes: &mut Vec<u8, A>,
+) -> Result<(), Failure>
+    ensures { IfErr result (λ why. why ≢ Failure.Output → why ≢ Failure.Memory → writer.new ≡ writer.old) }
+{
+    list_unneeded(log, trim, gone)?;
     for number in 0..log.len() {
         let Some(step) = log.step(number) else {
             continue;
@@ -36,27 +55,26 @@ pub(crate) fn write_log<A: Allocator + Copy, W: Write>(
         if !trim.is_needed(step.name) {
             continue;
         }
-        write_step(&mut bytes, format, log.given(), step, &mut trim, &mut gone)?;
+        write_step(bytes, format, log.given(), step, trim, gone)?;
         if bytes.len() >= BUFFER_SIZE {
-            flush(&mut bytes, writer)?;
+            flush(bytes, writer)?;
         }
     }
-    flush(&mut bytes, writer)
+    flush(bytes, writer)
 }
 
-// The names of the formula's clauses that no step uses.
-fn unneeded<A: Allocator + Copy>(
-    alloc: A,
+// Lists the names of the formula's clauses that no step uses.
+fn list_unneeded<A: Allocator + Copy>(
     log: &Log<A>,
     trim: &Trim<A>,
-) -> Result<Vec<u32, A>, AllocError> {
-    let mut names = Vec::new(alloc);
+    names: &mut Vec<u32, A>,
+) -> Result<(), AllocError> {
     for name in 1..log.given().saturating_add(1) {
         if !trim.is_needed(name) {
             names.push(name)?;
         }
     }
-    Ok(names)
+    Ok(())
 }
 
 // Writes a step that adds a clause, and deletions: of clauses that wait for it, and of those that it uses last. Those that
@@ -90,12 +108,14 @@ fn write_step<A: Allocator + Copy>(
 fn flush<A: Allocator + Copy, W: Write>(
     bytes: &mut Vec<u8, A>,
     writer: &mut W,
-) -> Result<(), DratError> {
+) -> Result<(), Failure>
+    ensures { IfErr result (λ why. why ≡ Failure.Output) }
+{
     let done = writer.write_all(bytes);
     bytes.clear();
     match done {
         Ok(()) => Ok(()),
-        Err(_) => Err(DratError::Output),
+        Err(_) => Err(Failure::Output),
     }
 }
 

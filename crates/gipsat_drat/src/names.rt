@@ -16,7 +16,7 @@ const FREE: Slot = Slot { name: 0, id: GONE };
 // is given twice, so that the slot of a deleted clause stays as it is until the table is made anew.
 #[derive(Drop)]
 pub(crate) struct Names<A: Allocator = Global> {
-    // As many as a power of 2, and half of them are free at least.
+    // None, or as many as a power of 2, and half of them are free at least.
     slots: Vec<Slot, A>,
     // How many are not free.
     used: usize,
@@ -24,17 +24,17 @@ pub(crate) struct Names<A: Allocator = Global> {
     len: usize,
 }
 
-// How many slots there are at first.
+// How many slots there are with the first clause.
 const LEAST_SLOTS: usize = 1024;
 
 impl<A: Allocator + Copy> Names<A> {
     // Of no clause.
-    pub(crate) fn new(alloc: A) -> Result<Self, AllocError> {
-        Ok(Names {
-            slots: vec![in alloc; FREE; LEAST_SLOTS]?,
+    pub(crate) fn new(alloc: A) -> Self {
+        Names {
+            slots: Vec::new(alloc),
             used: 0,
             len: 0,
-        })
+        }
     }
 
     // The place where the search for a name begins.

@@ -95,8 +95,8 @@ pub fn check_text_noting<A: Allocator + Copy, F: Read, P: Read, W: Write>(
 /// It takes the memory of all steps: 4 bytes for each literal, 8 for each hint, and 24 for each clause.
 ///
 /// # Errors
-/// As [`check_text`], and [`DratError::Form`] where the proof is in the LRAT form. At [`DratError::Output`] and
-/// [`DratError::Memory`] it is open what was written by then.
+/// As [`check_text`], and [`DratError::Form`] where the proof is in the LRAT form. At all but [`DratError::Output`] and
+/// [`DratError::Memory`] nothing was written.
 pub fn lrat_from_drat<A: Allocator + Copy, F: Read, P: Read, W: Write>(
     alloc: A,
     formula: &mut F,
@@ -113,9 +113,16 @@ pub fn lrat_from_drat<A: Allocator + Copy, F: Read, P: Read, W: Write>(
 
     // Where the proof is refused nothing was written.
     ensures unwritten { IfOk result (λ outcome. outcome ≢ Outcome.Verified → writer.new ≡ writer.old) }
+
+    // When the formula is refused, and at which errors nothing was written.
+    ensures line { (line : ℕ) (reason : Reason) → IsErrOf result (DratError.Formula (DimacsError.Line line reason)) →
+        WritesNone Strict (F.remaining formula.old) }
+    ensures failed { IfErr result (λ error. error ≢ DratError.Output → error ≢ DratError.Memory →
+        writer.new ≡ writer.old) }
 {
     let instance = read_instance(alloc, formula)?;
-    convert(alloc, instance.clauses, proof, format, writer, notes)
+    let outcome = convert(alloc, instance.clauses, proof, format, writer, notes)?;
+    Ok(outcome)
 }
 
 // Checks a proof without hints, and writes one with hints where it is verified.
@@ -126,9 +133,10 @@ fn convert<A: Allocator + Copy, P: Read, W: Write>(
     format: LratFormat,
     writer: &mut W,
     notes: &mut Notes,
-) -> Result<Outcome, DratError>
+) -> Result<Outcome, Failure>
     ensures right { IfOk result (IsRight formula) }
     ensures unwritten { IfOk result (λ outcome. outcome ≢ Outcome.Verified → writer.new ≡ writer.old) }
+    ensures failed { IfErr result (λ why. why ≢ Failure.Output → why ≢ Failure.Memory → writer.new ≡ writer.old) }
 {
     let clauses = formula.len();
     let mut checker = Checker::over_with(alloc, formula, true)?;
@@ -144,9 +152,10 @@ fn convert_steps<A: Allocator + Copy, P: Read, W: Write>(
     format: LratFormat,
     writer: &mut W,
     notes: &mut Notes,
-) -> Result<Outcome, DratError>
+) -> Result<Outcome, Failure>
     ensures right { IfOk result (IsRightOf checker.old) }
     ensures unwritten { IfOk result (λ outcome. outcome ≢ Outcome.Verified → writer.new ≡ writer.old) }
+    ensures failed { IfErr result (λ why. why ≢ Failure.Output → why ≢ Failure.Memory → writer.new ≡ writer.old) }
 {
     let outcome = check_unhinted(alloc, checker, clauses, proof, notes)?;
     match outcome {

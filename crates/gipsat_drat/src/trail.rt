@@ -37,17 +37,16 @@ pub(crate) struct Trail<A: Allocator = Global> {
 }
 
 impl<A: Allocator + Copy> Trail<A> {
-    // No literal of so many variables is true.
-    pub(crate) fn new(alloc: A, variables: u32) -> Result<Self, AllocError> {
-        let variables = variables as usize;
-        Ok(Trail {
-            values: vec![in alloc; Value::Open; 2 * variables]?,
-            reasons: vec![in alloc; Reason::Assumed; variables]?,
+    // No literal is true, and there is no variable so far.
+    pub(crate) fn new(alloc: A) -> Self {
+        Trail {
+            values: Vec::new(alloc),
+            reasons: Vec::new(alloc),
             steps: Vec::new(alloc),
             root: 0,
             head: 0,
             derivations: Derivations::new(alloc),
-        })
+        }
     }
 
     // What was derived since it was forgotten last.

@@ -17,13 +17,11 @@ pub(crate) struct Watches<A: Allocator = Global> {
 }
 
 impl<A: Allocator + Copy> Watches<A> {
-    // Of no clause, over so many variables.
-    pub(crate) fn new(alloc: A, variables: u32) -> Result<Self, AllocError> {
-        let mut watches = Watches {
+    // Of no clause, over no variable.
+    pub(crate) fn new(alloc: A) -> Self {
+        Watches {
             lists: Vec::new(alloc),
-        };
-        watches.cover(alloc, variables as usize)?;
-        Ok(watches)
+        }
     }
 
     // Has room for so many variables, if there are more than before.
