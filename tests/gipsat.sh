@@ -673,6 +673,13 @@ try "a binary proof with hints is written" 20 "" "s UNSATISFIABLE" "" \
 try "that binary proof with hints is checked" 0 "" "s VERIFIED" "" --check "$work/crowd" "$work/hints"
 [ "$(head -c 1 "$work/hints")" = a ] && ! cmp -s "$work/hints" "$work/bytes"
 told "a binary proof with hints has its form" $?
+try "a proof with hints that frees clauses is written" 20 "" "s UNSATISFIABLE" "" \
+    -q --lrat --proof "$work/hints" "$work/throng"
+try "that proof that frees clauses is checked" 0 "" "s VERIFIED" "" --check "$work/throng" "$work/hints"
+grep -qE '^[0-9]+ d [0-9]+ 0$' "$work/hints"
+told "clauses that leave the store are told by their names" $?
+[ "$(grep -vm 1 ' d ' "$work/hints" | cut -d ' ' -f 1)" = "$(($(awk '/^p/ { print $4 }' "$work/throng") + 1))" ]
+told "the first step has the name behind those of the formula" $?
 try "a proof without elimination is written" 20 "" "s UNSATISFIABLE" "" -q --no-simplify --proof "$work/plain" "$work/crowd"
 try "that proof without elimination is checked" 0 "" "s VERIFIED" "" --check "$work/crowd" "$work/plain"
 
