@@ -66,7 +66,7 @@ PARTS = {
     "gipsat_solver": (EXAMPLE, PEER + "MiniSat", PROVED, TESTED, CHOICES, COST),
     "gipsat_dimacs": (EXAMPLE, PEER + "CaDiCaL", PROVED, TESTED, CHOICES, COST),
     "gipsat_answers": (EXAMPLE, PROVED, TESTED, CHOICES, COST),
-    "gipsat_drat": (EXAMPLE, PEER + "drat-trim", PROVED, TESTED, CHOICES, COST),
+    "gipsat_drat": (EXAMPLE, PEER + "other checkers", PROVED, TESTED, CHOICES, COST),
     "gipsat_drat_writer": (PROVED, TESTED, CHOICES),
     "gipmc_circuits": (EXAMPLE, PEER + "AIGER", PROVED, TESTED, CHOICES, COST),
     "gipmc_builder": (EXAMPLE, PROVED, TESTED, CHOICES, COST),
