@@ -127,7 +127,7 @@ help=$("$gipsat" --help)
 try "the help" 0 "" "$help" "" -h
 [ -z "$(printf '%s\n' "$help" | grep '.\{81\}')" ]
 told "the help fits into 80 columns" $?
-for option in --conflicts -t --time -n --no-witness -q --quiet --stats --proof --binary --lrat -f --force --relaxed --no-simplify --check --lrat-from-drat -h --help --version --; do
+for option in --conflicts -t --time -n --no-witness -q --quiet --stats --proof --binary --lrat -f --force --relaxed --no-simplify --assume --models --project --check --lrat-from-drat -h --help --version --; do
     if printf '%s\n' "$help" | grep -qE -- "^ *([^ ]+ )?${option}[ ,]"; then
         echo "ok: the help tells of $option"
         passed=$((passed + 1))
@@ -161,6 +161,13 @@ try_usage "'--conflicts' takes a number below 2^64, not '18446744073709551616'" 
 try_usage "'--conflicts' takes a number below 2^64, not '-1'" --conflicts -1
 try_usage "'--time' takes a number below 2^64, not '1.5'" --time 1.5
 try_usage "'--lrat' needs '--proof'" --lrat a
+try_usage "'--models' takes a number below 2^64, not 'all'" --models all
+try_usage "'--assume' needs literals behind it" --assume
+try_usage "'--project' needs variables behind it" --models 2 --project
+try_usage "'--project' needs '--models'" --project 1
+try_usage "'--proof' is of the formula alone, without '--assume' and '--models'" --proof p --models 2
+try_usage "'--proof' is of the formula alone, without '--assume' and '--models'" --assume 1 --proof=p
+try_usage "'--check' takes no option '--models'" --check --models 2 a b
 try_usage "'--check' takes two files, FORMULA and PROOF" --check
 try_usage "'--check' takes two files, FORMULA and PROOF" --check a
 try_usage "one file too many, 'c'" --check a b c
@@ -744,6 +751,12 @@ else
     failed=$((failed + 1))
 fi
 
+# Where no conflict is met the search pauses as well: reading takes less than a second.
+TIMEFORMAT=%U
+spent=$( { time timeout 60 "$gipsat" -q -n --time 1 "$work/easy" > "$work/out" 2> "$work/err"; } 2>&1)
+awk "BEGIN { exit !($spent < 5) }"
+told "a time limit where no conflict is met (1 s, $spent s of the processor)" $?
+
 # Memory that is refused, while the clauses are read and where a variable has the greatest number.
 (ulimit -v 60000; "$gipsat" "$work/easy") > "$work/out" 2> "$work/err"
 if [ "$?" = 1 ] && [ ! -s "$work/out" ] && [ "$(cat "$work/err")" = "memory: refused" ]; then
@@ -777,6 +790,63 @@ else
     failed=$((failed + 1))
 fi
 try "no witness is wanted" 10 "" "s SATISFIABLE" 'p cnf 1 1\n1 0\n' -n
+
+# Assumptions are clauses of one literal each.
+party='p cnf 3 3\n1 2 3 0\n-1 2 0\n-2 -3 0\n'
+cleo=$(printf 's SATISFIABLE\nv -1 -2 3 0')
+try "an assumption" 10 "" "$cleo" "$party" --assume 3
+try "assumptions with a 0 behind them" 10 "" "$cleo" "$party" --assume '3 -1 0'
+try "assumptions that the formula excludes" 20 "" "s UNSATISFIABLE" "$party" --assume='2 3'
+try "assumptions that clash" 20 "" "s UNSATISFIABLE" "$party" --assume '1 -1'
+try "the last of two lists of assumptions" 10 "" "$cleo" "$party" --assume 1 --assume 3
+try "assumptions beside a formula without a header" 10 "" "$cleo" '1 2 3 0\n-1 2 0\n-2 -3 0\n' --relaxed --assume 3
+try "assumptions that are no literals" 1 "--assume: not a number" "" "$party" --assume '1 x'
+try "an assumption that the formula does not name" 1 "--assume: a variable that <stdin> does not have" "" "$party" --assume 4
+
+# Several models: all, some, those that a projection tells apart, and those under assumptions.
+# NAME VALUES LAST [ARGUMENT..]: expects a model for each of these values, sorted, and then this line, if it is one.
+try_models() {
+    printf '%b' "$party" | "$gipsat" -q "${@:4}" > "$work/out" 2> "$work/err"
+    [ "$?" = 10 ] && [ "$(sed -n 's/^v //p' "$work/out" | sort | tr '\n' ';')" = "$2" ] &&
+        [ "$(tail -n 1 "$work/out" | grep '^s')" = "$3" ] && [ ! -s "$work/err" ]
+    told "$1" $?
+}
+try_models "all models" "-1 -2 3 0;-1 2 -3 0;1 2 -3 0;" "s UNSATISFIABLE" --models 0
+try_models "as many models as there are" "-1 -2 3 0;-1 2 -3 0;1 2 -3 0;" "" --models 3
+try_models "models under an assumption" "-1 2 -3 0;1 2 -3 0;" "s UNSATISFIABLE" --models 9 --assume 2
+try_models "models without values" "" "s UNSATISFIABLE" --models 9 -n
+timeout -s KILL 3 "$gipsat" -q --models 0 > "$work/out" 2> "$work/err" <<< 'p cnf 40 0'
+[ "$(grep -c '^s SATISFIABLE$' "$work/out")" -gt 50 ]
+told "models are written as they are found" $?
+try "no model at all" 20 "" "s UNSATISFIABLE" "$clash" --models 0
+try "a limit among models" 0 "" "s UNKNOWN" "$clash" --models 0 --conflicts 0
+try "a projection on no variable" 10 "" "$(printf 's SATISFIABLE\nv -1 0\ns UNSATISFIABLE')" 'p cnf 1 0\n' \
+    --models 5 --project ''
+try "a projection that the formula does not name" 1 "--project: a variable that <stdin> does not have" "" "$party" \
+    --models 5 --project 4
+try "a projection that is no list" 1 "--project: not a number" "" "$party" --models 5 --project '1,2'
+python3 - "$gipsat" > "$work/out" 2> "$work/err" << 'END'
+import itertools
+import random
+import subprocess
+import sys
+random.seed(7)
+for _ in range(60):
+    n = random.randint(1, 5)
+    clauses = [[random.choice((1, -1)) * random.randint(1, n) for _ in range(3)] for _ in range(random.randint(0, 9))]
+    chosen = random.sample(range(1, n + 1), random.randint(0, n))
+    text = f"p cnf {n} {len(clauses)}\n" + "".join(" ".join(map(str, c)) + " 0\n" for c in clauses)
+    all_models = [m for m in itertools.product((False, True), repeat=n)
+                  if all(any(m[abs(l) - 1] == (l > 0) for l in c) for c in clauses)]
+    wanted = {tuple(m[v - 1] for v in chosen) for m in all_models}
+    words = [sys.argv[1], "-q", "--models", "0", "--project", " ".join(map(str, chosen))]
+    ran = subprocess.run(words, input=text, capture_output=True, text=True)
+    found = [tuple(int(w) > 0 for w in line.split()[1:-1]) for line in ran.stdout.splitlines() if line[0] == "v"]
+    told = [tuple(m[v - 1] for v in chosen) for m in found]
+    assert all(m in all_models for m in found) and len(told) == len(set(told)) and set(told) == wanted, (text, chosen)
+    assert ran.stdout.endswith("s UNSATISFIABLE\n") and ran.returncode == (10 if found else 20), (text, chosen)
+END
+told "models of many formulas, by projections, are those of a table" $?
 
 echo "$passed passed, $failed failed"
 [ "$failed" -eq 0 ]

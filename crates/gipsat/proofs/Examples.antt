@@ -1,5 +1,5 @@
 -- Worked examples of command lines, of lines of a proof, of what a run comes to and of its status.
-use Rattle.std.proofs.Common.{◌≡◌, ℕ, [], ◌∷◌, refl, codes, Some, None, Ok, Err, true, false}
+use Rattle.std.proofs.Common.{◌≡◌, ◌^◌, ◌-◌, ℕ, [], ◌∷◌, refl, codes, Some, None, Ok, Err, true, false}
 use Rattle.std.proofs.lemmas.Bool.{false≢true}
 use Rattle.gipsat_dimacs.specs.declared.error.DimacsError.TheVariants.{Memory}
 use Rattle.gipsat_answers.specs.declared.answers.Verdict.TheVariants.{Satisfiable, Unsatisfiable, Unknown}
@@ -8,7 +8,7 @@ use Rattle.gipsat_drat.specs.declared.error.Outcome.TheVariants.{Verified, Refus
 use Rattle.gipsat_drat.specs.declared.error.Place.TheVariants.{Line}
 use Rattle.gip_program.specs.Items.{UnknownOption, NoValue, NoNumber}
 use Rattle.gip_program.specs.declared.items.Info.TheVariants as info
-use Rattle.gipsat.specs.Misuses.{Words, ExtraFile, MissingFile, MissingProof, NotForCheck, InputTwice, OutputTwice}
+use Rattle.gipsat.specs.Misuses.{Words, ExtraFile, MissingFile, MissingModels, MissingProof, ProofOfMore, NotForCheck, InputTwice, OutputTwice}
 use Rattle.gipsat.specs.Options.{no_request}
 use Rattle.gipsat.specs.Words.{work_asked, Tell, Solve, Check, Convert}
 use Rattle.gipsat_dimacs.specs.Inputs.{HasForm, WritesNone, HasClauses, IsRefusedAt}
@@ -32,6 +32,28 @@ lrat = refl
 
 no_simplify : work_asked (codes "--no-simplify" ∷ []) ≡ Ok (Solve (record no_request { simplify = false }))
 no_simplify = refl
+
+assume : work_asked (codes "--assume" ∷ codes "1 -2" ∷ codes "a" ∷ [])
+    ≡ Ok (Solve (record no_request { assume = Some (codes "1 -2"); file = Some (codes "a") }))
+assume = refl
+
+-- 0 stands for all models
+models : work_asked (codes "--models" ∷ codes "0" ∷ codes "--project=1 2" ∷ [])
+    ≡ Ok (Solve (record no_request { models = Some (2 ^ 64 - 1); project = Some (codes "1 2") }))
+models = refl
+
+models-some : work_asked (codes "--models=5" ∷ codes "--assume=3" ∷ [])
+    ≡ Ok (Solve (record no_request { models = Some 5; assume = Some (codes "3") }))
+models-some = refl
+
+refused-project : work_asked (codes "--project" ∷ codes "1" ∷ []) ≡ Err MissingModels
+refused-project = refl
+
+refused-proof_of_models : work_asked (codes "--models" ∷ codes "2" ∷ codes "--proof" ∷ codes "p" ∷ []) ≡ Err ProofOfMore
+refused-proof_of_models = refl
+
+refused-proof_of_assumptions : work_asked (codes "--proof=p" ∷ codes "--assume=1" ∷ []) ≡ Err ProofOfMore
+refused-proof_of_assumptions = refl
 
 -- a long setting with its value in one word; the value is all behind the first equals sign
 joined : work_asked (codes "--conflicts=7" ∷ codes "--time=9" ∷ codes "--proof=p=q" ∷ codes "a" ∷ [])

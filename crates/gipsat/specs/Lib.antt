@@ -1,4 +1,5 @@
 pub mod Misuses
+pub mod Models
 pub mod Options
 pub mod Statuses
 pub mod Words

@@ -4,13 +4,16 @@ use Rattle.gip_program.specs.Items as items
 use Rattle.gipsat.specs.declared.errors.UsageError.{UsageError}
 use Rattle.gipsat.specs.declared.errors.UsageError.TheVariants as error
 
--- words that no options have, a file too many or too few, `--lrat` without a proof, an option that a check does not
--- take, standard input as both of its files, and standard output for a proof
+-- words that no options have, a file too many or too few, `--lrat` without a proof, `--project` without `--models`, a
+-- proof beside assumptions or several models, an option that a check does not take, standard input as both of its files,
+-- and standard output for a proof
 pub data Misuse : Type 0 where
   Words : items.Misuse → Misuse
   ExtraFile : List ℕ → Misuse
   MissingFile : Misuse
   MissingProof : Misuse
+  MissingModels : Misuse
+  ProofOfMore : Misuse
   NotForCheck : List ℕ → Misuse
   InputTwice : Misuse
   OutputTwice : Misuse
@@ -21,6 +24,8 @@ misuse_of (error.Words fault) = Words (items.misuse_of fault)
 misuse_of (error.ExtraFile name) = ExtraFile name.now
 misuse_of error.MissingFile = MissingFile
 misuse_of error.MissingProof = MissingProof
+misuse_of error.MissingModels = MissingModels
+misuse_of error.ProofOfMore = ProofOfMore
 misuse_of (error.NotForCheck word) = NotForCheck word.now
 misuse_of error.InputTwice = InputTwice
 misuse_of error.OutputTwice = OutputTwice

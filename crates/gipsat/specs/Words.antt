@@ -5,8 +5,8 @@ use Rattle.std.specs.Result.{result_map_both}
 use Rattle.std.specs.Str.{bytes_eq}
 use Rattle.gip_program.specs.Items.{Any, Counted, File, Given, Misused, Said, Told, Turned, items_said}
 use Rattle.gip_program.specs.declared.items.Info.{Info}
-use Rattle.gipsat.specs.Misuses.{Misuse, Words, ExtraFile, MissingFile, MissingProof, NotForCheck, InputTwice}
-use Rattle.gipsat.specs.Options.{Request, no_request, output_of, request_of, table}
+use Rattle.gipsat.specs.Misuses.{Misuse, Words, ExtraFile, MissingFile, NotForCheck, InputTwice}
+use Rattle.gipsat.specs.Options.{Request, clash_of, models_of, no_request, output_of, request_of, table}
 use Rattle.gipsat_dimacs.specs.declared.rule.HeaderRule.TheVariants as rule
 use Rattle.gipsat.specs.declared.about.Number.{Number}
 use Rattle.gipsat.specs.declared.about.Number.TheVariants as number
@@ -61,6 +61,9 @@ abbrev pub after : State → Said Switch Number Text → Result State Misuse
 after s (Turned switch word) = Ok (switched switch s word)
 after s (Counted number.Conflicts n word) = Ok (asking s word (record s.request { conflicts = n }))
 after s (Counted number.Time n word) = Ok (asking s word (record s.request { time = Some n }))
+after s (Counted number.Models n word) = Ok (asking s word (record s.request { models = Some (models_of n) }))
+after s (Given text.Assume literals word) = Ok (asking s word (record s.request { assume = Some literals }))
+after s (Given text.Project variables word) = Ok (asking s word (record s.request { project = Some variables }))
 after s (Given text.Proof name word) =
     result_map_both (λ name. asking s word (record s.request { proof = Some name })) (λ e. e) (output_of name)
 after s (Given text.LratFromDrat name word) =
@@ -81,11 +84,14 @@ pub data Work : Type 0 where
 abbrev pub input_of : List ℕ → Option (List ℕ)
 input_of name = if bytes_eq name (codes "-") then None else Some name
 
--- a search, of one file at most; a proof in the LRAT form has a file
+-- a search, if no two options clash
+abbrev pub search_unless : Option Misuse → State → Result Work Misuse
+search_unless (Some misuse) s = Err misuse
+search_unless None s = Ok (Solve (record s.request { file = option_and_then input_of s.request.file }))
+
+-- a search, of one file at most
 abbrev pub search_of : State → Option (List ℕ) → Result Work Misuse
-search_of s None =
-    if s.request.lrat && is_none s.request.proof then Err MissingProof
-    else Ok (Solve (record s.request { file = option_and_then input_of s.request.file }))
+search_of s None = search_unless (clash_of s.request) s
 search_of s (Some name) = Err (ExtraFile name)
 
 abbrev pub search_asked : State → Result Work Misuse

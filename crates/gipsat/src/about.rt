@@ -19,13 +19,16 @@ pub enum Switch {
 #[derive(Clone, Copy)]
 pub enum Number {
     Conflicts,
+    Models,
     Time,
 }
 
 /// An option that takes a word.
 #[derive(Clone, Copy)]
 pub enum Text {
+    Assume,
     LratFromDrat,
+    Project,
     Proof,
 }
 
@@ -49,13 +52,35 @@ pub const ABOUT: About<'static, Switch, Number, Text> = About {
 };
 
 /// The options.
-pub const OPTIONS: [Opt<Switch, Number, Text>; 13] = [
+pub const OPTIONS: [Opt<Switch, Number, Text>; 16] = [
     Opt {
         long: "--relaxed",
         short: "",
         kind: Kind::Switch(Switch::Relaxed),
         section: "Input",
         help: "take the counts of the header as hints; there may be no header",
+    },
+    Opt {
+        long: "--assume",
+        short: "",
+        kind: Kind::Text(Text::Assume, "LITERALS", "literals"),
+        section: "Input",
+        help: "solve with a clause of each of these literals besides, as in --assume '1 -2'",
+    },
+    Opt {
+        long: "--models",
+        short: "",
+        kind: Kind::Number(Number::Models, "N"),
+        section: "Several answers",
+        help: "write N models, no two of them alike, and behind the last one `s UNSATISFIABLE` where there are fewer; all \
+               models for N = 0",
+    },
+    Opt {
+        long: "--project",
+        short: "",
+        kind: Kind::Text(Text::Project, "VARIABLES", "variables"),
+        section: "Several answers",
+        help: "let no two models agree on all of these variables, as in --project '1 2'; without it, on all variables",
     },
     Opt {
         long: "--no-simplify",

@@ -1,4 +1,5 @@
 //! Why nothing was answered, as it is told.
+use crate::about::Text;
 use crate::proof_file::ProofError;
 use gip_program::{Cause, Fault};
 use gipsat_dimacs::{Compression, Reason};
@@ -17,6 +18,10 @@ pub enum UsageError<'a> {
     MissingFile,
     /// `--lrat` is given, and no proof is to be written.
     MissingProof,
+    /// `--project` is given without `--models`.
+    MissingModels,
+    /// A proof is to be written beside assumptions or several models.
+    ProofOfMore,
     /// A check takes no such option.
     NotForCheck(&'a str),
     /// Standard input is named as the formula and as the proof.
@@ -32,6 +37,10 @@ impl Display for UsageError<'_> {
             UsageError::ExtraFile(name) => write!(f, "one file too many, '{name}'"),
             UsageError::MissingFile => f.write_str("'--check' takes two files, FORMULA and PROOF"),
             UsageError::MissingProof => f.write_str("'--lrat' needs '--proof'"),
+            UsageError::MissingModels => f.write_str("'--project' needs '--models'"),
+            UsageError::ProofOfMore => f.write_str(
+                "'--proof' is of the formula alone, without '--assume' and '--models'",
+            ),
             UsageError::NotForCheck(word) => write!(f, "'--check' takes no option '{word}'"),
             UsageError::InputTwice => {
                 f.write_str("'--check' takes one file at most from standard input")
@@ -56,6 +65,10 @@ pub enum Failure<'a> {
     Line(Option<&'a str>, usize, Reason),
     /// At this line the formula of a check, in this input, is compressed.
     Compressed(Option<&'a str>, usize, Compression),
+    /// Behind this option stands no list of literals, for this reason.
+    Literals(Text, Reason),
+    /// Behind this option a literal has a variable that the formula of this input does not have.
+    Unnamed(Option<&'a str>, Text),
     /// The proof was not written.
     Proof(ProofError<'a>),
     /// The proof in this input is refused.
@@ -93,6 +106,12 @@ impl Display for Failure<'_> {
                     "{name}:{line}: {tool} data (try: {tool} -dc FORMULA | gipsat --check - PROOF)"
                 )
             }
+            Failure::Literals(option, reason) => write!(f, "{}: {reason}", name_of(option)),
+            Failure::Unnamed(name, option) => {
+                let option = name_of(option);
+                let name = name.unwrap_or("<stdin>");
+                write!(f, "{option}: a variable that {name} does not have")
+            }
             Failure::Proof(error) => Display::fmt(&error, f),
             Failure::Refused(name, refusal) => {
                 let name = name.unwrap_or("<stdin>");
@@ -105,6 +124,16 @@ impl Display for Failure<'_> {
             Failure::Form(name, form) => write!(f, "{}: {form}", name.unwrap_or("<stdin>")),
             Failure::Memory => f.write_str("memory: refused"),
         }
+    }
+}
+
+// The name of an option that takes a word.
+fn name_of(option: Text) -> &'static str {
+    match option {
+        Text::Assume => "--assume",
+        Text::LratFromDrat => "--lrat-from-drat",
+        Text::Project => "--project",
+        Text::Proof => "--proof",
     }
 }
 

@@ -6,9 +6,10 @@
 //! error.
 #![tactic(auto)]
 
-ghost use Rattle.std.specs.Prelude.{◌≡◌, ◌≢◌, ℕ, IfOk, IfErr, OnOk, IsErrOf};
+ghost use Rattle.std.specs.Prelude.{◌≡◌, ◌≢◌, ℕ, IfOk, IfErr, IfSome, OnOk, IsErrOf, Some};
 ghost use Rattle.std.specs.Io.KnownBytes.{IsAtEnd};
 ghost use Rattle.std.specs.Process.{exit_status};
+ghost use Rattle.gipsat_answers.specs.Assumed.{literals_in};
 ghost use Rattle.gipsat_drat.specs.Outcomes.{WritesOutcome};
 ghost use Rattle.gipsat_dimacs.specs.Inputs.{HasForm, OfProblem, WritesNone};
 ghost use Rattle.gipsat_dimacs.specs.declared.rule.HeaderRule.TheVariants.{Strict};
@@ -18,20 +19,23 @@ mod about;
 mod convert;
 mod errors;
 mod files;
+mod models;
 mod options;
 mod proof_file;
 mod solve;
 mod watch;
 
-use about::ABOUT;
+use about::{ABOUT, Text};
 use convert::convert_files;
 use errors::Failure;
 use files::{Output, Source};
 use gip_program::{begin, explain, refuse, tell};
-use gipsat_answers::Verdict;
+use gipsat_answers::{Enumerated, Solved, Verdict, read_literals};
+use gipsat_cnf::Literal;
 use gipsat_dimacs::{DimacsError, Reason};
 use gipsat_drat::error::{DratError, Notes, Outcome};
 use gipsat_drat::task::check_text_noting;
+use models::{Wanted, enumerate};
 use options::{Options, Task};
 use solve::{SolveError, solve};
 use std::io::{Read, Write};
@@ -95,17 +99,66 @@ fn warn(rt: &HostRuntime, proof: Option<&str>, notes: Notes) {
 
 // Solves the formula of the file that the options name, or of standard input, and writes the answer to standard output.
 fn solve_file<'a>(rt: &HostRuntime, options: &Options<'a>) -> Result<Verdict, Failure<'a>> {
+    let assumed = literals(rt, Text::Assume, options.assume)?;
+    let projection = literals(rt, Text::Project, options.project)?;
     let mut source = Source::open(rt, options.file)?;
     let mut output = Output::new(rt);
     if !options.quiet {
         announce(rt, &source);
     }
     let mut reader = WatchedReader::new(rt, options, &mut source);
-    let ended = solve(rt, options, &mut reader, &mut output);
+    let ended = match options.models {
+        Some(count) => {
+            let wanted = Wanted {
+                count,
+                assumed: &assumed,
+                projection: options.project.map(|_| projection.as_slice()),
+            };
+            verdict_of_models(enumerate(rt, options, wanted, &mut reader, &mut output))
+        }
+        None => verdict_of(solve(rt, options, &assumed, &mut reader, &mut output)),
+    };
+    match ended {
+        Ok(verdict) => Ok(verdict),
+        Err(SolveError::Task(error)) => Err(source.failure(&output, error)),
+        Err(SolveError::Unnamed(option)) => Err(Failure::Unnamed(options.file, option)),
+        Err(SolveError::Proof(error)) => Err(Failure::Proof(error)),
+    }
+}
+
+// The verdict of a search.
+fn verdict_of<'a>(ended: Result<Solved, SolveError<'a>>) -> Result<Verdict, SolveError<'a>> {
     match ended {
         Ok(solved) => Ok(solved.verdict),
-        Err(SolveError::Task(error)) => Err(source.failure(&output, error)),
-        Err(SolveError::Proof(error)) => Err(Failure::Proof(error)),
+        Err(error) => Err(error),
+    }
+}
+
+// The verdict of a search for several models.
+fn verdict_of_models<'a>(
+    ended: Result<Enumerated, SolveError<'a>>,
+) -> Result<Verdict, SolveError<'a>> {
+    match ended {
+        Ok(enumerated) => Ok(enumerated.verdict),
+        Err(error) => Err(error),
+    }
+}
+
+// The literals that stand behind this option, if it is given.
+fn literals<'a>(
+    rt: &HostRuntime,
+    option: Text,
+    text: Option<&str>,
+) -> Result<Vec<Literal>, Failure<'a>>
+    ensures { IfOk result (λ literals. IfSome text.entry (λ text. literals_in text.now ≡ Some literals.items)) }
+{
+    let Some(text) = text else {
+        return Ok(Vec::new(rt.alloc()));
+    };
+    match read_literals(rt.alloc(), text.as_bytes()) {
+        Ok(literals) => Ok(literals),
+        Err(DimacsError::Line(_, reason)) => Err(Failure::Literals(option, reason)),
+        Err(_) => Err(Failure::Memory),
     }
 }
 

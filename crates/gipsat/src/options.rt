@@ -5,7 +5,7 @@ ghost use Rattle.std.specs.Result.{result_map_both};
 ghost use Rattle.gip_program.specs.Items.{left_said, said_of};
 ghost use Rattle.gip_program.specs.Options.{entry_of};
 ghost use Rattle.gipsat.specs.Misuses.{misuse_of};
-ghost use Rattle.gipsat.specs.Options.{no_request, output_of, request_of, table};
+ghost use Rattle.gipsat.specs.Options.{clash_of, models_of, no_request, output_of, request_of, table};
 ghost use Rattle.gipsat.specs.Words.{after, after_file, asked_for, check_asked, conversion, files_of, input_of, no_words};
 ghost use Rattle.gipsat.specs.Words.{names_of, plain_check, search_asked, state_of, switched, work_asked, work_of, work_said};
 
@@ -66,6 +66,12 @@ pub struct Options<'a> {
     pub quiet: bool,
     /// Whether to write the values that satisfy the formula.
     pub witness: bool,
+    /// The literals of which a clause each is added, if any.
+    pub assume: Option<&'a str>,
+    /// How many models to write, if several.
+    pub models: Option<usize>,
+    /// The variables on which no two models agree, if not all.
+    pub project: Option<&'a str>,
     /// Where to write a proof, if anywhere.
     pub proof: Option<&'a str>,
     /// Whether to overwrite the proof's file also where it may be a formula, or no file to read is named.
@@ -93,6 +99,9 @@ impl<'a> Options<'a> {
             stats: false,
             quiet: false,
             witness: true,
+            assume: None,
+            models: None,
+            project: None,
             proof: None,
             force: false,
             binary: false,
@@ -102,6 +111,29 @@ impl<'a> Options<'a> {
             file: None,
         }
     }
+
+    // Why these options have no meaning together.
+    fn clash(&self) -> Option<UsageError<'a>>
+        ensures { option_map misuse_of result ≡ clash_of (request_of self.now) }
+    {
+        if self.lrat && self.proof.is_none() {
+            return Some(UsageError::MissingProof);
+        }
+        if self.project.is_some() && self.models.is_none() {
+            return Some(UsageError::MissingModels);
+        }
+        if self.proof.is_some() && (self.assume.is_some() || self.models.is_some()) {
+            return Some(UsageError::ProofOfMore);
+        }
+        None
+    }
+}
+
+// How many models this number asks for: 0 stands for all.
+fn models_of(number: usize) -> usize
+    ensures { result ≡ models_of number }
+{
+    if number == 0 { usize::MAX } else { number }
 }
 
 // The file of this name, to which a proof is written: not standard output.
@@ -212,6 +244,18 @@ impl<'a> Asked<'a> {
                 },
                 word,
             )),
+            Item::Number(Number::Models, number, word) => {
+                let models = Some(models_of(number));
+                Ok(self.with_options(Options { models, ..options }, word))
+            }
+            Item::Text(Text::Assume, literals, word) => {
+                let assume = Some(literals);
+                Ok(self.with_options(Options { assume, ..options }, word))
+            }
+            Item::Text(Text::Project, variables, word) => {
+                let project = Some(variables);
+                Ok(self.with_options(Options { project, ..options }, word))
+            }
             Item::Text(Text::Proof, name, word) => {
                 let proof = Some(output(name)?);
                 Ok(self.with_options(Options { proof, ..options }, word))
@@ -327,26 +371,24 @@ impl<'a> Asked<'a> {
         }
     }
 
-    // The search: of one file at most. A form of the proof needs a proof.
+    // The search: of one file at most, with options that have a meaning together.
     fn end_search(self) -> Result<Task<'a>, UsageError<'a>>
         ensures { result_map_both work_of misuse_of result ≡ search_asked (state_of self.entry) }
     {
-        match self.second {
-            Some(name) => Err(UsageError::ExtraFile(name)),
-            None if self.options.lrat && self.options.proof.is_none() => Err(
-                UsageError::MissingProof,
-            ),
-            None => {
-                let file = match self.options.file {
-                    Some(name) => input(name),
-                    None => None,
-                };
-                Ok(Task::Solve(Options {
-                    file,
-                    ..self.options
-                }))
-            }
+        if let Some(name) = self.second {
+            return Err(UsageError::ExtraFile(name));
         }
+        if let Some(error) = self.options.clash() {
+            return Err(error);
+        }
+        let file = match self.options.file {
+            Some(name) => input(name),
+            None => None,
+        };
+        Ok(Task::Solve(Options {
+            file,
+            ..self.options
+        }))
     }
 
     // The check: of two files, and with no option besides but those of the proof that it writes.

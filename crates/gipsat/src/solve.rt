@@ -2,17 +2,19 @@
 ghost use Rattle.std.specs.Prelude.{◌≡◌, ◌≢◌, ℕ, is_some, IfOk, IfErr, IsTrue, OnOk, IsErrOf};
 ghost use Rattle.std.specs.Io.KnownBytes.{IsAtEnd};
 ghost use Rattle.gipsat_answers.specs.Answers.{problem_of, WritesAnswerWith};
+ghost use Rattle.gipsat_answers.specs.Assumed.{assuming};
 ghost use Rattle.gipsat_answers.specs.Names.{formula_of};
-ghost use Rattle.gipsat_dimacs.specs.Inputs.{HasClauses, HasForm, IsRefusedAt, OfProblem, WritesNone};
+ghost use Rattle.gipsat_dimacs.specs.Inputs.{HasForm, IsRefusedAt, OfProblem, WritesNone};
 ghost use Rattle.gipsat_dimacs.specs.declared.error.DimacsError.TheVariants as dimacs_error;
 ghost use Rattle.gipsat.specs.declared.solve.SolveError.TheVariants as solve_error;
 
+use crate::about::Text;
 use crate::options::Options;
 use crate::proof_file::{self, ProofError};
 use crate::watch::{TimeLimit, Watch};
 use gip_program::NewFile;
-use gipsat_answers::{Solved, Task, Verdict, solve_instance};
-use gipsat_cnf::Cnf;
+use gipsat_answers::{Solved, Task, Verdict, are_named, assume, solve_instance};
+use gipsat_cnf::{Cnf, Literal};
 use gipsat_dimacs::{DimacsError, Instance, Reason, read_instance_by};
 use gipsat_drat_writer::{Fault, Form, Format, ProofWriter};
 use gipsat_solver::progress::{Both, Progress};
@@ -24,6 +26,8 @@ use std::io::{Read, Write};
 pub enum SolveError<'a> {
     /// It was not read, memory was refused, or no answer was written.
     Task(DimacsError),
+    /// Behind this option a literal has a variable that the formula does not have.
+    Unnamed(Text),
     /// The proof was not written.
     Proof(ProofError<'a>),
 }
@@ -36,22 +40,24 @@ impl From<AllocError> for SolveError<'_> {
     }
 }
 
-/// Solves as `solve_text` does, within as many conflicts as the options allow, and writes a proof where they say so.
+/// Solves as `solve_text` does, with a clause of each of these literals besides, within as many conflicts as the
+/// options allow, and writes a proof where they say so.
 ///
 /// The proof's file is begun once the whole formula was read. The answer is written where the proof is whole.
 pub fn solve<'a, R: Read, W: Write>(
     rt: &HostRuntime,
     options: &Options<'a>,
+    assumed: &[Literal],
     reader: &mut R,
     writer: &mut W,
 ) -> Result<Solved, SolveError<'a>>
     ensures read_to_end { OnOk result (IsAtEnd (R.remaining reader.new)) }
     ensures has_form { OnOk result (HasForm options.now.rule (R.remaining reader.old)) }
     ensures written { IfOk result (λ solved. OfProblem options.now.rule (R.remaining reader.old) (λ problem.
-        WritesAnswerWith options.now.witness problem options.now.conflicts solved
+        WritesAnswerWith options.now.witness (assuming assumed.now problem) options.now.conflicts solved
         (W.contents writer.old) (W.contents writer.new))) }
-    ensures formula { IfOk result (λ solved.
-        HasClauses options.now.rule (R.remaining reader.old) (formula_of solved)) }
+    ensures formula { IfOk result (λ solved. OfProblem options.now.rule (R.remaining reader.old) (λ problem.
+        formula_of solved ≡ (assuming assumed.now problem).clauses)) }
     ensures stopped { IfOk result (λ solved. solved.verdict ≡ Verdict.Stopped → IsTrue (is_some options.now.time)) }
     ensures line { (line : ℕ) (reason : Reason) → IsErrOf result (SolveError.Task (DimacsError.Line line reason)) →
         WritesNone options.now.rule (R.remaining reader.old) }
@@ -60,13 +66,40 @@ pub fn solve<'a, R: Read, W: Write>(
     ensures unwritten { IfErr result (λ error. error ≢ SolveError.Task DimacsError.Output → writer.new ≡ writer.old) }
 {
     let watch = Watch::new(rt, options)?;
-    let instance = match read_instance_by(rt.alloc(), reader, options.rule) {
+    let instance = read_assuming(rt, options, assumed, reader, &watch)?;
+    let proof = open_proof(rt, options, reader)?;
+    answer(rt, options, instance, proof, watch, writer)
+}
+
+/// The formula of a text, with a clause of each of these literals besides.
+pub fn read_assuming<'a, R: Read>(
+    rt: &HostRuntime,
+    options: &Options,
+    assumed: &[Literal],
+    reader: &mut R,
+    watch: &Watch,
+) -> Result<Instance<Cnf>, SolveError<'a>>
+    ensures read_to_end { OnOk result (IsAtEnd (R.remaining reader.new)) }
+    ensures has_form { OnOk result (HasForm options.now.rule (R.remaining reader.old)) }
+    ensures made { IfOk result (λ made. OfProblem options.now.rule (R.remaining reader.old) (λ problem.
+        problem_of made.variables made.clauses ≡ assuming assumed.now problem)) }
+    ensures line { (line : ℕ) (reason : Reason) → IsErrOf result (SolveError.Task (DimacsError.Line line reason)) →
+        WritesNone options.now.rule (R.remaining reader.old) }
+    ensures in_line { (line : ℕ) (reason : Reason) → IsErrOf result (SolveError.Task (DimacsError.Line line reason)) →
+        IsRefusedAt options.now.rule (R.remaining reader.old) line }
+{
+    let mut instance = match read_instance_by(rt.alloc(), reader, options.rule) {
         Ok(instance) => instance,
         Err(error) => return Err(SolveError::Task(error)),
     };
     watch.note_read(&instance);
-    let proof = open_proof(rt, options, reader)?;
-    answer(rt, options, instance, proof, watch, writer)
+    if !are_named(instance.variables, assumed) {
+        return Err(SolveError::Unnamed(Text::Assume));
+    }
+    match assume(&mut instance, assumed) {
+        Ok(()) => Ok(instance),
+        Err(AllocError) => Err(SolveError::Task(DimacsError::Memory)),
+    }
 }
 
 // The file of the proof, if one is wanted. It is begun once the formula was read to its end.
