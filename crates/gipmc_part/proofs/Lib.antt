@@ -1,0 +1,4 @@
+pub mod Carried
+mod Examples
+mod Judged
+mod Renamed
