@@ -430,6 +430,27 @@ try "a variable that is defined twice" 1 "<stdin>: variable 1 is defined twice" 
 try "a gate that depends on itself" 1 \
     "<stdin>: the gate of variable 1 depends on itself" "" 'aag 1 0 0 0 1 1\n2\n2 2 2\n'
 
+# Twenty latches that stay, each of them bad, beside gates that matter to none.
+{
+    printf 'aag 20022 2 20 0 20000 20\n2\n4\n'
+    for ((n = 3; n <= 22; n++)); do echo "$((2 * n)) $((2 * n))"; done
+    for ((n = 3; n <= 22; n++)); do echo $((2 * n)); done
+    for ((n = 23; n <= 20022; n++)); do echo "$((2 * n)) $((n > 23 ? 2 * n - 1 : 2)) $((2 + n % 2 * 2))"; done
+} > many.aag
+"$gipmc" --time 100 many.aag > out 2> err
+status=$?
+[ "$status" = 20 ] && [ ! -s err ] && [ "$(grep -c '^0$' out)" = 20 ]
+told "many bad literals beside gates that do not matter" $?
+
+# A short text whose numbers are great asks for much memory. Where that is refused, nothing else is told.
+printf 'aag 16777216 1 0 0 0 1\n33554432\n33554432\n' > great.aag
+rm -f cert
+(ulimit -v 200000; exec "$gipmc" --certificate cert great.aag) > out 2> err
+status=$?
+{ [ "$status" = 1 ] && [ "$(cat err)" = "memory: refused" ] && [ ! -s out ] && [ ! -e cert ]; } ||
+    { [ "$status" = 10 ] && [ ! -s err ] && [ "$("$gipmc" --replay out great.aag)" = "s VERIFIED" ]; }
+told "great numbers, and little memory" $?
+
 # Files that are not there.
 try "no such file" 1 "none.aag: no such file" "" "" none.aag
 try "no such witness" 1 "none.wit: no such file" "" "$held" --replay none.wit
@@ -454,6 +475,7 @@ try "no time behind the option" 2 "gipmc: '--time' needs a number behind it (try
 try "a short option with = in it" 2 "gipmc: unknown option '-t=9' (try --help)" "" "" -t=9
 try "a depth that is no number" 2 "gipmc: '--depth' takes a number below 2^64, not 'x' (try --help)" "" "" --depth x
 try "two files" 2 "gipmc: one file too many, 'b' (try --help)" "" "" a b
+try "a word that is no text" 1 "arguments: not UTF-8 text" "" "" $'\377'
 try "a witness and a certificate" 2 \
     "gipmc: '--replay' and '--certify' exclude each other (try --help)" "" "" --replay a --certify b
 try "a witness, and a file for a certificate" 2 \
