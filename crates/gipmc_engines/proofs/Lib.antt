@@ -1,2 +1,3 @@
 mod Allowing
+pub mod AreRight
 pub mod Depths

@@ -1,3 +1,4 @@
 -- What engines find out about a circuit.
+pub mod Several
 pub mod Unrolling
 pub mod Verdicts

@@ -3,15 +3,20 @@
 
 pub mod bounded;
 pub mod engines;
+mod hits;
+pub mod joint;
+mod rounds;
+pub mod several;
 pub mod simulation;
-pub mod turns;
+mod turns;
 mod unrolling;
 pub mod verdict;
 pub mod watch;
 
 pub use bounded::{Bounds, search};
-pub use engines::{Engine, Plan, check};
+pub use engines::{Engine, Plan, check, check_all, decide, decide_by_turns};
+pub use joint::Joint;
+pub use several::{Finding, Findings};
 pub use simulation::{RUNS, Tries, simulate};
-pub use turns::{decide, decide_by_turns};
 pub use verdict::{Verdict, replayed};
 pub use watch::Watch;

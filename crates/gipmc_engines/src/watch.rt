@@ -12,8 +12,8 @@ pub trait Watch {
     /// clauses, and so many were learned. `Break` stops the search.
     fn note(&mut self, depth: usize, clauses: usize, learned: usize) -> ControlFlow<()>;
 
-    /// A slice of IC3 ended. It came to this frame, and so much was done up to now. `Break` stops the search, if the
-    /// slice found nothing.
+    /// A slice of a search by IC3 ended. That came to this frame, and has done so much. `Break` stops all searches, if
+    /// the slice found nothing.
     fn note_slice(&mut self, frame: usize, statistics: &Statistics) -> ControlFlow<()>;
 }
 

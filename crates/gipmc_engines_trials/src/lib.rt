@@ -5,6 +5,8 @@
 mod bounded;
 pub mod example;
 #[cfg(test)]
+mod several;
+#[cfg(test)]
 mod shifter;
 #[cfg(test)]
 mod simulation;

@@ -1,4 +1,4 @@
-//! Registers: of two latches, and of many.
+//! Registers: of two latches, of many, and one that goes through many states.
 
 use gipmc_circuits::{And, Circuit, Latch, Netlist};
 use gipsat_solver::Literal;
@@ -46,6 +46,64 @@ pub fn register<A: Allocator + Copy>(alloc: A, latches: u8) -> Result<Netlist<A>
         before = Literal::new(variable, true);
     }
     netlist(alloc, circuit)
+}
+
+// How many latches a register has that goes through many states.
+const LONG: u8 = 20;
+
+/// The gate that is true where all latches of this register are.
+pub const ALL: u8 = 42;
+
+/// Latch 1 is one after a moment at which latches 17 and 20 differed, and each latch behind it once the one before it
+/// was. At first latch 1 is one alone. Gate 42 is true where all are one: after many transitions.
+///
+/// # Errors
+/// `AllocError` where memory is refused.
+pub fn long<A: Allocator + Copy>(alloc: A) -> Result<Netlist<A>, AllocError> {
+    let mut circuit = Circuit::new(alloc);
+    let mut before = Literal::new(23, false);
+    for variable in 1..=LONG {
+        circuit.latches.push(Latch {
+            variable: u32::from(variable),
+            next: before,
+            reset: Some(variable == 1),
+        })?;
+        before = Literal::new(u32::from(variable), true);
+    }
+    add_difference(&mut circuit, LONG, 17)?;
+    let mut all = Literal::new(1, true);
+    for variable in 2..=LONG {
+        let output = u32::from(variable) + 22;
+        circuit.gates.push(And {
+            output,
+            left: all,
+            right: Literal::new(u32::from(variable), true),
+        })?;
+        all = Literal::new(output, true);
+    }
+    netlist(alloc, circuit)
+}
+
+// Gates 21 to 23, of which the last one is true where both variables are alike.
+fn add_difference<A: Allocator>(
+    circuit: &mut Circuit<A>,
+    left: u8,
+    right: u8,
+) -> Result<(), AllocError> {
+    let (left, right) = (u32::from(left), u32::from(right));
+    for &(output, a, b) in &[(21u32, true, false), (22, false, true)] {
+        circuit.gates.push(And {
+            output,
+            left: Literal::new(left, a),
+            right: Literal::new(right, b),
+        })?;
+    }
+    circuit.gates.push(And {
+        output: 23,
+        left: Literal::new(21, false),
+        right: Literal::new(22, false),
+    })?;
+    Ok(())
 }
 
 /// The netlist of a circuit.

@@ -1,0 +1,173 @@
+//! One search for several bad literals.
+
+use crate::shifter::{ALL, full, long, shifter};
+use gipmc_engines::{Bounds, Engine, Finding, Plan, Tries, check_all};
+use gipsat_solver::{Literal, Solver};
+use std::alloc::{AllocError, Global};
+
+// What is found out about one of several, in short.
+#[derive(Clone, Copy, PartialEq, Eq)]
+enum Said {
+    // A trace of so many moments fails.
+    Fails(usize),
+    Safe,
+    // No trace of at most so many transitions fails.
+    Within(usize),
+    Unknown,
+}
+
+fn said_by(finding: &Finding) -> Said {
+    match finding {
+        Finding::Fails(trace) => Said::Fails(trace.inputs.len()),
+        Finding::Safe => Said::Safe,
+        Finding::NoFailureWithin(depth) => Said::Within(*depth),
+        Finding::Unknown => Said::Unknown,
+    }
+}
+
+// A literal that is never true, both latches of the register, an input, both latches again, and one that is not there.
+fn literals() -> [Literal; 5] {
+    [
+        Literal::new(0, true),
+        full(),
+        Literal::new(1, true),
+        full(),
+        Literal::new(9, true),
+    ]
+}
+
+// What these engines find out about them by so many rounds of simulation, as deep as this.
+fn found_out(
+    alloc: Global,
+    engine: Engine,
+    rounds: usize,
+    depth: usize,
+) -> Result<[Said; 5], AllocError> {
+    let netlist = shifter(alloc)?;
+    let plan = Plan {
+        engine,
+        tries: Tries {
+            rounds,
+            ..Tries::default()
+        },
+        bounds: Bounds {
+            depth,
+            ..Bounds::default()
+        },
+    };
+    let literals = literals();
+    let found = check_all::<Solver, _, _>(alloc, &netlist, &literals, &plan, &mut ())?;
+    let mut said = [Said::Unknown; 5];
+    for (place, finding) in found.each.iter().enumerate() {
+        if place < 5 {
+            said[place] = said_by(finding);
+        }
+    }
+    Ok(said)
+}
+
+#[test]
+fn finds_out_about_each(rt: HostRuntime) -> Result<(), AllocError> {
+    let deep = found_out(rt.alloc(), Engine::Bounded, 0, 9)?;
+    assert!(rt;
+        deep == [
+            Said::Within(9),
+            Said::Fails(3),
+            Said::Fails(1),
+            Said::Fails(3),
+            Said::Unknown
+        ]
+    );
+    let shallow = found_out(rt.alloc(), Engine::Bounded, 0, 1)?;
+    assert!(rt;
+        shallow
+            == [
+                Said::Within(1),
+                Said::Within(1),
+                Said::Fails(1),
+                Said::Within(1),
+                Said::Unknown
+            ]
+    );
+    let simulated = found_out(rt.alloc(), Engine::Simulation, 1, 0)?;
+    assert!(rt;
+        simulated
+            == [
+                Said::Unknown,
+                Said::Fails(3),
+                Said::Fails(1),
+                Said::Fails(3),
+                Said::Unknown
+            ]
+    );
+    Ok(())
+}
+
+// The first four of the literals, of which the register has the variables: what is decided about them.
+fn decided(alloc: Global, engine: Engine, rounds: usize) -> Result<[Said; 4], AllocError> {
+    let netlist = shifter(alloc)?;
+    let plan = Plan {
+        engine,
+        tries: Tries {
+            rounds,
+            ..Tries::default()
+        },
+        ..Plan::default()
+    };
+    let literals = literals();
+    let found = check_all::<Solver, _, _>(alloc, &netlist, &literals[..4], &plan, &mut ())?;
+    let mut said = [Said::Unknown; 4];
+    for (place, finding) in found.each.iter().enumerate() {
+        if place < 4 {
+            said[place] = said_by(finding);
+        }
+    }
+    Ok(said)
+}
+
+#[test]
+fn decides_each(rt: HostRuntime) -> Result<(), AllocError> {
+    let wanted = [Said::Safe, Said::Fails(3), Said::Fails(1), Said::Fails(3)];
+    for &(engine, rounds) in &[(Engine::Ic3, 0), (Engine::All, 0), (Engine::All, 1)] {
+        assert!(rt; decided(rt.alloc(), engine, rounds)? == wanted);
+    }
+    Ok(())
+}
+
+// What IC3 decides by so many calls about two literals of the long register.
+fn decided_beside(
+    alloc: Global,
+    literals: &[Literal; 2],
+    calls: usize,
+) -> Result<[Said; 2], AllocError> {
+    let netlist = long(alloc)?;
+    let plan = Plan {
+        engine: Engine::Ic3,
+        bounds: Bounds {
+            calls,
+            ..Bounds::default()
+        },
+        ..Plan::default()
+    };
+    let found = check_all::<Solver, _, _>(alloc, &netlist, literals, &plan, &mut ())?;
+    let mut said = [Said::Unknown; 2];
+    for (place, finding) in found.each.iter().enumerate() {
+        if place < 2 {
+            said[place] = said_by(finding);
+        }
+    }
+    Ok(said)
+}
+
+#[test]
+fn decides_a_literal_beside_a_hard_one(rt: HostRuntime) -> Result<(), AllocError> {
+    let (hard, never) = (Literal::new(u32::from(ALL), true), Literal::new(0, true));
+    // Both together take long.
+    assert!(rt;
+        decided_beside(rt.alloc(), &[hard, never], 1000)? == [Said::Unknown, Said::Unknown]
+    );
+    // Then each has a search of its own for a while.
+    assert!(rt; decided_beside(rt.alloc(), &[hard, never], 5000)? == [Said::Unknown, Said::Safe]);
+    assert!(rt; decided_beside(rt.alloc(), &[never, hard], 5000)? == [Said::Safe, Said::Unknown]);
+    Ok(())
+}
