@@ -12,13 +12,13 @@ use Rattle.gipsat_answers.specs.Enumeration.{IsModelsText, IsOpen, IsRightVerdic
 use Rattle.gipsat_answers.specs.declared.answers.Verdict.{Verdict}
 use Rattle.gipsat_answers.specs.declared.answers.Verdict.TheVariants.{Satisfiable, Unsatisfiable, Unknown, Stopped}
 
-Appends-join : (x y z : Option (List ℕ)) (s t : List ℕ) → Appends x y s → Appends y z t → Appends x z (s ++ t)
+pub Appends-join : (x y z : Option (List ℕ)) (s t : List ℕ) → Appends x y s → Appends y z t → Appends x z (s ++ t)
 Appends-join None y z s t first then = tt
 Appends-join (Some xs) None z s t first then = absurd first
 Appends-join (Some xs) (Some ys) None s t first then = absurd then
 Appends-join (Some xs) (Some ys) (Some zs) s t first then = then ∙ ap (λ l. l ++ t) first ∙ append_assoc xs s t
 
-Appends-none : (x : Option (List ℕ)) → Appends x x []
+pub Appends-none : (x : Option (List ℕ)) → Appends x x []
 Appends-none None = tt
 Appends-none (Some xs) = sym (append-nil xs)
 

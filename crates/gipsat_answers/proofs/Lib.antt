@@ -1,6 +1,7 @@
 mod Assuming
 mod Enumerating
 mod Examples
+mod Questioning
 mod Renaming
 mod Resuming
 mod ValueLines

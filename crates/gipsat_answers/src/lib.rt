@@ -7,9 +7,11 @@ pub mod assumed;
 pub mod models;
 mod names;
 mod naming;
+pub mod questions;
 pub mod task;
 
 pub use answers::{Solved, Verdict};
 pub use assumed::{are_named, assume, first_variables, read_literals};
 pub use models::{Enumerated, Models, write_models};
+pub use questions::{Replies, answer_questions};
 pub use task::{Task, solve_instance, solve_text};

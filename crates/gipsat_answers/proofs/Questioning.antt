@@ -1,0 +1,254 @@
+-- Questions one after another: which were asked and replied to so far, and what is left.
+use Rattle.std.proofs.Common.{◌≡◌, ◌+◌, ◌<◌, ◌≤◌, ℕ, Bool, true, false, List, [], ◌∷◌, ◌++◌, drop, length, take, refl, sym, ap, ◌∙◌, subst, ◌⊎◌, ⊎_elim, inl, inr, IsTrue, arith}
+use Rattle.std.specs.Prelude.{Option, Some, None, codes, slice_get, ⊤}
+use Rattle.std.specs.Option.{option_map}
+use Rattle.std.proofs.lemmas.List.{append_assoc, append-nil, take_more}
+use Rattle.std.proofs.lemmas.Option.{get_or_from_slice_get, slice_get_within}
+use Rattle.std.proofs.lemmas.Bool.{false≢true}
+use Rattle.gipsat_cnf.specs.Assumptions.{IsSatisfiableUnder}
+use Rattle.gipsat_cnf.specs.Formulas.{Clause, Formula}
+use Rattle.gipsat_cnf.specs.Literals.{Lit}
+use Rattle.gipsat_answers.specs.Assumed.{literals_in}
+use Rattle.gipsat_answers.specs.Questions.{Question, asks, clauses_in, first_of, questions_after, is_stop, verdict_with}
+use Rattle.gipsat_answers.specs.Questions.{AreNoneSatisfiable, AreRightReplies, IsAnySatisfiable, IsRightOfAll, IsRightReply, WritesReplies, WritesReply}
+use Rattle.gipsat_answers.specs.declared.answers.Verdict.{Verdict}
+use Rattle.gipsat_answers.specs.declared.answers.Verdict.TheVariants.{Satisfiable, Unsatisfiable, Unknown, Stopped}
+use Rattle.gipsat_answers.proofs.Enumerating.{Appends-join, Appends-none}
+
+-- the verdict of the questions so far; before the first there is none
+abbrev pub IsRightSoFar : List Question → Option Verdict → Type 0
+IsRightSoFar asked None = asked ≡ []
+IsRightSoFar asked (Some verdict) = IsRightOfAll asked verdict
+
+-- the verdict of a question
+abbrev pub IsRightOfOne : Question → Verdict → Type 0
+IsRightOfOne question Satisfiable = IsSatisfiableUnder question.formula question.assumed
+IsRightOfOne question Unsatisfiable = ¬ (IsSatisfiableUnder question.formula question.assumed)
+IsRightOfOne question Unknown = ⊤
+IsRightOfOne question Stopped = ⊤
+
+any-last : (asked : List Question) (q : Question) → IsSatisfiableUnder q.formula q.assumed → IsAnySatisfiable (asked ++ q ∷ [])
+any-last [] q sat = inl sat
+any-last (first ∷ asked) q sat = inr (any-last asked q sat)
+
+any-more : (asked : List Question) (q : Question) → IsAnySatisfiable asked → IsAnySatisfiable (asked ++ q ∷ [])
+any-more [] q any = absurd any
+any-more (first ∷ asked) q any = ⊎_elim (λ sat. inl sat) (λ others. inr (any-more asked q others)) any
+
+none-more : (asked : List Question) (q : Question) → AreNoneSatisfiable asked → (¬ (IsSatisfiableUnder q.formula q.assumed))
+    → AreNoneSatisfiable (asked ++ q ∷ [])
+none-more [] q none last = (last, tt)
+none-more (first ∷ asked) q (none, others) last = (none, none-more asked q others last)
+
+longer : (asked : List Question) (q : Question) → 0 < length (asked ++ q ∷ [])
+longer [] q = omega arith
+longer (first ∷ asked) q = omega arith
+
+-- a question more
+right-with : (asked : List Question) (q : Question) (so_far : Option Verdict) (last : Verdict) → IsRightSoFar asked so_far
+    → IsRightOfOne q last → IsRightOfAll (asked ++ q ∷ []) (verdict_with so_far last)
+right-with asked q None Satisfiable right one = any-last asked q one
+right-with asked q None Unsatisfiable right one =
+    (longer asked q, none-more asked q (subst (λ l. AreNoneSatisfiable l) (sym right) tt) one)
+right-with asked q None Unknown right one = tt
+right-with asked q None Stopped right one = tt
+right-with asked q (Some Satisfiable) last right one = any-more asked q right
+right-with asked q (Some Unsatisfiable) Satisfiable right one = any-last asked q one
+right-with asked q (Some Unsatisfiable) Unsatisfiable (some, none) one = (longer asked q, none-more asked q none one)
+right-with asked q (Some Unsatisfiable) Unknown right one = tt
+right-with asked q (Some Unsatisfiable) Stopped right one = tt
+right-with asked q (Some Unknown) Satisfiable right one = any-last asked q one
+right-with asked q (Some Unknown) Unsatisfiable right one = tt
+right-with asked q (Some Unknown) Unknown right one = tt
+right-with asked q (Some Unknown) Stopped right one = tt
+right-with asked q (Some Stopped) Satisfiable right one = any-last asked q one
+right-with asked q (Some Stopped) Unsatisfiable right one = tt
+right-with asked q (Some Stopped) Unknown right one = tt
+right-with asked q (Some Stopped) Stopped right one = tt
+
+module _ (witness : Bool) (limit : ℕ) where
+  -- what a reply says of its question
+  says-right : (learned : ℕ) (stop : Bool) (q : Question) (verdict : Verdict) (text : List ℕ)
+      → IsRightReply witness limit learned stop q verdict text → IsRightOfOne q verdict
+  says-right learned stop q Satisfiable text (a, (variables, sat, true_, false_, is)) = (a, sat, true_)
+  says-right learned stop q Unsatisfiable text (none, is) = none
+  says-right learned stop q Unknown text right = tt
+  says-right learned stop q Stopped text right = tt
+
+  -- a reply stays right when more was learned, or the search was stopped
+  reply-later : (learned later : ℕ) (stop stops : Bool) (q : Question) (verdict : Verdict) (text : List ℕ) → learned ≤ later
+      → (IsTrue stop → IsTrue stops) → IsRightReply witness limit learned stop q verdict text
+      → IsRightReply witness limit later stops q verdict text
+  reply-later learned later stop stops q Satisfiable text more wider right = right
+  reply-later learned later stop stops q Unsatisfiable text more wider right = right
+  reply-later learned later stop stops q Unknown text more wider (spent, is) = (omega (arith, spent, more), is)
+  reply-later learned later stop stops q Stopped text more wider (stopped, is) = (wider stopped, is)
+
+  -- a reply is right where its own verdict says whether the search was stopped
+  pub reply-itself : (learned : ℕ) (q : Question) (verdict : Verdict) (old new : Option (List ℕ))
+      → WritesReply witness limit learned true q verdict old new → WritesReply witness limit learned (is_stop verdict) q verdict old new
+  reply-itself learned q Satisfiable old new writes = writes
+  reply-itself learned q Unsatisfiable old new writes = writes
+  reply-itself learned q Unknown old new writes = writes
+  reply-itself learned q Stopped old new writes = writes
+
+  replies-later : (learned later : ℕ) (stop stops : Bool) (asked : List Question) (text : List ℕ) → learned ≤ later
+      → (IsTrue stop → IsTrue stops) → AreRightReplies witness limit learned stop asked text
+      → AreRightReplies witness limit later stops asked text
+  replies-later learned later stop stops [] text more wider none = none
+  replies-later learned later stop stops (q ∷ asked) text more wider (verdict, (first, (rest, is, right, are))) = (
+    verdict,
+    (
+      first,
+      (
+        rest,
+        is,
+        reply-later learned later stop stops q verdict first more wider right,
+        replies-later learned later stop stops asked rest more wider are,
+      ),
+    ),
+  )
+
+  replies-more : (learned : ℕ) (stop : Bool) (asked : List Question) (q : Question) (verdict : Verdict) (text last : List ℕ)
+      → AreRightReplies witness limit learned stop asked text → IsRightReply witness limit learned stop q verdict last
+      → AreRightReplies witness limit learned stop (asked ++ q ∷ []) (text ++ last)
+  replies-more learned stop [] q verdict text last none right =
+      (verdict, (last, ([], ap (λ l. l ++ last) none ∙ sym (append-nil last), right, refl)))
+  replies-more learned stop (p ∷ asked) q verdict text last (v, (first, (rest, is, said, are))) right = (
+    v,
+    (
+      first,
+      (
+        rest ++ last,
+        ap (λ l. l ++ last) is ∙ append_assoc first rest last,
+        said,
+        replies-more learned stop asked q verdict rest last are right,
+      ),
+    ),
+  )
+
+-- these questions were asked so far, of which this is the verdict, right replies to them were written, and with those that
+-- are left they are all
+pub record Asked (witness : Bool) (limit : ℕ) (all : Option (List Question)) (old : Option (List ℕ)) (left : Option (List Question))
+    (learned : ℕ) (stop : Bool) (verdict : Option Verdict) (now : Option (List ℕ)) : Type 0 where
+  pub asked : List Question
+  pub together : all ≡ option_map (λ more. asked ++ more) left
+  pub written : WritesReplies witness limit learned stop asked old now
+  pub right : IsRightSoFar asked verdict
+
+all_left : (left : Option (List Question)) → left ≡ option_map (λ more. [] ++ more) left
+all_left None = refl
+all_left (Some more) = refl
+
+one_left : (asked : List Question) (formula : Formula) (assumed : List Lit) (left : Option (List Question))
+    → option_map (λ more. asked ++ more) (first_of formula assumed left)
+    ≡ option_map (λ more. (asked ++ record { formula = formula; assumed = assumed } ∷ []) ++ more) left
+one_left asked formula assumed None = refl
+one_left asked formula assumed (Some more) =
+    ap Some (sym (append_assoc asked (record { formula = formula; assumed = assumed } ∷ []) more))
+
+module _ (witness : Bool) (limit : ℕ) (all : Option (List Question)) (old : Option (List ℕ)) where
+  -- before the first line
+  pub Asked-begin : (left : Option (List Question)) (learned : ℕ) (stop : Bool) → all ≡ left
+      → Asked witness limit all old left learned stop None old
+  Asked-begin left learned stop same = record {
+    asked = [];
+    together = same ∙ all_left left;
+    written = ([], refl, Appends-none old);
+    right = refl;
+  }
+
+  module _ (formula : Formula) (begun line : List ℕ) (lines : List (List ℕ)) (learned : ℕ) (stop : Bool) (verdict : Option Verdict)
+      (now : Option (List ℕ)) (so_far : Asked witness limit all old (questions_after formula begun (line ∷ lines)) learned stop verdict now) where
+    -- a line of clauses was read
+    pub Asked-line : asks line ≡ false
+        → Asked witness limit all old (questions_after formula (begun ++ line ++ codes "\n") lines) learned stop verdict now
+    Asked-line asks_none =
+        let same : questions_after formula begun (line ∷ lines) ≡ questions_after formula (begun ++ line ++ codes "\n") lines = rw asks_none refl in
+        record {
+          asked = so_far.asked;
+          together = so_far.together ∙ ap (option_map (λ more. so_far.asked ++ more)) same;
+          written = so_far.written;
+          right = so_far.right;
+        }
+
+    -- a question was replied to
+    pub Asked-more : (added : Formula) (assumed : List Lit) (later : ℕ) (last : Verdict) (then : Option (List ℕ)) → asks line ≡ true
+        → clauses_in begun ≡ Some added → literals_in (drop 1 line) ≡ Some assumed → learned ≤ later
+        → (IsTrue stop → last ≡ Stopped)
+        → WritesReply witness limit later true (record { formula = formula ++ added; assumed = assumed }) last now then
+        → Asked witness limit all old (questions_after (formula ++ added) [] lines) later (is_stop last) (Some (verdict_with verdict last)) then
+    Asked-more added assumed later last then asks_it has names more stays reply =
+        let q : Question = record { formula = formula ++ added; assumed = assumed } in
+        let same : questions_after formula begun (line ∷ lines) ≡ first_of (formula ++ added) assumed (questions_after (formula ++ added) [] lines)
+        = rw (asks_it, has, names) refl in
+        let wider : IsTrue stop → IsTrue (is_stop last) = λ stopped. subst (λ v. IsTrue (is_stop v)) (sym (stays stopped)) refl in
+        let (text, are, wrote) = so_far.written in
+        let (words, right, writes) = reply-itself witness limit later q last now then reply in
+        record {
+          asked = so_far.asked ++ q ∷ [];
+          together = so_far.together ∙ ap (option_map (λ more. so_far.asked ++ more)) same
+              ∙ one_left so_far.asked (formula ++ added) assumed (questions_after (formula ++ added) [] lines);
+          written = (
+            text ++ words,
+            replies-more witness limit later (is_stop last) so_far.asked q last text words
+                (replies-later witness limit learned later stop (is_stop last) so_far.asked text more wider are) right,
+            Appends-join old now then text words wrote writes,
+          );
+          right = right-with so_far.asked q verdict last so_far.right (says-right witness limit later (is_stop last) q last words right);
+        }
+
+  -- behind the last line
+  pub Asked-end : (formula : Formula) (begun : List ℕ) (learned : ℕ) (stop : Bool) (verdict : Option Verdict) (now : Option (List ℕ))
+      (added : Formula) (so_far : Asked witness limit all old (questions_after formula begun []) learned stop verdict now)
+      → clauses_in begun ≡ Some added → all ≡ Some so_far.asked
+  Asked-end formula begun learned stop verdict now added so_far has =
+      let same : questions_after formula begun [] ≡ Some [] = rw has refl in
+      so_far.together ∙ ap (option_map (λ more. so_far.asked ++ more)) same ∙ ap Some (append-nil so_far.asked)
+
+module _ (witness : Bool) (limit : ℕ) (all : Option (List Question)) (old : Option (List ℕ)) (formula f1 f2 : Formula)
+    (begun line next : List ℕ) (left lines : List (List ℕ)) (learned : ℕ) (stop : Bool) (verdict : Option Verdict) (now : Option (List ℕ))
+    (so_far : Asked witness limit all old (questions_after formula begun left) learned stop verdict now) (split : left ≡ line ∷ lines) where
+  before : Asked witness limit all old (questions_after formula begun (line ∷ lines)) learned stop verdict now
+  before = subst (λ ls. Asked witness limit all old (questions_after formula begun ls) learned stop verdict now) split so_far
+
+  -- a line of clauses was read, and stands behind those before
+  pub Asked-line-on : asks line ≡ false → next ≡ begun ++ line ++ codes "\n"
+      → Asked witness limit all old (questions_after formula next lines) learned stop verdict now
+  Asked-line-on asks_none is =
+      subst (λ b. Asked witness limit all old (questions_after formula b lines) learned stop verdict now) (sym is)
+      (Asked-line witness limit all old formula begun line lines learned stop verdict now before asks_none)
+
+  -- a question was replied to, once the clauses before it were added
+  pub Asked-more-on : (rest : List ℕ) (added : Formula) (assumed : List Lit) (later : ℕ) (last : Verdict) (then : Option (List ℕ))
+      (verdict2 : Option Verdict) (stop2 : Bool) → asks line ≡ true → rest ≡ drop 1 line → clauses_in begun ≡ Some added
+      → f1 ≡ formula ++ added → f2 ≡ f1 → next ≡ [] → literals_in rest ≡ Some assumed → learned ≤ later
+      → (IsTrue stop → last ≡ Stopped)
+      → WritesReply witness limit later true (record { formula = f1; assumed = assumed }) last now then
+      → verdict2 ≡ Some (verdict_with verdict last) → stop2 ≡ is_stop last
+      → Asked witness limit all old (questions_after f2 next lines) later stop2 verdict2 then
+  Asked-more-on rest added assumed later last then verdict2 stop2 asks_it behind has is1 is2 none names more stays reply is_verdict is_stop2 =
+      let same : questions_after f2 next lines ≡ questions_after (formula ++ added) [] lines
+      = ap (λ f. questions_after f next lines) (is2 ∙ is1) ∙ ap (λ b. questions_after (formula ++ added) b lines) none in
+      let core = Asked-more witness limit all old formula begun line lines learned stop verdict now before added assumed later last then
+      asks_it has (subst (λ r. literals_in r ≡ Some assumed) behind names) more stays
+      (subst (λ f. WritesReply witness limit later true (record { formula = f; assumed = assumed }) last now then) is1 reply) in
+      subst (λ q. Asked witness limit all old q later stop2 verdict2 then) (sym same)
+      (subst (λ s. Asked witness limit all old (questions_after (formula ++ added) [] lines) later s verdict2 then) (sym is_stop2)
+      (subst (λ v. Asked witness limit all old (questions_after (formula ++ added) [] lines) later (is_stop last) v then) (sym is_verdict) core))
+
+-- only a search that was stopped has this verdict
+pub is_stop-only : (verdict : Verdict) → IsTrue (is_stop verdict) → verdict ≡ Stopped
+is_stop-only Satisfiable is = absurd (false≢true is)
+is_stop-only Unsatisfiable is = absurd (false≢true is)
+is_stop-only Unknown is = absurd (false≢true is)
+is_stop-only Stopped is = refl
+
+-- a clause more was added
+pub clauses-more : (old now then f : Formula) (i : ℕ) (c : Clause) → now ≡ old ++ take i f → then ≡ now ++ c ∷ []
+    → slice_get f i ≡ Some c → then ≡ old ++ take (i + 1) f
+clauses-more old now then f i c so_far is at =
+    let within : i < length f = slice_get_within f i c at in
+    let next : take (i + 1) f ≡ take i f ++ c ∷ [] =
+    take_more f i c within ∙ ap (λ x. take i f ++ x ∷ []) (get_or_from_slice_get f i c c at) in
+    is ∙ ap (λ x. x ++ c ∷ []) so_far ∙ append_assoc old (take i f) (c ∷ []) ∙ ap (λ x. old ++ x) (sym next)

@@ -1,0 +1,460 @@
+//! Questions that a text asks one after another, of the clauses before each.
+ghost use Rattle.std.specs.Prelude.{◌≡◌, ◌++◌, [], ◌≤◌, ◌<◌, ℕ, List, true, false, drop, length, codes, Some, None, IfNone, IfOk, IfSome, IsTrue, MatchOption, OnOk};
+ghost use Rattle.std.specs.Bool.{OnTrue};
+ghost use Rattle.std.specs.Option.{option_map};
+ghost use Rattle.std.specs.Io.KnownBytes.{Appends, IsAtEnd};
+ghost use Rattle.giputils_text.specs.Lines.{text_lines};
+ghost use Rattle.gipsat_cnf.specs.Answers.{IsRightOr};
+ghost use Rattle.gipsat_cnf.specs.Formulas.{Formula};
+ghost use Rattle.gipsat_cnf.specs.Literals.{Lit};
+ghost use Rattle.gipsat_solver.specs.Answers.{HasNoFewer};
+ghost use Rattle.gipsat_answers.specs.Assumed.{literals_in};
+ghost use Rattle.gipsat_answers.specs.Questions.{asks, clauses_in, is_header, is_silent, is_stop, questions_after, questions_in, questions_of, verdict_with, Question};
+ghost use Rattle.gipsat_answers.specs.Questions.{AsksQuestions, IsRightOfAll, IsRightReply, OfQuestions, WritesReplies, WritesReply};
+
+use crate::answers::{Verdict, bytes, model_text, write};
+use crate::assumed::read_literals;
+use crate::naming::report_of;
+use crate::task::Task;
+use gipsat_cnf::{AnswerUnder, Budget, Cnf, Literal};
+use gipsat_dimacs::{DimacsError, HeaderRule, Reason, read_instance_by};
+use gipsat_solver::Solver;
+use gipsat_solver::progress::Progress;
+use giputils_text::split_line;
+use std::alloc::{AllocError, Allocator, Global};
+use std::io::{ErrorKind, Read, Write};
+
+/// What was answered to the questions of a text.
+#[derive(Clone, Copy)]
+pub struct Replies {
+    /// What the replies say together: `Satisfiable` where something satisfies one of the questions, and `Unsatisfiable`
+    /// where there are some and nothing satisfies any.
+    pub verdict: Verdict,
+    /// How many clauses were learned.
+    pub learned: usize,
+    /// Whether the search was stopped.
+    pub is_stopped: bool,
+}
+
+/// Reads a text to its end, and answers its questions in order, within as many learned clauses for each as the task
+/// allows. Once the search is stopped, the questions that are left are told as open.
+///
+/// The text begins with a line `p inccnf`, behind which it has clauses in the DIMACS form, and lines that begin with an
+/// `a`, behind which stand literals and a 0. Each such line asks whether something satisfies all clauses before it and
+/// makes these literals true.
+///
+/// # Errors
+/// - [`DimacsError::Input`] where a read fails.
+/// - [`DimacsError::Line`] with the number of the line at which the text has another form, and why.
+/// - [`DimacsError::Memory`] where memory is refused.
+/// - [`DimacsError::Output`] where a write fails.
+///
+/// The replies to the questions before that were written then.
+pub fn answer_questions<A: Allocator + Copy, R: Read, W: Write, P: Progress>(
+    alloc: A,
+    reader: &mut R,
+    writer: &mut W,
+    task: Task,
+    progress: &mut P,
+) -> Result<Replies, DimacsError>
+    ensures read_to_end { OnOk result (IsAtEnd (R.remaining reader.new)) }
+    ensures has_form { OnOk result (AsksQuestions (R.remaining reader.old)) }
+    ensures written { IfOk result (λ told. OfQuestions (R.remaining reader.old) (λ questions.
+        WritesReplies task.witness task.limit told.learned told.is_stopped questions
+        (W.contents writer.old) (W.contents writer.new))) }
+    ensures verdict { IfOk result (λ told. OfQuestions (R.remaining reader.old) (λ questions.
+        IsRightOfAll questions told.verdict)) }
+    ensures stopped { IfOk result (λ told. IsTrue told.is_stopped → IsTrue (P.wants_stop progress.new)) }
+{
+    let text = read_text(alloc, reader)?;
+    let mut solver = Solver::new(alloc);
+    answer_text(alloc, &mut solver, &text, writer, task, progress)
+}
+
+// The bytes of a text.
+fn read_text<A: Allocator, R: Read>(alloc: A, reader: &mut R) -> Result<Vec<u8, A>, DimacsError>
+    ensures read_to_end { OnOk result (IsAtEnd (R.remaining reader.new)) }
+    ensures text { IfOk result (λ read. IfSome (R.remaining reader.old) (λ text. read.items ≡ text)) }
+{
+    let mut text = Vec::new(alloc);
+    match reader.read_to_end(&mut text) {
+        Ok(_) => Ok(text),
+        Err(error) if error.kind() == ErrorKind::OutOfMemory => Err(DimacsError::Memory),
+        Err(_) => Err(DimacsError::Input),
+    }
+}
+
+// Answers the questions of a text by a solver that has no clause.
+fn answer_text<A: Allocator + Copy, W: Write, P: Progress>(
+    alloc: A,
+    solver: &mut Solver<A>,
+    text: &[u8],
+    writer: &mut W,
+    task: Task,
+    progress: &mut P,
+) -> Result<Replies, DimacsError>
+    requires empty { solver.old.formula ≡ [] }
+    ensures right { IfOk result (λ told. (asked : List Question) × (questions_of text.now ≡ Some asked)
+        × WritesReplies task.witness task.limit told.learned told.is_stopped asked
+        (W.contents writer.old) (W.contents writer.new) × IsRightOfAll asked told.verdict) }
+    ensures stopped { IfOk result (λ told. IsTrue told.is_stopped → IsTrue (P.wants_stop progress.new)) }
+{
+    let (lines, body) = behind_header(text)?;
+    answer_lines(alloc, solver, body, lines, writer, task, progress)
+}
+
+// What stands behind the header, and behind how many lines.
+fn behind_header(text: &[u8]) -> Result<(usize, &[u8]), DimacsError>
+    ensures { IfOk result (λ found. questions_of text.now ≡ questions_after [] [] (text_lines found.1.now)) }
+{
+    let mut lines = 0usize;
+    let mut left = text;
+    while let Some((line, rest)) = split_line(left) {
+        lines = lines.saturating_add(1);
+        left = rest;
+        if is_silent(line) {
+            continue;
+        }
+        if is_header(line) {
+            return Ok((lines, rest));
+        }
+        return Err(DimacsError::Line(lines, Reason::Header));
+    }
+    Err(DimacsError::Line(lines.saturating_add(1), Reason::Header))
+}
+
+// Whether a line says nothing.
+fn is_silent(line: &[u8]) -> bool
+    ensures { result ≡ is_silent line.now }
+{
+    match line {
+        [first, ..] => *first == b'\r' || *first == b'c',
+        [] => true,
+    }
+}
+
+// Whether a line is the header.
+fn is_header(line: &[u8]) -> bool
+    ensures { result ≡ is_header line.now }
+{
+    line == b"p inccnf".as_slice() || line == b"p inccnf\r".as_slice()
+}
+
+// Clauses that were read since the last question, and where.
+#[derive(Drop)]
+struct Begun<A: Allocator = Global> {
+    // Their lines.
+    text: Vec<u8, A>,
+    // How many lines stand before them.
+    lines_before: usize,
+    // One more than the greatest variable so far.
+    variables: u32,
+}
+
+impl<A: Allocator> Begun<A> {
+    // Adds a line.
+    fn push(&mut self, line: &[u8]) -> Result<(), AllocError>
+        ensures { OnOk result (self.new.text.items ≡ self.old.text.items ++ line.now ++ codes "\n") }
+    {
+        self.text.extend_from_slice(line)?;
+        self.text.push(b'\n')?;
+        Ok(())
+    }
+}
+
+// Answers the questions of a text, which stands behind a header and so many lines, by a solver that has no clause.
+fn answer_lines<A: Allocator + Copy, W: Write, P: Progress>(
+    alloc: A,
+    solver: &mut Solver<A>,
+    text: &[u8],
+    lines_before: usize,
+    writer: &mut W,
+    task: Task,
+    progress: &mut P,
+) -> Result<Replies, DimacsError>
+    requires empty { solver.old.formula ≡ [] }
+    ensures right { IfOk result (λ told. (asked : List Question)
+        × (questions_after [] [] (text_lines text.now) ≡ Some asked)
+        × WritesReplies task.witness task.limit told.learned told.is_stopped asked
+        (W.contents writer.old) (W.contents writer.new) × IsRightOfAll asked told.verdict) }
+    ensures stopped { IfOk result (λ told. IsTrue told.is_stopped → IsTrue (P.wants_stop progress.new)) }
+{
+    let mut verdict = None;
+    let mut is_stopped = false;
+    let mut lines = lines_before;
+    let mut begun = Begun {
+        text: Vec::new(alloc),
+        lines_before,
+        variables: 0,
+    };
+    let mut left = text;
+    while let Some((line, rest)) = split_line(left) {
+        left = rest;
+        lines = lines.saturating_add(1);
+        let Some(literals) = question(line) else {
+            begun.push(line)?;
+            continue;
+        };
+        add_begun(alloc, solver, &mut begun)?;
+        begun.lines_before = lines;
+        let asked = Asked {
+            literals,
+            line: lines,
+            variables: begun.variables,
+            is_stopped,
+        };
+        let last = reply_to(alloc, solver, asked, writer, task, progress)?;
+        verdict = Some(verdict_with(verdict, last));
+        is_stopped = is_stop(last);
+    }
+    add_begun(alloc, solver, &mut begun)?;
+    progress.end(report_of(solver));
+    Ok(Replies {
+        verdict: verdict.unwrap_or(Verdict::Unknown),
+        learned: solver.learned(),
+        is_stopped,
+    })
+}
+
+// The verdict of some questions, if there are some, and of one more.
+fn verdict_with(so_far: Option<Verdict>, last: Verdict) -> Verdict
+    ensures { result ≡ verdict_with so_far last }
+{
+    match so_far {
+        None | Some(Verdict::Unsatisfiable) => last,
+        Some(Verdict::Satisfiable) => Verdict::Satisfiable,
+        Some(open) => match last {
+            Verdict::Satisfiable => Verdict::Satisfiable,
+            _ => open,
+        },
+    }
+}
+
+// Whether a verdict is that of a search that was stopped.
+fn is_stop(verdict: Verdict) -> bool
+    ensures { result ≡ is_stop verdict }
+{
+    match verdict {
+        Verdict::Stopped => true,
+        Verdict::Satisfiable | Verdict::Unsatisfiable | Verdict::Unknown => false,
+    }
+}
+
+// What a line asks: what stands behind the `a` that it begins with.
+fn question(line: &[u8]) -> Option<&[u8]>
+    ensures some { IfSome result (λ rest. (asks line.now ≡ true) × (rest.now ≡ drop 1 line.now)) }
+    ensures none { IfNone result (asks line.now ≡ false) }
+{
+    if asks(line) { Some(&line[1..]) } else { None }
+}
+
+// Whether a line asks something.
+fn asks(line: &[u8]) -> bool
+    ensures asks { result ≡ asks line.now }
+    ensures some { OnTrue result (0 < length line.now) }
+{
+    match line {
+        [first, ..] => *first == b'a',
+        [] => false,
+    }
+}
+
+// Adds the clauses that have begun to the solver.
+fn add_begun<A: Allocator + Copy>(
+    alloc: A,
+    solver: &mut Solver<A>,
+    begun: &mut Begun<A>,
+) -> Result<(), DimacsError>
+    ensures added { OnOk result ((added : Formula) × (clauses_in begun.old.text.items ≡ Some added)
+        × (solver.new.formula ≡ solver.old.formula ++ added)) }
+    ensures text { OnOk result (begun.new.text.items ≡ []) }
+    ensures learned { OnOk result (solver.new.learned ≡ solver.old.learned) }
+{
+    let mut text = begun.text.as_slice();
+    let read = match read_instance_by(alloc, &mut text, HeaderRule::Relaxed) {
+        Ok(read) => read,
+        Err(error) => return Err(behind(begun.lines_before, error)),
+    };
+    add_clauses(solver, &read.clauses)?;
+    begun.variables = begun.variables.max(read.variables);
+    begun.text.clear();
+    Ok(())
+}
+
+// An error in a text that has so many lines before it.
+fn behind(lines: usize, error: DimacsError) -> DimacsError {
+    match error {
+        DimacsError::Line(line, reason) => DimacsError::Line(lines.saturating_add(line), reason),
+        other => other,
+    }
+}
+
+// Adds clauses to the solver.
+fn add_clauses<A: Allocator + Copy>(
+    solver: &mut Solver<A>,
+    clauses: &Cnf<A>,
+) -> Result<(), AllocError>
+    ensures formula { OnOk result (solver.new.formula ≡ solver.old.formula ++ clauses.now) }
+    ensures learned { OnOk result (solver.new.learned ≡ solver.old.learned) }
+{
+    for place in 0..clauses.len() {
+        solver.add_clause(clauses.clause(place))?;
+    }
+    Ok(())
+}
+
+// A question, and what is known where it is asked.
+#[derive(Clone, Copy)]
+struct Asked<'a> {
+    // The text of the literals, in this line.
+    literals: &'a [u8],
+    line: usize,
+    // So many variables occurred before.
+    variables: u32,
+    // Whether the search was stopped before.
+    is_stopped: bool,
+}
+
+// Answers a question, and writes the reply.
+fn reply_to<A: Allocator + Copy, W: Write, P: Progress>(
+    alloc: A,
+    solver: &mut Solver<A>,
+    asked: Asked<'_>,
+    writer: &mut W,
+    task: Task,
+    progress: &mut P,
+) -> Result<Verdict, DimacsError>
+    requires stopped { IsTrue asked.is_stopped → IsTrue (P.wants_stop progress.old) }
+    ensures written { IfOk result (λ verdict. (assumed : List Lit)
+        × (literals_in asked.entry.literals.now ≡ Some assumed)
+        × WritesReply task.witness task.limit solver.new.learned true
+        (record { formula = solver.old.formula; assumed = assumed }) verdict
+        (W.contents writer.old) (W.contents writer.new)) }
+    ensures stays { IfOk result (λ verdict. IsTrue asked.entry.is_stopped → verdict ≡ Verdict.Stopped) }
+    ensures stopped { IfOk result (λ verdict. verdict ≡ Verdict.Stopped → IsTrue (P.wants_stop progress.new)) }
+    ensures formula { solver.new.formula ≡ solver.old.formula }
+    ensures learned { HasNoFewer solver.old solver.new }
+{
+    let assumed = match read_literals(alloc, asked.literals) {
+        Ok(assumed) => assumed,
+        Err(error) => return Err(at_line(asked.line, error)),
+    };
+    if asked.is_stopped {
+        write(writer, b"s UNKNOWN\n")?;
+        return Ok(Verdict::Stopped);
+    }
+    let (verdict, text) = reply(alloc, solver, &assumed, asked.variables, task, progress)?;
+    write(writer, &text)?;
+    Ok(verdict)
+}
+
+// An error in a text that is a part of this line.
+fn at_line(line: usize, error: DimacsError) -> DimacsError {
+    match error {
+        DimacsError::Line(_, reason) => DimacsError::Line(line, reason),
+        other => other,
+    }
+}
+
+// Whether these literals can all be true, and the text of this reply.
+fn reply<A: Allocator + Copy, P: Progress>(
+    alloc: A,
+    solver: &mut Solver<A>,
+    assumed: &[Literal],
+    variables: u32,
+    task: Task,
+    progress: &mut P,
+) -> Result<(Verdict, Vec<u8, A>), AllocError>
+    ensures right { IfOk result (λ made. IsRightReply task.witness task.limit solver.new.learned true
+        (record { formula = solver.old.formula; assumed = assumed.now }) made.0 made.1.items) }
+    ensures stopped { IfOk result (λ made. made.0 ≡ Verdict.Stopped → IsTrue (P.wants_stop progress.new)) }
+    ensures formula { solver.new.formula ≡ solver.old.formula }
+    ensures learned { HasNoFewer solver.old solver.new }
+{
+    match solve_assuming(solver, assumed, task.limit, progress)? {
+        Some(AnswerUnder::Sat(model)) => {
+            let shown = shown(variables, &model)?;
+            let text = model_text(alloc, task.witness, shown, &model)?;
+            Ok((Verdict::Satisfiable, text))
+        }
+        Some(AnswerUnder::Unsat(_)) => {
+            let text = bytes(alloc, b"s UNSATISFIABLE\n")?;
+            Ok((Verdict::Unsatisfiable, text))
+        }
+        Some(AnswerUnder::Unknown) => {
+            let text = bytes(alloc, b"s UNKNOWN\n")?;
+            Ok((Verdict::Unknown, text))
+        }
+        None => {
+            let text = bytes(alloc, b"s UNKNOWN\n")?;
+            Ok((Verdict::Stopped, text))
+        }
+    }
+}
+
+// Of how many variables the values are shown, where so many occurred.
+fn shown(variables: u32, model: &[bool]) -> Result<u32, AllocError>
+    ensures { IfOk result (λ shown. length model.now ≤ shown) }
+{
+    match u32::try_from(model.len()) {
+        Ok(len) => Ok(len.max(variables)),
+        Err(_) => Err(AllocError),
+    }
+}
+
+// How many clauses may be learned, and how many literals propagated, up to the first pause of a search.
+const FIRST: Budget = Budget {
+    clauses: 2_000,
+    propagations: 1_000_000,
+};
+
+// Whether these literals can all be true. It tells `progress` how far it is: None where that stopped it. It gives up after
+// so many learned clauses.
+fn solve_assuming<A: Allocator + Copy, P: Progress>(
+    solver: &mut Solver<A>,
+    assumed: &[Literal],
+    limit: usize,
+    progress: &mut P,
+) -> Result<Option<AnswerUnder<A>>, AllocError>
+    ensures right { IfOk result (λ found. IfSome found
+        (IsRightOr solver.old.formula assumed.now (limit ≤ solver.new.learned))) }
+    ensures stopped { IfOk result (λ found. IfNone found (IsTrue (P.wants_stop progress.new))) }
+    ensures formula { solver.new.formula ≡ solver.old.formula }
+    ensures learned { HasNoFewer solver.old solver.new }
+{
+    let before = solver.learned();
+    let mut left = limit;
+    let mut propagations = FIRST.propagations;
+    for _ in 0..usize::MAX {
+        let known = solver.learned();
+        progress.begin(report_of(solver));
+        let budget = Budget {
+            clauses: FIRST.clauses.min(left),
+            propagations,
+        };
+        match solver.solve_limited(assumed, budget)? {
+            AnswerUnder::Unknown => {}
+            answer => return Ok(Some(answer)),
+        }
+        let spent = solver.learned().saturating_sub(before);
+        if spent >= limit {
+            return Ok(Some(AnswerUnder::Unknown));
+        }
+        if progress.note(report_of(solver)).is_break() {
+            return Ok(None);
+        }
+        propagations = next_budget(propagations, solver.learned() > known);
+        left = limit.saturating_sub(spent);
+    }
+    Err(AllocError)
+}
+
+// How many literals may be propagated up to the next pause: more where nothing was learned, since each search begins at
+// the root.
+fn next_budget(propagations: u64, has_learned: bool) -> u64 {
+    if has_learned {
+        FIRST.propagations
+    } else {
+        propagations.saturating_mul(2)
+    }
+}
