@@ -1,0 +1,2 @@
+-- What engines find out about a justice property.
+pub mod Verdicts
