@@ -78,6 +78,7 @@ try "a percent sign behind the last clause" 10 "" "$two" 'p cnf 2 2\n1 0\n-1 2 0
 headless='1 0\n-1 2 0\n'
 # shellcheck disable=SC2016
 try "no header" 1 '<stdin>:1: no header `p cnf VARIABLES CLAUSES`' "" "$headless"
+try "an empty input, with --relaxed" 10 "" "$(printf 's SATISFIABLE\nv 0')" "" --relaxed
 try "no header, with --relaxed" 10 "" "$two" "$headless" --relaxed
 try "too few clauses, with --relaxed" 10 "" "$two" "p cnf 2 9\\n$headless" --relaxed
 try "too many clauses, with --relaxed" 10 "" "$two" "p cnf 2 1\\n$headless" --relaxed
@@ -751,11 +752,13 @@ else
     failed=$((failed + 1))
 fi
 
-# Where no conflict is met the search pauses as well: reading takes less than a second.
+# Where no conflict is met the search pauses as well: where reading takes less than the time, it ends half a second late
+# at most.
 TIMEFORMAT=%U
-spent=$( { time timeout 60 "$gipsat" -q -n --time 1 "$work/easy" > "$work/out" 2> "$work/err"; } 2>&1)
-awk "BEGIN { exit !($spent < 5) }"
-told "a time limit where no conflict is met (1 s, $spent s of the processor)" $?
+reading=$( { time timeout 60 "$gipsat" -q -n --conflicts 0 "$work/easy" > "$work/out" 2> "$work/err"; } 2>&1)
+spent=$( { time timeout 60 "$gipsat" -q -n --time 2 "$work/easy" > "$work/out" 2> "$work/err"; } 2>&1)
+awk "BEGIN { exit !($spent < ($reading < 1.5 ? 2.5 : $reading + 2)) }"
+told "a time limit where no conflict is met (2 s, $spent s of the processor, $reading s to read)" $?
 
 # Memory that is refused, while the clauses are read and where a variable has the greatest number.
 (ulimit -v 60000; "$gipsat" "$work/easy") > "$work/out" 2> "$work/err"
