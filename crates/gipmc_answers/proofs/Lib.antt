@@ -1,3 +1,4 @@
+mod OnWhole
 mod Shown
 mod Told
 pub mod Witnessed

@@ -10,11 +10,11 @@ ghost use Rattle.gipmc_engines.specs.Verdicts.{IsRightVerdict};
 use crate::error::TaskError;
 use crate::listener::Listener;
 use crate::output::Output;
+use crate::parted::check_by_part;
 use gipmc_aiger::{read_circuit, write_witness};
 use gipmc_circuits::Netlist;
-use gipmc_engines::{Plan, Verdict, check};
+use gipmc_engines::{Plan, Verdict};
 use gipsat_cnf::Literal;
-use gipsat_solver::Solver;
 use std::alloc::{AllocError, Allocator, Global};
 use std::io::Write;
 
@@ -203,7 +203,7 @@ fn find_out<A: Allocator + Copy, L: Listener>(
     if listener.begin(place).is_break() {
         return Verdict::Unknown;
     }
-    match check::<Solver<A>, _, _>(alloc, netlist, bad, plan, listener) {
+    match check_by_part(alloc, netlist, bad, plan, listener) {
         Ok(verdict) => {
             listener.end(false);
             verdict

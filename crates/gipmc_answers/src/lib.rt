@@ -7,6 +7,7 @@ pub mod certificates;
 pub mod error;
 pub mod listener;
 pub mod output;
+mod parted;
 mod strengthened;
 pub mod witnesses;
 
