@@ -1,5 +1,5 @@
-mod OnWhole
 mod Shown
 mod Told
 pub mod Witnessed
 mod Written
+mod OnWhole
