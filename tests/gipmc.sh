@@ -58,9 +58,10 @@ try "a latch that stays, within 0" 0 "" "$(open 0)" "$kept" --engine bmc --depth
 try "a latch that stays" 20 "" "$safe" "$kept"
 try "a latch that stays, by IC3" 20 "" "$safe" "$kept" --engine ic3
 try "a latch that may rise, by IC3" 10 "" "$fails" "$held" --engine ic3
-try "no call is allowed" 0 "" "$(printf '2\nb0\n.')" "$kept" --engine ic3 --limit 0
+try "no time for IC3" 0 "" "$(printf '2\nb0\n.')" "$kept" --engine ic3 -t 0
+try "a limit of conflicts is none of IC3" 20 "" "$safe" "$kept" --engine ic3 --limit 0
 try "a latch that may rise, within 0" 0 "" "$(open 0)" "$held" --engine bmc --depth 0
-try "no learned clause is allowed" 0 "" "$(printf '2\nb0\n.')" "$held" --engine bmc --limit 0
+try "no conflict is allowed" 0 "" "$(printf '2\nb0\n.')" "$held" --engine bmc --limit 0
 try "simulation finds nothing" 0 "" "$(printf '2\nb0\n.')" "$kept" --engine sim
 try "two bad literals" 10 "" "$(printf 'u3\n2\nb0\n.\n1\nb1\n00\n1\n0\n.')" "$two" --engine bmc --depth 3
 try "the first bad literal" 0 "" "$(open 3)" "$two" --bad 0 --engine bmc --depth 3
@@ -88,6 +89,18 @@ status=$?
 [ "$status" = 10 ] && [ "$("$gipmc" --replay both.wit held.aag)" = "s VERIFIED" ]
 told "a trace by all engines" $?
 
+printf '%b' 'aag 4 1 2 0 1 1\n2\n4 2\n6 8\n6\n8 4 2\n' > twice.aag
+"$gipmc" --engine sim twice.aag > sim.wit 2> err
+status=$?
+moments=$(($(wc -l < sim.wit) - 4))
+early=0
+for ((n = 1; n < moments; n++)); do
+    { head -n $((n + 3)) sim.wit; echo .; } > cut.wit
+    [ "$("$gipmc" --replay cut.wit twice.aag 2> err)" = "s NOT VERIFIED" ] || early=$((early + 1))
+done
+[ "$status" = 10 ] && [ "$moments" -gt 2 ] && [ "$early" = 0 ]
+told "a trace by simulation fails at its last moment alone" $?
+
 # Witnesses of other programs.
 witness() { printf '%b' "$1" > wit; }
 witness '1\nb0\n0\n1\n0\n.\n'
@@ -95,33 +108,89 @@ try "a witness" 0 "" "s VERIFIED" "$held" --replay wit
 try "a witness, and the circuit's file named" 0 "" "s VERIFIED" "" --replay=wit held.aag
 try "a witness from standard input" 0 "" "s VERIFIED" '1\nb0\n0\n1\n0\n.\n' --replay - held.aag
 witness '1\nb0\n0\n1\n.\n'
-try "a witness that ends too early" 1 "" "s NOT VERIFIED" "$held" --replay wit
+try "a witness that ends too early" 1 \
+    "wit: witness 1, b0: the bad literal is false at the last moment, 0" "s NOT VERIFIED" "$held" --replay wit
 witness '1\nb0\n1\n0\n.\n'
-try "a witness that begins elsewhere" 1 "" "s NOT VERIFIED" "$held" --replay wit
+try "a witness that begins elsewhere" 1 \
+    "wit: witness 1, b0: latch 0 does not begin at its reset" "s NOT VERIFIED" "$held" --replay wit
+witness '1\nb0\n0\n1\n0\n.\n'
+try "a witness that breaks a constraint" 1 "wit: witness 1, b0: constraint 1 is false at moment 1" "s NOT VERIFIED" \
+    'aag 2 1 1 0 0 1 2\n2\n4 2\n4\n1\n5\n' --replay wit
+witness '1\nb0\n0\n.\n'
+try "a witness without a moment" 1 "wit: witness 1, b0: no moment" "s NOT VERIFIED" "$held" --replay wit
+try "a witness from standard input that is none" 1 "<stdin>: witness 1, b0: no moment" "s NOT VERIFIED" \
+    '1\nb0\n0\n.\n' --replay - held.aag
 witness '1\nb3\n0\n1\n0\n.\n'
 try "a witness of a literal that is not there" 1 \
     "wit: it names bad literal 3, and the circuit has 1" "" "$held" --replay wit
 try "a witness of a literal that is not there, from standard input" 1 \
     "<stdin>: it names bad literal 3, and the circuit has 1" "" '1\nb3\n0\n1\n0\n.\n' --replay - held.aag
+try "a witness, and a literal that is not there" 1 "<stdin>: no bad literal 7, of 1" "" "$held" --replay wit --bad 7
+try "a witness, and no bad literal at all" 1 "<stdin>: no bad literal" "" 'aag 1 1 0 0 0\n2\n' --replay wit
 witness '1\nb1\n00\n1\n0\n.\n'
 try "a witness of the literal that is asked for" 0 "" "s VERIFIED" "$two" --replay wit --bad 1
 try "a witness of another literal than is asked for" 1 \
-    "wit: it names bad literal 1, and '--bad' asks for 0" "" "$two" --replay wit --bad 0
+    "wit: no witness of bad literal 0, which '--bad' asks for" "" "$two" --replay wit --bad 0
 witness '2\nb0\n.\n'
+try "no witness" 1 "wit: no witness" "" "$held" --replay wit
+witness 'unsat\n3\nb0\n.\n'
 # shellcheck disable=SC2016
-try "no witness" 1 'wit:1: no line `1`, with which a witness begins' "" "$held" --replay wit
+try "a text that is no answer" 1 'wit:2: no line `1`, with which a witness begins' "" "$held" --replay wit
 witness '1\nb0\n00\n1\n.\n'
 try "a witness with a value too many" 1 \
     "wit:3: more or fewer values than the circuit has latches or inputs" "" "$held" --replay wit
+
+# All witnesses of a text: between other answers, of several literals, and with values that do not matter.
+both='aag 3 1 2 0 0 2\n2\n4 2\n6 2\n4\n6\n'
+witness 'u0\n2\nb0\n.\n1\nb1\n00\n1\nx\n.\n0\nb2\n.\nc b1\nc #0 i0 = 1\n'
+try "a witness between other answers" 0 "" "s VERIFIED" "$two" --replay wit
+witness '1\nb1\n00\n1\n0\n.\n1\nb1\n00\n0\n1\n.\n'
+try "the second of two witnesses" 1 \
+    "wit: witness 2, b1: the bad literal is false at the last moment, 1" "s NOT VERIFIED" "$two" --replay wit
+witness '1\nb0b1\nxx\n1\nx\n.\n'
+try "a witness of two literals" 0 "" "s VERIFIED" "$both" --replay wit
+try "a witness of two literals, asked for one" 0 "" "s VERIFIED" "$both" --replay wit --bad 1
+try "a witness of two literals, one of which stays" 1 \
+    "wit: witness 1, b0: the bad literal is false at the last moment, 1" "s NOT VERIFIED" "$two" --replay wit
+try "a witness of two literals, asked for the one that rises" 0 "" "s VERIFIED" "$two" --replay wit --bad 1
+printf '%b' "$two" > two.aag
+"$gipmc" two.aag > answers 2> err
+try "what the program has written" 0 "" "s VERIFIED" "" --replay answers two.aag
+
+# A trace as abc 1.01 writes it by write_cex -a.
+witness '0\n1\n0# DONE\n'
+try "a trace of abc" 0 "" "s VERIFIED" "$held" --replay wit
+witness '00\n1\n0# DONE\n'
+try "a trace of abc, of the literal that is asked for" 0 "" "s VERIFIED" "$two" --replay wit --bad 1
+try "a trace of abc stands for the first literal" 1 \
+    "wit: witness 1, b0: the bad literal is false at the last moment, 1" "s NOT VERIFIED" "$two" --replay wit
+if command -v berkeley-abc > path; then
+    printf 'aig 2 1 1 1 0\n2\n4\n' > held.aig
+    berkeley-abc -c "read_aiger held.aig; bmc3 -F 10; write_cex -a cex" > out 2>&1
+    try "a trace that abc has written" 0 "" "s VERIFIED" "" --replay cex held.aig
+else
+    echo "left out: a trace that abc has written (no berkeley-abc)"
+fi
 
 # Certificates of other programs that are clauses.
 invariant() { printf '%b' "$1" > inv; }
 invariant 'p cnf 1 1\n-1 0\n'
 try "an invariant" 0 "" "s VERIFIED" "$kept" --certify inv
-try "an invariant that does not stay" 1 "" "s NOT VERIFIED" "$held" --certify inv
+try "an invariant that does not stay" 1 \
+    "inv: b0: clause 1 is not kept by a transition" "s NOT VERIFIED" "$held" --certify inv
+invariant 'p cnf 1 2\n1 -1 0\n1 0\n'
+try "an invariant that does not begin" 1 \
+    "inv: b0: clause 2 is false at an initial moment" "s NOT VERIFIED" "$kept" --certify inv
+invariant 'p cnf 1 0\n'
+try "an invariant that allows a bad moment" 1 \
+    "inv: b0: the clauses allow a bad moment" "s NOT VERIFIED" "$kept" --certify inv
+invariant 'p cnf 1 1\n-1 0\n'
+try "an invariant, and a question that is left open" 1 \
+    "inv: b0: a question was left open at the limit" "s NOT VERIFIED" "$kept" --certify inv --limit 0
 invariant 'p cnf 2 1\n-1 0\n'
 try "an invariant of one bad literal, asked about it" 0 "" "s VERIFIED" "$two" --certify inv --bad 0
-try "an invariant of one bad literal, asked about both" 1 "" "s NOT VERIFIED" "$two" --certify inv
+try "an invariant of one bad literal, asked about both" 1 \
+    "inv: b1: the clauses allow a bad moment" "s NOT VERIFIED" "$two" --certify inv
 try "an invariant, and a literal that is not there" 1 "<stdin>: no bad literal 9, of 2" "" "$two" --certify inv --bad 9
 invariant 'p cnf 0 0\n'
 try "an invariant, and no bad literal at all" 1 "<stdin>: no bad literal" "" 'aag 1 1 0 0 0\n2\n' --certify inv
@@ -136,9 +205,11 @@ try "a circuit that certifies" 0 "" "s VERIFIED" "$kept" --certify cert.aag
 printf '%b' 'aag 1 0 1 1 0\n2 2\n2\n' > cert.aag
 try "a circuit that certifies, by its output" 0 "" "s VERIFIED" "$kept" --certify cert.aag
 printf '%b' 'aag 1 0 1 0 0 1\n2 2\n3\n' > cert.aag
-try "a circuit that excludes all initial states" 1 "" "s NOT VERIFIED" "$kept" --certify cert.aag
+try "a circuit that excludes all initial states" 1 \
+    "cert.aag: b0: clause 1 is false at an initial moment" "s NOT VERIFIED" "$kept" --certify cert.aag
 printf '%b' 'aag 1 0 1 0 0 1\n2 2\n0\n' > cert.aag
-try "a circuit that excludes nothing" 1 "" "s NOT VERIFIED" "$kept" --certify cert.aag
+try "a circuit that excludes nothing" 1 \
+    "cert.aag: b0: the clauses allow a bad moment" "s NOT VERIFIED" "$kept" --certify cert.aag
 printf '%b' 'aag 2 0 2 0 0 1\n2 2\n4 4\n2\n' > cert.aag
 try "a circuit of more latches" 0 "" "s VERIFIED" "$kept" --certify cert.aag
 printf '%b' 'aag 3 0 3 0 0 1\n2 2\n4 4 6\n6 6 4\n2\n' > cert.aag
@@ -157,7 +228,7 @@ status=$?
 [ "$status" = 20 ] && [ "$(cat out)" = "$safe" ] && [ ! -s err ] &&
     [ "$("$gipmc" --certify cert --bad 0 two.aag)" = "s VERIFIED" ]
 told "a certificate that is written" $?
-[ "$("$gipmc" --certify cert two.aag)" = "s NOT VERIFIED" ]
+[ "$("$gipmc" --certify cert two.aag 2> err)" = "s NOT VERIFIED" ]
 told "a certificate of the first literal is none of both" $?
 rm -f circuit
 "$gipmc" --bad 0 --certificate circuit --aiger two.aag > out 2> err
@@ -165,7 +236,7 @@ status=$?
 [ "$status" = 20 ] && [ "$(cat out)" = "$safe" ] && [ ! -s err ] && [ "$(head -c 4 circuit)" = "aag " ] &&
     [ "$("$gipmc" --certify circuit --bad 0 two.aag)" = "s VERIFIED" ]
 told "a certificate that is written as a circuit" $?
-[ "$("$gipmc" --certify circuit two.aag)" = "s NOT VERIFIED" ]
+[ "$("$gipmc" --certify circuit two.aag 2> err)" = "s NOT VERIFIED" ]
 told "a certificate as a circuit of the first literal is none of both" $?
 cp cert kept
 try "a certificate, and a file that is there" 1 \
@@ -289,7 +360,7 @@ status=$?
 [ "$status" = 0 ] && [ "$(cat out)" = "$(printf '2\nb0\n.\n2\nb1\n.')" ]
 told "no time" $?
 "$gipmc" "${endless[@]}" -v -t 6 kept.aag > out 2> err
-grep -q '^c b0: depth [0-9]*, [0-9]* clauses, [0-9]* learned; [0-9]*[.][0-9][0-9][0-9] s$' err
+grep -q '^c b0: depth [0-9]*, [0-9]* clauses, [0-9]* conflicts; [0-9]*[.][0-9][0-9][0-9] s$' err
 told "progress in a file" $?
 
 # Traces with names. The circuit has a vector of two inputs and one of two latches, which are given in opposite orders.
@@ -325,6 +396,16 @@ told "names" $?
 "$gipmc" --engine bmc --names named.aag > out 2> err
 [ "$(grep '^c b' out)" = "$(printf 'c b0\nc b1 both')" ] && [ "$("$gipmc" --replay out named.aag)" = "s VERIFIED" ]
 told "names of two literals, which a reader of witnesses passes over" $?
+printf '%b' 'aag 3 1 2 0 0 3\n2\n4 4\n6 2\n4\n6\n5\nb0 stays\nb1 rises\n' > three.aag
+"$gipmc" --names three.aag > out 2> err
+status=$?
+[ "$status" = 10 ] && [ ! -s err ] && [ "$(grep '^c b' out)" = "$(printf 'c b0 stays: safe\nc b1 rises\nc b2')" ] &&
+    [ "$("$gipmc" --replay out three.aag)" = "s VERIFIED" ]
+told "names of what fails and of what is safe" $?
+"$gipmc" --engine bmc --depth 3 --names --bad 0 three.aag > out 2> err
+status=$?
+[ "$status" = 0 ] && [ "$(cat out)" = "$(printf 'u3\n2\nb0\n.\nc b0 stays: open')" ]
+told "a name of what is open" $?
 "$gipmc" --names kept.aag > out 2> err
 status=$?
 [ "$status" = 20 ] && [ "$(cat out)" = "$safe" ] && [ ! -s err ]
@@ -422,13 +503,29 @@ rm -f cert
 try "an empty input" 1 '<stdin>:1: no header `aag` or `aig`' "" ""
 try "a justice property alone" 1 \
     "<stdin>:1: justice or fairness without bad literals is not supported" "" 'aag 0 0 0 0 0 0 0 1\n'
-try "a justice property beside a bad literal" 20 "" "$safe" 'aag 1 0 1 0 0 1 0 1\n2 2\n2\n1\n3\n'
+live='aag 1 0 1 0 0 1 0 2 1\n2 2\n2\n1\n2\n3\n1\n2\n3\nl0 held\nj1 live\nb0 bad\n'
+left="left out: justice properties 2, fairness constraints 1"
+try "justice properties beside a bad literal" 20 "c <stdin>: $left" "$safe" "$live"
+printf '%b' "$live" > live.aag
+try "a certificate beside justice properties" 0 "c live.aag: $left" "s VERIFIED" 'p cnf 1 1\n-1 0\n' --certify - live.aag
+printf '%b' 'aag 1 0 1 0 0 1 0 1\n2 2 1\n2\n1\n3\nl0 held\nj0 live\nb0 bad\n' > live.aag
+"$gipmc" --engine bmc --names live.aag > out 2> err
+status=$?
+[ "$status" = 10 ] && [ "$(grep '^c' out)" = "$(printf 'c b0 bad\nc #0 held = 1')" ]
+told "names beside a justice property" $?
 try "a latch that is not there" 1 "<stdin>:2: not a number" "" 'aag 1 0 1 0 0\n'
 try "a literal that is too great" 1 "<stdin>:3: a number that is too great" "" 'aag 1 0 1 0 0 1\n2 2\n4\n'
 try "a variable that is not defined" 1 "<stdin>: variable 1 is not defined" "" 'aag 1 0 0 0 0 1\n2\n'
 try "a variable that is defined twice" 1 "<stdin>: variable 1 is defined twice" "" 'aag 2 1 1 0 0 1\n2\n2 2\n2\n'
 try "a gate that depends on itself" 1 \
     "<stdin>: the gate of variable 1 depends on itself" "" 'aag 1 0 0 0 1 1\n2\n2 2 2\n'
+
+# Data that are compressed, told by their first bytes.
+for data in 'gzip \037\213' 'xz \375\067zXZ' 'bzip2 BZh'; do
+    printf '%b' "${data#* }9" > packed
+    try "a circuit in ${data%% *}" 1 "packed:1: ${data%% *} data (try: ${data%% *} -dc FILE)" "" "" packed
+    try "a witness in ${data%% *}" 1 "packed:1: ${data%% *} data (try: ${data%% *} -dc FILE)" "" "$kept" --replay packed
+done
 
 # Twenty latches that stay, each of them bad, beside gates that matter to none.
 {
@@ -513,7 +610,7 @@ summary() {
     [ "$status" = "$wanted" ] && tr '\n' '#' < err | grep -qx "$lines"
     told "$name" $?
 }
-bmc='depth [0-9]*, [0-9]* clauses, [0-9]* learned; '
+bmc='depth [0-9]*, [0-9]* clauses, [0-9]* conflicts; '
 ic3='frame [0-9]*, [0-9]* calls, [0-9]* obligations, [^#]* literals in each of [0-9]* lemmas; '
 took='[0-9]*[.][0-9][0-9][0-9] s#'
 printf '%b' "$kept" > kept.aag

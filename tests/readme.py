@@ -23,7 +23,7 @@ import tempfile
 
 ROOT = pathlib.Path(__file__).resolve().parent.parent
 # The pages, each with the programs that it needs.
-PAGES = {"README.md": (), "docs/FORMULAS.md": ("awk",), "docs/CIRCUITS.md": ("yosys",)}
+PAGES = {"README.md": (), "docs/FORMULAS.md": ("awk",), "docs/CIRCUITS.md": ("yosys", "yosys-abc", "awk")}
 SECONDS = 600
 BLOCK = re.compile(r"^```console\n(.*?)^```$", re.DOTALL | re.MULTILINE)
 NOT_RUN = re.compile(r"(?:\./test|rt ci)(?:\s+#.*)?")

@@ -79,15 +79,15 @@ pub const OPTIONS: [Opt<Switch, Number, Text>; 16] = [
         short: "",
         kind: Kind::Number(Number::Limit, "N"),
         section: "Search",
-        help: "bmc leaves a question open after N learned clauses, and so does --certify; ic3 ends after N calls of its \
-               solvers. Without this there is no bound: ic3 goes on until it finds an answer",
+        help: "leave a question to a solver open after N conflicts: one of bmc, which ends there, or of --certify; without \
+               this there is no bound",
     },
     Opt {
         long: "--time",
         short: "-t",
-        kind: Kind::Number(Number::Time, "N"),
+        kind: Kind::Number(Number::Time, "SECONDS"),
         section: "Search",
-        help: "stop after N seconds: what is not known then is open. Each engine may do one step more",
+        help: "give up after so many seconds: what is not known then is open. Each engine may do one step more",
     },
     Opt {
         long: "--seed",
@@ -101,8 +101,9 @@ pub const OPTIONS: [Opt<Switch, Number, Text>; 16] = [
         short: "",
         kind: Kind::Text(Text::Replay, "WITNESS", "a file"),
         section: "Answers of other programs",
-        help: "write `s VERIFIED` if the trace in the file WITNESS is a counterexample, or `s NOT VERIFIED`. With --bad, \
-               WITNESS has to name this literal",
+        help: "write `s VERIFIED` if each trace in the file WITNESS is a counterexample, or `s NOT VERIFIED`, and on \
+               standard error why. With --bad, only what WITNESS has of this literal counts, and it has to have some. A \
+               trace by write_cex -a of abc, which names none, stands for this literal, or for the first",
     },
     Opt {
         long: "--certify",
@@ -110,9 +111,10 @@ pub const OPTIONS: [Opt<Switch, Number, Text>; 16] = [
         kind: Kind::Text(Text::Certify, "FILE", "a file"),
         section: "Answers of other programs",
         help: "write `s VERIFIED` if the certificate in FILE shows that no bad state is reachable, or `s NOT VERIFIED`, \
-               also where a question is left open by --limit. A certificate is clauses over latches in the DIMACS form, or \
-               a circuit in a form of AIGER whose bad literals are false, and constraints true, where an invariant holds. It \
-               may have further inputs and latches; symbols `= n` tell which literals of the circuit it shares",
+               and on standard error why: it does not, or a question is left open by --limit. A certificate is clauses over \
+               latches in the DIMACS form, or a circuit in a form of AIGER whose bad literals are false, and constraints \
+               true, where an invariant holds. It may have further inputs and latches; symbols `= n` tell which literals of \
+               the circuit it shares",
     },
     Opt {
         long: "--certificate",
@@ -135,8 +137,9 @@ pub const OPTIONS: [Opt<Switch, Number, Text>; 16] = [
         short: "",
         kind: Kind::Switch(Switch::Names),
         section: "Output",
-        help: "write behind the answers, for each bad literal that fails, lines that begin with c: its name in the circuit's \
-               file, and what each input and latch is at first, and later where it changes",
+        help: "write behind the answers, for each bad literal, lines that begin with c: its name in the circuit's file, and \
+               whether it is safe or open, if it has one; or, where it fails, what each input and latch is at first, and \
+               later where it changes",
     },
     Opt {
         long: "--vcd",

@@ -56,6 +56,8 @@ pub enum Failure<'a> {
     Open(&'a str, io::Error),
     /// A read of this input failed.
     Read(Option<&'a str>, io::Error),
+    /// What this input has is compressed, and this program decompresses it.
+    Compressed(Option<&'a str>, &'static str),
     /// A write to standard output failed.
     Write(io::Error),
     /// The file of this name could not be made, or is there already.
@@ -84,6 +86,10 @@ impl Display for Failure<'_> {
                 name.unwrap_or("<stdin>"),
                 Cause(Some(error))
             ),
+            Failure::Compressed(name, tool) => {
+                let name = name.unwrap_or("<stdin>");
+                write!(f, "{name}:1: {tool} data (try: {tool} -dc FILE)")
+            }
             Failure::Write(error) => write!(
                 f,
                 "<stdout>: cannot be written: {}",
@@ -117,9 +123,9 @@ impl Display for Failure<'_> {
                 name.unwrap_or("<stdout>")
             ),
             Failure::Task(_, TaskError::Memory) => f.write_str("memory: refused"),
-            Failure::Task(name, TaskError::NotAsked(named, asked)) => write!(
+            Failure::Task(name, TaskError::NoWitnessOf(asked)) => write!(
                 f,
-                "{}: it names bad literal {named}, and '--bad' asks for {asked}",
+                "{}: no witness of bad literal {asked}, which '--bad' asks for",
                 name.unwrap_or("<stdin>")
             ),
             Failure::Task(name, error) => {

@@ -10,7 +10,8 @@ use std::io::{ErrorKind, Read, Write};
 /// and a line feed, each line has the line feed alone.
 ///
 /// # Errors
-/// [`Failure::Open`] where the file can't be opened, or is a directory, and [`Failure::Read`] where a read fails.
+/// [`Failure::Open`] where the file can't be opened, or is a directory, [`Failure::Read`] where a read fails, and
+/// [`Failure::Compressed`] where the bytes are compressed.
 pub fn bytes_of<'a>(rt: &HostRuntime, name: Option<&'a str>) -> Result<Vec<u8>, Failure<'a>> {
     let mut bytes = Vec::new(rt.alloc());
     let read = match name {
@@ -18,9 +19,22 @@ pub fn bytes_of<'a>(rt: &HostRuntime, name: Option<&'a str>) -> Result<Vec<u8>, 
         None => rt.stdin().read_to_end(&mut bytes),
     };
     match read {
-        Ok(_) => Ok(with_line_feeds(rt, bytes)?),
+        Ok(_) => match tool_of(&bytes) {
+            Some(tool) => Err(Failure::Compressed(name, tool)),
+            None => Ok(with_line_feeds(rt, bytes)?),
+        },
         Err(error) if error.kind() == ErrorKind::OutOfMemory => Err(Failure::Memory),
         Err(error) => Err(Failure::Read(name, error)),
+    }
+}
+
+// The program that decompresses these bytes, if their first ones tell that they are compressed.
+fn tool_of(bytes: &[u8]) -> Option<&'static str> {
+    match bytes {
+        [0x1f, 0x8b, ..] => Some("gzip"),
+        [0xfd, b'7', b'z', b'X', b'Z', ..] => Some("xz"),
+        [b'B', b'Z', b'h', ..] => Some("bzip2"),
+        _ => None,
     }
 }
 

@@ -5,7 +5,7 @@
 //! error.
 #![tactic(auto)]
 
-ghost use Rattle.std.specs.Prelude.{◌≡◌, IfOk, IsTrue};
+ghost use Rattle.std.specs.Prelude.{◌≡◌, false, IfOk, IsTrue};
 ghost use Rattle.std.specs.Process.{exit_status};
 ghost use Rattle.std.specs.declared.alloc.Global.{Global};
 ghost use Rattle.gipmc_answers.specs.Answers.{Answers, IsAnswered, IsCircuitIn};
@@ -25,13 +25,15 @@ use about::ABOUT;
 use errors::Failure;
 use files::{bytes_of, new_file, write_out, write_whole};
 use gip_program::{NewFile, begin, explain, refuse, tell};
+use gipmc_aiger::read_header;
 use gipmc_answers::{
-    Answered, Lost, Outcome, Output, TaskError, answer, certificate_of, certifies, replays,
-    witness_circuit_of,
+    Answered, Lost, Outcome, Output, TaskError, answer, certificate_of, doubt_of,
+    witness_circuit_of, witness_doubt,
 };
 use gipmc_engines::{Bounds, Engine, Plan, Tries};
 use options::{Options, Task};
 use progress::Teller;
+use std::fmt::Display;
 use std::io::Stdout;
 use std::process::ExitCode;
 use traces::tell_traces;
@@ -61,9 +63,24 @@ fn main(rt: HostRuntime) -> ExitCode {
     }
 }
 
+// The text of the circuit that the options name, or of standard input. Tells what it has that is not answered about.
+fn circuit_of<'a>(rt: &HostRuntime, options: &Options<'a>) -> Result<Vec<u8>, Failure<'a>> {
+    let bytes = bytes_of(rt, options.file)?;
+    if let Ok(header) = read_header(&bytes) {
+        let (justice, fairness) = (header.justice, header.fairness);
+        if justice > 0 || fairness > 0 {
+            let name = options.file.unwrap_or("<stdin>");
+            let _ = eprintln!(rt;
+                "c {name}: left out: justice properties {justice}, fairness constraints {fairness}"
+            );
+        }
+    }
+    Ok(bytes)
+}
+
 // The status of a search in the circuit of the file that the options name, or of standard input.
 fn run_search(rt: &HostRuntime, options: &Options) -> ExitCode {
-    match bytes_of(rt, options.file) {
+    match circuit_of(rt, options) {
         Ok(bytes) => search_in(rt, options, &bytes),
         Err(error) => refuse(rt, &error),
     }
@@ -125,7 +142,7 @@ fn texts_of<'a>(
     options: &Options<'a>,
     name: Option<&'a str>,
 ) -> Result<(Vec<u8>, Vec<u8>), Failure<'a>> {
-    let bytes = bytes_of(rt, options.file)?;
+    let bytes = circuit_of(rt, options)?;
     let text = bytes_of(rt, name)?;
     Ok((bytes, text))
 }
@@ -184,7 +201,7 @@ fn plan_of(options: &Options) -> Plan {
         bounds: Bounds {
             depth: depth_of(options),
             limit: options.limit,
-            calls: options.limit,
+            calls: usize::MAX,
         },
     }
 }
@@ -354,8 +371,9 @@ fn replay<'a>(
 ) -> Result<bool, Failure<'a>>
     ensures { IfOk result (λ verified. IsTrue verified → Replays Global bytes.now witness.now options.now.bad) }
 {
-    match replays(rt.alloc(), bytes, witness, options.bad) {
-        Ok(verified) => verified_text(rt, verified),
+    match witness_doubt(rt.alloc(), bytes, witness, options.bad) {
+        Ok(None) => verified_text(rt, true),
+        Ok(Some(doubt)) => doubted(rt, name, &doubt),
         Err(error) => Err(failure(options.file, name, error)),
     }
 }
@@ -370,10 +388,25 @@ fn certify<'a>(
 ) -> Result<bool, Failure<'a>>
     ensures { IfOk result (λ verified. IsTrue verified → Certifies Global bytes.now text.now options.now.bad) }
 {
-    match certifies(rt.alloc(), bytes, text, options.bad, options.limit) {
-        Ok(verified) => verified_text(rt, verified),
+    match doubt_of(rt.alloc(), bytes, text, options.bad, options.limit) {
+        Ok(None) => verified_text(rt, true),
+        Ok(Some(doubt)) => doubted(rt, name, &doubt),
         Err(error) => Err(failure(options.file, name, error)),
     }
+}
+
+// Writes that the answer in the file of this name is not verified, and why.
+fn doubted<'a, D: Display>(
+    rt: &HostRuntime,
+    name: Option<&'a str>,
+    doubt: &D,
+) -> Result<bool, Failure<'a>>
+    ensures { IfOk result (λ verified. verified ≡ false) }
+{
+    let verified = verified_text(rt, false)?;
+    let name = name.unwrap_or("<stdin>");
+    let _ = eprintln!(rt; "{name}: {doubt}");
+    Ok(verified)
 }
 
 // Writes whether an answer is verified.

@@ -63,7 +63,7 @@ pub struct Options<'a> {
     pub engine: Engine,
     /// The most transitions of bounded model checking, if that is said.
     pub depth: Option<usize>,
-    /// How many clauses a question may learn, and how many calls IC3 may make.
+    /// How many conflicts a question to a solver may have.
     pub limit: usize,
     /// The seed of simulation.
     pub seed: u64,

@@ -77,15 +77,18 @@ impl Display for Simulated {
     }
 }
 
-// Of bounded model checking: the most transitions, and the clauses and the learned ones there.
+// Of bounded model checking: the most transitions, and the clauses and the conflicts there.
 #[derive(Clone, Copy)]
 struct Unrolled(Option<(usize, usize, usize)>);
 
 impl Display for Unrolled {
     fn fmt<W: fmt::Write>(&self, f: &mut fmt::Formatter<W>) -> fmt::Result {
         match self.0 {
-            Some((depth, clauses, learned)) => {
-                write!(f, "depth {depth}, {clauses} clauses, {learned} learned; ")
+            Some((depth, clauses, conflicts)) => {
+                write!(
+                    f,
+                    "depth {depth}, {clauses} clauses, {conflicts} conflicts; "
+                )
             }
             None => Ok(()),
         }

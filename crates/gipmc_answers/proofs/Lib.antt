@@ -1,3 +1,5 @@
+mod Claimed
+mod Each
 mod Shown
 mod Told
 pub mod Witnessed

@@ -1,18 +1,17 @@
 -- The text of an answer that a bad literal fails is a witness that replays.
-use Rattle.std.proofs.Common.{◌≡◌, ℕ, ◌<◌, ◌^◌, true, List, [], ◌∷◌, Some, Vec, Bool, length, IsTrue, arith, refl}
+use Rattle.std.proofs.Common.{rules, ◌≡◌, ℕ, ◌<◌, ◌^◌, true, List, [], ◌∷◌, Some, Vec, Bool, length, IsTrue, arith, refl}
 use Rattle.std.specs.Prelude.{◌==◌, slice_get}
 use Rattle.std.proofs.lemmas.Bool.{and_parts}
 use Rattle.gipsat_cnf.specs.Literals.{Lit}
 use Rattle.gipmc_aiger.specs.Lists.{Every}
-use Rattle.gipmc_aiger.proofs.WitnessRereads.{witness_rereads}
-use Rattle.gipmc_aiger.specs.declared.witness.Witness.{Witness}
+use Rattle.gipmc_aiger.proofs.WitnessRereads.{claims_reread}
 use Rattle.gipmc_circuits.specs.declared.circuit.Circuit.{Circuit}
 use Rattle.gipmc_circuits.specs.Traces.{have_width}
 use Rattle.gipmc_engines.specs.Verdicts.{IsRightVerdict}
 use Rattle.gipmc_engines.specs.declared.verdict.Verdict.{Verdict}
 use Rattle.gipmc_engines.specs.declared.verdict.Verdict.TheVariants as verdict
 use Rattle.gipmc_answers.specs.Answers.{IsCircuitIn, Tells, outcome_of, verdict_text}
-use Rattle.gipmc_answers.specs.Witnesses.{Replays}
+use Rattle.gipmc_answers.specs.Witnesses.{Replays, names_place}
 use Rattle.gipmc_answers.specs.declared.answers.Outcome.TheVariants.{Fails, Safe}
 
 -- two numbers that pass the test are equal
@@ -34,11 +33,11 @@ replays_by : {A : Type 0} (bytes text : List ℕ) (c : Circuit A) (place : ℕ) 
 replays_by {A} bytes text c place bad (verdict.Fails trace) circuit here small is outcome right =
     let (latches, rows) = and_parts (length trace.latches.items == length c.latches.items)
     (have_width (length c.inputs.items) trace.inputs.items) right.0 in
-    let w : Witness A = record { property = place; trace = trace } in
-    let rereads = witness_rereads (length c.latches.items) (length c.inputs.items) w small
+    let rereads = claims_reread (length c.latches.items) (length c.inputs.items) place trace small
     (same_of_test (length trace.latches.items) (length c.latches.items) latches)
     (every_row (length c.inputs.items) trace.inputs.items rows) in
-    (c, circuit, w, rw is rereads, refl, (bad, here, right))
+    let named : names_place (place ∷ []) place ≡ true = search rules in
+    (c, circuit, (place ∷ [], trace) ∷ [], rw is rereads, rw named refl, (rw named ((bad, here, right), tt), tt))
 replays_by bytes text c place bad (verdict.Safe invariant) circuit here small is outcome right = absurd cc
 replays_by bytes text c place bad (verdict.NoFailureWithin n) circuit here small is outcome right = absurd cc
 replays_by bytes text c place bad verdict.Unknown circuit here small is outcome right = absurd cc

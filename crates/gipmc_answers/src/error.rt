@@ -25,12 +25,15 @@ pub enum TaskError {
     /// The circuit has no bad literal at all.
     #[error("no bad literal")]
     NoBads,
-    /// The witness names the bad literal at this place; the circuit has so many.
+    /// A witness names the bad literal at this place; the circuit has so many.
     #[error("it names bad literal {0}, and the circuit has {1}")]
     OtherBad(usize, usize),
-    /// The witness names the bad literal at the first place; that at the second one is asked for.
-    #[error("it names bad literal {0}, and {1} is asked for")]
-    NotAsked(usize, usize),
+    /// The text has no witness of the bad literal at this place, which is asked for.
+    #[error("no witness of bad literal {0}")]
+    NoWitnessOf(usize),
+    /// The text has no witness at all.
+    #[error("no witness")]
+    NoWitness,
     /// The clauses that were found do not certify the circuit.
     #[error("what was found does not certify the circuit")]
     Uncertified,

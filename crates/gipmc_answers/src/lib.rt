@@ -18,4 +18,4 @@ pub use certificates::{
 pub use error::TaskError;
 pub use listener::Listener;
 pub use output::{Lost, Output};
-pub use witnesses::{replays, witness_doubt};
+pub use witnesses::{WitnessDoubt, replays, witness_doubt};

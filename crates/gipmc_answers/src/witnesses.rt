@@ -1,107 +1,281 @@
 //! Witnesses of counterexamples, from the bytes of texts to the answer.
-ghost use Rattle.std.specs.Prelude.{◌<◌, length, IfOk, IsTrue, OnOk};
-ghost use Rattle.gipmc_answers.specs.Witnesses.{FailsAt, IsAsked, IsWitnessIn, Replays};
+ghost use Rattle.std.specs.Prelude.{◌≡◌, ◌==◌, ◌<◌, ◌∷◌, [], length, map, IfNone, IfOk, IsTrue, None, Some};
+ghost use Rattle.std.specs.List.{list_any};
+ghost use Rattle.gipmc_aiger.specs.Lists.{Every};
+ghost use Rattle.gipmc_answers.specs.Witnesses.{AreWitnessesIn, FailsAt, IsRight, Replays, claimed, names_asked, names_place};
 
 use crate::answers::netlist_in;
 use crate::error::TaskError;
-use gipmc_aiger::{Witness, read_witness};
+use gipmc_aiger::{Claim, read_claims};
 use gipmc_circuits::{Netlist, Trace, TraceDoubt, replay, trace_doubt};
+use gipsat_cnf::Literal;
 use std::alloc::{AllocError, Allocator};
+use std::fmt::{self, Display};
 
-/// Whether the trace that a witness writes is a counterexample to the circuit that a text writes: at the bad literal at
-/// the place that is asked for, or at any.
+/// Why a witness is no counterexample.
+#[derive(Clone, Copy, Debug, PartialEq, Eq)]
+pub struct WitnessDoubt {
+    /// Which of the witnesses of the text it is, counted from 1.
+    pub witness: usize,
+    /// The place of the bad literal.
+    pub bad: usize,
+    /// Why the trace is no counterexample.
+    pub trace: TraceDoubt,
+}
+
+/// A line that says which witness, which bad literal, and what is wrong: at which moment, with which constraint or latch.
+impl Display for WitnessDoubt {
+    fn fmt<W: fmt::Write>(&self, f: &mut fmt::Formatter<W>) -> fmt::Result {
+        write!(f, "witness {}, b{}: {}", self.witness, self.bad, self.trace)
+    }
+}
+
+/// Whether each trace that the witnesses of a text write is a counterexample to the circuit that the other text writes,
+/// as [`witness_doubt`] finds out.
 ///
 /// # Errors
-/// - [`TaskError::Circuit`] and [`TaskError::Witness`] where a text has another form.
-/// - [`TaskError::NotAsked`] where the witness names another bad literal than the one that is asked for.
-/// - [`TaskError::OtherBad`] where the circuit has no such bad literal.
-/// - [`TaskError::Memory`] where memory is refused.
+/// Those of [`witness_doubt`].
 pub fn replays<A: Allocator + Copy>(
     alloc: A,
     bytes: &[u8],
-    witness: &[u8],
+    text: &[u8],
     asked: Option<usize>,
 ) -> Result<bool, TaskError>
-    ensures { IfOk result (λ fails. IsTrue fails → Replays A bytes.now witness.now asked) }
+    ensures { IfOk result (λ fails. IsTrue fails → Replays A bytes.now text.now asked) }
 {
-    let netlist = netlist_in(alloc, bytes)?;
-    let witness = witness_in(alloc, &netlist, witness)?;
-    is_asked(asked, &witness)?;
-    fails_by(alloc, &netlist, &witness)
+    match witness_doubt(alloc, bytes, text, asked)? {
+        None => Ok(true),
+        Some(_) => Ok(false),
+    }
 }
 
-/// Why the trace that a witness writes is no counterexample. None if it is one. Nothing is proved of it: [`replays`] is
-/// the judge.
+/// Why one of the witnesses of a text is no counterexample to the circuit that the other text writes: at the bad literal
+/// at the place that is asked for, if the witness names it, or at each that it names. None if all are. A witness without
+/// names, as abc writes it, stands for what is asked for, or for the first bad literal.
 ///
 /// # Errors
-/// Those of [`replays`].
+/// - [`TaskError::Circuit`] and [`TaskError::Witness`] where a text has another form.
+/// - [`TaskError::NoBads`] and [`TaskError::NoBad`] where the circuit has no bad literal, or not the one that is asked
+///   for.
+/// - [`TaskError::NoWitness`] and [`TaskError::NoWitnessOf`] where the text has no witness, or none of what is asked for.
+/// - [`TaskError::OtherBad`] where the circuit has not the bad literal that a witness names.
+/// - [`TaskError::Memory`] where memory is refused.
 pub fn witness_doubt<A: Allocator + Copy>(
     alloc: A,
     bytes: &[u8],
-    witness: &[u8],
-    asked: Option<usize>,
-) -> Result<Option<TraceDoubt>, TaskError> {
-    let netlist = netlist_in(alloc, bytes)?;
-    let witness = witness_in(alloc, &netlist, witness)?;
-    is_asked(asked, &witness)?;
-    let place = witness.property as usize;
-    match netlist.circuit.bads.get(place) {
-        Some(bad) => Ok(trace_doubt(alloc, &netlist, *bad, &witness.trace)?),
-        None => Err(TaskError::OtherBad(place, netlist.circuit.bads.len())),
-    }
-}
-
-// The witness that a text writes for a circuit.
-fn witness_in<A: Allocator + Copy>(
-    alloc: A,
-    netlist: &Netlist<A>,
     text: &[u8],
-) -> Result<Witness<A>, TaskError>
-    ensures { IfOk result (IsWitnessIn netlist.now.circuit text.now) }
+    asked: Option<usize>,
+) -> Result<Option<WitnessDoubt>, TaskError>
+    ensures { IfOk result (λ doubt. IfNone doubt (Replays A bytes.now text.now asked)) }
 {
-    let circuit = &netlist.circuit;
-    match read_witness(alloc, circuit.latches.len(), circuit.inputs.len(), text) {
-        Ok(witness) => Ok(witness),
-        Err(error) => Err(TaskError::of_witness(error)),
+    let netlist = netlist_in(alloc, bytes)?;
+    has_asked(&netlist, asked)?;
+    let claims = claims_in(alloc, &netlist, text)?;
+    if !name_asked(&claims, asked) {
+        return Err(unnamed(asked));
     }
+    first_doubt(alloc, &netlist, &claims, asked)
 }
 
-// Tests that the witness names the bad literal that is asked for, if one is.
-fn is_asked<A: Allocator>(asked: Option<usize>, witness: &Witness<A>) -> Result<(), TaskError>
-    ensures { OnOk result (IsAsked asked witness.now.property) }
-{
-    let named = witness.property as usize;
+// Tests that the circuit has the bad literal that is asked for, or one at all.
+fn has_asked<A: Allocator>(netlist: &Netlist<A>, asked: Option<usize>) -> Result<(), TaskError> {
+    let count = netlist.circuit.bads.len();
     match asked {
-        Some(place) if named != place => Err(TaskError::NotAsked(named, place)),
+        None if count == 0 => Err(TaskError::NoBads),
+        Some(place) if place >= count => Err(TaskError::NoBad(place, count)),
         _ => Ok(()),
     }
 }
 
-// Whether the trace of a witness is a counterexample, at the bad literal that the witness names.
-fn fails_by<A: Allocator + Copy>(
-    alloc: A,
-    netlist: &Netlist<A>,
-    witness: &Witness<A>,
-) -> Result<bool, TaskError>
-    ensures { IfOk result (λ fails. IsTrue fails →
-        FailsAt netlist.now.circuit witness.now.property witness.now.trace) }
-{
-    let place = witness.property as usize;
-    if place >= netlist.circuit.bads.len() {
-        return Err(TaskError::OtherBad(place, netlist.circuit.bads.len()));
+// Why no witness is one of what is asked for.
+fn unnamed(asked: Option<usize>) -> TaskError {
+    match asked {
+        Some(place) => TaskError::NoWitnessOf(place),
+        None => TaskError::NoWitness,
     }
-    Ok(fails_at(alloc, netlist, place, &witness.trace)?)
 }
 
-// Whether a trace is a counterexample, at the bad literal at a place.
-fn fails_at<A: Allocator + Copy>(
+// What the witnesses of a text claim of a circuit.
+fn claims_in<A: Allocator + Copy>(
+    alloc: A,
+    netlist: &Netlist<A>,
+    text: &[u8],
+) -> Result<Vec<Claim<A>, A>, TaskError>
+    ensures { IfOk result (λ claims.
+        AreWitnessesIn netlist.now.circuit text.now (map (λ x. (x.properties.items, x.trace)) claims.items)) }
+{
+    let circuit = &netlist.circuit;
+    match read_claims(alloc, circuit.latches.len(), circuit.inputs.len(), text) {
+        Ok(claims) => Ok(claims),
+        Err(error) => Err(TaskError::of_witness(error)),
+    }
+}
+
+// Whether a witness is one of what is asked for.
+fn name_asked<A: Allocator>(claims: &[Claim<A>], asked: Option<usize>) -> bool
+    ensures { result ≡ list_any (λ x. names_asked x.properties.items asked) claims.now }
+{
+    claims
+        .iter()
+        .any(|claim| names_asked(&claim.properties, asked))
+}
+
+// Whether a witness of these names is one of the bad literal that is asked for, if one is.
+fn names_asked(names: &[u32], asked: Option<usize>) -> bool
+    ensures { result ≡ names_asked names.now asked }
+{
+    match asked {
+        None => true,
+        Some(place) => names_place(names, place),
+    }
+}
+
+// Whether a witness of these names is one of the bad literal at a place.
+fn names_place(names: &[u32], place: usize) -> bool
+    ensures { result ≡ names_place names.now place }
+{
+    names.is_empty() || is_one_of(names, place)
+}
+
+// Whether a place is one of these.
+fn is_one_of(places: &[u32], place: usize) -> bool
+    ensures { result ≡ list_any (λ n. n == place) places.now }
+{
+    places.iter().any(|n| *n as usize == place)
+}
+
+// Why one of some witnesses is no counterexample. None if all are, here and below.
+fn first_doubt<A: Allocator + Copy>(
+    alloc: A,
+    netlist: &Netlist<A>,
+    claims: &[Claim<A>],
+    asked: Option<usize>,
+) -> Result<Option<WitnessDoubt>, TaskError>
+    ensures { IfOk result (λ doubt. IfNone doubt
+        (Every (λ x. IsRight netlist.now.circuit asked (x.properties.items, x.trace)) claims.now)) }
+{
+    for place in 0..claims.len() {
+        if let Some(doubt) = claim_doubt(alloc, netlist, &claims[place], asked)? {
+            let witness = place.saturating_add(1);
+            return Ok(Some(WitnessDoubt { witness, ..doubt }));
+        }
+    }
+    Ok(None)
+}
+
+// Why a witness is no counterexample, as the first one of its text.
+fn claim_doubt<A: Allocator + Copy>(
+    alloc: A,
+    netlist: &Netlist<A>,
+    claim: &Claim<A>,
+    asked: Option<usize>,
+) -> Result<Option<WitnessDoubt>, TaskError>
+    ensures { IfOk result (λ doubt. IfNone doubt
+        (IsRight netlist.now.circuit asked (claim.now.properties.items, claim.now.trace))) }
+{
+    match asked {
+        None => doubt_at_named(alloc, netlist, &claim.properties, &claim.trace),
+        Some(place) => doubt_at_asked(alloc, netlist, &claim.properties, place, &claim.trace),
+    }
+}
+
+// Why a trace is no counterexample, at the bad literals that a witness of these names has to show.
+fn doubt_at_named<A: Allocator + Copy>(
+    alloc: A,
+    netlist: &Netlist<A>,
+    names: &[u32],
+    trace: &Trace<A>,
+) -> Result<Option<WitnessDoubt>, TaskError>
+    ensures { IfOk result (λ doubt. IfNone doubt
+        (Every (FailsAt netlist.now.circuit trace.now) (claimed names.now None))) }
+{
+    if names.is_empty() {
+        return doubt_at(alloc, netlist, 0, trace);
+    }
+    doubt_at_each(alloc, netlist, names, trace)
+}
+
+// The same where this one is asked for.
+fn doubt_at_asked<A: Allocator + Copy>(
+    alloc: A,
+    netlist: &Netlist<A>,
+    names: &[u32],
+    asked: usize,
+    trace: &Trace<A>,
+) -> Result<Option<WitnessDoubt>, TaskError>
+    ensures { IfOk result (λ doubt. IfNone doubt
+        (Every (FailsAt netlist.now.circuit trace.now) (claimed names.now (Some asked)))) }
+{
+    if !names_place(names, asked) {
+        return Ok(None);
+    }
+    doubt_at(alloc, netlist, asked, trace)
+}
+
+// Why a trace is no counterexample, at one of the bad literals at these places.
+fn doubt_at_each<A: Allocator + Copy>(
+    alloc: A,
+    netlist: &Netlist<A>,
+    places: &[u32],
+    trace: &Trace<A>,
+) -> Result<Option<WitnessDoubt>, TaskError>
+    ensures { IfOk result (λ doubt. IfNone doubt (Every (FailsAt netlist.now.circuit trace.now) places.now)) }
+{
+    for k in 0..places.len() {
+        if let Some(doubt) = doubt_at(alloc, netlist, places[k] as usize, trace)? {
+            return Ok(Some(doubt));
+        }
+    }
+    Ok(None)
+}
+
+// Why a trace is no counterexample, at the bad literal at a place.
+fn doubt_at<A: Allocator + Copy>(
     alloc: A,
     netlist: &Netlist<A>,
     place: usize,
     trace: &Trace<A>,
-) -> Result<bool, AllocError>
-    requires { place < length netlist.now.circuit.bads.items }
-    ensures { IfOk result (λ fails. IsTrue fails → FailsAt netlist.now.circuit place trace.now) }
+) -> Result<Option<WitnessDoubt>, TaskError>
+    ensures { IfOk result (λ doubt. IfNone doubt (Every (FailsAt netlist.now.circuit trace.now) (place ∷ []))) }
 {
-    replay(alloc, netlist, netlist.circuit.bads[place], trace)
+    if place >= netlist.circuit.bads.len() {
+        return Err(TaskError::OtherBad(place, netlist.circuit.bads.len()));
+    }
+    Ok(doubt_below(alloc, netlist, place, trace)?)
+}
+
+// The same, at one that the circuit has.
+fn doubt_below<A: Allocator + Copy>(
+    alloc: A,
+    netlist: &Netlist<A>,
+    place: usize,
+    trace: &Trace<A>,
+) -> Result<Option<WitnessDoubt>, AllocError>
+    requires { place < length netlist.now.circuit.bads.items }
+    ensures { IfOk result (λ doubt. IfNone doubt (Every (FailsAt netlist.now.circuit trace.now) (place ∷ []))) }
+{
+    let bad = netlist.circuit.bads[place];
+    if replay(alloc, netlist, bad, trace)? {
+        return Ok(None);
+    }
+    let trace = defect_of(alloc, netlist, bad, trace)?;
+    Ok(Some(WitnessDoubt {
+        witness: 1,
+        bad: place,
+        trace,
+    }))
+}
+
+// What is wrong with a trace that was not replayed.
+fn defect_of<A: Allocator + Copy>(
+    alloc: A,
+    netlist: &Netlist<A>,
+    bad: Literal,
+    trace: &Trace<A>,
+) -> Result<TraceDoubt, AllocError> {
+    match trace_doubt(alloc, netlist, bad, trace)? {
+        Some(doubt) => Ok(doubt),
+        // It is not reached: what has no defect is replayed.
+        None => Ok(TraceDoubt::Empty),
+    }
 }

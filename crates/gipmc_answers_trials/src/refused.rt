@@ -49,8 +49,19 @@ const QUESTIONS: &[(&[u8], Question<'static>, Result<bool, TaskError>)] = &[
     (
         HELD,
         Question::Replay(RISES, Some(1)),
-        Err(TaskError::NotAsked(0, 1)),
+        Err(TaskError::NoBad(1, 1)),
     ),
+    (
+        TWO,
+        Question::Replay(b"1\nb1\n00\n1\n0\n.\n", Some(0)),
+        Err(TaskError::NoWitnessOf(0)),
+    ),
+    (
+        HELD,
+        Question::Replay(b"2\nb0\n.\n", None),
+        Err(TaskError::NoWitness),
+    ),
+    (NONE, Question::Replay(RISES, None), Err(TaskError::NoBads)),
     (
         HELD,
         Question::Replay(b"1\nb3\n0\n1\n0\n.\n", None),
@@ -58,7 +69,7 @@ const QUESTIONS: &[(&[u8], Question<'static>, Result<bool, TaskError>)] = &[
     ),
     (
         HELD,
-        Question::Replay(b"2\n", None),
+        Question::Replay(b"3\n", None),
         Err(TaskError::Witness(AigerError::Refused(Place::Line(1), Reason::Status))),
     ),
     (

@@ -10,5 +10,5 @@ mod waves;
 pub use names::Names;
 pub use rows::latch_rows;
 pub use signals::Scene;
-pub use table::table_text;
+pub use table::{known_text, table_text};
 pub use waves::vcd_text;

@@ -40,6 +40,12 @@ impl<'a, A: Allocator + Copy> Names<'a, A> {
         Ok(names)
     }
 
+    /// The name of the bad literal at a place, empty where it has none.
+    pub fn bad(&self, place: usize) -> &'a [u8] {
+        let none: &'a [u8] = &[];
+        self.bads.get(place).copied().unwrap_or(none)
+    }
+
     // Takes the name of a line, if it has one.
     fn take(&mut self, header: &Header, line: &'a [u8]) {
         let [kind, rest @ ..] = line else {
@@ -98,6 +104,8 @@ struct Header {
     gates: u32,
     bads: u32,
     constraints: u32,
+    justice: u32,
+    fairness: u32,
 }
 
 impl Header {
@@ -110,7 +118,9 @@ impl Header {
         let (outputs, numbers) = count(numbers);
         let (gates, numbers) = count(numbers);
         let (bads, numbers) = count(numbers);
-        let (constraints, _) = count(numbers);
+        let (constraints, numbers) = count(numbers);
+        let (justice, numbers) = count(numbers);
+        let (fairness, _) = count(numbers);
         Header {
             is_binary: form == b"aig".as_slice(),
             inputs,
@@ -119,6 +129,8 @@ impl Header {
             gates,
             bads,
             constraints,
+            justice,
+            fairness,
         }
     }
 
@@ -140,7 +152,9 @@ impl Header {
     fn skip_literals(self, text: &[u8]) -> &[u8] {
         let rest = skip_lines(text, self.outputs);
         let rest = skip_lines(rest, self.bads);
-        skip_lines(rest, self.constraints)
+        let rest = skip_lines(rest, self.constraints);
+        let rest = skip_justice(rest, self.justice);
+        skip_lines(rest, self.fairness)
     }
 }
 
@@ -166,6 +180,20 @@ fn skip_lines(text: &[u8], count: u32) -> &[u8] {
             Some((_, after)) => rest = after,
             None => return &[],
         }
+    }
+    rest
+}
+
+// What stands behind so many justice properties: a line for the number of literals of each, and then the literals.
+fn skip_justice(text: &[u8], count: u32) -> &[u8] {
+    let mut sizes = text;
+    let mut rest = skip_lines(text, count);
+    for _ in 0..count {
+        let Some((size, after)) = split_line(sizes) else {
+            return &[];
+        };
+        rest = skip_lines(rest, number(size, u32::MAX).unwrap_or(0));
+        sizes = after;
     }
     rest
 }

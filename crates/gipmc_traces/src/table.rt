@@ -1,4 +1,5 @@
 //! What changes from moment to moment of a trace, in lines that a reader of witnesses passes over.
+use crate::names::Names;
 use crate::signals::{Scene, Signal, signals};
 use std::alloc::{AllocError, Allocator};
 use std::io::Write;
@@ -16,21 +17,43 @@ pub fn table_text<A: Allocator + Copy>(
 ) -> Result<Vec<u8, A>, AllocError> {
     let signals = signals(alloc, scene.names)?;
     let mut text = Vec::new(alloc);
-    write_title(&mut text, scene, bad)?;
+    write_title(&mut text, scene.names, bad)?;
+    text.push(b'\n')?;
     for moment in 0..scene.latches.len() {
         write_changes(&mut text, scene, &signals, moment)?;
     }
     Ok(text)
 }
 
-// Writes the line that names a bad literal.
-fn write_title<A: Allocator>(
+/// What is known of the bad literal at a place, in a line with its name; no line where it has no name.
+///
+/// # Errors
+/// `AllocError` where memory is refused.
+pub fn known_text<A: Allocator + Copy>(
+    alloc: A,
+    names: &Names<A>,
+    bad: usize,
+    known: &[u8],
+) -> Result<Vec<u8, A>, AllocError> {
+    let mut text = Vec::new(alloc);
+    if names.bad(bad).is_empty() {
+        return Ok(text);
+    }
+    write_title(&mut text, names, bad)?;
+    text.extend_from_slice(b": ")?;
+    text.extend_from_slice(known)?;
+    text.push(b'\n')?;
+    Ok(text)
+}
+
+// Writes what names a bad literal.
+fn write_title<A: Allocator + Copy>(
     text: &mut Vec<u8, A>,
-    scene: &Scene<A>,
+    names: &Names<A>,
     bad: usize,
 ) -> Result<(), AllocError> {
     write!(text, "c b{bad}").map_err(|_| AllocError)?;
-    let name: &[u8] = scene.names.bads.get(bad).copied().unwrap_or(&[]);
+    let name = names.bad(bad);
     if !name.is_empty() {
         text.push(b' ')?;
     }
@@ -38,7 +61,6 @@ fn write_title<A: Allocator>(
         let is_shown = byte.is_ascii_graphic() || *byte == b' ';
         text.push(if is_shown { *byte } else { b'_' })?;
     }
-    text.push(b'\n')?;
     Ok(())
 }
 
