@@ -33,8 +33,8 @@ pub(crate) fn first_hits<A: Allocator + Copy>(
 // Notes which literals become true at a moment with these values.
 fn note_hits(hits: &mut [Option<usize>], literals: &[Literal], values: &[bool], moment: usize) {
     for (hit, l) in hits.iter_mut().zip(literals) {
-        let value = values.get(l.variable() as usize);
-        if hit.is_none() && value == Some(&l.is_positive()) {
+        let value = values.get(l.variable() as usize).copied();
+        if hit.is_none() && value.unwrap_or(false) == l.is_positive() {
             *hit = Some(moment);
         }
     }
