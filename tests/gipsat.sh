@@ -128,7 +128,7 @@ help=$("$gipsat" --help)
 try "the help" 0 "" "$help" "" -h
 [ -z "$(printf '%s\n' "$help" | grep '.\{81\}')" ]
 told "the help fits into 80 columns" $?
-for option in --conflicts -t --time -n --no-witness -q --quiet --stats --proof --binary --lrat -f --force --relaxed --no-simplify --assume --models --project --check --lrat-from-drat -h --help --version --; do
+for option in --conflicts -t --time -n --no-witness -q --quiet --stats --proof --binary --lrat -f --force --relaxed -v --verbose --no-simplify --assume --models --project --check --lrat-from-drat -h --help --version --; do
     if printf '%s\n' "$help" | grep -qE -- "^ *([^ ]+ )?${option}[ ,]"; then
         echo "ok: the help tells of $option"
         passed=$((passed + 1))
@@ -723,6 +723,7 @@ for _ in range(1050000):
 END
 { printf 'p cnf 1 1\n'; sleep 6; printf '1 0\n'; } | timeout 60 "$gipsat" > "$work/slow" 2> "$work/slow_err" &
 timeout 60 "$gipsat" -n --time 8 "$work/easy" > "$work/easy_out" 2> "$work/easy_err" &
+timeout 60 "$gipsat" -n -q -v --time 12 "$work/easy" > "$work/told_out" 2> "$work/told_err" &
 timeout 60 "$gipsat" --time 6 "$work/many" > "$work/out" 2> "$work/err"
 status=$?
 wait
@@ -743,6 +744,8 @@ for search in err easy_err; do
         failed=$((failed + 1))
     fi
 done
+[ "$(grep -c "$progress" "$work/told_err")" -ge 2 ]
+told "a line every five seconds, with -v and -q" $?
 if [ "$(cat "$work/slow")" = "$(printf 's SATISFIABLE\nv 1 0')" ] && grep -q '^c 14 bytes read$' "$work/slow_err" &&
     grep -q '^c 1 variables, 1 clauses read in [0-9]*\.[0-9]\{3\} s$' "$work/slow_err"; then
     echo "ok: lines of a slow input"
@@ -753,11 +756,11 @@ else
 fi
 
 # Where no conflict is met the search pauses as well: where reading takes less than the time, it ends half a second late
-# at most.
+# at most on an idle machine, and two seconds on one that is busy.
 TIMEFORMAT=%U
 reading=$( { time timeout 60 "$gipsat" -q -n --conflicts 0 "$work/easy" > "$work/out" 2> "$work/err"; } 2>&1)
 spent=$( { time timeout 60 "$gipsat" -q -n --time 2 "$work/easy" > "$work/out" 2> "$work/err"; } 2>&1)
-awk "BEGIN { exit !($spent < ($reading < 1.5 ? 2.5 : $reading + 2)) }"
+awk "BEGIN { exit !($spent < ($reading < 2 ? 4 : $reading + 2)) }"
 told "a time limit where no conflict is met (2 s, $spent s of the processor, $reading s to read)" $?
 
 # Memory that is refused, while the clauses are read and where a variable has the greatest number.
@@ -850,6 +853,54 @@ for _ in range(60):
     assert ran.stdout.endswith("s UNSATISFIABLE\n") and ran.returncode == (10 if found else 20), (text, chosen)
 END
 told "models of many formulas, by projections, are those of a table" $?
+
+# Questions: lines that begin with an a, behind a header p inccnf. Each is asked of the clauses before it.
+asked='c two\nc comments\n\np inccnf\n1 2 3 0\n-1 2\n0\na 0\n-2 -3 0\na 3 0\na 3 2 0\na -3 -2 0\n'
+try "questions" 10 "" "$(printf 's SATISFIABLE\nv 1 2 -3 0\ns SATISFIABLE\nv -1 -2 3 0\ns UNSATISFIABLE\ns UNSATISFIABLE')" "$asked"
+printf '%b' "$asked" > "$work/asked"
+try "questions in a file, without values" 10 "" "$(printf 's SATISFIABLE\ns SATISFIABLE\ns UNSATISFIABLE\ns UNSATISFIABLE')" \
+    "" -n "$work/asked"
+try "questions that nothing satisfies" 20 "" "$(printf 's UNSATISFIABLE\ns UNSATISFIABLE')" 'p inccnf\n1 0\na -1 0\n2 0\na -2 0\n'
+try "no question" 0 "" "" 'p inccnf\n1 0\n-1 0\n'
+try "a question without its 0" 10 "" "$(printf 's SATISFIABLE\nv -1 0')" 'p inccnf\na -1\n'
+try "questions with carriage returns" 10 "" "$(printf 's SATISFIABLE\nv 1 0')" 'p inccnf\r\n1 0\r\na 1 0\r\n'
+try "no conflict is allowed for a question" 0 "" "s UNKNOWN" 'p inccnf\n1 2 0\n1 -2 0\n-1 2 0\n-1 -2 0\na 0\n' --conflicts 0
+try "questions up to an error" 1 "<stdin>:5: not a number" "$(printf 's SATISFIABLE\nv 1 0')" 'p inccnf\n1 0\na 0\n2 0\nx 0\na 0\n'
+try "a question that is no list" 1 "<stdin>:3: not a number" "" 'p inccnf\n1 0\na x 0\n'
+try "a clause without its 0 before a question" 1 "<stdin>:3: a clause without its 0" "" 'p inccnf\n1\na 0\n'
+try "a header of neither kind" 1 "<stdin>:2: no header \`p cnf VARIABLES CLAUSES\`" "" 'c\np inccnf 3 4\n1 0\n'
+try "questions and a proof" 1 "<stdin>: a text with questions takes no option '--proof'" "" "$asked" --proof "$work/unasked"
+try "questions and models" 1 "<stdin>: a text with questions takes no option '--models'" "" "$asked" --models 2
+try "questions and assumptions" 1 "<stdin>: a text with questions takes no option '--assume'" "" "$asked" --assume 1
+python3 - "$gipsat" > "$work/out" 2> "$work/err" << 'END'
+import itertools
+import random
+import subprocess
+import sys
+random.seed(9)
+for _ in range(40):
+    n = random.randint(1, 5)
+    clauses, lines, wanted = [], ["p inccnf"], []
+    for _ in range(random.randint(1, 8)):
+        for _ in range(random.randint(0, 4)):
+            clauses.append([random.choice((1, -1)) * random.randint(1, n) for _ in range(3)])
+            lines.append(" ".join(map(str, clauses[-1])) + " 0")
+        assumed = [random.choice((1, -1)) * random.randint(1, n) for _ in range(random.randint(0, 3))]
+        lines.append(" ".join(["a", *map(str, assumed), "0"]))
+        wanted.append((list(clauses), assumed))
+    ran = subprocess.run([sys.argv[1], "-q"], input="\n".join(lines) + "\n", capture_output=True, text=True)
+    replies = [part.split() for part in ran.stdout.split("s ")[1:]]
+    assert len(replies) == len(wanted), (lines, ran)
+    for (given, assumed), (said, *values) in zip(wanted, replies):
+        is_true = lambda m, l: m[abs(l) - 1] == (l > 0)
+        fits = lambda m: all(any(is_true(m, l) for l in c) for c in given) and all(is_true(m, l) for l in assumed)
+        if said == "SATISFIABLE":
+            shown = {int(w) for w in values if w not in ("v", "0")}
+            assert fits([v in shown for v in range(1, n + 1)]), (lines, ran)
+        else:
+            assert said == "UNSATISFIABLE" and not any(map(fits, itertools.product((False, True), repeat=n))), (lines, ran)
+END
+told "replies to many questions are those of a table" $?
 
 echo "$passed passed, $failed failed"
 [ "$failed" -eq 0 ]

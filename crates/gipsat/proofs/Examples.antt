@@ -22,6 +22,9 @@ all : work_asked (codes "--conflicts" ∷ codes "7" ∷ codes "-t" ∷ codes "9"
     ≡ Ok (Solve (record no_request { conflicts = 7; time = Some 9; proof = Some (codes "p"); file = Some (codes "a") }))
 all = refl
 
+verbose : work_asked (codes "-q" ∷ codes "--verbose" ∷ []) ≡ Ok (Solve (record no_request { quiet = true; verbose = true }))
+verbose = refl
+
 switches : work_asked (codes "a" ∷ codes "--stats" ∷ codes "-q" ∷ codes "-n" ∷ codes "-f" ∷ codes "--binary" ∷ [])
     ≡ Ok (Solve (record no_request { stats = true; quiet = true; witness = false; force = true; binary = true; file = Some (codes "a") }))
 switches = refl

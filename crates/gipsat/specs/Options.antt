@@ -9,7 +9,7 @@ use Rattle.gipsat.specs.Misuses.{Misuse, MissingModels, MissingProof, OutputTwic
 use Rattle.gipsat.specs.declared.about.Number.{Number}
 use Rattle.gipsat.specs.declared.about.Number.TheVariants.{Conflicts, Models, Time}
 use Rattle.gipsat.specs.declared.about.Switch.{Switch}
-use Rattle.gipsat.specs.declared.about.Switch.TheVariants.{Binary, Check, Force, Lrat, NoSimplify, NoWitness, Quiet, Relaxed, Stats}
+use Rattle.gipsat.specs.declared.about.Switch.TheVariants.{Binary, Check, Force, Lrat, NoSimplify, NoWitness, Quiet, Relaxed, Stats, Verbose}
 use Rattle.gipsat.specs.declared.about.Text.{Text}
 use Rattle.gipsat.specs.declared.about.Text.TheVariants.{Assume, LratFromDrat, Project, Proof}
 use Rattle.gipsat.specs.declared.options.Options.{Options}
@@ -26,6 +26,7 @@ table =
     number (codes "--time") (codes "-t") Time ∷
     switch (codes "--no-witness") (codes "-n") NoWitness ∷
     switch (codes "--quiet") (codes "-q") Quiet ∷
+    switch (codes "--verbose") (codes "-v") Verbose ∷
     switch (codes "--stats") [] Stats ∷
     text (codes "--proof") [] Proof ∷
     switch (codes "--binary") [] Binary ∷
@@ -43,6 +44,7 @@ pub record Request : Type 0 where
   pub time : Option ℕ
   pub stats : Bool
   pub quiet : Bool
+  pub verbose : Bool
   pub witness : Bool
   pub assume : Option (List ℕ)
   pub models : Option ℕ
@@ -62,6 +64,7 @@ no_request = record {
   time = None;
   stats = false;
   quiet = false;
+  verbose = false;
   witness = true;
   assume = None;
   models = None;
@@ -101,6 +104,7 @@ request_of o = record {
   time = o.time;
   stats = o.stats;
   quiet = o.quiet;
+  verbose = o.verbose;
   witness = o.witness;
   assume = option_map (λ literals. literals.now) o.assume;
   models = o.models;

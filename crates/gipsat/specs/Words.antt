@@ -49,6 +49,7 @@ switched switch.NoWitness s word = asking s word (record s.request { witness = f
 switched switch.Quiet s word = asking s word (record s.request { quiet = true })
 switched switch.Relaxed s word = asking s word (record s.request { rule = rule.Relaxed })
 switched switch.Stats s word = asking s word (record s.request { stats = true })
+switched switch.Verbose s word = asking s word (record s.request { verbose = true })
 
 -- after the name of a file: the first or the second
 abbrev pub after_file : State → List ℕ → Result State Misuse

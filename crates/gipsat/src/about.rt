@@ -13,6 +13,7 @@ pub enum Switch {
     Quiet,
     Relaxed,
     Stats,
+    Verbose,
 }
 
 /// An option that takes a number.
@@ -44,6 +45,9 @@ pub const ABOUT: About<'static, Switch, Number, Text> = About {
         "Reads a formula in the DIMACS form from the file FORMULA, or from standard input where none is named or its name \
          is -, and writes `s SATISFIABLE` and values that satisfy it, `s UNSATISFIABLE`, or `s UNKNOWN` where a limit \
          ended the search.",
+        "Lines that begin with `a`, behind a header `p inccnf`, are questions: each is answered, under the assumptions that \
+         the line has, as a formula of the clauses before it. The status is 10 where one is satisfiable, and 20 where all \
+         are unsatisfiable.",
     ],
     options: &OPTIONS,
     note: "The value of a long option may also stand behind `=`: --time=60.",
@@ -52,7 +56,7 @@ pub const ABOUT: About<'static, Switch, Number, Text> = About {
 };
 
 /// The options.
-pub const OPTIONS: [Opt<Switch, Number, Text>; 16] = [
+pub const OPTIONS: [Opt<Switch, Number, Text>; 17] = [
     Opt {
         long: "--relaxed",
         short: "",
@@ -116,6 +120,13 @@ pub const OPTIONS: [Opt<Switch, Number, Text>; 16] = [
         kind: Kind::Switch(Switch::Quiet),
         section: "Output",
         help: "write no comments (lines that begin with c, on standard error)",
+    },
+    Opt {
+        long: "--verbose",
+        short: "-v",
+        kind: Kind::Switch(Switch::Verbose),
+        section: "Output",
+        help: "write progress every five seconds, whatever standard error is, and also with -q",
     },
     Opt {
         long: "--stats",

@@ -69,6 +69,8 @@ pub enum Failure<'a> {
     Literals(Text, Reason),
     /// Behind this option a literal has a variable that the formula of this input does not have.
     Unnamed(Option<&'a str>, Text),
+    /// This input has questions, beside which this option has no meaning.
+    Questions(Option<&'a str>, &'a str),
     /// The proof was not written.
     Proof(ProofError<'a>),
     /// The proof in this input is refused.
@@ -111,6 +113,13 @@ impl Display for Failure<'_> {
                 let option = name_of(option);
                 let name = name.unwrap_or("<stdin>");
                 write!(f, "{option}: a variable that {name} does not have")
+            }
+            Failure::Questions(name, option) => {
+                let name = name.unwrap_or("<stdin>");
+                write!(
+                    f,
+                    "{name}: a text with questions takes no option '{option}'"
+                )
             }
             Failure::Proof(error) => Display::fmt(&error, f),
             Failure::Refused(name, refusal) => {

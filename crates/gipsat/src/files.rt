@@ -1,8 +1,12 @@
 //! What is read and written, with the cause where that failed.
+ghost use Rattle.std.specs.Prelude.{◌≤◌, length};
+ghost use Rattle.std.specs.Io.{ReadsAtMost};
+
 use crate::errors::Failure;
 use gip_program::open_file;
 use gipsat_dimacs::{DimacsError, Reason};
 use gipsat_drat::error::DratError;
+use giputils_text::split_once;
 use std::fs::File;
 use std::io::{self, IsTerminal, Read, Stdin, Stdout, Write};
 
@@ -12,6 +16,11 @@ pub struct Source<'a> {
     // None is standard input.
     name: Option<&'a str>,
     stream: Stream,
+    // Bytes that were read ahead, and how many of them were handed on.
+    ahead: Vec<u8>,
+    handed: usize,
+    // Whether the stream has ended.
+    has_ended: bool,
     // Why the last read failed.
     error: Option<io::Error>,
 }
@@ -40,6 +49,9 @@ impl<'a> Source<'a> {
         Ok(Source {
             name,
             stream,
+            ahead: Vec::new(rt.alloc()),
+            handed: 0,
+            has_ended: false,
             error: None,
         })
     }
@@ -55,6 +67,62 @@ impl<'a> Source<'a> {
             Stream::Stdin(stdin) => stdin.is_terminal(),
             Stream::File(_) => false,
         }
+    }
+
+    /// Whether its text begins with a header `p inccnf`. What is read for that is read again.
+    ///
+    /// # Errors
+    ///
+    /// `Read` where a read fails, and `Memory` where memory is refused.
+    pub fn has_questions(&mut self) -> Result<bool, Failure<'a>> {
+        for _ in 0..BLOCKS {
+            match asks_questions(&self.ahead) {
+                Some(asks) => return Ok(asks),
+                None if self.has_ended => return Ok(false),
+                None => self.read_ahead()?,
+            }
+        }
+        Ok(false)
+    }
+
+    // Reads some bytes more ahead.
+    fn read_ahead(&mut self) -> Result<(), Failure<'a>> {
+        let mut block = [0u8; BLOCK];
+        let Ok(n) = self.read_stream(&mut block) else {
+            return Err(self.unread());
+        };
+        match self.ahead.extend_from_slice(&block[..n]) {
+            Ok(()) => Ok(()),
+            Err(_) => Err(Failure::Memory),
+        }
+    }
+
+    // Reads from the stream, until it has ended.
+    fn read_stream(&mut self, buf: &mut [u8]) -> io::Result<usize>
+        ensures { ReadsAtMost result buf.new }
+    {
+        if self.has_ended {
+            return Ok(0);
+        }
+        let done = match &mut self.stream {
+            Stream::Stdin(stdin) => stdin.read(buf),
+            Stream::File(file) => file.read(buf),
+        };
+        match done {
+            Ok(n) => self.has_ended = n == 0 && !buf.is_empty(),
+            Err(error) => self.error = Some(error),
+        }
+        done
+    }
+
+    // Hands bytes on that were read ahead.
+    fn hand_on(&mut self, buf: &mut [u8]) -> usize
+        ensures { result ≤ length buf.new }
+    {
+        let start = self.handed.min(self.ahead.len());
+        let n = copy_front(&self.ahead[start..], buf);
+        self.handed = start.saturating_add(n);
+        n
     }
 
     /// Why a formula from here was not solved.
@@ -89,15 +157,43 @@ impl<'a> Source<'a> {
 
 impl Read for Source<'_> {
     fn read(&mut self, buf: &mut [u8]) -> io::Result<usize> {
-        let done = match &mut self.stream {
-            Stream::Stdin(stdin) => stdin.read(buf),
-            Stream::File(file) => file.read(buf),
-        };
-        if let Err(error) = done {
-            self.error = Some(error);
+        if self.handed < self.ahead.len() {
+            return Ok(self.hand_on(buf));
         }
-        done
+        self.read_stream(buf)
     }
+}
+
+// Copies as many of the first bytes as fit: how many.
+fn copy_front(from: &[u8], to: &mut [u8]) -> usize
+    ensures { result ≤ length to.new }
+{
+    let n = from.len().min(to.len());
+    to[..n].copy_from_slice(&from[..n]);
+    n
+}
+
+// The header of a text with questions.
+const HEADER: &[u8] = b"p inccnf";
+
+// How many bytes are read ahead at a time, and how often at most.
+const BLOCK: usize = 4096;
+
+const BLOCKS: usize = 256;
+
+// Whether a text begins with a header `p inccnf`, behind empty lines and comments. None if it ends before that is told.
+fn asks_questions(text: &[u8]) -> Option<bool> {
+    let mut left = text;
+    // Each turn takes a line away.
+    for _ in 0..text.len() {
+        let (line, rest) = split_once(left, b'\n');
+        match line {
+            [] | [b'c' | b'\r', ..] => left = rest?,
+            _ if rest.is_none() && line.len() < HEADER.len() + 1 => return None,
+            _ => return Some(line.strip_suffix(b"\r").unwrap_or(line) == HEADER),
+        }
+    }
+    None
 }
 
 /// Standard output.

@@ -22,6 +22,7 @@ mod files;
 mod models;
 mod options;
 mod proof_file;
+mod questions;
 mod solve;
 mod watch;
 
@@ -37,6 +38,7 @@ use gipsat_drat::error::{DratError, Notes, Outcome};
 use gipsat_drat::task::check_text_noting;
 use models::{Wanted, enumerate};
 use options::{Options, Task};
+use questions::answer;
 use solve::{SolveError, solve};
 use std::io::{Read, Write};
 use std::process::ExitCode;
@@ -106,6 +108,9 @@ fn solve_file<'a>(rt: &HostRuntime, options: &Options<'a>) -> Result<Verdict, Fa
     if !options.quiet {
         announce(rt, &source);
     }
+    if source.has_questions()? {
+        return answer_file(rt, options, source, output);
+    }
     let mut reader = WatchedReader::new(rt, options, &mut source);
     let ended = match options.models {
         Some(count) => {
@@ -123,6 +128,36 @@ fn solve_file<'a>(rt: &HostRuntime, options: &Options<'a>) -> Result<Verdict, Fa
         Err(SolveError::Task(error)) => Err(source.failure(&output, error)),
         Err(SolveError::Unnamed(option)) => Err(Failure::Unnamed(options.file, option)),
         Err(SolveError::Proof(error)) => Err(Failure::Proof(error)),
+    }
+}
+
+// Answers the questions of a source.
+fn answer_file<'a>(
+    rt: &HostRuntime,
+    options: &Options<'a>,
+    mut source: Source<'a>,
+    mut output: Output,
+) -> Result<Verdict, Failure<'a>> {
+    if let Some(option) = of_one_formula(options) {
+        return Err(Failure::Questions(options.file, option));
+    }
+    let mut reader = WatchedReader::new(rt, options, &mut source);
+    match answer(rt, options, &mut reader, &mut output) {
+        Ok(replies) => Ok(replies.verdict),
+        Err(error) => Err(source.failure(&output, error)),
+    }
+}
+
+// An option that has a meaning for one formula alone, if one is given.
+fn of_one_formula(options: &Options) -> Option<&'static str> {
+    if options.proof.is_some() {
+        Some("--proof")
+    } else if options.models.is_some() {
+        Some("--models")
+    } else if options.assume.is_some() {
+        Some("--assume")
+    } else {
+        None
     }
 }
 

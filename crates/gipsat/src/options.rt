@@ -64,6 +64,8 @@ pub struct Options<'a> {
     pub stats: bool,
     /// Whether to write no comment lines.
     pub quiet: bool,
+    /// Whether to write progress all the same.
+    pub verbose: bool,
     /// Whether to write the values that satisfy the formula.
     pub witness: bool,
     /// The literals of which a clause each is added, if any.
@@ -98,6 +100,7 @@ impl<'a> Options<'a> {
             time: None,
             stats: false,
             quiet: false,
+            verbose: false,
             witness: true,
             assume: None,
             models: None,
@@ -334,6 +337,10 @@ impl<'a> Asked<'a> {
             },
             Switch::Stats => Options {
                 stats: true,
+                ..options
+            },
+            Switch::Verbose => Options {
+                verbose: true,
                 ..options
             },
         };

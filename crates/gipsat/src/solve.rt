@@ -120,8 +120,8 @@ fn open_proof<'a, R: Read>(
     }
 }
 
-// How the options let a formula be solved.
-fn task_of(options: &Options) -> Task
+/// How the options let a formula be solved.
+pub fn task_of(options: &Options) -> Task
     ensures limit { result.limit ≡ options.now.conflicts }
     ensures witness { result.witness ≡ options.now.witness }
 {

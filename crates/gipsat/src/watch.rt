@@ -1,5 +1,5 @@
 //! How far a run is, in lines on standard error, and when its time is over.
-ghost use Rattle.std.specs.Prelude.{◌≡◌, false, IfOk};
+ghost use Rattle.std.specs.Prelude.{◌≡◌, ◌&&◌, false, not, IfOk};
 
 use crate::options::Options;
 use gipsat_cnf::{Cnf, Literal};
@@ -157,6 +157,7 @@ pub struct WatchedReader<'a, R: Read> {
     reader: R,
     clock: Clock<'a>,
     logger: IntervalLogger,
+    // Whether nothing is written.
     quiet: bool,
     // How many bytes were read.
     bytes: u64,
@@ -170,7 +171,7 @@ impl<'a, R: Read> WatchedReader<'a, R> {
             reader,
             clock: Clock::start(rt),
             logger: every_interval(),
-            quiet: options.quiet,
+            quiet: options.quiet && !options.verbose,
             bytes: 0,
         }
     }
@@ -200,7 +201,7 @@ pub struct Watch<'a> {
     lengths: MovingAverage,
     // Whether a slice of the search goes on, so that the clauses that are added were learned.
     is_searching: bool,
-    // Whether nothing is written.
+    // Whether no progress is written.
     quiet: bool,
     // Whether a summary is written at the end.
     stats: bool,
@@ -209,8 +210,8 @@ pub struct Watch<'a> {
 impl<'a> Watch<'a> {
     /// Before the formula is read: its time counts.
     pub fn new(rt: &'a HostRuntime, options: &Options) -> Result<Self, AllocError>
-        ensures stats { IfOk result (λ watch. watch.stats ≡ options.now.stats) }
-        ensures quiet { IfOk result (λ watch. watch.quiet ≡ options.now.quiet) }
+        ensures stats { IfOk result (λ watch. watch.stats ≡ (options.now.stats && not options.now.quiet)) }
+        ensures quiet { IfOk result (λ watch. watch.quiet ≡ (options.now.quiet && not options.now.verbose)) }
     {
         Ok(Watch {
             rt,
@@ -218,15 +219,15 @@ impl<'a> Watch<'a> {
             logger: every_interval(),
             lengths: MovingAverage::with_room(rt.alloc(), LAST)?,
             is_searching: false,
-            quiet: options.quiet,
-            stats: options.stats,
+            quiet: options.quiet && !options.verbose,
+            stats: options.stats && !options.quiet,
         })
     }
 
     /// This formula was read. It is written where a summary is wanted, or that took long.
     pub fn note_read(&self, instance: &Instance<Cnf>) {
         let now = self.clock.now();
-        if self.quiet || !(self.stats || self.logger.due(now)) {
+        if !self.stats && (self.quiet || !self.logger.due(now)) {
             return;
         }
         let _ = eprintln!(self.rt;
@@ -272,7 +273,7 @@ impl Progress for Watch<'_> {
     }
 
     fn end(&mut self, report: Report) {
-        if self.quiet || !self.stats {
+        if !self.stats {
             return;
         }
         let snapshot = Snapshot {
