@@ -723,7 +723,7 @@ for _ in range(1050000):
 END
 { printf 'p cnf 1 1\n'; sleep 6; printf '1 0\n'; } | timeout 60 "$gipsat" > "$work/slow" 2> "$work/slow_err" &
 timeout 60 "$gipsat" -n --time 8 "$work/easy" > "$work/easy_out" 2> "$work/easy_err" &
-timeout 60 "$gipsat" -n -q -v --time 12 "$work/easy" > "$work/told_out" 2> "$work/told_err" &
+timeout 60 "$gipsat" -n -q -v --time 20 "$work/easy" > "$work/told_out" 2> "$work/told_err" &
 timeout 60 "$gipsat" --time 6 "$work/many" > "$work/out" 2> "$work/err"
 status=$?
 wait
