@@ -1,0 +1,2 @@
+pub use crate::cnf_::{Cnf,Span};
+pub use crate::literal::Literal;

@@ -1,0 +1,1 @@
+pub use crate::rat_kernel::RatKernel;
