@@ -1,2 +1,0 @@
-pub use crate::cnf_::{Cnf,Span};
-pub use crate::literal::Literal;

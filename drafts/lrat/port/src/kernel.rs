@@ -1,1 +1,0 @@
-pub use crate::rat_kernel::RatKernel;
