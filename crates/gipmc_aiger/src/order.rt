@@ -7,7 +7,7 @@ ghost use Rattle.gipmc_aiger.specs.Defects.{IsUndefinedIn, MeetsOpen, defined_in
 ghost use Rattle.gipmc_aiger.specs.Defects.{operands, used_literals, visit_at};
 
 use crate::error::Defect;
-use gipmc_circuits::{And, Circuit, Latch};
+use gipmc_circuits::{And, Circuit, Latch, is_well_formed};
 use gipsat_cnf::Literal;
 use std::alloc::{AllocError, Allocator};
 
@@ -31,8 +31,19 @@ pub(crate) enum Visit {
     Done(usize),
 }
 
-// Puts the gates of a circuit in order.
+// Puts the gates of a circuit in order, if they are not. Only then it takes the memory of the search for one.
 pub(crate) fn order<A: Allocator + Copy>(alloc: A, circuit: &mut Circuit<A>) -> Result<(), Defect>
+    ensures ok { OnOk result (IsReordering (rows_of circuit.old) (rows_of circuit.new)) }
+    ensures defect { IfErr result (IsDefectOf (rows_of circuit.old)) }
+{
+    if is_well_formed(alloc, circuit)? {
+        return Ok(());
+    }
+    sort(alloc, circuit)
+}
+
+// The same, by a search.
+fn sort<A: Allocator + Copy>(alloc: A, circuit: &mut Circuit<A>) -> Result<(), Defect>
     ensures ok { OnOk result (IsReordering (rows_of circuit.old) (rows_of circuit.new)) }
     ensures defect { IfErr result (IsDefectOf (rows_of circuit.old)) }
 {
