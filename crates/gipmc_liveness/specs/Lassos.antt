@@ -35,6 +35,10 @@ Loops c literals lasso =
 abbrev pub IsLasso : {A B : Type 0} → Circuit A → List Lit → List Lit → Lasso B → Type 0
 IsLasso c fairness justice lasso = IsTrue (fits c lasso.trace) × Loops c (fairness ++ justice) lasso
 
+-- the lasso whose loop starts at this moment of the trace
+abbrev pub from : {A : Type 0} → Trace A → ℕ → Lasso A
+from trace start = record { trace = trace; start = start }
+
 -- what the trace says of the moments up to this one
 abbrev pub FollowsUpTo : {A B : Type 0} → ℕ → Circuit A → Trace B → (ℕ → Assignment) → Type 0
 FollowsUpTo {B = B} n c trace t =

@@ -109,7 +109,7 @@ fn replays(alloc: Global, seed: &mut u32) -> Result<(bool, bool), AllocError> {
         &question.netlist,
         &question.fairness,
         &question.justice,
-        lasso.trace,
+        &lasso.trace,
     )?;
     Ok((said == plain && (found.is_some() || !plain), plain))
 }

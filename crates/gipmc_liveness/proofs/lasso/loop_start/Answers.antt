@@ -6,7 +6,7 @@ use Rattle.gipmc_liveness.proofs.lasso.loop_start.Goals as goal
 pub loop-place-init : goal.loop-place-init
 loop-place-init g c =
     let (initial, moment, latches, row) = rw (c.in-Some.is, c.deref.ensures.value, c.deref-2.ensures.value) at c.in_ok-begun.ensures in
-    reached_first c.args.circuit.now c.args.lasso.now.trace (assignment_in c.in-Some.values.items) c.index.result.now
+    reached_first c.args.circuit.now c.args.trace.now (assignment_in c.in-Some.values.items) c.index.result.now
     c.index.ensures initial moment latches row
 
 pub loop-place-preserved : goal.loop-place-preserved
@@ -16,6 +16,6 @@ loop-place-preserved g c =
       c.deref-in-loop-place.ensures.value,
       c.deref-in-loop-place-2.ensures.value,
     ) at c.in_ok-now.ensures in
-    reached_more c.args.circuit.now c.args.lasso.now.trace c.loop-place.place (assignment_in c.loop-place.values.items)
+    reached_more c.args.circuit.now c.args.trace.now c.loop-place.place (assignment_in c.loop-place.values.items)
     (assignment_in c.in-Some-2.now.items) c.index-in-loop-place.result.now c.loop-place.invariant
     c.index-in-loop-place.ensures goes moment row
