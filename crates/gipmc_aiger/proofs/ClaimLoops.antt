@@ -9,7 +9,7 @@ use Rattle.giputils_text.proofs.Pieces.{pieces-cons}
 use Rattle.giputils_text.specs.Lines.{pieces}
 use Rattle.gipmc_aiger.specs.declared.claims.Claim.{Claim}
 use Rattle.gipmc_aiger.specs.Claims.{claim_view, claims_view, properties_of}
-use Rattle.gipmc_aiger.specs.Claims.{Claimed, bare_frames_of, before_mark, behind_end, claim_of, claims_from, is_last, is_other_status, place_of, places_of}
+use Rattle.gipmc_aiger.specs.Claims.{Claimed, bare_frames_of, before_mark, behind_end, claim_of, claims_from, is_last, is_passed, place_of, places_of}
 use Rattle.gipmc_aiger.specs.Witnesses.{bits_of, is_end}
 
 -- what was read before, and what is still read
@@ -22,26 +22,26 @@ regroup {X} front x (Some others) = ap (λ (xs : List X). Some xs) (simp append_
 regroup front x None = refl
 
 -- a line that does not end an answer is passed over within it
-pub within_more : (latches inputs : ℕ) (line : List ℕ) (lines : List (List ℕ)) → is_end line ≡ false
-    → claims_from latches inputs true (line ∷ lines) ≡ claims_from latches inputs true lines
-within_more latches inputs line lines more = ap (λ b. claims_from latches inputs (not b) lines) more
+pub within_more : (letter other latches inputs : ℕ) (line : List ℕ) (lines : List (List ℕ)) → is_end line ≡ false
+    → claims_from letter other latches inputs true (line ∷ lines) ≡ claims_from letter other latches inputs true lines
+within_more letter other latches inputs line lines more = ap (λ b. claims_from letter other latches inputs (not b) lines) more
 
-by_end : (latches inputs : ℕ) (line : List ℕ) (lines : List (List ℕ)) (b : Bool) → is_end line ≡ b
-    → claims_from latches inputs true lines ≡ claims_from latches inputs false (behind_end lines)
-    → claims_from latches inputs true (line ∷ lines) ≡ claims_from latches inputs false (behind_end (line ∷ lines))
-by_end latches inputs line lines true is same =
-    ap (λ b. claims_from latches inputs (not b) lines) is
-    ∙ sym (ap (λ b. claims_from latches inputs false (if b then lines else behind_end lines)) is)
-by_end latches inputs line lines false is same =
-    ap (λ b. claims_from latches inputs (not b) lines) is ∙ same
-    ∙ sym (ap (λ b. claims_from latches inputs false (if b then lines else behind_end lines)) is)
+by_end : (letter other latches inputs : ℕ) (line : List ℕ) (lines : List (List ℕ)) (b : Bool) → is_end line ≡ b
+    → claims_from letter other latches inputs true lines ≡ claims_from letter other latches inputs false (behind_end lines)
+    → claims_from letter other latches inputs true (line ∷ lines) ≡ claims_from letter other latches inputs false (behind_end (line ∷ lines))
+by_end letter other latches inputs line lines true is same =
+    ap (λ b. claims_from letter other latches inputs (not b) lines) is
+    ∙ sym (ap (λ b. claims_from letter other latches inputs false (if b then lines else behind_end lines)) is)
+by_end letter other latches inputs line lines false is same =
+    ap (λ b. claims_from letter other latches inputs (not b) lines) is ∙ same
+    ∙ sym (ap (λ b. claims_from letter other latches inputs false (if b then lines else behind_end lines)) is)
 
 -- within an answer the claims are those behind its end
-within_end : (latches inputs : ℕ) (lines : List (List ℕ))
-    → claims_from latches inputs true lines ≡ claims_from latches inputs false (behind_end lines)
-within_end latches inputs [] = refl
-within_end latches inputs (line ∷ lines) =
-    by_end latches inputs line lines (is_end line) refl (within_end latches inputs lines)
+within_end : (letter other latches inputs : ℕ) (lines : List (List ℕ))
+    → claims_from letter other latches inputs true lines ≡ claims_from letter other latches inputs false (behind_end lines)
+within_end letter other latches inputs [] = refl
+within_end letter other latches inputs (line ∷ lines) =
+    by_end letter other latches inputs line lines (is_end line) refl (within_end letter other latches inputs lines)
 
 -- one claim more
 pub claims_view-more : {A : Type 0} (old new : List (Claim A)) (claim : Claim A) → new ≡ old ++ claim ∷ []
@@ -49,45 +49,45 @@ pub claims_view-more : {A : Type 0} (old new : List (Claim A)) (claim : Claim A)
 claims_view-more old new claim same = rw same (map-append claim_view old (claim ∷ []))
 
 -- the properties that a line names behind an empty piece
-pub properties-behind : (line front words : List ℕ) → pieces 98 line ≡ front ∷ pieces 98 words
-    → (length front == 0) ≡ true → properties_of line ≡ places_of (pieces 98 words)
-properties-behind line front words parts empty =
-    let (word, more, same) = pieces-cons 98 words in
+pub properties-behind : (letter : ℕ) (line front words : List ℕ) → pieces letter line ≡ front ∷ pieces letter words
+    → (length front == 0) ≡ true → properties_of letter line ≡ places_of (pieces letter words)
+properties-behind letter line front words parts empty =
+    let (word, more, same) = pieces-cons letter words in
     rw (parts, same, empty) refl
 
-module _ (front : List Claimed) (latches inputs : ℕ) (lines : List (List ℕ)) (total : Option (List Claimed))
-    (so_far : with_front front (claims_from latches inputs false lines) ≡ total) (line : List ℕ) (after rest : List (List ℕ))
+module _ (front : List Claimed) (letter other latches inputs : ℕ) (lines : List (List ℕ)) (total : Option (List Claimed))
+    (so_far : with_front front (claims_from letter other latches inputs false lines) ≡ total) (line : List ℕ) (after rest : List (List ℕ))
     (first : lines ≡ line ∷ after) (behind : rest ≡ behind_end after) where
-  pub passes : is_other_status line ≡ true → with_front front (claims_from latches inputs false rest) ≡ total
-  passes other =
-      let one : with_front front (claims_from latches inputs false lines)
-      ≡ with_front front (claims_from latches inputs false rest) =
-      rw (first, other, within_end latches inputs after, behind) refl in
+  pub passes : is_passed other line after ≡ true → with_front front (claims_from letter other latches inputs false rest) ≡ total
+  passes passed =
+      let one : with_front front (claims_from letter other latches inputs false lines)
+      ≡ with_front front (claims_from letter other latches inputs false rest) =
+      rw (first, passed, within_end letter other latches inputs after, behind) refl in
       sym one ∙ so_far
 
-  pub goes_on : (claim : Claimed) → is_other_status line ≡ false → claim_of latches inputs lines ≡ Some claim
-      → with_front (front ++ claim ∷ []) (claims_from latches inputs false rest) ≡ total
+  pub goes_on : (claim : Claimed) → is_passed other line after ≡ false → claim_of letter latches inputs lines ≡ Some claim
+      → with_front (front ++ claim ∷ []) (claims_from letter other latches inputs false rest) ≡ total
   goes_on claim more h =
       let here = rw first at h in
-      let one : with_front front (claims_from latches inputs false lines)
-      ≡ with_front (front ++ claim ∷ []) (claims_from latches inputs false rest) =
-      rw (first, more, here, within_end latches inputs after, behind)
-      (regroup front claim (claims_from latches inputs false (behind_end after))) in
+      let one : with_front front (claims_from letter other latches inputs false lines)
+      ≡ with_front (front ++ claim ∷ []) (claims_from letter other latches inputs false rest) =
+      rw (first, more, here, within_end letter other latches inputs after, behind)
+      (regroup front claim (claims_from letter other latches inputs false (behind_end after))) in
       sym one ∙ so_far
 
-module _ (front : List Claimed) (latches inputs : ℕ) (lines : List (List ℕ)) (total : Option (List Claimed))
-    (so_far : with_front front (claims_from latches inputs false lines) ≡ total) where
+module _ (front : List Claimed) (letter other latches inputs : ℕ) (lines : List (List ℕ)) (total : Option (List Claimed))
+    (so_far : with_front front (claims_from letter other latches inputs false lines) ≡ total) where
   pub stops : (line : List ℕ) (after : List (List ℕ)) → lines ≡ line ∷ after → (e : Stop)
-      → is_other_status line ≡ false → Fails e (claim_of latches inputs lines) → Fails e total
+      → is_passed other line after ≡ false → Fails e (claim_of letter latches inputs lines) → Fails e total
   stops line after first stop.Memory more h = tt
   stops line after first (stop.Refused reason left) more h =
       let here = rw first at h in
-      let one : with_front front (claims_from latches inputs false lines) ≡ None = rw (first, more, here) refl in
+      let one : with_front front (claims_from letter other latches inputs false lines) ≡ None = rw (first, more, here) refl in
       sym so_far ∙ one
 
   pub ends : lines ≡ [] → total ≡ Some front
   ends none =
-      let one : with_front front (claims_from latches inputs false lines) ≡ Some front =
+      let one : with_front front (claims_from letter other latches inputs false lines) ≡ Some front =
       rw none (ap (λ (cs : List Claimed). Some cs) (append-nil front)) in
       sym so_far ∙ one
 

@@ -7,8 +7,8 @@ use Rattle.gipmc_circuits.specs.declared.circuit.Circuit.{Circuit}
 use Rattle.gipmc_circuits.specs.declared.circuit.Latch.{Latch}
 use Rattle.gipmc_circuits.specs.declared.witness_circuit.Link.{Link}
 use Rattle.gipmc_circuits.specs.declared.witness_circuit.Register.{Register}
-use Rattle.gipmc_aiger.specs.Claims.{bare_of, claim_of, claims_of}
-use Rattle.gipmc_aiger.specs.Circuits.{Rows, behind_liveness, body_at, circuit_of, gate_at, header_at, latch_at, rows_of, packed_operands_at, properties_at, sizes_at, written_operands_at}
+use Rattle.gipmc_aiger.specs.Claims.{bare_of, claim_of, claims_of, lassos_of}
+use Rattle.gipmc_aiger.specs.Circuits.{LiveRows, Rows, body_at, circuit_of, live_rows_of, liveness_at, gate_at, header_at, latch_at, rows_of, packed_operands_at, properties_at, sizes_at, written_operands_at}
 use Rattle.gipmc_aiger.specs.CircuitTexts.{aig_text, greater_first}
 use Rattle.gipmc_aiger.specs.Sharing.{shared_with}
 use Rattle.gipmc_aiger.specs.WitnessCircuits.{register_at, witness_body_at, witness_rows_of}
@@ -27,12 +27,12 @@ negated_input = record { inputs = 1 ∷ []; latches = []; gates = []; bads = no_
 
 -- an output is bad where there is no bad literal
 output_is_bad : circuit_of (codes "aag 1 1 0 1 0\n2\n3\ni0 a\no0 b c\nc\nrest") ≡ Some negated_input
-unfolding circuit_of body_at behind_liveness header_at sizes_at properties_at
+unfolding circuit_of live_rows_of body_at liveness_at header_at sizes_at properties_at
 output_is_bad = refl
 
 -- it is not where there is one
 output_is_dropped : circuit_of (codes "aag 1 1 0 1 0 1\n2\n2\n3\n") ≡ Some negated_input
-unfolding circuit_of body_at behind_liveness header_at sizes_at properties_at
+unfolding circuit_of live_rows_of body_at liveness_at header_at sizes_at properties_at
 output_is_dropped = refl
 
 -- a latch of each reset: none given, 0, 1, and free
@@ -48,11 +48,11 @@ resets = record {
 }
 
 resets_in_ascii : circuit_of (codes "aag 4 0 4 0 0 1 1\n2 3\n4 4 0\n6 6 1\n8 9 8\n4\n7\n") ≡ Some resets
-unfolding circuit_of body_at behind_liveness header_at sizes_at properties_at latch_at
+unfolding circuit_of live_rows_of body_at liveness_at header_at sizes_at properties_at latch_at
 resets_in_ascii = refl
 
 resets_in_binary : circuit_of (codes "aig 4 0 4 0 0 1 1 0 0\n3\n4 0\n6 1\n9 8\n4\n7\n") ≡ Some resets
-unfolding circuit_of body_at behind_liveness header_at sizes_at properties_at latch_at
+unfolding circuit_of live_rows_of body_at liveness_at header_at sizes_at properties_at latch_at
 resets_in_binary = refl
 
 -- two gates, the first of which is an operand of the second
@@ -67,11 +67,11 @@ two_gates = record {
 }
 
 gates_in_ascii : circuit_of (codes "aag 3 1 0 1 2\n2\n6\n4 3 2\n6 5 2\n") ≡ Some two_gates
-unfolding circuit_of body_at behind_liveness header_at sizes_at properties_at gate_at written_operands_at
+unfolding circuit_of live_rows_of body_at liveness_at header_at sizes_at properties_at gate_at written_operands_at
 gates_in_ascii = refl
 
 gates_in_binary : circuit_of (codes "aig 3 1 0 1 2\n6\n" ++ 1 ∷ 1 ∷ 1 ∷ 3 ∷ []) ≡ Some two_gates
-unfolding circuit_of body_at behind_liveness header_at sizes_at properties_at gate_at packed_operands_at
+unfolding circuit_of live_rows_of body_at liveness_at header_at sizes_at properties_at gate_at packed_operands_at
 gates_in_binary = refl
 
 -- the same gates with the lesser operand first
@@ -88,7 +88,7 @@ turned_gates = record {
 -- the binary form turns them again
 turned_gates_in_binary : {A : Type 0} (c : Circuit A) → rows_of c ≡ turned_gates
     → circuit_of (aig_text c) ≡ Some two_gates
-unfolding circuit_of body_at behind_liveness header_at sizes_at properties_at gate_at packed_operands_at digits
+unfolding circuit_of live_rows_of body_at liveness_at header_at sizes_at properties_at gate_at packed_operands_at digits
 turned_gates_in_binary c same =
     rw (
       ap (λ n. n.inputs) same,
@@ -106,27 +106,47 @@ gate_in_order = record { output = 3; left = no_of 2; right = yes_of 1 }
 order_is_kept : greater_first gate_in_order ≡ gate_in_order
 order_is_kept = refl
 
-refused-justice : circuit_of (codes "aag 0 0 0 0 0 0 0 1\n") ≡ None
-unfolding circuit_of body_at behind_liveness header_at sizes_at properties_at
+refused-justice : circuit_of (codes "aag 0 0 0 0 0 0 0 1\n0\n") ≡ None
+unfolding circuit_of live_rows_of body_at liveness_at header_at sizes_at properties_at
 refused-justice = refl
 
 -- justice and fairness are read over beside bad literals: here two literals of justice, a fairness constraint, and their
 -- names
 read_over-justice : circuit_of (codes "aag 1 0 1 0 0 1 0 1 1\n2 2\n2\n2\n2\n3\n3\nj0 live\nf0 fair\n")
     ≡ circuit_of (codes "aag 1 0 1 0 0 1\n2 2\n2\n")
-unfolding circuit_of body_at behind_liveness header_at sizes_at properties_at latch_at
+unfolding circuit_of live_rows_of body_at liveness_at header_at sizes_at properties_at latch_at
 read_over-justice = refl
 
+-- two justice properties, the first of two literals, and a fairness constraint; the output is no bad literal beside them
+abbrev two_properties : LiveRows
+two_properties = record {
+  circuit = record { inputs = 1 ∷ 2 ∷ []; latches = []; gates = []; bads = []; constraints = [] };
+  justice = (yes_of 1 ∷ no_of 2 ∷ []) ∷ (yes_of 2 ∷ []) ∷ [];
+  fairness = no_of 1 ∷ [];
+}
+
+justice_in_ascii : live_rows_of (codes "aag 2 2 0 1 0 0 0 2 1\n2\n4\n0\n2\n1\n2\n5\n4\n3\nj1 b\n") ≡ Some two_properties
+unfolding live_rows_of body_at liveness_at header_at sizes_at properties_at
+justice_in_ascii = refl
+
+justice_in_binary : live_rows_of (codes "aig 2 2 0 1 0 0 0 2 1\n0\n2\n1\n2\n5\n4\n3\n") ≡ Some two_properties
+unfolding live_rows_of body_at liveness_at header_at sizes_at properties_at
+justice_in_binary = refl
+
+refused-literal_is_missing : live_rows_of (codes "aag 1 1 0 0 0 0 0 1\n2\n2\n2\n") ≡ None
+unfolding live_rows_of body_at liveness_at header_at sizes_at properties_at
+refused-literal_is_missing = refl
+
 refused-more_rows : circuit_of (codes "aag 1 1 0 0 0\n2\n4 2 2\n") ≡ None
-unfolding circuit_of body_at behind_liveness header_at sizes_at properties_at
+unfolding circuit_of live_rows_of body_at liveness_at header_at sizes_at properties_at
 refused-more_rows = refl
 
 refused-symbol_of_no_row : circuit_of (codes "aag 1 1 0 0 0\n2\ni1 a\n") ≡ None
-unfolding circuit_of body_at behind_liveness header_at sizes_at properties_at
+unfolding circuit_of live_rows_of body_at liveness_at header_at sizes_at properties_at
 refused-symbol_of_no_row = refl
 
 refused-cut_off : circuit_of (codes "aag 1 1 0 1 0\n2\n") ≡ None
-unfolding circuit_of body_at behind_liveness header_at sizes_at properties_at
+unfolding circuit_of live_rows_of body_at liveness_at header_at sizes_at properties_at
 refused-cut_off = refl
 
 -- an x is false, remarks are read over, and so is what stands behind the end
@@ -155,7 +175,7 @@ certificate_in_ascii : witness_rows_of (codes "aag 2 0 2 0 0 1\n2 2 5\n4 4\n4\nl
       constraints = [];
       symbols = codes "l0 = 6\nc\n";
     })
-unfolding witness_rows_of witness_body_at behind_liveness header_at sizes_at properties_at register_at
+unfolding witness_rows_of witness_body_at liveness_at header_at sizes_at properties_at register_at
 certificate_in_ascii = refl
 
 abbrev link_of : ℕ → Lit → Link
@@ -185,6 +205,24 @@ two_claims : claims_of 1 1 (codes "u0\n2\nb3\n.\n1\nb0b1\nx\n1\n.\n0\nb2\n.\n1\n
     ∷ record { properties = 0 ∷ []; latches = false ∷ []; inputs = (false ∷ []) ∷ [] } ∷ [])
 unfolding claim_of
 two_claims = refl
+
+-- of a bad literal and a justice property each reader takes its own
+abbrev mixed_answers : List ℕ
+mixed_answers = codes "1\nb2\n0\n1\n.\n1\nj0j1\n1\n0\n1\n.\n"
+
+claims_of_mixed : claims_of 1 1 mixed_answers
+    ≡ Some (record { properties = 2 ∷ []; latches = false ∷ []; inputs = (true ∷ []) ∷ [] } ∷ [])
+unfolding claim_of
+claims_of_mixed = refl
+
+lassos_of_mixed : lassos_of 1 1 mixed_answers
+    ≡ Some (record { properties = 0 ∷ 1 ∷ []; latches = true ∷ []; inputs = (false ∷ []) ∷ (true ∷ []) ∷ [] } ∷ [])
+unfolding claim_of
+lassos_of_mixed = refl
+
+refused-mixed_line : lassos_of 1 1 (codes "1\nj0b1\n0\n1\n.\n") ≡ None
+unfolding claim_of
+refused-mixed_line = refl
 
 -- a trace in abc's form names no bad literal; a line with one latch is no status
 bare_claim : claims_of 1 2 (codes "0\n10\n01# DONE\n")

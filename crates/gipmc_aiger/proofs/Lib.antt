@@ -3,6 +3,7 @@ mod Examples
 mod FrameLoops
 mod Fronts
 pub mod PackedRereads
+mod LiveOrders
 mod Refusals
 pub mod Rereads
 mod RowLoops

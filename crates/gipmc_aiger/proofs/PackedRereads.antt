@@ -15,7 +15,7 @@ use Rattle.gipmc_aiger.specs.Lists.{Every}
 use Rattle.gipmc_aiger.specs.declared.header.Form.TheVariants.{Binary}
 use Rattle.gipmc_aiger.specs.declared.header.Header.{Header}
 use Rattle.gipmc_aiger.specs.Reading.{◌>>=◌, delta_at}
-use Rattle.gipmc_aiger.specs.Circuits.{body_at, circuit_of, defined_at, gate_at, greatest_literal, input_at, latch_at}
+use Rattle.gipmc_aiger.specs.Circuits.{body_at, circuit_in, circuit_of, live_rows_of, defined_at, gate_at, greatest_literal, input_at, latch_at}
 use Rattle.gipmc_aiger.specs.Circuits.{literal_at, literal_of, packed_operands_at, rows_at, separated_at}
 use Rattle.gipmc_aiger.specs.CircuitTexts.{aig_text, are_above, greater_first, greatest_input, greatest_latch}
 use Rattle.gipmc_aiger.specs.CircuitTexts.{greatest_output, greatest_variable, is_above, is_numbered, literal_lines}
@@ -23,8 +23,14 @@ use Rattle.gipmc_aiger.specs.CircuitTexts.{literal_number, number_text, numbered
 use Rattle.gipmc_aiger.specs.CircuitTexts.{packed_header_line, packed_latch_line, packed_latch_lines}
 use Rattle.gipmc_aiger.specs.CircuitTexts.{packed_rows_of, reset_number}
 use Rattle.gipmc_aiger.specs.Writable.{FitsGate, FitsLatch, FitsLiteral, FitsVariable, IsWritable}
-use Rattle.gipmc_aiger.proofs.Rereads.{bads_are, header-reread, header_in, latch-behind, limit_is, literal-reread}
-use Rattle.gipmc_aiger.proofs.Rereads.{literals-reread, no_liveness, no_rows, of_eight}
+use Rattle.gipmc_aiger.specs.LiveCircuits.{justice_view}
+use Rattle.gipmc_aiger.specs.LiveTexts.{AreLiveWritable, live_aig_text, live_packed_header_line, liveness_lines, packed_live_rows}
+use Rattle.gipmc_aiger.specs.declared.header.Properties.{Properties}
+use Rattle.gipmc_aiger.specs.declared.liveness.Liveness.{Liveness}
+use Rattle.gipmc_aiger.proofs.Rereads.{bads_are, counts_of, header-reread, header_in, latch-behind, limit_is, literal-reread}
+use Rattle.gipmc_aiger.proofs.Rereads.{literals-reread, live_properties-reread, liveness-reread, no_rows, none_writable, of_eight, of_ten}
+use Rattle.gipmc_aiger.proofs.Rereads.{properties-reread}
+use Rattle.gipsat_cnf.specs.Literals.{Lit}
 
 -- a group and so many more hold the numbers below this one
 abbrev room : ℕ → ℕ
@@ -283,16 +289,22 @@ maximum_is i l a m same small = omega (arith, same, small)
 of_five : (o a b c d : List ℕ) → o ++ a ++ b ++ c ++ d ≡ o ++ (a ++ (b ++ (c ++ (d ++ []))))
 of_five o a b c d = simp (append_assoc, append-nil)
 
+-- the bytes behind a header of the binary form
+abbrev rows_text : {A : Type 0} → Circuit A → List (List Lit) → List Lit → List ℕ
+rows_text c justice fairness =
+    packed_latch_lines c.latches.items ++ (literal_lines c.bads.items ++ (literal_lines c.constraints.items ++
+    (liveness_lines justice fairness ++ (packed_ands c.gates.items ++ []))))
+
 -- the rows of a numbered circuit behind such a header write it
-body-reread : {A : Type 0} (c : Circuit A) (h : Header) (m : ℕ) → m ≡ greatest_variable c → IsWritable c → IsNumbered c
+body-reread : {A : Type 0} (c : Circuit A) (justice : List (List Lit)) (fairness : List Lit) (h : Header) (m : ℕ)
+    → m ≡ greatest_variable c → IsWritable c → AreLiveWritable m justice fairness → IsNumbered c
     → IsTrue (are_above c.gates.items)
     → h ≡ header_in Binary m (length c.inputs.items) (length c.latches.items) (length c.gates.items)
-    (length c.bads.items) (length c.constraints.items)
-    → body_at h (packed_latch_lines c.latches.items ++ (literal_lines c.bads.items ++
-    (literal_lines c.constraints.items ++ (packed_ands c.gates.items ++ []))))
-    ≡ Some (packed_rows_of c)
+    (counts_of c.bads.items c.constraints.items justice fairness)
+    → body_at h (rows_text c justice fairness)
+    ≡ Some (record { circuit = packed_rows_of c; justice = justice; fairness = fairness })
 unfolding body_at
-body-reread c h m greatest is numbered are header =
+body-reread c justice fairness h m greatest is live numbered are header =
     let small : m < 2 ^ 31 = subst (λ x. x < 2 ^ 31) (sym greatest) is.small in
     let binary : h.form ≡ Binary = ap (λ x. x.form) header in
     let maximum : h.sizes.maximum ≡ m = ap (λ x. x.sizes.maximum) header in
@@ -300,7 +312,8 @@ body-reread c h m greatest is numbered are header =
     let inputs_are : h.sizes.inputs ≡ length c.inputs.items = ap (λ x. x.sizes.inputs) header in
     let latches_are : h.sizes.latches ≡ length c.latches.items = ap (λ x. x.sizes.latches) header in
     let gates = packed_ands c.gates.items ++ [] in
-    let constraints = literal_lines c.constraints.items ++ gates in
+    let properties = liveness_lines justice fairness ++ gates in
+    let constraints = literal_lines c.constraints.items ++ properties in
     let bads = literal_lines c.bads.items ++ constraints in
     let latches = packed_latch_lines c.latches.items ++ bads in
     let no_outputs : h.sizes.outputs ≡ 0 = ap (λ x. x.sizes.outputs) header in
@@ -334,9 +347,10 @@ body-reread c h m greatest is numbered are header =
       no_rows (literal_at h) h.sizes.outputs bads no_outputs,
       literals-reread h m limit small c.bads.items h.bads constraints (ap (λ x. x.bads) header) (subst
           (λ x. Every (FitsLiteral x) c.bads.items) (sym greatest) is.bads),
-      literals-reread h m limit small c.constraints.items h.constraints gates (ap (λ x. x.constraints) header) (subst
+      literals-reread h m limit small c.constraints.items h.constraints properties (ap (λ x. x.constraints) header) (subst
           (λ x. Every (FitsLiteral x) c.constraints.items) (sym greatest) is.constraints),
-      no_liveness h gates (ap (λ x. x.justice) header) (ap (λ x. x.fairness) header),
+      liveness-reread h m limit small justice fairness gates (ap (λ x. x.justice) header) (ap (λ x. x.fairness) header)
+          live,
       gates_again,
       bads_are h c.bads.items (ap (λ x. x.bads) header),
     )
@@ -345,7 +359,7 @@ body-reread c h m greatest is numbered are header =
 -- the circuit that the text of a circuit in the binary form writes is that circuit, each gate's greater operand first
 pub aig_rereads : {A : Type 0} (c : Circuit A) → IsWritable c → IsTrue (is_numbered c)
     → IsTrue (are_above c.gates.items) → circuit_of (aig_text c) ≡ Some (packed_rows_of c)
-unfolding circuit_of
+unfolding circuit_of live_rows_of
 aig_rereads c is numbered are =
     let i = length c.inputs.items in
     let l = length c.latches.items in
@@ -356,10 +370,10 @@ aig_rereads c is numbered are =
     let all = numbers c numbered in
     let same : i + l + a ≡ m = sym all.greatest in
     let written = min (min (i + l) 18446744073709551615 + a) 18446744073709551615 in
-    let rows = packed_latch_lines c.latches.items ++ (literal_lines c.bads.items ++
-    (literal_lines c.constraints.items ++ (packed_ands c.gates.items ++ []))) in
-    let sizes = number_text i 32 ++ (number_text l 32 ++ (number_text 0 32 ++ (number_text a 32 ++ (number_text b 32 ++
-    (number_text k 10 ++ rows))))) in
+    let rows = rows_text c [] [] in
+    let counts = number_text b 32 ++ (number_text k 10 ++ rows) in
+    let sizes = number_text i 32 ++ (number_text l 32 ++ (number_text 0 32 ++ (number_text a 32 ++ counts))) in
+    let p = counts_of c.bads.items c.constraints.items [] [] in
     let text : aig_text c ≡ codes "aig " ++ (number_text written 32 ++ sizes) =
     of_five (packed_header_line c) (packed_latch_lines c.latches.items) (literal_lines c.bads.items)
     (literal_lines c.constraints.items) (packed_ands c.gates.items)
@@ -367,7 +381,53 @@ aig_rereads c is numbered are =
     (number_text a 32) (number_text b 32) (number_text k 10) rows
     in
     ap circuit_of (text ∙ ap (λ n. codes "aig " ++ (number_text n 32 ++ sizes)) (maximum_is i l a m same is.small))
+    ∙ ap (λ header. (header >>= λ h. body_at h.0 h.1) >>= circuit_in)
+    (header-reread (codes "aig ") Binary m i l a p counts rows (λ bytes. refl) is.small is.counts (grind
+    (arith, nat_tests, same)) (properties-reread b k rows is.bad_count is.constraint_count))
+    ∙ ap (λ n. n >>= circuit_in)
+    (body-reread c [] [] (header_in Binary m i l a p) m refl is (none_writable m) all are refl)
+
+of_six : (o a b c d e : List ℕ) → o ++ a ++ b ++ c ++ d ++ e ≡ o ++ (a ++ (b ++ (c ++ (d ++ (e ++ [])))))
+of_six o a b c d e = simp (append_assoc, append-nil)
+
+-- the same with justice properties and fairness constraints
+pub live_aig_rereads : {A B : Type 0} (c : Circuit A) (live : Liveness B) → IsWritable c
+    → AreLiveWritable (greatest_variable c) (justice_view live) live.fairness.items → IsTrue (is_numbered c)
+    → IsTrue (are_above c.gates.items)
+    → live_rows_of (live_aig_text c live) ≡ Some (packed_live_rows c live)
+unfolding live_rows_of
+live_aig_rereads c live is fits numbered are =
+    let justice = justice_view live in
+    let fairness = live.fairness.items in
+    let i = length c.inputs.items in
+    let l = length c.latches.items in
+    let a = length c.gates.items in
+    let b = length c.bads.items in
+    let k = length c.constraints.items in
+    let j = length live.justice.items in
+    let f = length fairness in
+    let m = greatest_variable c in
+    let all = numbers c numbered in
+    let same : i + l + a ≡ m = sym all.greatest in
+    let as_many : length justice ≡ j = length-map live.justice.items (λ property. property.items) in
+    let written = min (min (i + l) 18446744073709551615 + a) 18446744073709551615 in
+    let rows = rows_text c justice fairness in
+    let counts = number_text b 32 ++ (number_text k 32 ++ (number_text j 32 ++ (number_text f 10 ++ rows))) in
+    let sizes = number_text i 32 ++ (number_text l 32 ++ (number_text 0 32 ++ (number_text a 32 ++ counts))) in
+    let p : Properties = record { bads = b; constraints = k; justice = j; fairness = f } in
+    let header : header_in Binary m i l a p
+    ≡ header_in Binary m i l a (counts_of c.bads.items c.constraints.items justice fairness) =
+    ap (λ n. header_in Binary m i l a (record { bads = b; constraints = k; justice = n; fairness = f })) (sym as_many)
+    in
+    let text : live_aig_text c live ≡ codes "aig " ++ (number_text written 32 ++ sizes) =
+    of_six (live_packed_header_line c j f) (packed_latch_lines c.latches.items) (literal_lines c.bads.items)
+    (literal_lines c.constraints.items) (liveness_lines justice fairness) (packed_ands c.gates.items)
+    ∙ of_ten (codes "aig ") (number_text written 32) (number_text i 32) (number_text l 32) (number_text 0 32)
+    (number_text a 32) (number_text b 32) (number_text k 32) (number_text j 32) (number_text f 10) rows
+    in
+    ap live_rows_of (text ∙ ap (λ n. codes "aig " ++ (number_text n 32 ++ sizes)) (maximum_is i l a m same is.small))
     ∙ ap (λ header. header >>= λ h. body_at h.0 h.1)
-    (header-reread (codes "aig ") Binary m i l a b k rows (λ bytes. refl) is.small is.counts (grind
-    (arith, nat_tests, same)) is.bad_count is.constraint_count)
-    ∙ body-reread c (header_in Binary m i l a b k) m refl is all are refl
+    (header-reread (codes "aig ") Binary m i l a p counts rows (λ bytes. refl) is.small is.counts (grind
+    (arith, nat_tests, same)) (live_properties-reread b k j f rows is.bad_count is.constraint_count
+    (subst (λ n. n < 2 ^ 31) as_many fits.justice_count) fits.fairness_count))
+    ∙ body-reread c justice fairness (header_in Binary m i l a p) m refl is fits all are header

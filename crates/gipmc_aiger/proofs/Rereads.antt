@@ -1,13 +1,14 @@
 -- What a writer wrote is read again.
 use Rattle.std.proofs.Common.{◌≡◌, ℕ, zero, suc, ◌+◌, ◌-◌, ◌*◌, ◌/◌, ◌%◌, ◌^◌, ◌<◌, ◌≤◌, nat_le, min, Bool, true}
-use Rattle.std.proofs.Common.{false, List, [], ◌∷◌, ◌++◌, length, Option, Some, None, arith, refl, sym, ap, subst}
+use Rattle.std.proofs.Common.{false, List, [], ◌∷◌, ◌++◌, length, map, Option, Some, None, arith, refl, sym, ap, subst}
 use Rattle.std.proofs.Common.{◌∙◌, append_assoc, append-nil, decimal}
-use Rattle.std.specs.Prelude.{◌==◌, if◌then◌else◌, codes}
+use Rattle.std.specs.Prelude.{◌==◌, ◌&&◌, if◌then◌else◌, codes}
 use Rattle.std.specs.Char.{digit_value, is_ascii_digit}
 use Rattle.std.specs.Str.Parse.{AllDigits, digits_value_after}
 use Rattle.std.proofs.lemmas.Str.{digit_value_digit}
 use Rattle.std.proofs.lemmas.Str.Parse.{digit_from_value}
 use Rattle.std.proofs.lemmas.Fmt.{decimal_is_IsNumeral}
+use Rattle.std.proofs.lemmas.List.{length-map}
 use Rattle.giputils_text.specs.Lines.{space}
 use Rattle.gipsat_cnf.specs.Literals.{Lit}
 use Rattle.gipmc_circuits.specs.declared.circuit.And.{And}
@@ -17,14 +18,21 @@ use Rattle.gipmc_aiger.specs.Lists.{Every}
 use Rattle.gipmc_aiger.specs.declared.header.Form.{Form}
 use Rattle.gipmc_aiger.specs.declared.header.Form.TheVariants.{Ascii}
 use Rattle.gipmc_aiger.specs.declared.header.Header.{Header}
+use Rattle.gipmc_aiger.specs.declared.header.Justice.{Justice}
+use Rattle.gipmc_aiger.specs.declared.header.Properties.{Properties}
 use Rattle.gipmc_aiger.specs.Reading.{◌>>=◌, digits_at, number_at}
-use Rattle.gipmc_aiger.specs.Circuits.{bads_of, body_at, circuit_of, count_at, defined_at, form_at, gate_at}
-use Rattle.gipmc_aiger.specs.Circuits.{behind_liveness, greatest_literal, justice_at, has_counts, header_at, input_at, latch_at, leading_at}
+use Rattle.gipmc_aiger.specs.Circuits.{bads_of, body_at, circuit_in, circuit_of, count_at, defined_at, form_at, gate_at}
+use Rattle.gipmc_aiger.specs.Circuits.{greatest_literal, has_counts, header_at, input_at, justice_at, justice_literals_at}
+use Rattle.gipmc_aiger.specs.Circuits.{latch_at, leading_at, live_rows_of, liveness_at}
 use Rattle.gipmc_aiger.specs.Circuits.{literal_at, literal_of, rows_of, optional_count_at, properties_at, reset_of}
 use Rattle.gipmc_aiger.specs.Circuits.{rows_at, separated_at, sizes_at, variable_of, written_operands_at}
 use Rattle.gipmc_aiger.specs.CircuitTexts.{aag_text, and_line, and_lines, greatest_variable, header_line, input_lines}
 use Rattle.gipmc_aiger.specs.CircuitTexts.{latch_line, latch_lines, literal_lines, literal_number, number_text}
 use Rattle.gipmc_aiger.specs.CircuitTexts.{reset_number}
+use Rattle.gipmc_aiger.specs.LiveTexts.{AreLiveWritable, justice_lines, live_aag_text, live_header_line}
+use Rattle.gipmc_aiger.specs.LiveTexts.{liveness_lines, size_lines}
+use Rattle.gipmc_aiger.specs.LiveCircuits.{justice_view, live_rows}
+use Rattle.gipmc_aiger.specs.declared.liveness.Liveness.{Liveness}
 use Rattle.gipmc_aiger.specs.Tails.{begins_number}
 use Rattle.gipmc_aiger.specs.Writable.{FitsGate, FitsLatch, FitsLiteral, FitsVariable, IsWritable}
 
@@ -250,15 +258,25 @@ pub of_eight : (o a b c d e f g rest : List ℕ) → (o ++ a ++ b ++ c ++ d ++ e
 of_eight o a b c d e f g rest = simp append_assoc
 
 -- a header without outputs
-abbrev pub header_in : Form → ℕ → ℕ → ℕ → ℕ → ℕ → ℕ → Header
-header_in form m i l a b k =
+abbrev pub header_in : Form → ℕ → ℕ → ℕ → ℕ → Properties → Header
+header_in form m i l a p =
     record {
       form = form;
       sizes = record { maximum = m; inputs = i; latches = l; outputs = 0; gates = a };
-      bads = b;
-      constraints = k;
-      justice = 0;
-      fairness = 0;
+      bads = p.bads;
+      constraints = p.constraints;
+      justice = p.justice;
+      fairness = p.fairness;
+    }
+
+-- so many bad literals, constraints, justice properties and fairness constraints
+abbrev pub counts_of : List Lit → List Lit → List (List Lit) → List Lit → Properties
+counts_of bads constraints justice fairness =
+    record {
+      bads = length bads;
+      constraints = length constraints;
+      justice = length justice;
+      fairness = length fairness;
     }
 
 sizes-reread : (m i l a : ℕ) (rest : List ℕ) → m < 2 ^ 31 → i + l + a ≤ m
@@ -278,7 +296,7 @@ sizes-reread m i l a rest small counts =
     )
     refl
 
-properties-reread : (b k : ℕ) (rest : List ℕ) → b < 2 ^ 31 → k < 2 ^ 31
+pub properties-reread : (b k : ℕ) (rest : List ℕ) → b < 2 ^ 31 → k < 2 ^ 31
     → properties_at (32 ∷ (number_text b 32 ++ (number_text k 10 ++ rest)))
     ≡ Some (record { bads = b; constraints = k; justice = 0; fairness = 0 }, 10 ∷ rest)
 unfolding properties_at
@@ -289,29 +307,38 @@ properties-reread b k rest bads constraints =
           refl,
     ) refl
 
--- a header is read again behind a mark that names its form
-pub header-reread : (mark : List ℕ) (form : Form) (m i l a b k : ℕ) (rest : List ℕ)
+pub live_properties-reread : (b k j f : ℕ) (rest : List ℕ) → b < 2 ^ 31 → k < 2 ^ 31 → j < 2 ^ 31 → f < 2 ^ 31
+    → properties_at (32 ∷ (number_text b 32 ++ (number_text k 32 ++ (number_text j 32 ++ (number_text f 10 ++ rest)))))
+    ≡ Some (record { bads = b; constraints = k; justice = j; fairness = f }, 10 ∷ rest)
+unfolding properties_at
+live_properties-reread b k j f rest bads constraints justice fairness =
+    rw (
+      optional_count-reread b 32 (number_text k 32 ++ (number_text j 32 ++ (number_text f 10 ++ rest))) bads refl,
+      optional_count-reread k 32 (number_text j 32 ++ (number_text f 10 ++ rest)) constraints refl,
+      optional_count-reread j 32 (number_text f 10 ++ rest) justice refl,
+      optional_count-reread f 10 rest fairness refl,
+    ) refl
+
+-- a header is read again behind a mark that names its form, and before the numbers of properties
+pub header-reread : (mark : List ℕ) (form : Form) (m i l a : ℕ) (p : Properties) (properties rest : List ℕ)
     → ((bytes : List ℕ) → form_at (mark ++ bytes) ≡ Some (form, 32 ∷ bytes)) → m < 2 ^ 31 → i + l + a ≤ m
-    → has_counts form (record { maximum = m; inputs = i; latches = l; outputs = 0; gates = a }) ≡ true → b < 2 ^ 31
-    → k < 2 ^ 31
+    → has_counts form (record { maximum = m; inputs = i; latches = l; outputs = 0; gates = a }) ≡ true
+    → properties_at (32 ∷ properties) ≡ Some (p, 10 ∷ rest)
     → header_at (mark ++ (number_text m 32 ++ (number_text i 32 ++ (number_text l 32 ++ (number_text 0 32 ++
-    (number_text a 32 ++ (number_text b 32 ++ (number_text k 10 ++ rest))))))))
-    ≡ Some (header_in form m i l a b k, rest)
+    (number_text a 32 ++ properties))))))
+    ≡ Some (header_in form m i l a p, rest)
 unfolding header_at
-header-reread mark form m i l a b k rest marked small counts enough bads constraints =
-    let properties = number_text b 32 ++ (number_text k 10 ++ rest) in
+header-reread mark form m i l a p properties rest marked small counts enough again =
     let sizes = number_text m 32 ++ (number_text i 32 ++ (number_text l 32 ++ (number_text 0 32 ++
     (number_text a 32 ++ properties)))) in
-    rw (
-      marked sizes,
-      sizes-reread m i l a properties small counts,
-      properties-reread b k rest bads constraints,
-      enough,
-    )
-    refl
+    rw (marked sizes, sizes-reread m i l a properties small counts, again, enough) refl
+
+either_way : (test : Bool) (ls : List Lit) → (if test then ls else ls) ≡ ls
+either_way true ls = refl
+either_way false ls = refl
 
 pub bads_are : (h : Header) (bads : List Lit) → h.bads ≡ length bads → bads_of h [] bads ≡ bads
-bads_are h [] same = rw same refl
+bads_are h [] same = either_way ((h.bads == 0) && (h.justice == 0)) []
 bads_are h (l ∷ bads) same =
     let some : (h.bads == 0) ≡ false = grind (arith, same) in
     rw some refl
@@ -324,29 +351,79 @@ pub no_rows : {X : Type 0} (one_at : ℕ → List ℕ → Option (X × List ℕ)
 no_rows one_at zero bytes same = refl
 no_rows one_at (suc n) bytes same = absurd (omega (arith, same))
 
--- without justice and fairness nothing is read over
-pub no_liveness : (h : Header) (bytes : List ℕ) → h.justice ≡ 0 → h.fairness ≡ 0 → behind_liveness h bytes ≡ Some bytes
-unfolding behind_liveness
-no_liveness h bytes justice fairness =
-    rw (no_rows (justice_at h) h.justice bytes justice, no_rows (literal_at h) h.fairness bytes fairness) refl
+-- how many literals a justice property has
+abbrev counted : List Lit → Justice
+counted property = record { literals = length property }
 
-of_six : (o a b c d e : List ℕ) → o ++ a ++ b ++ c ++ d ++ e ≡ o ++ (a ++ (b ++ (c ++ (d ++ (e ++ [])))))
-of_six o a b c d e = simp (append_assoc, append-nil)
+sizes_of_justice-reread : (h : Header) (justice : List (List Lit)) (n place : ℕ) (rest : List ℕ) → n ≡ length justice
+    → Every (λ p. length p < 2 ^ 31) justice
+    → rows_at (justice_at h) place n (size_lines justice ++ rest) ≡ Some (map counted justice, rest)
+sizes_of_justice-reread h [] zero place rest same fits = refl
+sizes_of_justice-reread h [] (suc n) place rest same fits = absurd (omega (arith, same))
+sizes_of_justice-reread h (p ∷ ps) zero place rest same fits = absurd (omega (arith, same))
+sizes_of_justice-reread h (p ∷ ps) (suc n) place rest same (fit, fits) =
+    let text : size_lines (p ∷ ps) ++ rest ≡ number_text (length p) 10 ++ (size_lines ps ++ rest) =
+    append_assoc (number_text (length p) 10) (size_lines ps) rest
+    in
+    let others = sizes_of_justice-reread h ps n (place + 1) rest (omega (arith, same)) fits in
+    rw (
+      text,
+      number-reread 2147483647 (length p) 10 (size_lines ps ++ rest) (omega (arith, fit)) (omega (arith, fit)) refl,
+      others,
+    )
+    refl
+
+module _ (h : Header) (m : ℕ) (limit : greatest_literal h ≡ 2 * m + 1) (small : m < 2 ^ 31) where
+  justice-reread : (justice : List (List Lit)) (rest : List ℕ) → Every (λ p. Every (FitsLiteral m) p) justice
+      → justice_literals_at h (map counted justice) (justice_lines justice ++ rest) ≡ Some (justice, rest)
+  justice-reread [] rest fits = refl
+  justice-reread (p ∷ ps) rest (fit, fits) =
+      let text : justice_lines (p ∷ ps) ++ rest ≡ literal_lines p ++ (justice_lines ps ++ rest) =
+      append_assoc (literal_lines p) (justice_lines ps) rest
+      in
+      rw (
+        text,
+        literals-reread h m limit small p (length p) (justice_lines ps ++ rest) refl fit,
+        justice-reread ps rest fits,
+      )
+      refl
+
+  -- justice properties and fairness constraints are read again
+  pub liveness-reread : (justice : List (List Lit)) (fairness : List Lit) (rest : List ℕ) → h.justice ≡ length justice
+      → h.fairness ≡ length fairness → AreLiveWritable m justice fairness
+      → liveness_at h (liveness_lines justice fairness ++ rest) ≡ Some (justice, fairness, rest)
+  unfolding liveness_at
+  liveness-reread justice fairness rest justice_are fairness_are is =
+      let literals = literal_lines fairness ++ rest in
+      rw (
+        of_three (size_lines justice) (justice_lines justice) (literal_lines fairness) rest,
+        sizes_of_justice-reread h justice h.justice 0 (justice_lines justice ++ literals) justice_are is.sizes,
+        justice-reread justice literals is.literals,
+        literals-reread h m limit small fairness h.fairness rest fairness_are is.fairness_literals,
+      )
+      refl
+
+-- the lines behind a header of the ascii form
+abbrev rows_text : {A : Type 0} → Circuit A → List (List Lit) → List Lit → List ℕ
+rows_text c justice fairness =
+    input_lines c.inputs.items ++ (latch_lines c.latches.items ++ (literal_lines c.bads.items ++
+    (literal_lines c.constraints.items ++ (liveness_lines justice fairness ++ (and_lines c.gates.items ++ [])))))
 
 -- the rows of a circuit behind such a header write it
-body-reread : {A : Type 0} (c : Circuit A) (h : Header) (m : ℕ) → m ≡ greatest_variable c → IsWritable c
+body-reread : {A : Type 0} (c : Circuit A) (justice : List (List Lit)) (fairness : List Lit) (h : Header) (m : ℕ)
+    → m ≡ greatest_variable c → IsWritable c → AreLiveWritable m justice fairness
     → h ≡ header_in Ascii m (length c.inputs.items) (length c.latches.items) (length c.gates.items)
-    (length c.bads.items) (length c.constraints.items)
-    → body_at h (input_lines c.inputs.items ++ (latch_lines c.latches.items ++ (literal_lines c.bads.items ++
-    (literal_lines c.constraints.items ++ (and_lines c.gates.items ++ [])))))
-    ≡ Some (rows_of c)
+    (counts_of c.bads.items c.constraints.items justice fairness)
+    → body_at h (rows_text c justice fairness)
+    ≡ Some (record { circuit = rows_of c; justice = justice; fairness = fairness })
 unfolding body_at
-body-reread c h m greatest is header =
+body-reread c justice fairness h m greatest is live header =
     let small : m < 2 ^ 31 = subst (λ x. x < 2 ^ 31) (sym greatest) is.small in
     let ascii : h.form ≡ Ascii = ap (λ x. x.form) header in
     let limit : greatest_literal h ≡ 2 * m + 1 = ap greatest_literal header ∙ limit_is m small in
     let gates = and_lines c.gates.items ++ [] in
-    let constraints = literal_lines c.constraints.items ++ gates in
+    let properties = liveness_lines justice fairness ++ gates in
+    let constraints = literal_lines c.constraints.items ++ properties in
     let bads = literal_lines c.bads.items ++ constraints in
     let latches = latch_lines c.latches.items ++ bads in
     let no_outputs : h.sizes.outputs ≡ 0 = ap (λ x. x.sizes.outputs) header in
@@ -360,9 +437,10 @@ body-reread c h m greatest is header =
       no_rows (literal_at h) h.sizes.outputs bads no_outputs,
       literals-reread h m limit small c.bads.items h.bads constraints (ap (λ x. x.bads) header) (subst
           (λ x. Every (FitsLiteral x) c.bads.items) (sym greatest) is.bads),
-      literals-reread h m limit small c.constraints.items h.constraints gates (ap (λ x. x.constraints) header) (subst
+      literals-reread h m limit small c.constraints.items h.constraints properties (ap (λ x. x.constraints) header) (subst
           (λ x. Every (FitsLiteral x) c.constraints.items) (sym greatest) is.constraints),
-      no_liveness h gates (ap (λ x. x.justice) header) (ap (λ x. x.fairness) header),
+      liveness-reread h m limit small justice fairness gates (ap (λ x. x.justice) header) (ap (λ x. x.fairness) header)
+          live,
       rows-reread (gate_at h) and_line and_lines (FitsGate m) refl (λ g gs. refl)
           (λ place g rest fits. gate-reread h m ascii limit small place g rest fits) c.gates.items h.sizes.gates 0 []
           (ap (λ x. x.sizes.gates) header) (subst (λ x. Every (FitsGate x) c.gates.items) (sym greatest) is.gates),
@@ -370,27 +448,92 @@ body-reread c h m greatest is header =
     )
     refl
 
+of_six : (o a b c d e : List ℕ) → o ++ a ++ b ++ c ++ d ++ e ≡ o ++ (a ++ (b ++ (c ++ (d ++ (e ++ [])))))
+of_six o a b c d e = simp (append_assoc, append-nil)
+
+-- no justice properties and no fairness constraints
+pub none_writable : (m : ℕ) → AreLiveWritable m [] []
+none_writable m = record {
+  justice_count = omega arith;
+  fairness_count = omega arith;
+  sizes = tt;
+  literals = tt;
+  fairness_literals = tt;
+}
+
 -- the circuit that the text of a circuit writes is that circuit
 pub aag_rereads : {A : Type 0} (c : Circuit A) → IsWritable c → circuit_of (aag_text c) ≡ Some (rows_of c)
-unfolding circuit_of
+unfolding circuit_of live_rows_of
 aag_rereads c is =
     let m = greatest_variable c in
-    let rows = input_lines c.inputs.items ++ (latch_lines c.latches.items ++ (literal_lines c.bads.items ++
-    (literal_lines c.constraints.items ++ (and_lines c.gates.items ++ [])))) in
+    let rows = rows_text c [] [] in
+    let counts = number_text (length c.bads.items) 32 ++ (number_text (length c.constraints.items) 10 ++ rows) in
     let text : aag_text c ≡ codes "aag " ++ (number_text m 32 ++ (number_text (length c.inputs.items) 32 ++
     (number_text (length c.latches.items) 32 ++ (number_text 0 32 ++ (number_text (length c.gates.items) 32 ++
-    (number_text (length c.bads.items) 32 ++ (number_text (length c.constraints.items) 10 ++ rows))))))) =
+    counts))))) =
     of_six (header_line m c) (input_lines c.inputs.items) (latch_lines c.latches.items) (literal_lines c.bads.items)
     (literal_lines c.constraints.items) (and_lines c.gates.items)
     ∙ of_eight (codes "aag ") (number_text m 32) (number_text (length c.inputs.items) 32) (number_text
     (length c.latches.items) 32) (number_text 0 32) (number_text (length c.gates.items) 32) (number_text
     (length c.bads.items) 32) (number_text (length c.constraints.items) 10) rows
     in
+    let p = counts_of c.bads.items c.constraints.items [] [] in
     ap circuit_of text
+    ∙ ap (λ header. (header >>= λ h. body_at h.0 h.1) >>= circuit_in)
+    (header-reread (codes "aag ") Ascii m (length c.inputs.items) (length c.latches.items) (length c.gates.items) p counts
+    rows (λ bytes. refl) is.small is.counts (below
+    (length c.inputs.items + length c.latches.items + length c.gates.items) m is.counts)
+    (properties-reread (length c.bads.items) (length c.constraints.items) rows is.bad_count is.constraint_count))
+    ∙ ap (λ n. n >>= circuit_in)
+    (body-reread c [] [] (header_in Ascii m (length c.inputs.items) (length c.latches.items) (length c.gates.items) p) m
+    refl is (none_writable m) refl)
+
+of_seven : (o a b c d e f : List ℕ) → o ++ a ++ b ++ c ++ d ++ e ++ f ≡ o ++ (a ++ (b ++ (c ++ (d ++ (e ++ (f ++ []))))))
+of_seven o a b c d e f = simp (append_assoc, append-nil)
+
+pub of_ten : (o a b c d e f g h i rest : List ℕ) → (o ++ a ++ b ++ c ++ d ++ e ++ f ++ g ++ h ++ i) ++ rest ≡ o ++ (a ++
+    (b ++ (c ++ (d ++ (e ++ (f ++ (g ++ (h ++ (i ++ rest)))))))))
+of_ten o a b c d e f g h i rest = simp append_assoc
+
+-- what the text of a circuit with justice properties and fairness constraints writes is these
+pub live_aag_rereads : {A B : Type 0} (c : Circuit A) (l : Liveness B) → IsWritable c
+    → AreLiveWritable (greatest_variable c) (justice_view l) l.fairness.items
+    → live_rows_of (live_aag_text c l) ≡ Some (live_rows c l)
+unfolding live_rows_of
+live_aag_rereads c l is live =
+    let justice = justice_view l in
+    let fairness = l.fairness.items in
+    let m = greatest_variable c in
+    let rows = rows_text c justice fairness in
+    let b = length c.bads.items in
+    let k = length c.constraints.items in
+    let j = length l.justice.items in
+    let f = length fairness in
+    let same : length justice ≡ j = length-map l.justice.items (λ property. property.items) in
+    let counts = number_text b 32 ++ (number_text k 32 ++ (number_text j 32 ++ (number_text f 10 ++ rows))) in
+    let text : live_aag_text c l ≡ codes "aag " ++ (number_text m 32 ++ (number_text (length c.inputs.items) 32 ++
+    (number_text (length c.latches.items) 32 ++ (number_text 0 32 ++ (number_text (length c.gates.items) 32 ++
+    counts))))) =
+    of_seven (live_header_line m c j f) (input_lines c.inputs.items) (latch_lines c.latches.items)
+    (literal_lines c.bads.items) (literal_lines c.constraints.items) (liveness_lines justice fairness)
+    (and_lines c.gates.items)
+    ∙ of_ten (codes "aag ") (number_text m 32) (number_text (length c.inputs.items) 32) (number_text
+    (length c.latches.items) 32) (number_text 0 32) (number_text (length c.gates.items) 32) (number_text b 32)
+    (number_text k 32) (number_text j 32) (number_text f 10) rows
+    in
+    let p : Properties = record { bads = b; constraints = k; justice = j; fairness = f } in
+    let header : header_in Ascii m (length c.inputs.items) (length c.latches.items) (length c.gates.items) p
+    ≡ header_in Ascii m (length c.inputs.items) (length c.latches.items) (length c.gates.items)
+    (counts_of c.bads.items c.constraints.items justice fairness) =
+    ap (λ n. header_in Ascii m (length c.inputs.items) (length c.latches.items) (length c.gates.items)
+    (record { bads = b; constraints = k; justice = n; fairness = f })) (sym same)
+    in
+    ap live_rows_of text
     ∙ ap (λ header. header >>= λ h. body_at h.0 h.1)
-    (header-reread (codes "aag ") Ascii m (length c.inputs.items) (length c.latches.items) (length c.gates.items)
-    (length c.bads.items) (length c.constraints.items) rows (λ bytes. refl) is.small is.counts (below
-    (length c.inputs.items + length c.latches.items + length c.gates.items) m is.counts) is.bad_count
-    is.constraint_count)
-    ∙ body-reread c (header_in Ascii m (length c.inputs.items) (length c.latches.items) (length c.gates.items)
-    (length c.bads.items) (length c.constraints.items)) m refl is refl
+    (header-reread (codes "aag ") Ascii m (length c.inputs.items) (length c.latches.items) (length c.gates.items) p counts
+    rows (λ bytes. refl) is.small is.counts (below
+    (length c.inputs.items + length c.latches.items + length c.gates.items) m is.counts)
+    (live_properties-reread b k j f rows is.bad_count is.constraint_count
+    (subst (λ n. n < 2 ^ 31) same live.justice_count) live.fairness_count))
+    ∙ body-reread c justice fairness
+    (header_in Ascii m (length c.inputs.items) (length c.latches.items) (length c.gates.items) p) m refl is live header

@@ -14,8 +14,8 @@ use Rattle.giputils_text.proofs.Pieces.{text_lines-at}
 use Rattle.gipmc_aiger.specs.Lists.{Every}
 use Rattle.gipmc_aiger.proofs.ClaimLoops.{within_more}
 use Rattle.gipmc_aiger.proofs.Rereads.{number-reread_alone}
-use Rattle.gipmc_aiger.specs.Claims.{claim_by, claim_of, claims_from, claims_of, is_last, properties_of}
-use Rattle.gipmc_aiger.specs.Traces.{witness_text, witness_view}
+use Rattle.gipmc_aiger.specs.Claims.{claim_by, claim_of, claims_from, claims_of, is_last, lassos_of, properties_of}
+use Rattle.gipmc_aiger.specs.Traces.{lasso_text, witness_text, witness_view}
 use Rattle.gipmc_aiger.specs.declared.witness.Witness.{Witness}
 use Rattle.gipmc_aiger.specs.Witnesses.{bits_line, bits_of, frames_lines, frames_of, frames_view}
 use Rattle.gipmc_aiger.specs.Witnesses.{is_bit, is_end, is_remark, property_of, said_lines, stimulus_of, witness_of}
@@ -112,18 +112,35 @@ property-reread n small = rw (number-reread_alone 2147483647 n (omega (arith, sm
 of_four : (d bits frames : List ℕ) → d ++ 10 ∷ [] ++ bits ++ frames ≡ d ++ 10 ∷ (bits ++ frames)
 of_four d bits frames = simp append_assoc
 
+-- the lines of the text of a trace, by the letter of its property
+text-lines : {A : Type 0} (letter property : ℕ) (trace : Trace A) → (letter == 10) ≡ false
+    → is_remark (letter ∷ []) ≡ false → property < 2 ^ 31
+    → said_lines (49 ∷ 10 ∷ letter ∷ (decimal property ++ 10 ∷ [] ++ bits_line trace.latches.items
+    ++ frames_lines trace.inputs.items))
+    ≡ (49 ∷ []) ∷ (letter ∷ decimal property) ∷ map bit_code trace.latches.items
+    ∷ said_lines (frames_lines trace.inputs.items)
+text-lines letter property trace within said small =
+    let bits = bits_line trace.latches.items in
+    let frames = frames_lines trace.inputs.items in
+    ap (λ text. said_lines (49 ∷ 10 ∷ letter ∷ text)) (of_four (decimal property) bits frames)
+    ∙ line-reread (49 ∷ []) (letter ∷ decimal property ++ 10 ∷ (bits ++ frames)) (refl, tt) refl
+    ∙ ap (λ lines. (49 ∷ []) ∷ lines)
+    (line-reread (letter ∷ decimal property) (bits ++ frames) (within, number-in_line property (omega (arith, small)))
+    said)
+    ∙ ap (λ lines. (49 ∷ []) ∷ (letter ∷ decimal property) ∷ lines) (bits-line trace.latches.items frames)
+
 -- the lines of the text of a witness
 lines-are : {A : Type 0} (property : ℕ) (trace : Trace A) → property < 2 ^ 31 → said_lines (witness_text property trace)
     ≡ (49 ∷ []) ∷ (98 ∷ decimal property) ∷ map bit_code trace.latches.items
     ∷ said_lines (frames_lines trace.inputs.items)
-lines-are property trace small =
-    let bits = bits_line trace.latches.items in
-    let frames = frames_lines trace.inputs.items in
-    ap (λ text. said_lines (49 ∷ 10 ∷ 98 ∷ text)) (of_four (decimal property) bits frames)
-    ∙ line-reread (49 ∷ []) (98 ∷ decimal property ++ 10 ∷ (bits ++ frames)) (refl, tt) refl
-    ∙ ap (λ lines. (49 ∷ []) ∷ lines)
-    (line-reread (98 ∷ decimal property) (bits ++ frames) (refl, number-in_line property (omega (arith, small))) refl)
-    ∙ ap (λ lines. (49 ∷ []) ∷ (98 ∷ decimal property) ∷ lines) (bits-line trace.latches.items frames)
+lines-are property trace small = text-lines 98 property trace refl refl small
+
+-- and of a lasso
+lasso_lines-are : {A : Type 0} (property : ℕ) (trace : Trace A) → property < 2 ^ 31
+    → said_lines (lasso_text property trace)
+    ≡ (49 ∷ []) ∷ (106 ∷ decimal property) ∷ map bit_code trace.latches.items
+    ∷ said_lines (frames_lines trace.inputs.items)
+lasso_lines-are property trace small = text-lines 106 property trace refl refl small
 
 -- the witness that the text of a witness writes is that witness, where each moment has so many inputs
 pub witness_rereads : {A : Type 0} (latches inputs : ℕ) (w : Witness A) → w.property < 2 ^ 31
@@ -139,39 +156,63 @@ witness_rereads latches inputs w small counted rows =
     )
     refl
 
--- a byte that is no `b`
-abbrev IsNoLetter : ℕ → Type 0
-IsNoLetter b = (b == 98) ≡ false
+-- a byte that is not this letter
+abbrev IsNoLetter : ℕ → ℕ → Type 0
+IsNoLetter letter b = (b == letter) ≡ false
 
-piece-alone : (ds : List ℕ) → Every IsNoLetter ds → pieces 98 ds ≡ ds ∷ []
-piece-alone [] all = refl
-piece-alone (b ∷ ds) (here, others) =
-    ap (λ v. cond v ([] ∷ pieces 98 ds) (onto_first b (pieces 98 ds))) here ∙ ap (onto_first b) (piece-alone ds others)
+piece-alone : (letter : ℕ) (ds : List ℕ) → Every (IsNoLetter letter) ds → pieces letter ds ≡ ds ∷ []
+piece-alone letter [] all = refl
+piece-alone letter (b ∷ ds) (here, others) =
+    ap (λ v. cond v ([] ∷ pieces letter ds) (onto_first b (pieces letter ds))) here
+    ∙ ap (onto_first b) (piece-alone letter ds others)
 
-digits-no_letter : (ds : List ℕ) → AllDigits 10 ds → Every IsNoLetter ds
-digits-no_letter [] all = tt
-digits-no_letter (d ∷ ds) (digit, all) =
+digits-no_letter : (letter : ℕ) (ds : List ℕ) → 57 < letter → AllDigits 10 ds → Every (IsNoLetter letter) ds
+digits-no_letter letter [] above all = tt
+digits-no_letter letter (d ∷ ds) above (digit, all) =
     let (from, to) = digit_from_value d digit in
-    (grind (arith, from, to), digits-no_letter ds all)
+    (grind (arith, from, to, above), digits-no_letter letter ds above all)
 
 -- the one property of a line is read again
-properties-reread : (n : ℕ) → n < 2 ^ 31 → properties_of (98 ∷ decimal n) ≡ Some (n ∷ [])
-properties-reread n small =
-    let digits = digits-no_letter (decimal n) (decimal_is_IsNumeral n (omega (arith, small))).0.1 in
+properties-reread : (letter n : ℕ) → 57 < letter → (letter == letter) ≡ true → n < 2 ^ 31
+    → properties_of letter (letter ∷ decimal n) ≡ Some (n ∷ [])
+properties-reread letter n above same small =
+    let digits = digits-no_letter letter (decimal n) above (decimal_is_IsNumeral n (omega (arith, small))).0.1 in
     rw (
-      piece-alone (decimal n) digits,
+      same,
+      piece-alone letter (decimal n) digits,
       number-reread_alone 2147483647 n (omega (arith, small)) (omega (arith, small)),
     )
     refl
 
 -- behind the moments of a witness no answer follows
-frames-last : {A : Type 0} (latches inputs : ℕ) (frames : List (Vec Bool A))
-    → claims_from latches inputs true (said_lines (frames_lines frames)) ≡ Some []
-frames-last latches inputs [] = refl
-frames-last latches inputs (frame ∷ frames) =
+frames-last : {A : Type 0} (letter other latches inputs : ℕ) (frames : List (Vec Bool A))
+    → claims_from letter other latches inputs true (said_lines (frames_lines frames)) ≡ Some []
+frames-last letter other latches inputs [] = refl
+frames-last letter other latches inputs (frame ∷ frames) =
     rw (bits-line frame.items (frames_lines frames))
-    (within_more latches inputs (map bit_code frame.items) (said_lines (frames_lines frames)) (bits-no_end frame.items)
-    ∙ frames-last latches inputs frames)
+    (within_more letter other latches inputs (map bit_code frame.items) (said_lines (frames_lines frames)) (bits-no_end
+    frame.items)
+    ∙ frames-last letter other latches inputs frames)
+
+-- the lines of one trace have one claim: that of the trace, where each moment has so many inputs
+claim-reread : {A : Type 0} (letter other latches inputs property : ℕ) (trace : Trace A) → 57 < letter
+    → (letter == letter) ≡ true → (letter == other) ≡ false → (letter == 46) ≡ false → property < 2 ^ 31 → length trace.latches.items ≡ latches
+    → Every (λ row. length row.items ≡ inputs) trace.inputs.items
+    → claims_from letter other latches inputs false ((49 ∷ []) ∷ (letter ∷ decimal property)
+    ∷ map bit_code trace.latches.items ∷ said_lines (frames_lines trace.inputs.items))
+    ≡ Some (claim_by (property ∷ []) trace ∷ [])
+unfolding claim_of
+claim-reread letter other latches inputs property trace above same apart goes_on small counted rows =
+    rw (
+      apart,
+      properties-reread letter property above same small,
+      bits-reread latches trace.latches.items counted,
+      frames-reread inputs trace.inputs.items rows,
+      goes_on,
+      bits-no_end trace.latches.items,
+      frames-last letter other latches inputs trace.inputs.items,
+    )
+    refl
 
 -- digits and values have no `#`
 digits-no_mark : (ds : List ℕ) → AllDigits 10 ds → is_last ds ≡ false
@@ -195,7 +236,6 @@ frames-no_mark (frame ∷ frames) =
 pub claims_reread : {A : Type 0} (latches inputs property : ℕ) (trace : Trace A) → property < 2 ^ 31
     → length trace.latches.items ≡ latches → Every (λ row. length row.items ≡ inputs) trace.inputs.items
     → claims_of latches inputs (witness_text property trace) ≡ Some (claim_by (property ∷ []) trace ∷ [])
-unfolding claim_of
 claims_reread latches inputs property trace small counted rows =
     let digits = digits-no_mark (decimal property) (decimal_is_IsNumeral property (omega (arith, small))).0.1 in
     rw (
@@ -203,10 +243,13 @@ claims_reread latches inputs property trace small counted rows =
       digits,
       bits-no_mark trace.latches.items,
       frames-no_mark trace.inputs.items,
-      properties-reread property small,
-      bits-reread latches trace.latches.items counted,
-      frames-reread inputs trace.inputs.items rows,
-      bits-no_end trace.latches.items,
-      frames-last latches inputs trace.inputs.items,
     )
-    refl
+    (claim-reread 98 106 latches inputs property trace (omega arith) refl refl refl small counted rows)
+
+-- so has the text of a lasso
+pub lassos_reread : {A : Type 0} (latches inputs property : ℕ) (trace : Trace A) → property < 2 ^ 31
+    → length trace.latches.items ≡ latches → Every (λ row. length row.items ≡ inputs) trace.inputs.items
+    → lassos_of latches inputs (lasso_text property trace) ≡ Some (claim_by (property ∷ []) trace ∷ [])
+lassos_reread latches inputs property trace small counted rows =
+    rw (lasso_lines-are property trace small)
+    (claim-reread 106 98 latches inputs property trace (omega arith) refl refl refl small counted rows)

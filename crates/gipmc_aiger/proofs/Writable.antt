@@ -3,6 +3,7 @@ use Rattle.std.proofs.Common.{◌≡◌, ⊎_elim, ℕ, zero, suc, ◌+◌, ◌<
 use Rattle.std.specs.Prelude.{nat_le, nat_lt}
 use Rattle.std.specs.List.{list_all}
 use Rattle.std.proofs.Math.Nat.{le-max_left, le-max_right, le_refl}
+use Rattle.std.proofs.lemmas.List.Folds.{list_all-append}
 use Rattle.std.proofs.lemmas.Bool.{and_from, and_parts, eqb-true, false≢true, or_cases, or_right}
 use Rattle.gipsat_cnf.specs.Literals.{Lit}
 use Rattle.gipmc_circuits.specs.declared.circuit.And.{And}
@@ -11,6 +12,9 @@ use Rattle.gipmc_circuits.specs.declared.circuit.Latch.{Latch}
 use Rattle.gipmc_circuits.specs.WellFormed.{are_in_order, are_new, is_constant, is_source, is_variable, is_well_formed, latch_variables, uses_defined, with_variable, with_variables}
 use Rattle.gipmc_aiger.specs.CircuitTexts.{greatest_input, greatest_latch, greatest_output, greatest_variable}
 use Rattle.gipmc_aiger.specs.Lists.{Every}
+use Rattle.gipmc_aiger.specs.LiveCircuits.{are_defined, flattened, justice_view}
+use Rattle.gipmc_aiger.specs.LiveTexts.{AreLiveWritable}
+use Rattle.gipmc_aiger.specs.declared.liveness.Liveness.{Liveness}
 use Rattle.gipmc_aiger.specs.Writable.{FitsGate, FitsLatch, FitsLiteral, FitsVariable, IsWritable, has_room}
 
 -- each variable for which the test passes is at most m
@@ -112,6 +116,37 @@ gates_fit m (g ∷ gs) defined first within (one, others) ordered =
           (with_one m g.output defined one within) others more,
     )
 
+-- the variables of the latches and inputs are at most the greatest variable
+inputs_in_all : {A : Type 0} (c : Circuit A) → Every (λ v. v ≤ greatest_variable c) c.inputs.items
+inputs_in_all c =
+    let above_inputs = greatest_input 0 c.inputs.items in
+    let above_latches = greatest_latch above_inputs c.latches.items in
+    inputs_within 0 (greatest_variable c) c.inputs.items (through above_inputs above_latches (greatest_variable c)
+    (from_latch above_inputs c.latches.items) (from_output above_latches c.gates.items))
+
+latches_in_all : {A : Type 0} (c : Circuit A) → Every (λ v. v ≤ greatest_variable c) (latch_variables c)
+latches_in_all c =
+    let above_inputs = greatest_input 0 c.inputs.items in
+    let above_latches = greatest_latch above_inputs c.latches.items in
+    latches_within above_inputs (greatest_variable c) c.latches.items (from_output above_latches c.gates.items)
+
+outputs_in_all : {A : Type 0} (c : Circuit A) → Every (λ v. v ≤ greatest_variable c) (map (λ g. g.output) c.gates.items)
+outputs_in_all c =
+    outputs_within (greatest_latch (greatest_input 0 c.inputs.items) c.latches.items) (greatest_variable c) c.gates.items
+    (le_refl (greatest_variable c))
+
+-- no variable of a circuit is above its greatest one
+sources_within : {A : Type 0} (c : Circuit A) → AreWithin (greatest_variable c) (is_source c)
+sources_within c =
+    let m = greatest_variable c in
+    let constant_in : AreWithin m is_constant = λ v is. subst (λ x. x ≤ m) (sym (eqb-true v 0 is)) (omega arith) in
+    with_all m (latch_variables c) (with_variables c.inputs.items is_constant) (latches_in_all c)
+    (with_all m c.inputs.items is_constant (inputs_in_all c) constant_in)
+
+variables_within : {A : Type 0} (c : Circuit A) → AreWithin (greatest_variable c) (is_variable c)
+variables_within c =
+    with_all (greatest_variable c) (map (λ g. g.output) c.gates.items) (is_source c) (outputs_in_all c) (sources_within c)
+
 -- a well-formed circuit is writable, if its greatest variable is below 2^31, it has no more rows than that, and fewer
 -- than 2^31 bad literals and constraints
 pub IsWritable-formed : {A : Type 0} (c : Circuit A) → IsTrue (is_well_formed c) → greatest_variable c < 2 ^ 31
@@ -122,13 +157,8 @@ IsWritable-formed c formed small counts bads constraints =
     let inputs = c.inputs.items in
     let latches = c.latches.items in
     let gates = c.gates.items in
-    let above_inputs = greatest_input 0 inputs in
-    let above_latches = greatest_latch above_inputs latches in
-    let latch_top : above_latches ≤ m = from_output above_latches gates in
-    let input_top : above_inputs ≤ m = through above_inputs above_latches m (from_latch above_inputs latches) latch_top in
-    let inputs_in = inputs_within 0 m inputs input_top in
-    let latches_in = latches_within above_inputs m latches latch_top in
-    let outputs_in = outputs_within above_latches m gates (le_refl m) in
+    let inputs_in = inputs_in_all c in
+    let latches_in = latches_in_all c in
     let (new, rest) = and_parts (are_new inputs is_constant && are_new (latch_variables c) (with_variables inputs is_constant))
     (are_in_order gates (is_source c) && uses_defined (is_variable c) c) formed in
     let (new_inputs, new_latches) = and_parts (are_new inputs is_constant)
@@ -138,11 +168,8 @@ IsWritable-formed c formed small counts bads constraints =
     (list_all (λ l. is_variable c l.variable) c.bads.items && list_all (λ l. is_variable c l.variable) c.constraints.items) uses in
     let (bads_used, constraints_used) = and_parts (list_all (λ l. is_variable c l.variable) c.bads.items)
     (list_all (λ l. is_variable c l.variable) c.constraints.items) literals in
-    let constant_in : AreWithin m is_constant = λ v is. subst (λ x. x ≤ m) (sym (eqb-true v 0 is)) (omega arith) in
     let after_inputs = still_defined inputs is_constant refl in
-    let source_in : AreWithin m (is_source c) =
-    with_all m (latch_variables c) (with_variables inputs is_constant) latches_in (with_all m inputs is_constant inputs_in constant_in) in
-    let variable_in : AreWithin m (is_variable c) = with_all m (map (λ g. g.output) gates) (is_source c) outputs_in source_in in
+    let variable_in = variables_within c in
     record {
       small = small;
       inputs = variables_fit m inputs is_constant refl new_inputs inputs_in;
@@ -152,7 +179,7 @@ IsWritable-formed c formed small counts bads constraints =
           next_used;
       gates =
           gates_fit m gates (is_source c) (still_defined (latch_variables c) (with_variables inputs is_constant) after_inputs)
-          source_in outputs_in ordered;
+          (sources_within c) (outputs_in_all c) ordered;
       bads = literals_fit m c.bads.items (is_variable c) variable_in bads_used;
       constraints = literals_fit m c.constraints.items (is_variable c) variable_in constraints_used;
       counts = counts;
@@ -196,3 +223,30 @@ room-IsWritable c none is =
     (and_from (nat_lt m (2 ^ 31)) (nat_le rows m) (less_is m (2 ^ 31) is.small) (most_is rows m is.counts))
     (and_from bads constraints (less_is (length c.bads.items) (2 ^ 31) is.bad_count)
     (less_is (length c.constraints.items) (2 ^ 31) is.constraint_count)))
+
+justice_fits : (m : ℕ) (justice : List (List Lit)) (defined : ℕ → Bool) → AreWithin m defined
+    → IsTrue (list_all (λ l. defined l.variable) (flattened justice)) → Every (λ p. Every (FitsLiteral m) p) justice
+justice_fits m [] defined within used = tt
+justice_fits m (p ∷ ps) defined within used =
+    let test = λ (l : Lit). defined l.variable in
+    let (here, rest) = and_parts (list_all test p) (list_all test (flattened ps))
+    (subst (λ b. IsTrue b) (list_all-append test p (flattened ps)) used) in
+    (literals_fit m p defined within here, justice_fits m ps defined within rest)
+
+-- there is room for justice properties and fairness constraints whose literals are of variables of the circuit, if they are
+-- few enough
+pub AreLiveWritable-defined : {A B : Type 0} (c : Circuit A) (l : Liveness B) → IsTrue (are_defined c l)
+    → length (justice_view l) < 2 ^ 31 → length l.fairness.items < 2 ^ 31 → Every (λ p. length p < 2 ^ 31) (justice_view l)
+    → AreLiveWritable (greatest_variable c) (justice_view l) l.fairness.items
+AreLiveWritable-defined c l defined justice fairness sizes =
+    let m = greatest_variable c in
+    let test = λ (x : Lit). is_variable c x.variable in
+    let (fair, live) = and_parts (list_all test l.fairness.items) (list_all test (flattened (justice_view l)))
+    (subst (λ b. IsTrue b) (list_all-append test l.fairness.items (flattened (justice_view l))) defined) in
+    record {
+      justice_count = justice;
+      fairness_count = fairness;
+      sizes = sizes;
+      literals = justice_fits m (justice_view l) (is_variable c) (variables_within c) live;
+      fairness_literals = literals_fit m l.fairness.items (is_variable c) (variables_within c) fair;
+    }

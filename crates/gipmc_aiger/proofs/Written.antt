@@ -1,6 +1,7 @@
 -- The circuits that one text writes fail and are safe alike.
 use Rattle.std.proofs.Common.{◌≡◌, ℕ, ◌+◌, ◌&&◌, ◌||◌, Bool, true, false, not, List, [], ◌∷◌, IsTrue, refl, sym, ap, subst, ◌∙◌}
 use Rattle.std.specs.List.{list_all, list_any}
+use Rattle.std.specs.Prelude.{◌==◌, None, Some, if◌then◌else◌, length, nat_lt}
 use Rattle.std.specs.List.Sorted.{IsPermutation}
 use Rattle.std.proofs.lemmas.List.Sorted.{list_any-IsPermutation}
 use Rattle.gipsat_cnf.specs.Formulas.{Assignment}
@@ -8,7 +9,10 @@ use Rattle.gipsat_cnf.specs.Literals.{Lit}
 use Rattle.gipsat_cnf.proofs.Places.{same_some}
 use Rattle.gipmc_circuits.specs.declared.circuit.Circuit.{Circuit}
 use Rattle.gipmc_circuits.specs.Circuit.{FailsAfter, IsSafe, IsTrace, has_value, holds_next, holds_reset, is_moment}
-use Rattle.gipmc_aiger.specs.Circuits.{IsReordering, Rows, Writes, rows_of}
+use Rattle.gipmc_aiger.specs.Circuits.{IsReordering, Rows, Writes, circuit_in, circuit_of, is_live_alone, rows_of}
+use Rattle.gipmc_aiger.specs.LiveCircuits.{WritesLive, justice_view, live_rows}
+use Rattle.gipmc_aiger.specs.Reading.{◌>>=◌}
+use Rattle.gipmc_aiger.specs.declared.liveness.Liveness.{Liveness}
 
 all_unless_any : {X : Type 0} (p : X → Bool) (xs : List X) → list_all p xs ≡ not (list_any (λ x. not (p x)) xs)
 all_unless_any p [] = refl
@@ -24,7 +28,7 @@ list_all-permuted p xs ys same =
     all_unless_any p xs ∙ ap not (list_any-IsPermutation (λ x. not (p x)) xs ys same) ∙ sym (all_unless_any p ys)
 
 -- circuits with the same rows have the same moments
-moments-reordered : {A B : Type 0} (c : Circuit A) (d : Circuit B) (n : Rows) (a : Assignment)
+pub moments-reordered : {A B : Type 0} (c : Circuit A) (d : Circuit B) (n : Rows) (a : Assignment)
     → IsReordering n (rows_of c) → IsReordering n (rows_of d) → is_moment c a ≡ is_moment d a
 moments-reordered c d n a first second =
     let gates : list_all (has_value a) c.gates.items ≡ list_all (has_value a) d.gates.items =
@@ -55,3 +59,14 @@ FailsAfter-written text c d bad m (n, at, first) (o, other, second) (t, is, fail
 pub IsSafe-written : {A B : Type 0} (text : List ℕ) (c : Circuit A) (d : Circuit B) (bad : Lit) → Writes text c
     → Writes text d → IsSafe c bad → IsSafe d bad
 IsSafe-written text c d bad first second safe m fails = safe m (FailsAfter-written text d c bad m second first fails)
+
+-- the circuit that a text writes with justice properties is the one that it writes without them, where that is read
+pub Writes-live : {A B : Type 0} (text : List ℕ) (c : Circuit A) (l : Liveness B) → is_live_alone (live_rows c l) ≡ false
+    → WritesLive text c l → Writes text c
+unfolding circuit_of
+Writes-live text c l beside (n, at, is) =
+    let same : is_live_alone n ≡ false =
+    ap (λ js. nat_lt 0 (length js) && (length n.circuit.bads == 0)) (sym is.justice)
+    ∙ (ap (λ bs. nat_lt 0 (length (justice_view l)) && (length bs == 0)) (sym is.circuit.bads) ∙ beside)
+    in
+    (n.circuit, ap (λ read. read >>= circuit_in) at ∙ ap (λ b. if b then None else Some n.circuit) same, is.circuit)

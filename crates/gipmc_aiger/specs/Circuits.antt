@@ -1,5 +1,5 @@
 -- Which circuit a text in a form of AIGER writes.
-use Rattle.std.specs.Prelude.{◌≡◌, ℕ, zero, suc, ◌+◌, ◌-◌, ◌*◌, ◌/◌, ◌%◌, ◌&&◌, ◌||◌, min, Bool, true, false, List, [], ◌∷◌, Option, Some, None, nat_lt, nat_le, ◌==◌, if◌then◌else◌, unwrap_or}
+use Rattle.std.specs.Prelude.{◌≡◌, ℕ, zero, suc, ◌+◌, ◌-◌, ◌*◌, ◌/◌, ◌%◌, ◌&&◌, min, Bool, true, false, List, [], ◌∷◌, length, Option, Some, None, nat_lt, nat_le, ◌==◌, if◌then◌else◌, unwrap_or}
 use Rattle.std.specs.List.Sorted.{IsPermutation}
 use Rattle.std.specs.Str.{byte}
 use Rattle.gipsat_cnf.specs.Literals.{Lit}
@@ -67,19 +67,14 @@ abbrev pub has_counts : Form → Sizes → Bool
 has_counts Ascii sizes = nat_le (sizes.inputs + sizes.latches + sizes.gates) sizes.maximum
 has_counts Binary sizes = (sizes.inputs + sizes.latches + sizes.gates) == sizes.maximum
 
--- there are justice properties or fairness constraints, and no bad literals
-abbrev pub is_live_alone : Properties → Bool
-is_live_alone p = (nat_lt 0 p.justice || nat_lt 0 p.fairness) && (p.bads == 0)
-
--- the header of a text, and the bytes behind its line; justice and fairness stand beside bad literals alone
+-- the header of a text, and the bytes behind its line
 unfoldable pub header_at : List ℕ → Option (Header × List ℕ)
 header_at bytes = do
   form ← form_at bytes
   sizes ← sizes_at form.1
   properties ← properties_at sizes.1
   rest ← expected_at line_feed properties.1
-  if is_live_alone properties.0 then None
-      else if has_counts form.0 sizes.0
+  if has_counts form.0 sizes.0
       then Some (
         record {
           form = form.0;
@@ -206,20 +201,25 @@ justice_at h place bytes =
     number_at greatest_count bytes >>= λ n. expected_at line_feed n.1 >>= λ rest.
     Some (record { literals = n.0 }, rest)
 
--- what stands behind the literals of some justice properties, each of which has so many lines
-abbrev pub behind_justice : Header → List Justice → List ℕ → Option (List ℕ)
-behind_justice h [] bytes = Some bytes
-behind_justice h (property ∷ properties) bytes =
-    rows_at (literal_at h) 0 property.literals bytes >>= λ literals. behind_justice h properties literals.1
+-- the literals of justice properties, each of which has so many lines
+abbrev pub justice_literals_at : Header → List Justice → List ℕ → Option (List (List Lit) × List ℕ)
+justice_literals_at h [] bytes = Some ([], bytes)
+justice_literals_at h (property ∷ properties) bytes =
+    rows_at (literal_at h) 0 property.literals bytes >>= λ literals.
+    justice_literals_at h properties literals.1 >>= λ others. Some (literals.0 ∷ others.0, others.1)
 
--- what stands behind the justice properties, first the number of literals of each and then the literals, and the
--- fairness constraints
-unfoldable pub behind_liveness : Header → List ℕ → Option (List ℕ)
-behind_liveness h bytes = do
+-- the literals of each justice property, of which the numbers stand first and then the literals, and the fairness
+-- constraints
+unfoldable pub liveness_at : Header → List ℕ → Option (List (List Lit) × List Lit × List ℕ)
+liveness_at h bytes = do
   properties ← rows_at (justice_at h) 0 h.justice bytes
-  rest ← behind_justice h properties.0 properties.1
-  fairness ← rows_at (literal_at h) 0 h.fairness rest
-  Some fairness.1
+  justice ← justice_literals_at h properties.0 properties.1
+  fairness ← rows_at (literal_at h) 0 h.fairness justice.1
+  Some (justice.0, fairness.0, fairness.1)
+
+-- what stands behind them
+abbrev pub behind_liveness : Header → List ℕ → Option (List ℕ)
+behind_liveness h bytes = liveness_at h bytes >>= λ l. Some l.2
 
 -- the rows of a circuit, without where they lie in memory
 pub record Rows : Type 0 where
@@ -239,36 +239,58 @@ rows_of c = record {
   constraints = c.constraints.items;
 }
 
--- the outputs, where a text has no bad literals; else those
-abbrev pub bads_of : Header → List Lit → List Lit → List Lit
-bads_of h outputs bads = if h.bads == 0 then outputs else bads
+-- the rows of a circuit, the literals of each justice property, and the fairness constraints
+pub record LiveRows : Type 0 where
+  pub circuit : Rows
+  pub justice : List (List Lit)
+  pub fairness : List Lit
 
--- the circuit that the rows behind a header write: inputs, latches, outputs, bad literals, constraints, what is read over
--- of justice and fairness, gates
-unfoldable pub body_at : Header → List ℕ → Option Rows
+-- the outputs, where a text has neither bad literals nor justice properties; else the bad literals
+abbrev pub bads_of : Header → List Lit → List Lit → List Lit
+bads_of h outputs bads = if (h.bads == 0) && (h.justice == 0) then outputs else bads
+
+-- what the rows behind a header write: inputs, latches, outputs, bad literals, constraints, justice properties, fairness
+-- constraints, gates
+unfoldable pub body_at : Header → List ℕ → Option LiveRows
 body_at h bytes = do
   inputs ← rows_at (input_at h) 0 h.sizes.inputs bytes
   latches ← rows_at (latch_at h) 0 h.sizes.latches inputs.1
   outputs ← rows_at (literal_at h) 0 h.sizes.outputs latches.1
   bads ← rows_at (literal_at h) 0 h.bads outputs.1
   constraints ← rows_at (literal_at h) 0 h.constraints bads.1
-  rest ← behind_liveness h constraints.1
-  gates ← rows_at (gate_at h) 0 h.sizes.gates rest
+  live ← liveness_at h constraints.1
+  gates ← rows_at (gate_at h) 0 h.sizes.gates live.2
   if is_tail h gates.1
       then Some (record {
-        inputs = inputs.0;
-        latches = latches.0;
-        gates = gates.0;
-        bads = bads_of h outputs.0 bads.0;
-        constraints = constraints.0;
+        circuit = record {
+          inputs = inputs.0;
+          latches = latches.0;
+          gates = gates.0;
+          bads = bads_of h outputs.0 bads.0;
+          constraints = constraints.0;
+        };
+        justice = live.0;
+        fairness = live.1;
       })
       else None
 
--- the circuit that a text writes in either form, if it has one
-unfoldable pub circuit_of : List ℕ → Option Rows
-circuit_of text = do
+-- what a text writes in either form, if it has one
+unfoldable pub live_rows_of : List ℕ → Option LiveRows
+live_rows_of text = do
   header ← header_at text
   body_at header.0 header.1
+
+-- there are justice properties, and no bad literals
+abbrev pub is_live_alone : LiveRows → Bool
+is_live_alone n = nat_lt 0 (length n.justice) && (length n.circuit.bads == 0)
+
+-- the circuit of rows; justice properties stand beside bad literals alone
+abbrev pub circuit_in : LiveRows → Option Rows
+circuit_in n = if is_live_alone n then None else Some n.circuit
+
+-- the circuit that a text writes in either form, if it has one
+unfoldable pub circuit_of : List ℕ → Option Rows
+circuit_of text = live_rows_of text >>= circuit_in
 
 -- the same circuit with its gates in some order
 pub record IsReordering (old new : Rows) : Type 0 where

@@ -6,7 +6,8 @@ use lib.Dec.{eqb}
 use Rattle.gipsat_cnf.specs.Literals.{Lit}
 use Rattle.gipmc_circuits.specs.WellFormed.{is_constant, with_variable, with_variables}
 use Rattle.gipmc_circuits.specs.declared.circuit.And.{And}
-use Rattle.gipmc_aiger.specs.Circuits.{Rows, circuit_of}
+use Rattle.gipmc_aiger.specs.Circuits.{LiveRows, Rows, circuit_of, live_rows_of}
+use Rattle.gipmc_aiger.specs.LiveCircuits.{live_literals}
 use Rattle.gipmc_aiger.specs.declared.error.AigerError.{AigerError}
 use Rattle.gipmc_aiger.specs.declared.error.AigerError.TheVariants as error
 use Rattle.gipmc_aiger.specs.declared.error.Defect.{Defect}
@@ -69,6 +70,24 @@ IsCyclic n v = (more : ℕ) × Uses n.gates (suc more) v v
 -- a text writes rows of which this is true
 abbrev pub WritesRows : List ℕ → (Rows → Type 0) → Type 0
 WritesRows text P = (n : Rows) × (circuit_of text ≡ Some n) × P n
+
+-- a text writes rows, justice properties and fairness constraints of which this is true
+abbrev pub WritesLiveRows : List ℕ → (LiveRows → Type 0) → Type 0
+WritesLiveRows text P = (n : LiveRows) × (live_rows_of text ≡ Some n) × P n
+
+-- the rows of a circuit with other bad literals
+abbrev pub with_bads : Rows → List Lit → Rows
+with_bads n bads = record {
+  inputs = n.inputs;
+  latches = n.latches;
+  gates = n.gates;
+  bads = bads;
+  constraints = n.constraints;
+}
+
+-- the rows of a circuit, with the literals of its justice properties and its fairness constraints as bad literals too
+abbrev pub as_bads : LiveRows → Rows
+as_bads n = with_bads n.circuit (n.circuit.bads ++ live_literals n.justice n.fairness)
 
 -- a defect of the variables that are listed, behind those that are defined
 abbrev pub IsTwiceIn : List ℕ → (ℕ → Bool) → Defect → Type 0

@@ -3,8 +3,10 @@ pub mod Lists
 pub mod Reading
 pub mod Tails
 pub mod Circuits
+pub mod LiveCircuits
 pub mod CircuitTexts
 pub mod Writable
+pub mod LiveTexts
 pub mod Sharing
 pub mod WitnessCircuits
 pub mod Witnesses

@@ -13,3 +13,8 @@ witness_view w =
 abbrev pub witness_text : {A : Type 0} → ℕ → Trace A → List ℕ
 witness_text property trace =
     codes "1\nb" ++ decimal property ++ codes "\n" ++ bits_line trace.latches.items ++ frames_lines trace.inputs.items
+
+-- the text of a trace as a lasso: the same with a justice property
+abbrev pub lasso_text : {A : Type 0} → ℕ → Trace A → List ℕ
+lasso_text property trace =
+    codes "1\nj" ++ decimal property ++ codes "\n" ++ bits_line trace.latches.items ++ frames_lines trace.inputs.items

@@ -1,7 +1,7 @@
 //! All witnesses of a text: answers in HWMCC's form, one behind another, or a trace in abc's form.
 ghost use Rattle.std.specs.Prelude.{◌≡◌, ◌≤◌, false, None, Some, length, IfErr, IfOk, IsErrOf};
 ghost use Rattle.std.specs.List.{list_any};
-ghost use Rattle.gipmc_aiger.specs.Claims.{bare_alone, bare_frames_of, bare_of, before_mark, behind_end, claim_of, claim_view, claims_from, claims_of, claims_view, is_last, is_other_status, place_of, places_of, properties_at, properties_of};
+ghost use Rattle.gipmc_aiger.specs.Claims.{bare_alone, bare_frames_of, bare_of, before_mark, behind_end, begins_with, claim_of, claim_view, claims_from, claims_of, claims_view, is_last, is_other_status, is_passed, lassos_of, place_of, places_of, properties_at, properties_of};
 ghost use Rattle.gipmc_aiger.specs.Reading.{Gives, IsReadError};
 ghost use Rattle.gipmc_aiger.specs.Witnesses.{frames_view, said_lines};
 ghost use Rattle.giputils_text.specs.Lines.{pieces};
@@ -10,24 +10,26 @@ use crate::error::{AigerError, Place, Reason, Stop};
 use crate::numbers::number;
 use crate::place::error_at;
 use crate::witness::{
-    GREATEST_PROPERTY, bits, bits_in, frames, is_end, left_at, said_line, status,
+    GREATEST_PROPERTY, bits, bits_in, frames, is_end, is_status, left_at, said_line, status,
 };
 use gipmc_circuits::Trace;
 use giputils_text::split_once;
 use std::alloc::{Allocator, Global};
 
-/// What a witness claims: that its trace makes bad literals true at its last moment.
+/// What a witness claims: that its trace makes bad literals true at its last moment, or that it is a lasso of justice
+/// properties.
 #[derive(Drop)]
 pub struct Claim<A: Allocator = Global> {
-    /// The places of these bad literals among those of the circuit. A trace in abc's form names none.
+    /// The places of these bad literals or justice properties among those of the circuit. A trace in abc's form names
+    /// none.
     pub properties: Vec<u32, A>,
     /// The trace.
     pub trace: Trace<A>,
 }
 
-/// Reads the witnesses of all answers of a text, for a circuit of so many latches and inputs. Answers that begin with
-/// the line `0` or `2` have none. A witness may name several bad literals: `b0b1`. An `x` is read as 0, and lines that
-/// begin with `c` or `u` are read over.
+/// Reads the witnesses of all answers of a text about bad literals, for a circuit of so many latches and inputs. Answers
+/// that begin with the line `0` or `2` have none, and those about justice properties are read over. A witness may name
+/// several bad literals: `b0b1`. An `x` is read as 0, and lines that begin with `c` or `u` are read over.
 ///
 /// Where a line has a `#`, the text is a trace in the form that abc writes by `write_cex -a`: a line for the latches at
 /// first and for the inputs at each moment, and the `#` behind the last one.
@@ -52,6 +54,30 @@ pub fn read_claims<A: Allocator + Copy>(
     }
 }
 
+/// Reads the witnesses of all answers of a text about justice properties, for a circuit of so many latches and inputs.
+/// Answers that begin with the line `0` or `2` have none, and those about bad literals are read over. A witness may name
+/// several justice properties: `j0j1`. An `x` is read as 0, and lines that begin with `c` or `u` are read over.
+///
+/// # Errors
+/// - [`AigerError::Refused`] with the line and the reason where the text has another form.
+/// - [`AigerError::Memory`] where memory is refused.
+pub fn read_lassos<A: Allocator + Copy>(
+    alloc: A,
+    latches: usize,
+    inputs: usize,
+    text: &[u8],
+) -> Result<Vec<Claim<A>, A>, AigerError>
+    ensures ok { IfOk result (λ claims. lassos_of latches inputs text.now ≡ Some (claims_view claims.items)) }
+    ensures refused { (place : Place) (reason : Reason) → IsErrOf result (AigerError.Refused place reason) →
+        lassos_of latches inputs text.now ≡ None }
+    ensures errors { IfErr result IsReadError }
+{
+    match answered(alloc, b'j', b'b', latches, inputs, text) {
+        Ok(claims) => Ok(claims),
+        Err(stop) => Err(error_at(text, stop)),
+    }
+}
+
 // The claims of a text.
 fn claims<A: Allocator + Copy>(
     alloc: A,
@@ -64,7 +90,7 @@ fn claims<A: Allocator + Copy>(
     if is_bare(text) {
         return bare_alone(alloc, latches, inputs, text);
     }
-    answered(alloc, latches, inputs, text)
+    answered(alloc, b'b', b'j', latches, inputs, text)
 }
 
 // Whether a text has a line that is the last one in abc's form.
@@ -153,41 +179,66 @@ fn before_mark(line: &[u8]) -> &[u8]
     before
 }
 
-// The claims of the answers of a text.
+// The claims of the answers of a text about properties with this letter. Those with the other letter are read over.
 fn answered<A: Allocator + Copy>(
     alloc: A,
+    letter: u8,
+    other: u8,
     latches: usize,
     inputs: usize,
     text: &[u8],
 ) -> Result<Vec<Claim<A>, A>, Stop>
-    ensures { Gives (λ v. claims_view v.items) result (claims_from latches inputs false (said_lines text.now)) }
+    ensures { Gives (λ v. claims_view v.items) result
+        (claims_from letter other latches inputs false (said_lines text.now)) }
 {
     let mut claims = Vec::new(alloc);
     let mut rest = text;
     while let Some((line, after)) = said_line(rest) {
-        if is_other_status(line) {
+        if is_passed(other, line, after) {
             rest = behind(after);
             continue;
         }
-        let claim = claim_at(alloc, latches, inputs, rest)?;
+        let claim = claim_at(alloc, letter, latches, inputs, rest)?;
         claims.push(claim)?;
         rest = behind(after);
     }
     Ok(claims)
 }
 
+// Whether an answer that begins with a line, and goes on with a text, has no witness, or one of properties with this
+// other letter.
+fn is_passed(other: u8, line: &[u8], text: &[u8]) -> bool
+    ensures { result ≡ is_passed other line.now (said_lines text.now) }
+{
+    is_other_status(line) || (is_status(line) && begins_with(other, text))
+}
+
+// Whether the first line begins with this letter.
+fn begins_with(letter: u8, text: &[u8]) -> bool
+    ensures { result ≡ begins_with letter (said_lines text.now) }
+{
+    let Some((line, _)) = said_line(text) else {
+        return false;
+    };
+    match line {
+        [first, ..] => *first == letter,
+        [] => false,
+    }
+}
+
 // The claim at the front of a text.
 #[tactic(auto, unfolding(crate::specs::Claims::claim_of))]
 fn claim_at<A: Allocator + Copy>(
     alloc: A,
+    letter: u8,
     latches: usize,
     inputs: usize,
     text: &[u8],
 ) -> Result<Claim<A>, Stop>
-    ensures { Gives claim_view result (claim_of latches inputs (said_lines text.now)) }
+    ensures { Gives claim_view result (claim_of letter latches inputs (said_lines text.now)) }
 {
     let rest = status(text)?;
-    let (properties, rest) = properties(alloc, rest)?;
+    let (properties, rest) = properties(alloc, letter, rest)?;
     let (latches, rest) = bits(alloc, latches, rest)?;
     let inputs = frames(alloc, inputs, rest)?;
     let trace = Trace { latches, inputs };
@@ -219,42 +270,50 @@ fn behind(text: &[u8]) -> &[u8]
     rest
 }
 
-// The properties that a line names, and the text behind it.
-fn properties<A: Allocator + Copy>(alloc: A, text: &[u8]) -> Result<(Vec<u32, A>, &[u8]), Stop>
-    ensures { Gives (λ x. (x.0.items, said_lines x.1.now)) result (properties_at (said_lines text.now)) }
+// The properties that a line names behind this letter, and the text behind it.
+fn properties<A: Allocator + Copy>(
+    alloc: A,
+    letter: u8,
+    text: &[u8],
+) -> Result<(Vec<u32, A>, &[u8]), Stop>
+    ensures { Gives (λ x. (x.0.items, said_lines x.1.now)) result (properties_at letter (said_lines text.now)) }
 {
     let Some((line, rest)) = said_line(text) else {
         return Err(Stop::Refused(Reason::End, 0));
     };
-    match properties_of(alloc, line) {
+    match properties_of(alloc, letter, line) {
         Ok(properties) => Ok((properties, rest)),
         Err(Stop::Memory) => Err(Stop::Memory),
         Err(Stop::Refused(reason, _)) => Err(Stop::Refused(reason, left_at(line, rest))),
     }
 }
 
-// The properties that a line names.
-fn properties_of<A: Allocator + Copy>(alloc: A, line: &[u8]) -> Result<Vec<u32, A>, Stop>
-    ensures { Gives (λ v. v.items) result (properties_of line.now) }
+// The properties that a line names behind this letter.
+fn properties_of<A: Allocator + Copy>(
+    alloc: A,
+    letter: u8,
+    line: &[u8],
+) -> Result<Vec<u32, A>, Stop>
+    ensures { Gives (λ v. v.items) result (properties_of letter line.now) }
 {
-    let (front, words) = split_once(line, b'b');
+    let (front, words) = split_once(line, letter);
     if !front.is_empty() {
         return Err(Stop::Refused(Reason::Property, 0));
     }
     match words {
-        Some(words) => places(alloc, words),
+        Some(words) => places(alloc, letter, words),
         None => Err(Stop::Refused(Reason::Property, 0)),
     }
 }
 
-// The places between the letters `b` of a text.
-fn places<A: Allocator + Copy>(alloc: A, text: &[u8]) -> Result<Vec<u32, A>, Stop>
-    ensures { Gives (λ v. v.items) result (places_of (pieces 98 text.now)) }
+// The places between these letters of a text.
+fn places<A: Allocator + Copy>(alloc: A, letter: u8, text: &[u8]) -> Result<Vec<u32, A>, Stop>
+    ensures { Gives (λ v. v.items) result (places_of (pieces letter text.now)) }
 {
     let mut places = Vec::new(alloc);
     let mut rest = text;
     loop {
-        let (word, after) = split_once(rest, b'b');
+        let (word, after) = split_once(rest, letter);
         let place = place_of(word)?;
         places.push(place)?;
         match after {

@@ -15,8 +15,8 @@ pub enum Reason {
     /// The text does not begin with `aag` or `aig`.
     #[error("no header `aag` or `aig`")]
     Format,
-    /// There are justice properties or fairness constraints, and no bad literals.
-    #[error("justice or fairness without bad literals is not supported")]
+    /// There are justice properties and no bad literals, where a circuit is wanted without its justice properties.
+    #[error("justice without bad literals is not supported")]
     Liveness,
     /// There are more inputs, latches and gates than the header has variables, or fewer in the binary form.
     #[error("the header's variables are not its inputs, latches and gates")]

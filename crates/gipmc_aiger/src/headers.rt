@@ -1,7 +1,7 @@
 //! A reader of headers.
 ghost use Rattle.std.specs.Prelude.{◌≡◌, ◌<◌, ◌^◌, None, IfOk, IsErrOf};
 ghost use Rattle.gipmc_aiger.specs.Reading.{Gives};
-ghost use Rattle.gipmc_aiger.specs.Circuits.{form_at, letter_at, count_at, optional_count_at, sizes_at, properties_at, header_at, has_counts, is_live_alone, IsHeaderOf};
+ghost use Rattle.gipmc_aiger.specs.Circuits.{form_at, letter_at, count_at, optional_count_at, sizes_at, properties_at, header_at, has_counts, IsHeaderOf};
 
 use crate::error::{AigerError, Place, Reason, Stop};
 use crate::header::{Form, Header, Properties, Sizes};
@@ -105,13 +105,6 @@ fn has_counts(form: Form, sizes: &Sizes) -> bool
     }
 }
 
-// Whether there are justice properties or fairness constraints, and no bad literals.
-fn is_live_alone(properties: &Properties) -> bool
-    ensures { result ≡ is_live_alone properties.now }
-{
-    (properties.justice > 0 || properties.fairness > 0) && properties.bads == 0
-}
-
 // The header at the front of a text, and the bytes behind its line.
 #[tactic(auto, unfolding(crate::specs::Circuits::header_at))]
 pub(crate) fn header(bytes: &[u8]) -> Result<(Header, &[u8]), Stop>
@@ -121,9 +114,6 @@ pub(crate) fn header(bytes: &[u8]) -> Result<(Header, &[u8]), Stop>
     let (sizes, rest) = sizes(rest)?;
     let (properties, rest) = properties(rest)?;
     let rest = expected(NEWLINE, Reason::Separator, rest)?;
-    if is_live_alone(&properties) {
-        return Err(Stop::Refused(Reason::Liveness, rest.len().saturating_add(1)));
-    }
     if !has_counts(form, &sizes) {
         return Err(Stop::Refused(Reason::Counts, rest.len().saturating_add(1)));
     }

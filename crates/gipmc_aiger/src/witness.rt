@@ -1,9 +1,9 @@
 //! Witnesses in HWMCC's form: `1`, `b` and the property, the latches at first, the inputs at each moment, and `.`.
-ghost use Rattle.std.specs.Prelude.{◌≡◌, ◌<◌, ◌==◌, ◌∷◌, ◌++◌, [], None, Some, decimal, length, map, IfErr, IfOk, IfSome, OnOk, MatchOption, IsErrOf};
+ghost use Rattle.std.specs.Prelude.{◌≡◌, ◌<◌, ◌==◌, ◌∷◌, ◌++◌, [], None, Some, codes, decimal, length, map, IfErr, IfOk, IfSome, OnOk, MatchOption, IsErrOf};
 ghost use Rattle.std.specs.List.{list_all};
 ghost use Rattle.gipmc_aiger.specs.Reading.{Gives, IsReadError};
 ghost use Rattle.gipmc_aiger.specs.Witnesses.{said_lines, bit_text, bits_at, bits_line, bits_of, frames_lines, frames_of, frames_view, is_bit, is_end, is_remark, is_status, property_at, property_of, status_at, stimulus_of, witness_of};
-ghost use Rattle.gipmc_aiger.specs.Traces.{witness_text, witness_view};
+ghost use Rattle.gipmc_aiger.specs.Traces.{lasso_text, witness_text, witness_view};
 
 use crate::error::{AigerError, Place, Reason, Stop};
 use crate::numbers::{expected, number};
@@ -77,7 +77,7 @@ pub(crate) fn status(text: &[u8]) -> Result<&[u8], Stop>
 }
 
 // Whether a line says that there is a witness: `1`.
-fn is_status(line: &[u8]) -> bool
+pub(crate) fn is_status(line: &[u8]) -> bool
     ensures { result ≡ is_status line.now }
 {
     match line {
@@ -244,11 +244,42 @@ pub fn write_witness<A: Allocator + Copy>(
 {
     let mut text = Vec::new(alloc);
     text.extend_from_slice(b"1\nb")?;
-    write_number(&mut text, property)?;
-    text.push(b'\n')?;
-    write_bits(&mut text, &trace.latches)?;
-    write_frames(&mut text, &trace.inputs)?;
+    write_trace(&mut text, property, trace)?;
     Ok(text)
+}
+
+/// Writes a trace as a witness of a justice property: a lasso, whose last moment leads back to an earlier one.
+///
+/// # Errors
+/// `AllocError` where memory is refused.
+pub fn write_lasso<A: Allocator + Copy>(
+    alloc: A,
+    property: u32,
+    trace: &Trace<A>,
+) -> Result<Vec<u8, A>, AllocError>
+    ensures { IfOk result (λ text. text.items ≡ lasso_text property trace.now) }
+{
+    let mut text = Vec::new(alloc);
+    text.extend_from_slice(b"1\nj")?;
+    write_trace(&mut text, property, trace)?;
+    Ok(text)
+}
+
+// Writes what stands behind the letter of a property: its place, and the trace.
+#[tactic(auto, using(std::proofs::Common::append_assoc))]
+fn write_trace<A: Allocator + Copy>(
+    text: &mut Vec<u8, A>,
+    property: u32,
+    trace: &Trace<A>,
+) -> Result<(), AllocError>
+    ensures { OnOk result (text.new.items ≡ text.old.items ++ (decimal property ++ codes "\n"
+        ++ bits_line trace.now.latches.items ++ frames_lines trace.now.inputs.items)) }
+{
+    write_number(text, property)?;
+    text.push(b'\n')?;
+    write_bits(text, &trace.latches)?;
+    write_frames(text, &trace.inputs)?;
+    Ok(())
 }
 
 // Writes a number.

@@ -5,6 +5,7 @@ ghost use Rattle.gipmc_aiger.specs.Circuits.{IsReordering, rows_of};
 ghost use Rattle.gipmc_aiger.specs.Defects.{IsErrorOf};
 ghost use Rattle.gipmc_aiger.specs.WitnessCircuits.{IsWitnessOf, WritesWitness, witness_body_at, witness_rows, witness_rows_of};
 
+use crate::circuits::bads_of;
 use crate::error::{AigerError, Place, Reason, Stop};
 use crate::header::{Form, Header};
 use crate::headers::header;
@@ -73,7 +74,7 @@ fn body<'a, A: Allocator + Copy>(
     let rest = behind_liveness(alloc, header, rest)?;
     let (gates, rest) = rows(alloc, header, header.sizes.gates, rest)?;
     tail(header, rest)?;
-    let bads = if header.bads == 0 { outputs } else { bads };
+    let bads = bads_of(header, outputs, bads);
     let latches = latches(alloc, &registers)?;
     let circuit = Circuit {
         inputs,

@@ -140,7 +140,7 @@ fn packed<A: Allocator + Copy>(alloc: A, circuit: &Circuit<A>) -> Result<Vec<u8,
 }
 
 // Tests the numbers of the variables. The first that has another number than it should, if there is one.
-fn are_numbered<A: Allocator>(circuit: &Circuit<A>) -> Result<(), u32>
+pub(crate) fn are_numbered<A: Allocator>(circuit: &Circuit<A>) -> Result<(), u32>
     ensures ok { OnOk result (IsTrue (is_numbered circuit.now)) }
     ensures refused { OnErr result (is_numbered circuit.now ≡ false) }
 {
@@ -225,14 +225,14 @@ fn packed_header_line<A: Allocator + Copy>(
 }
 
 // The sum of three numbers, as far as numbers go.
-fn sum(inputs: u64, latches: u64, gates: u64) -> u64
+pub(crate) fn sum(inputs: u64, latches: u64, gates: u64) -> u64
     ensures { result ≡ min (min (inputs + latches) 18446744073709551615 + gates) 18446744073709551615 }
 {
     inputs.saturating_add(latches).saturating_add(gates)
 }
 
 // Writes a line for each latch, without its variable.
-fn write_packed_latches<A: Allocator>(
+pub(crate) fn write_packed_latches<A: Allocator>(
     text: &mut Vec<u8, A>,
     latches: &[Latch],
 ) -> Result<(), AllocError>
@@ -255,7 +255,10 @@ fn write_packed_latch<A: Allocator>(text: &mut Vec<u8, A>, latch: Latch) -> Resu
 }
 
 // Writes the bytes of each gate.
-fn write_packed_ands<A: Allocator>(text: &mut Vec<u8, A>, gates: &[And]) -> Result<(), AllocError>
+pub(crate) fn write_packed_ands<A: Allocator>(
+    text: &mut Vec<u8, A>,
+    gates: &[And],
+) -> Result<(), AllocError>
     ensures { OnOk result (text.new.items ≡ text.old.items ++ packed_ands gates.now) }
 {
     for gate in gates {
@@ -286,7 +289,7 @@ fn is_above(gate: And) -> bool
 }
 
 // Tests that each gate's output is above its operands. The first output that is not, if there is one.
-fn are_above(gates: &[And]) -> Result<(), u32>
+pub(crate) fn are_above(gates: &[And]) -> Result<(), u32>
     ensures ok { OnOk result (IsTrue (are_above gates.now)) }
     ensures refused { OnErr result (are_above gates.now ≡ false) }
 {
@@ -315,7 +318,7 @@ fn write_deltas<A: Allocator>(
 }
 
 // The greatest variable that a circuit defines.
-fn greatest_variable<A: Allocator>(circuit: &Circuit<A>) -> u32
+pub(crate) fn greatest_variable<A: Allocator>(circuit: &Circuit<A>) -> u32
     ensures { result ≡ greatest_variable circuit.now }
 {
     let greatest = greatest_input(&circuit.inputs);
@@ -378,7 +381,11 @@ fn header_line<A: Allocator + Copy>(
 
 // Writes a number and a byte behind it.
 #[tactic(auto, using(std::proofs::Common::append_assoc))]
-fn write_number<A: Allocator>(text: &mut Vec<u8, A>, number: u64, end: u8) -> Result<(), AllocError>
+pub(crate) fn write_number<A: Allocator>(
+    text: &mut Vec<u8, A>,
+    number: u64,
+    end: u8,
+) -> Result<(), AllocError>
     ensures { OnOk result (text.new.items ≡ text.old.items ++ (decimal number ++ end ∷ [])) }
 {
     write_decimal(text, number)?;
@@ -402,7 +409,10 @@ fn literal_number(l: Literal) -> u64
 }
 
 // Writes a line for each input.
-fn write_inputs<A: Allocator>(text: &mut Vec<u8, A>, inputs: &[u32]) -> Result<(), AllocError>
+pub(crate) fn write_inputs<A: Allocator>(
+    text: &mut Vec<u8, A>,
+    inputs: &[u32],
+) -> Result<(), AllocError>
     ensures { OnOk result (text.new.items ≡ text.old.items ++ input_lines inputs.now) }
 {
     for input in inputs {
@@ -412,7 +422,7 @@ fn write_inputs<A: Allocator>(text: &mut Vec<u8, A>, inputs: &[u32]) -> Result<(
 }
 
 // Writes a line for each literal.
-fn write_literals<A: Allocator>(
+pub(crate) fn write_literals<A: Allocator>(
     text: &mut Vec<u8, A>,
     literals: &[Literal],
 ) -> Result<(), AllocError>
@@ -425,7 +435,10 @@ fn write_literals<A: Allocator>(
 }
 
 // Writes a line for each latch.
-fn write_latches<A: Allocator>(text: &mut Vec<u8, A>, latches: &[Latch]) -> Result<(), AllocError>
+pub(crate) fn write_latches<A: Allocator>(
+    text: &mut Vec<u8, A>,
+    latches: &[Latch],
+) -> Result<(), AllocError>
     ensures { OnOk result (text.new.items ≡ text.old.items ++ latch_lines latches.now) }
 {
     for latch in latches {
@@ -456,7 +469,10 @@ fn reset_number(variable: u32, reset: Option<bool>) -> u64
 }
 
 // Writes a line for each gate.
-fn write_ands<A: Allocator>(text: &mut Vec<u8, A>, gates: &[And]) -> Result<(), AllocError>
+pub(crate) fn write_ands<A: Allocator>(
+    text: &mut Vec<u8, A>,
+    gates: &[And],
+) -> Result<(), AllocError>
     ensures { OnOk result (text.new.items ≡ text.old.items ++ and_lines gates.now) }
 {
     for gate in gates {

@@ -7,8 +7,8 @@ use Rattle.gipmc_aiger.proofs.claims.answered.Given as goal
 
 abbrev pub invariant-loop-line : goal.invariant-loop-line
 invariant-loop-line g l =
-    with_front (claims_view l.claims.items) (claims_from l.latches l.inputs false (said_lines l.rest))
-    ≡ claims_from l.latches l.inputs false (said_lines l.text)
+    with_front (claims_view l.claims.items) (claims_from l.letter l.other l.latches l.inputs false (said_lines l.rest))
+    ≡ claims_from l.letter l.other l.latches l.inputs false (said_lines l.text)
 
 abbrev pub decreases-loop-line : goal.decreases-loop-line
 decreases-loop-line g l = length l.rest

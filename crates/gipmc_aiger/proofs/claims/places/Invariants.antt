@@ -7,7 +7,7 @@ use Rattle.gipmc_aiger.proofs.claims.places.Given as goal
 
 abbrev pub invariant-loop-places : goal.invariant-loop-places
 invariant-loop-places g l =
-    with_front l.places.items (places_of (pieces 98 l.rest)) ≡ places_of (pieces 98 l.text)
+    with_front l.places.items (places_of (pieces l.letter l.rest)) ≡ places_of (pieces l.letter l.text)
 
 abbrev pub decreases-loop-places : goal.decreases-loop-places
 decreases-loop-places g l = length l.rest

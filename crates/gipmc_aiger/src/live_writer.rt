@@ -1,0 +1,182 @@
+//! A writer of circuits with their justice properties and fairness constraints, in both forms.
+ghost use Rattle.std.specs.Prelude.{◌≡◌, ◌++◌, ℕ, false, map, IfOk, IsErrOf, IsTrue, OnOk};
+ghost use Rattle.gipmc_aiger.specs.CircuitTexts.{are_above, is_numbered};
+ghost use Rattle.gipmc_aiger.specs.LiveCircuits.{justice_view};
+ghost use Rattle.gipmc_aiger.specs.LiveTexts.{justice_lines, live_aag_text, live_aig_text, live_header_line};
+ghost use Rattle.gipmc_aiger.specs.LiveTexts.{live_packed_header_line, liveness_lines, size_lines};
+
+use crate::liveness::Liveness;
+use crate::writer::{
+    WriteError, are_above, are_numbered, greatest_variable, sum, write_ands, write_inputs,
+    write_latches, write_literals, write_number, write_packed_ands, write_packed_latches,
+};
+use gipmc_circuits::Circuit;
+use gipsat_cnf::Literal;
+use std::alloc::{AllocError, Allocator};
+
+/// Writes a circuit with its justice properties and fairness constraints in the ascii form, as
+/// [`write_aag`](crate::write_aag) writes a circuit.
+///
+/// # Errors
+/// `AllocError` where memory is refused.
+pub fn write_live_aag<A: Allocator + Copy>(
+    alloc: A,
+    circuit: &Circuit<A>,
+    liveness: &Liveness<A>,
+) -> Result<Vec<u8, A>, AllocError>
+    ensures { IfOk result (λ text. text.items ≡ live_aag_text circuit.now liveness.now) }
+{
+    let justice = liveness.justice.len() as u64;
+    let fairness = liveness.fairness.len() as u64;
+    let greatest = greatest_variable(circuit);
+    let mut text = live_header_line(alloc, greatest, circuit, justice, fairness)?;
+    write_inputs(&mut text, &circuit.inputs)?;
+    write_latches(&mut text, &circuit.latches)?;
+    write_literals(&mut text, &circuit.bads)?;
+    write_literals(&mut text, &circuit.constraints)?;
+    write_liveness(&mut text, liveness)?;
+    write_ands(&mut text, &circuit.gates)?;
+    Ok(text)
+}
+
+/// Writes a circuit with its justice properties and fairness constraints in the binary form, as
+/// [`write_aig`](crate::write_aig) writes a circuit.
+///
+/// # Errors
+/// As for [`write_aig`](crate::write_aig).
+pub fn write_live_aig<A: Allocator + Copy>(
+    alloc: A,
+    circuit: &Circuit<A>,
+    liveness: &Liveness<A>,
+) -> Result<Vec<u8, A>, WriteError>
+    ensures text { IfOk result (λ text. text.items ≡ live_aig_text circuit.now liveness.now) }
+    ensures numbered { IfOk result (λ text. IsTrue (is_numbered circuit.now)) }
+    ensures ordered { IfOk result (λ text. IsTrue (are_above circuit.now.gates.items)) }
+    ensures refused_number { (variable : ℕ) → IsErrOf result (WriteError.Numbering variable) →
+        is_numbered circuit.now ≡ false }
+    ensures refused_order { (variable : ℕ) → IsErrOf result (WriteError.Order variable) →
+        are_above circuit.now.gates.items ≡ false }
+{
+    if let Err(variable) = are_numbered(circuit) {
+        return Err(WriteError::Numbering(variable));
+    }
+    if let Err(output) = are_above(&circuit.gates) {
+        return Err(WriteError::Order(output));
+    }
+    match packed(alloc, circuit, liveness) {
+        Ok(text) => Ok(text),
+        Err(_) => Err(WriteError::Memory),
+    }
+}
+
+// The text in the binary form.
+fn packed<A: Allocator + Copy>(
+    alloc: A,
+    circuit: &Circuit<A>,
+    liveness: &Liveness<A>,
+) -> Result<Vec<u8, A>, AllocError>
+    ensures { IfOk result (λ text. text.items ≡ live_aig_text circuit.now liveness.now) }
+{
+    let justice = liveness.justice.len() as u64;
+    let fairness = liveness.fairness.len() as u64;
+    let mut text = live_packed_header_line(alloc, circuit, justice, fairness)?;
+    write_packed_latches(&mut text, &circuit.latches)?;
+    write_literals(&mut text, &circuit.bads)?;
+    write_literals(&mut text, &circuit.constraints)?;
+    write_liveness(&mut text, liveness)?;
+    write_packed_ands(&mut text, &circuit.gates)?;
+    Ok(text)
+}
+
+// The header, with so many justice properties and fairness constraints.
+fn live_header_line<A: Allocator + Copy>(
+    alloc: A,
+    maximum: u32,
+    circuit: &Circuit<A>,
+    justice: u64,
+    fairness: u64,
+) -> Result<Vec<u8, A>, AllocError>
+    ensures { IfOk result (λ text. text.items ≡ live_header_line maximum circuit.now justice fairness) }
+{
+    let mut text = Vec::new(alloc);
+    text.extend_from_slice(b"aag ")?;
+    write_number(&mut text, u64::from(maximum), b' ')?;
+    write_number(&mut text, circuit.inputs.len() as u64, b' ')?;
+    write_number(&mut text, circuit.latches.len() as u64, b' ')?;
+    write_number(&mut text, 0, b' ')?;
+    write_number(&mut text, circuit.gates.len() as u64, b' ')?;
+    write_number(&mut text, circuit.bads.len() as u64, b' ')?;
+    write_number(&mut text, circuit.constraints.len() as u64, b' ')?;
+    write_number(&mut text, justice, b' ')?;
+    write_number(&mut text, fairness, b'\n')?;
+    Ok(text)
+}
+
+// The header of the binary form, with so many justice properties and fairness constraints.
+fn live_packed_header_line<A: Allocator + Copy>(
+    alloc: A,
+    circuit: &Circuit<A>,
+    justice: u64,
+    fairness: u64,
+) -> Result<Vec<u8, A>, AllocError>
+    ensures { IfOk result (λ text. text.items ≡ live_packed_header_line circuit.now justice fairness) }
+{
+    let inputs = circuit.inputs.len() as u64;
+    let latches = circuit.latches.len() as u64;
+    let gates = circuit.gates.len() as u64;
+    let mut text = Vec::new(alloc);
+    text.extend_from_slice(b"aig ")?;
+    write_number(&mut text, sum(inputs, latches, gates), b' ')?;
+    write_number(&mut text, inputs, b' ')?;
+    write_number(&mut text, latches, b' ')?;
+    write_number(&mut text, 0, b' ')?;
+    write_number(&mut text, gates, b' ')?;
+    write_number(&mut text, circuit.bads.len() as u64, b' ')?;
+    write_number(&mut text, circuit.constraints.len() as u64, b' ')?;
+    write_number(&mut text, justice, b' ')?;
+    write_number(&mut text, fairness, b'\n')?;
+    Ok(text)
+}
+
+// Writes the lines of justice properties and fairness constraints.
+#[tactic(auto, using(std::proofs::Common::append_assoc))]
+fn write_liveness<A: Allocator + Copy>(
+    text: &mut Vec<u8, A>,
+    liveness: &Liveness<A>,
+) -> Result<(), AllocError>
+    ensures { OnOk result (text.new.items ≡ text.old.items
+        ++ liveness_lines (justice_view liveness.now) liveness.now.fairness.items) }
+{
+    write_sizes(text, &liveness.justice)?;
+    write_justice(text, &liveness.justice)?;
+    write_literals(text, &liveness.fairness)?;
+    Ok(())
+}
+
+// Writes how many literals each justice property has, in a line each.
+fn write_sizes<A: Allocator + Copy>(
+    text: &mut Vec<u8, A>,
+    justice: &[Vec<Literal, A>],
+) -> Result<(), AllocError>
+    ensures { OnOk result (text.new.items ≡ text.old.items
+        ++ size_lines (map (λ property. property.items) justice.now)) }
+{
+    for property in justice {
+        write_number(text, property.len() as u64, b'\n')?;
+    }
+    Ok(())
+}
+
+// Writes a line for each literal of justice properties.
+fn write_justice<A: Allocator + Copy>(
+    text: &mut Vec<u8, A>,
+    justice: &[Vec<Literal, A>],
+) -> Result<(), AllocError>
+    ensures { OnOk result (text.new.items ≡ text.old.items
+        ++ justice_lines (map (λ property. property.items) justice.now)) }
+{
+    for property in justice {
+        write_literals(text, property)?;
+    }
+    Ok(())
+}
