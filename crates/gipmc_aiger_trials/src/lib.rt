@@ -9,6 +9,8 @@ mod again;
 #[cfg(test)]
 mod converted;
 #[cfg(test)]
+mod live;
+#[cfg(test)]
 mod numbered;
 #[cfg(test)]
 mod refused;

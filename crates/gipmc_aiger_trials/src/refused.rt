@@ -48,12 +48,12 @@ const CIRCUITS: [(&[u8], AigerError); 39] = [
         AigerError::Refused(Place::Line(1), Reason::Great),
     ),
     (
-        b"aag 0 0 0 0 0 0 0 1\n",
+        b"aag 0 0 0 0 0 0 0 1\n0\n",
         AigerError::Refused(Place::Line(1), Reason::Liveness),
     ),
     (
         b"aag 0 0 0 0 0 0 0 0 1\n",
-        AigerError::Refused(Place::Line(1), Reason::Liveness),
+        AigerError::Refused(Place::Line(2), Reason::Number),
     ),
     // Beside a bad literal: no number of literals of a property, one literal too few, a literal that is too great, and a
     // symbol of a property that is not there.
@@ -298,7 +298,12 @@ const INVARIANTS: [(&[u8], AigerError); 15] = [
 ];
 
 // In the second of two answers, and in a trace that abc wrote.
-const CLAIMS: [(&[u8], AigerError); 8] = [
+const CLAIMS: [(&[u8], AigerError); 9] = [
+    // An answer about a justice property is read over.
+    (
+        b"1\nj0\n1\n1\n1\n.\n1\nb0\n0\n0\n.\n",
+        AigerError::Refused(Place::Line(10), Reason::Length),
+    ),
     (
         b"3\nb0\n.\n",
         AigerError::Refused(Place::Line(1), Reason::Status),
