@@ -501,8 +501,10 @@ rm -f cert
 # Texts that are refused.
 # shellcheck disable=SC2016
 try "an empty input" 1 '<stdin>:1: no header `aag` or `aig`' "" ""
+left="left out: justice properties 1, fairness constraints 0"
 try "a justice property alone" 1 \
-    "<stdin>:1: justice or fairness without bad literals is not supported" "" 'aag 0 0 0 0 0 0 0 1\n'
+    "$(printf 'c <stdin>: %s\n<stdin>:1: justice without bad literals is not supported' "$left")" "" \
+    'aag 0 0 0 0 0 0 0 1\n0\n'
 live='aag 1 0 1 0 0 1 0 2 1\n2 2\n2\n1\n2\n3\n1\n2\n3\nl0 held\nj1 live\nb0 bad\n'
 left="left out: justice properties 2, fairness constraints 1"
 try "justice properties beside a bad literal" 20 "c <stdin>: $left" "$safe" "$live"
