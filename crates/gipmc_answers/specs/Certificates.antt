@@ -31,10 +31,13 @@ ShowsSafe c (certificate.Circuit other) bad = IsSafeByCircuit c other bad
 abbrev pub ShowsSafeAt : {A B : Type 0} → Circuit A → Certificate B → ℕ → Type 0
 ShowsSafeAt c shown place = (bad : Lit) × (slice_get c.bads.items place ≡ Some bad) × ShowsSafe c shown bad
 
+-- by the certificate the circuit is safe as to each of the literals
+abbrev pub AreShownSafe : {A B : Type 0} → Circuit A → Certificate B → List Lit → Type 0
+AreShownSafe c shown bads = (k : ℕ) (bad : Lit) → slice_get bads k ≡ Some bad → ShowsSafe c shown bad
+
 -- the circuit has bad literals, and by the certificate it is safe as to each of them
 abbrev pub ShowsSafeAll : {A B : Type 0} → Circuit A → Certificate B → Type 0
-ShowsSafeAll c shown =
-    (0 < length c.bads.items) × ((place : ℕ) → place < length c.bads.items → ShowsSafeAt c shown place)
+ShowsSafeAll c shown = (0 < length c.bads.items) × AreShownSafe c shown c.bads.items
 
 -- by the certificate it is safe as to the bad literal that is asked for, which it has, or as to all
 abbrev pub ShowsSafeAsked : {A B : Type 0} → Circuit A → Certificate B → Option ℕ → Type 0

@@ -1,6 +1,8 @@
 //! Certificates that a circuit is safe, from the bytes of texts to the answer.
-ghost use Rattle.std.specs.Prelude.{◌<◌, length, IfNone, IfOk, IsTrue};
-ghost use Rattle.gipmc_answers.specs.Certificates.{Certifies, CertifiesCircuit, IsCertificateIn, ShowsSafeAll, ShowsSafeAsked, ShowsSafeAt};
+ghost use Rattle.std.specs.Prelude.{◌≡◌, ℕ, ◌<◌, length, slice_get, Some, IfNone, IfOk, IsTrue};
+ghost use Rattle.gipmc_circuits.specs.declared.certificate.Verdict.TheVariants.{Certified};
+ghost use Rattle.gipmc_answers.specs.Certificates.{AreShownSafe, Certifies, CertifiesCircuit, IsCertificateIn};
+ghost use Rattle.gipmc_answers.specs.Certificates.{ShowsSafeAll, ShowsSafeAsked, ShowsSafeAt};
 ghost use Rattle.gipmc_answers.specs.declared.certificates.Certificate.TheVariants as certificate;
 
 use crate::answers::netlist_in;
@@ -8,7 +10,8 @@ use crate::error::TaskError;
 use crate::strengthened::strengthened;
 use gipmc_aiger::{read_invariant_for, read_witness_circuit, write_aag, write_invariant};
 use gipmc_circuits::certificate::Verdict;
-use gipmc_circuits::{Circuit, Netlist, WitnessCircuit, certify, certify_by};
+use gipmc_circuits::{Circuit, Netlist, WitnessCircuit, certify_by};
+use gipmc_part::certify_all;
 use gipsat_cnf::Literal;
 use gipsat_solver::Solver;
 use std::alloc::{AllocError, Allocator};
@@ -178,7 +181,7 @@ fn invariant_text<A: Allocator + Copy>(
     netlist: &Netlist<A>,
     invariant: &[Vec<Literal, A>],
 ) -> Result<Vec<u8, A>, TaskError> {
-    let places = places_of(alloc, netlist)?;
+    let places = places_of(alloc, &netlist.circuit)?;
     let mut clauses = Vec::new(alloc);
     for clause in invariant {
         let clause = over_places(alloc, &places, clause)?;
@@ -188,33 +191,44 @@ fn invariant_text<A: Allocator + Copy>(
     Ok(write_invariant(alloc, netlist.circuit.latches.len(), &clauses)?)
 }
 
-// The place of the latch of each variable that is a latch's.
+// The variables of the latches, rising, each with the place of its latch.
 fn places_of<A: Allocator + Copy>(
     alloc: A,
-    netlist: &Netlist<A>,
-) -> Result<Vec<Option<u32>, A>, AllocError> {
-    let mut places = Vec::new(alloc);
-    places.resize(netlist.variables, None)?;
-    for (place, latch) in netlist.circuit.latches.iter().enumerate() {
-        if let Some(entry) = places.get_mut(latch.variable as usize) {
-            *entry = u32::try_from(place).ok();
-        }
+    circuit: &Circuit<A>,
+) -> Result<Vec<(u32, u32), A>, AllocError> {
+    let mut places = Vec::with_capacity(alloc, circuit.latches.len())?;
+    for (place, latch) in circuit.latches.iter().enumerate() {
+        let place = u32::try_from(place).map_err(|_| AllocError)?;
+        places.push((latch.variable, place))?;
     }
+    places.sort_unstable();
     Ok(places)
+}
+
+// The place of the latch of a variable, if it is a latch's.
+fn place_of(places: &[(u32, u32)], variable: u32) -> Option<u32> {
+    let at = match places.binary_search(&(variable, 0)) {
+        Ok(at) => at,
+        Err(at) => at,
+    };
+    match places.get(at) {
+        Some((latch, place)) if *latch == variable => Some(*place),
+        _ => None,
+    }
 }
 
 // A clause over variables of latches, over their places.
 fn over_places<A: Allocator + Copy>(
     alloc: A,
-    places: &[Option<u32>],
+    places: &[(u32, u32)],
     clause: &[Literal],
 ) -> Result<Vec<Literal, A>, TaskError> {
     let mut moved = Vec::new(alloc);
     for l in clause {
-        match places.get(l.variable() as usize) {
-            Some(Some(place)) if *place < LATCHES => {
+        match place_of(places, l.variable()) {
+            Some(place) if place < LATCHES => {
                 moved.reserve(1)?;
-                moved.push_reserved(Literal::new(*place, l.is_positive()));
+                moved.push_reserved(Literal::new(place, l.is_positive()));
             }
             _ => return Err(TaskError::Uncertified),
         }
@@ -256,12 +270,12 @@ fn certifies_all<A: Allocator + Copy>(
     if netlist.circuit.bads.is_empty() {
         return Err(TaskError::NoBads);
     }
-    for place in 0..netlist.circuit.bads.len() {
-        if let Some(doubt) = certifies_at(alloc, netlist, certificate, place, limit)? {
-            return Ok(Some(doubt));
+    match certificate {
+        Certificate::Clauses(clauses) => {
+            by_clauses(alloc, netlist, clauses, &netlist.circuit.bads, 0, limit)
         }
+        Certificate::Circuit(other) => all_by_circuit(alloc, netlist, other, limit),
     }
-    Ok(None)
 }
 
 // Why the circuit is not known to be safe as to the bad literal at a place.
@@ -276,30 +290,63 @@ fn certifies_at<A: Allocator + Copy>(
     ensures { IfOk result (λ doubt. IfNone doubt (ShowsSafeAt netlist.now.circuit certificate.now place)) }
 {
     match certificate {
-        Certificate::Clauses(clauses) => by_clauses(alloc, netlist, clauses, place, limit),
+        Certificate::Clauses(clauses) => {
+            let bad = netlist.circuit.bads[place];
+            by_clauses(alloc, netlist, clauses, &[bad], place, limit)
+        }
         Certificate::Circuit(other) => by_circuit(alloc, netlist, other, place, limit),
     }
 }
 
-// Why the circuit is not known to be safe by the clauses of an invariant.
+// Why the circuit is not known to be safe by the clauses of an invariant as to these literals: the bad literal at a
+// place, and those behind it.
 fn by_clauses<A: Allocator + Copy>(
     alloc: A,
     netlist: &Netlist<A>,
     clauses: &Vec<Vec<Literal, A>, A>,
+    bads: &[Literal],
     place: usize,
     limit: usize,
 ) -> Result<Option<Doubt>, TaskError>
-    requires { place < length netlist.now.circuit.bads.items }
     ensures { IfOk result (λ doubt. IfNone doubt
-        (ShowsSafeAt netlist.now.circuit (certificate.Clauses clauses.now) place)) }
+        (AreShownSafe netlist.now.circuit (certificate.Clauses clauses.now) bads.now)) }
 {
-    match certify::<Solver<A>, _>(alloc, netlist, netlist.circuit.bads[place], clauses, limit)? {
-        Verdict::Certified => Ok(None),
-        verdict => Ok(Some(Doubt {
-            bad: place,
-            verdict,
-        })),
+    let verdicts = certify_all::<Solver<A>, A>(alloc, netlist, bads, clauses, limit)?;
+    Ok(first_doubt(&verdicts, place))
+}
+
+// The first of these verdicts that does not certify: those on the bad literal at a place, and on those behind it.
+fn first_doubt(verdicts: &[Verdict], place: usize) -> Option<Doubt>
+    ensures { IfNone result ((k : ℕ) → k < length verdicts.now → slice_get verdicts.now k ≡ Some Certified) }
+{
+    for further in 0..verdicts.len() {
+        match verdicts[further] {
+            Verdict::Certified => {}
+            verdict => {
+                let bad = place.saturating_add(further);
+                return Some(Doubt { bad, verdict });
+            }
+        }
     }
+    None
+}
+
+// Why the circuit is not known to be safe as to all its bad literals by another one.
+fn all_by_circuit<A: Allocator + Copy>(
+    alloc: A,
+    netlist: &Netlist<A>,
+    other: &WitnessCircuit<A>,
+    limit: usize,
+) -> Result<Option<Doubt>, TaskError>
+    ensures { IfOk result (λ doubt. IfNone doubt
+        (AreShownSafe netlist.now.circuit (certificate.Circuit other.now) netlist.now.circuit.bads.items)) }
+{
+    for place in 0..netlist.circuit.bads.len() {
+        if let Some(doubt) = by_circuit(alloc, netlist, other, place, limit)? {
+            return Ok(Some(doubt));
+        }
+    }
+    Ok(None)
 }
 
 // Why the circuit is not known to be safe by another one.

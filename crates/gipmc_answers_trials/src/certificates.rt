@@ -1,9 +1,10 @@
 //! Certificates that are found, and those of others.
 
-use crate::circuits::{HELD, KEPT, TWO};
+use crate::circuits::{FALLING, HELD, KEPT, TWO};
 use gipmc_answers::{
-    Lost, Output, TaskError, answer, certificate_of, certifies, witness_circuit_of,
+    Lost, Output, TaskError, answer, certificate_of, certifies, doubt_of, witness_circuit_of,
 };
+use gipmc_circuits::Verdict;
 use gipmc_engines::Plan;
 use std::alloc::Global;
 
@@ -38,6 +39,8 @@ const FOUND: &[(&[u8], Option<usize>, bool)] = &[
     (TWO, Some(0), true),
     (TWO, None, false),
     (HELD, None, false),
+    (FALLING, None, true),
+    (FALLING, Some(1), true),
 ];
 
 #[test]
@@ -57,6 +60,8 @@ fn a_certificate_is_found_where_it_is_safe(rt: HostRuntime) -> Result<(), TaskEr
 const STAYS: &[u8] = b"p cnf 1 1\n-1 0\n";
 
 const FIRST_STAYS: &[u8] = b"p cnf 2 1\n-1 0\n";
+
+const BOTH_STAY: &[u8] = b"p cnf 2 2\n-1 0\n-2 0\n";
 
 const AS_CIRCUIT: &[u8] = b"aag 1 0 1 0 0 1\n2 2\n2\n";
 
@@ -83,12 +88,42 @@ const JUDGED: &[(&[u8], &[u8], Option<usize>, bool)] = &[
     (TWO, BEHIND, Some(0), true),
     (TWO, ALONE, Some(0), true),
     (KEPT, UNORDERED, None, true),
+    (FALLING, BOTH_STAY, None, true),
+    (FALLING, FIRST_STAYS, Some(0), true),
+    (FALLING, FIRST_STAYS, Some(1), false),
 ];
 
 #[test]
 fn certificates_of_others_are_judged(rt: HostRuntime) -> Result<(), TaskError> {
     for &(circuit, text, asked, is_safe) in JUDGED {
         assert!(rt; certifies(rt.alloc(), circuit, text, asked, 100)? == is_safe);
+    }
+    Ok(())
+}
+
+// Of `TWO` a transition does not keep the second clause of `BOTH_STAY`. Here there is none, or the second one is false at
+// an initial moment.
+const NOTHING: &[u8] = b"p cnf 2 0\n";
+
+const FIRST_RISES: &[u8] = b"p cnf 2 2\n1 -1 0\n1 0\n";
+
+// A circuit, clauses, the bad literal that is asked about, the one that is doubted, and why.
+const DOUBTED: &[(&[u8], &[u8], Option<usize>, usize, Verdict)] = &[
+    (TWO, FIRST_STAYS, None, 1, Verdict::NotSafe),
+    (TWO, FIRST_STAYS, Some(1), 1, Verdict::NotSafe),
+    (TWO, NOTHING, None, 0, Verdict::NotSafe),
+    (TWO, BOTH_STAY, None, 0, Verdict::NotInductive(1)),
+    (TWO, BOTH_STAY, Some(1), 1, Verdict::NotInductive(1)),
+    (FALLING, FIRST_RISES, None, 0, Verdict::NotInitial(1)),
+];
+
+#[test]
+fn a_doubt_tells_the_literal_and_the_question(rt: HostRuntime) -> Result<(), TaskError> {
+    for &(circuit, text, asked, bad, verdict) in DOUBTED {
+        match doubt_of(rt.alloc(), circuit, text, asked, 100)? {
+            Some(doubt) => assert!(rt; doubt.bad == bad && doubt.verdict == verdict),
+            None => assert!(rt; false),
+        }
     }
     Ok(())
 }

@@ -1,19 +1,12 @@
--- A certified invariant says that the circuit is safe as to the literal that is read.
-use Rattle.std.proofs.Common.{length, refl}
-use Rattle.std.proofs.lemmas.Option.{slice_get_read}
+-- Verdicts that all certify show each literal.
+use Rattle.gipsat_cnf.proofs.Places.{IfNone-more}
+use Rattle.gipmc_answers.proofs.Shown.{AreShownSafe-certified}
 use Rattle.gipmc_answers.proofs.certificates.by_clauses.Goals as goal
 
-pub returns-in-Certified : goal.returns-in-Certified
-returns-in-Certified g c =
-    let bads = c.args.netlist.now.circuit.bads.items in
-    let here = slice_get_read bads (length bads) c.args.place c.index.result.now refl c.requires c.index.ensures in
-    let said = c.in_ok-verdict.ensures in (
-      c.index.result.now,
-      here,
-      record {
-        initiated = (rw (c.in-Certified.is, c.deref.ensures.value) at said.initiated) refl;
-        inductive = (rw (c.in-Certified.is, c.deref.ensures.value) at said.inductive) refl;
-        excluded = (rw (c.in-Certified.is, c.deref.ensures.value) at said.excluded) refl;
-        safe = (rw (c.in-Certified.is) at said.safe) refl;
-      },
-    )
+pub returns : goal.returns
+returns g c =
+    let verdicts = c.in_ok-verdicts.verdicts.items in
+    IfNone-more c.first_doubt.result
+    (λ certified. AreShownSafe-certified c.args.netlist.now.circuit c.args.clauses.now c.args.bads.now verdicts
+    c.in_ok-verdicts.ensures.count (rw (c.deref.ensures.value) at c.in_ok-verdicts.ensures.safe) certified)
+    (rw (c.deref-2.ensures.value) at c.first_doubt.ensures)

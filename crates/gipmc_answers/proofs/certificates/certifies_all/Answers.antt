@@ -1,16 +1,12 @@
--- One more place is safe.
-use Rattle.std.proofs.Common.{◌≡◌, ◌<◌, length, arith}
+-- There is a bad literal, and each of them is shown.
+use Rattle.std.proofs.Common.{◌<◌, length, arith}
 use Rattle.std.proofs.lemmas.Grind.{common_steps}
-use Rattle.gipmc_answers.proofs.Shown.{ShowsSafeAt-more}
+use Rattle.std.proofs.lemmas.Result.{IfOk-weaker}
+use Rattle.gipsat_cnf.proofs.Places.{IfNone-more}
 use Rattle.gipmc_answers.proofs.certificates.certifies_all.Goals as goal
 
-pub loop-place-preserved : goal.loop-place-preserved
-loop-place-preserved g c =
-    ShowsSafeAt-more c.args.netlist.now.circuit c.args.certificate.now c.loop-place.place c.loop-place.invariant
-    (rw (c.in_default.is) at c.in_ok-doubt.ensures)
-
-pub returns : goal.returns
-returns g c =
-    let all : c.loop-place.place ≡ length c.args.netlist.now.circuit.bads.items = grind (arith, common_steps) in
+pub returns-in-Circuit : goal.returns-in-Circuit
+returns-in-Circuit g c =
     let some : 0 < length c.args.netlist.now.circuit.bads.items = grind (arith, common_steps) in
-    (some, rw all at c.loop-place.invariant)
+    rw (c.in-Circuit.is)
+    (IfOk-weaker c.all_by_circuit.result _ _ (λ doubt. IfNone-more doubt (λ shown. (some, shown))) c.all_by_circuit.ensures)
