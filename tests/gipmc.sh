@@ -540,6 +540,12 @@ done
 status=$?
 [ "$status" = 20 ] && [ ! -s err ] && [ "$(grep -c '^0$' out)" = 20 ]
 told "many bad literals beside gates that do not matter" $?
+rm -f cert
+"$gipmc" --certificate cert many.aag > out 2> err
+status=$?
+[ "$status" = 20 ] && [ ! -s err ] && [ "$("$gipmc" --certify cert many.aag)" = "s VERIFIED" ]
+told "a certificate of many bad literals beside gates that do not matter" $?
+rm -f cert
 
 # A short text whose numbers are great asks for much memory. Where that is refused, nothing else is told.
 printf 'aag 16777216 1 0 0 0 1\n33554432\n33554432\n' > great.aag
@@ -549,6 +555,14 @@ status=$?
 { [ "$status" = 1 ] && [ "$(cat err)" = "memory: refused" ] && [ ! -s out ] && [ ! -e cert ]; } ||
     { [ "$status" = 10 ] && [ ! -s err ] && [ "$("$gipmc" --replay out great.aag)" = "s VERIFIED" ]; }
 told "great numbers, and little memory" $?
+printf 'aag 16777216 0 2 0 0 1\n33554432 33554432\n4 4\n33554432\n' > stays.aag
+rm -f cert
+(ulimit -v 200000; exec "$gipmc" --certificate cert stays.aag) > out 2> err
+status=$?
+[ "$status" = 20 ] && [ ! -s err ] &&
+    [ "$(ulimit -v 200000; exec "$gipmc" --certify cert stays.aag)" = "s VERIFIED" ]
+told "a certificate where numbers are great, and little memory" $?
+rm -f cert
 
 # Files that are not there.
 try "no such file" 1 "none.aag: no such file" "" "" none.aag
