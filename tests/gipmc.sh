@@ -199,6 +199,48 @@ invariant 'p cnf 9 1\n-1 0\n'
 try "an invariant of another circuit" 1 \
     'inv:1: no header `p cnf LATCHES CLAUSES` that says what follows' "" "$kept" --certify inv
 
+# Certificates that are a number k, or that and clauses.
+invariant 'k 1\n'
+try "a latch that stays is 1-inductive" 0 "" "s VERIFIED" "$kept" --certify inv
+try "a latch that may rise is not 1-inductive" 1 \
+    "inv: b0: not 1-inductive: a path of 1 transition ends where it is true for the first time" "s NOT VERIFIED" \
+    "$held" --certify inv
+try "a number k, and a question that is left open" 1 \
+    "inv: b0: whether it is 1-inductive was left open at the limit" "s NOT VERIFIED" "$kept" --certify inv --limit 0
+try "a number k of the first of two literals" 0 "" "s VERIFIED" "$two" --certify inv --bad 0
+try "a number k of one of two literals" 1 \
+    "inv: b1: not 1-inductive: a path of 1 transition ends where it is true for the first time" "s NOT VERIFIED" \
+    "$two" --certify inv
+invariant 'k 0\n'
+try "a latch that stays is not 0-inductive" 1 \
+    "inv: b0: not 0-inductive: a path of 0 transitions ends where it is true for the first time" "s NOT VERIFIED" \
+    "$kept" --certify inv
+invariant 'k 9\n'
+try "a base case that fails" 1 \
+    "inv: b0: not 9-inductive: a trace of 1 transition ends where it is true" "s NOT VERIFIED" "$held" --certify inv
+# b0 is excluded by clauses and not 1-inductive, and b1 the other way round.
+invariant 'k 1\np cnf 3 2\n-1 0\n-2 0\n'
+either='aag 3 0 3 0 0 2\n2 2\n4 2\n6 6\n4\n6\n'
+try "a number k beside clauses" 0 "" "s VERIFIED" "$either" --certify inv
+invariant 'p cnf 3 2\n-1 0\n-2 0\n'
+try "the clauses without the number k" 1 "inv: b1: the clauses allow a bad moment" "s NOT VERIFIED" "$either" --certify inv
+invariant 'k 1\n'
+try "the number k without the clauses" 1 \
+    "inv: b0: not 1-inductive: a path of 1 transition ends where it is true for the first time" "s NOT VERIFIED" \
+    "$either" --certify inv
+invariant 'k 0\np cnf 1 1\n-1 0\n'
+try "a number k beside clauses that are kept by no transition" 1 \
+    "inv: b0: clause 1 is not kept by a transition; not 0-inductive: a path of 0 transitions ends where it is true for the \
+first time" "s NOT VERIFIED" "$held" --certify inv
+# shellcheck disable=SC2016
+invariant 'k 1\np cnf 9 0\n'
+# shellcheck disable=SC2016
+try "a number k beside clauses of another circuit" 1 \
+    'inv:2: no header `p cnf LATCHES CLAUSES` that says what follows' "" "$kept" --certify inv
+invariant 'k\n'
+# shellcheck disable=SC2016
+try "a line that names no k" 1 'inv:1: no header `p cnf LATCHES CLAUSES` that says what follows' "" "$kept" --certify inv
+
 # Certificates that are circuits: with the same latches, whose bad literal is false where the invariant holds.
 printf '%b' 'aag 1 0 1 0 0 1\n2 2\n2\n' > cert.aag
 try "a circuit that certifies" 0 "" "s VERIFIED" "$kept" --certify cert.aag

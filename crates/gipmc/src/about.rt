@@ -112,9 +112,10 @@ pub const OPTIONS: [Opt<Switch, Number, Text>; 16] = [
         section: "Answers of other programs",
         help: "write `s VERIFIED` if the certificate in FILE shows that no bad state is reachable, or `s NOT VERIFIED`, \
                and on standard error why: it does not, or a question is left open by --limit. A certificate is clauses over \
-               latches in the DIMACS form, or a circuit in a form of AIGER whose bad literals are false, and constraints \
-               true, where an invariant holds. It may have further inputs and latches; symbols `= n` tell which literals of \
-               the circuit it shares",
+               latches in the DIMACS form; a line `k N`: each bad literal is false at the first N moments, and behind any N \
+               moments at which it is false; that line and clauses behind it, one of which shows each bad literal false; or a \
+               circuit in a form of AIGER whose bad literals are false, and constraints true, where an invariant holds. It \
+               may have further inputs and latches; symbols `= n` tell which literals of the circuit it shares",
     },
     Opt {
         long: "--certificate",

@@ -342,7 +342,7 @@ fn certificate_text(
     if options.aiger {
         return witness_circuit_of(alloc, netlist, invariant, options.bad, limit);
     }
-    certificate_of(alloc, netlist, invariant, options.bad, limit)
+    certificate_of(alloc, netlist, invariant, None, options.bad, limit)
 }
 
 // Writes the certificate that was found for the circuit that the bytes write to the file.

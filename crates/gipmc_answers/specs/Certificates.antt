@@ -1,5 +1,7 @@
 -- Certificates that a circuit is safe, as texts.
-use Rattle.std.specs.Prelude.{◌≡◌, ◌<◌, ℕ, List, length, slice_get, Option, Some, None}
+use Rattle.std.specs.Prelude.{◌≡◌, ◌<◌, ◌==◌, ◌-◌, ◌^◌, ◌⊎◌, ℕ, List, [], ◌∷◌, length, codes, slice_get, if◌then◌else◌, Option, Some, None}
+use Rattle.std.specs.Str.{bytes_eq}
+use Rattle.gipsat_cnf.specs.Formulas.{Formula}
 use Rattle.gipsat_cnf.specs.Literals.{Lit}
 use Rattle.gipmc_aiger.specs.Invariants.{clauses_view, invariant_for}
 use Rattle.gipmc_aiger.specs.WitnessCircuits.{WritesWitness}
@@ -8,23 +10,51 @@ use Rattle.gipmc_circuits.specs.Circuit.{IsSafe}
 use Rattle.gipmc_circuits.specs.WitnessCircuits.{IsCertifiedBy}
 use Rattle.gipmc_circuits.specs.declared.circuit.Circuit.{Circuit}
 use Rattle.gipmc_circuits.specs.declared.witness_circuit.WitnessCircuit.{WitnessCircuit}
+use Rattle.gipmc_unroll.specs.Induction.{IsKInductive}
+use Rattle.giputils_text.specs.Lines.{pieces, space, text_lines}
+use Rattle.giputils_text.specs.Numbers.{number_up_to}
 use Rattle.gipmc_answers.specs.Answers.{IsCircuitIn}
 use Rattle.gipmc_answers.specs.declared.certificates.Certificate.{Certificate}
 use Rattle.gipmc_answers.specs.declared.certificates.Certificate.TheVariants as certificate
 
--- the text writes the certificate: clauses over the latches of the circuit, or another circuit that shares with it what
--- the text says
+-- the k that some words name: `k` and a number, up to 2^31 - 1
+abbrev pub k_of : List (List ℕ) → Option ℕ
+k_of (word ∷ digits ∷ []) = if bytes_eq word (codes "k") then number_up_to (2 ^ 31 - 1) digits else None
+k_of words = None
+
+-- the k that a line names
+abbrev pub k_in : List ℕ → Option ℕ
+k_in line = k_of (pieces space line)
+
+-- the first line of the text names this k, and the rest comes behind it
+abbrev pub BeginsWithK : List ℕ → ℕ → List ℕ → Type 0
+BeginsWithK text k rest = (line : List ℕ) × (text_lines text ≡ line ∷ text_lines rest) × (k_in line ≡ Some k)
+
+-- the clauses that stand behind a k: none where nothing comes there
+abbrev pub clauses_behind : {A : Type 0} → Circuit A → List ℕ → Option Formula
+clauses_behind c rest = if length rest == 0 then Some [] else invariant_for c rest
+
+-- the text writes the certificate: clauses over the latches of the circuit, a k and clauses behind it, or another circuit
+-- that shares with it what the text says
 abbrev pub IsCertificateIn : {A B : Type 0} → Circuit A → List ℕ → Certificate B → Type 0
 IsCertificateIn c text (certificate.Clauses clauses) = invariant_for c text ≡ Some (clauses_view clauses.items)
+IsCertificateIn c text (certificate.Induction k clauses) =
+    (rest : List ℕ) × BeginsWithK text k rest × (clauses_behind c rest ≡ Some (clauses_view clauses.items))
 IsCertificateIn c text (certificate.Circuit other) = WritesWitness c text other
 
 -- by the other circuit it is safe as to the literal
 abbrev pub IsSafeByCircuit : {A B : Type 0} → Circuit A → WitnessCircuit B → Lit → Type 0
 IsSafeByCircuit c other bad = IsCertifiedBy c bad other × IsSafe c bad
 
+-- the bad literal is k-inductive, so that the circuit is safe as to it
+pub record IsSafeByInduction {A : Type 0} (c : Circuit A) (k : ℕ) (bad : Lit) : Type 0 where
+  pub inductive : IsKInductive c bad k
+  pub safe : IsSafe c bad
+
 -- by the certificate the circuit is safe as to the literal
 abbrev pub ShowsSafe : {A B : Type 0} → Circuit A → Certificate B → Lit → Type 0
 ShowsSafe c (certificate.Clauses clauses) bad = IsSafeByClauses c clauses.items bad
+ShowsSafe c (certificate.Induction k clauses) bad = IsSafeByClauses c clauses.items bad ⊎ IsSafeByInduction c k bad
 ShowsSafe c (certificate.Circuit other) bad = IsSafeByCircuit c other bad
 
 -- the circuit has a bad literal at the place, and by the certificate it is safe as to it

@@ -1,14 +1,18 @@
 //! Certificates that a circuit is safe, from the bytes of texts to the answer.
 ghost use Rattle.std.specs.Prelude.{◌≡◌, ℕ, ◌<◌, length, slice_get, Some, IfNone, IfOk, IsTrue};
 ghost use Rattle.gipmc_circuits.specs.declared.certificate.Verdict.TheVariants.{Certified};
-ghost use Rattle.gipmc_answers.specs.Certificates.{AreShownSafe, Certifies, CertifiesCircuit, IsCertificateIn};
+ghost use Rattle.gipmc_aiger.specs.Invariants.{clauses_view, invariant_for};
+ghost use Rattle.gipmc_answers.specs.Certificates.{AreShownSafe, Certifies, CertifiesCircuit, IsCertificateIn, clauses_behind};
 ghost use Rattle.gipmc_answers.specs.Certificates.{ShowsSafeAll, ShowsSafeAsked, ShowsSafeAt};
 ghost use Rattle.gipmc_answers.specs.declared.certificates.Certificate.TheVariants as certificate;
 
 use crate::answers::netlist_in;
 use crate::error::TaskError;
+use crate::induction::{InductionDoubt, behind_k, unless_certified};
 use crate::strengthened::strengthened;
-use gipmc_aiger::{read_invariant_for, read_witness_circuit, write_aag, write_invariant};
+use gipmc_aiger::{
+    AigerError, Place, read_invariant_for, read_witness_circuit, write_aag, write_invariant,
+};
 use gipmc_circuits::certificate::Verdict;
 use gipmc_circuits::{Circuit, Netlist, WitnessCircuit, certify_by};
 use gipmc_part::certify_all;
@@ -22,6 +26,9 @@ use std::fmt::{self, Display};
 pub enum Certificate<A: Allocator> {
     /// The clauses of an invariant, over the circuit's variables.
     Clauses(Vec<Vec<Literal, A>, A>),
+    /// A number k, and the clauses of an invariant, if there are some: each bad literal is k-inductive, or the invariant
+    /// excludes it.
+    Induction(usize, Vec<Vec<Literal, A>, A>),
     /// A circuit that tells where an invariant of both holds.
     Circuit(WitnessCircuit<A>),
 }
@@ -31,34 +38,50 @@ pub enum Certificate<A: Allocator> {
 pub struct Doubt {
     /// The place of the bad literal that is asked about.
     pub bad: usize,
-    /// What was found out. Its clauses are those of the certificate; of a circuit, what it claims of its bad literals and
-    /// then of its constraints.
-    pub verdict: Verdict,
+    /// What was found out of the clauses of the certificate; of a circuit, its clauses are what it claims of its bad
+    /// literals and then of its constraints. None where the certificate is a number k alone.
+    pub verdict: Option<Verdict>,
+    /// What was found out of its number k, if it has one.
+    pub induction: Option<InductionDoubt>,
 }
 
 /// A line that says which clause, counted from 1, and which question.
 impl Display for Doubt {
     fn fmt<W: fmt::Write>(&self, f: &mut fmt::Formatter<W>) -> fmt::Result {
         write!(f, "b{}: ", self.bad)?;
-        match self.verdict {
-            Verdict::Certified => write!(f, "it is certified"),
-            Verdict::NotInitial(place) => {
-                write!(
-                    f,
-                    "clause {} is false at an initial moment",
-                    place.saturating_add(1)
-                )
-            }
-            Verdict::NotInductive(place) => {
-                write!(
-                    f,
-                    "clause {} is not kept by a transition",
-                    place.saturating_add(1)
-                )
-            }
-            Verdict::NotSafe => write!(f, "the clauses allow a bad moment"),
-            Verdict::Unknown => write!(f, "a question was left open at the limit"),
+        if let Some(verdict) = self.verdict {
+            write_verdict(f, verdict)?;
         }
+        let Some(doubt) = self.induction else {
+            return Ok(());
+        };
+        if self.verdict.is_some() {
+            f.write_str("; ")?;
+        }
+        write!(f, "{doubt}")
+    }
+}
+
+// Writes what was found out of clauses.
+fn write_verdict<W: fmt::Write>(f: &mut fmt::Formatter<W>, verdict: Verdict) -> fmt::Result {
+    match verdict {
+        Verdict::Certified => write!(f, "it is certified"),
+        Verdict::NotInitial(place) => {
+            write!(
+                f,
+                "clause {} is false at an initial moment",
+                place.saturating_add(1)
+            )
+        }
+        Verdict::NotInductive(place) => {
+            write!(
+                f,
+                "clause {} is not kept by a transition",
+                place.saturating_add(1)
+            )
+        }
+        Verdict::NotSafe => write!(f, "the clauses allow a bad moment"),
+        Verdict::Unknown => write!(f, "a question was left open at the limit"),
     }
 }
 
@@ -119,22 +142,23 @@ fn certifies_circuit<A: Allocator + Copy>(
 }
 
 /// The text of a certificate that the circuit is safe: as to the bad literal at the place that is asked for, or as to
-/// all. It writes the clauses of this invariant, which are over the circuit's variables. They are read back, and certify
-/// the circuit again. Each question to the solver may learn `limit` clauses.
+/// all. It writes this k, if there is one, and the clauses of this invariant, which are over the circuit's variables. They
+/// are read back, and certify the circuit again. Each question to the solver may learn `limit` clauses.
 ///
 /// # Errors
-/// - [`TaskError::Uncertified`] where the clauses do not show it.
+/// - [`TaskError::Uncertified`] where they do not show it.
 /// - Those of [`certifies`].
 pub fn certificate_of<A: Allocator + Copy>(
     alloc: A,
     netlist: &Netlist<A>,
     invariant: &[Vec<Literal, A>],
+    k: Option<usize>,
     asked: Option<usize>,
     limit: usize,
 ) -> Result<Vec<u8, A>, TaskError>
     ensures { IfOk result (λ text. CertifiesCircuit netlist.now.circuit text.items asked) }
 {
-    let text = invariant_text(alloc, netlist, invariant)?;
+    let text = claims_text(alloc, netlist, invariant, k)?;
     if let Some(_) = certifies_circuit(alloc, netlist, &text, asked, limit)? {
         return Err(TaskError::Uncertified);
     }
@@ -173,6 +197,24 @@ fn strengthened_text<A: Allocator + Copy>(
 ) -> Result<Vec<u8, A>, AllocError> {
     let circuit = strengthened(alloc, netlist, invariant, asked)?;
     write_aag(alloc, &circuit)
+}
+
+// The text of a k, if there is one, and of some clauses over the latches of the circuit.
+fn claims_text<A: Allocator + Copy>(
+    alloc: A,
+    netlist: &Netlist<A>,
+    invariant: &[Vec<Literal, A>],
+    k: Option<usize>,
+) -> Result<Vec<u8, A>, TaskError> {
+    let Some(k) = k else {
+        return invariant_text(alloc, netlist, invariant);
+    };
+    let mut text = format!(in alloc; "k {k}\n")?.into_bytes();
+    if !invariant.is_empty() {
+        let clauses = invariant_text(alloc, netlist, invariant)?;
+        text.extend_from_slice(&clauses)?;
+    }
+    Ok(text)
 }
 
 // The text of some clauses over the latches of the circuit.
@@ -274,6 +316,9 @@ fn certifies_all<A: Allocator + Copy>(
         Certificate::Clauses(clauses) => {
             by_clauses(alloc, netlist, clauses, &netlist.circuit.bads, 0, limit)
         }
+        Certificate::Induction(k, clauses) => {
+            by_induction(alloc, netlist, *k, clauses, &netlist.circuit.bads, 0, limit)
+        }
         Certificate::Circuit(other) => all_by_circuit(alloc, netlist, other, limit),
     }
 }
@@ -293,6 +338,10 @@ fn certifies_at<A: Allocator + Copy>(
         Certificate::Clauses(clauses) => {
             let bad = netlist.circuit.bads[place];
             by_clauses(alloc, netlist, clauses, &[bad], place, limit)
+        }
+        Certificate::Induction(k, clauses) => {
+            let bad = netlist.circuit.bads[place];
+            by_induction(alloc, netlist, *k, clauses, &[bad], place, limit)
         }
         Certificate::Circuit(other) => by_circuit(alloc, netlist, other, place, limit),
     }
@@ -324,11 +373,44 @@ fn first_doubt(verdicts: &[Verdict], place: usize) -> Option<Doubt>
             Verdict::Certified => {}
             verdict => {
                 let bad = place.saturating_add(further);
-                return Some(Doubt { bad, verdict });
+                return Some(Doubt {
+                    bad,
+                    verdict: Some(verdict),
+                    induction: None,
+                });
             }
         }
     }
     None
+}
+
+// Why the circuit is not known to be safe by a k, or by the clauses of an invariant, as to these literals: the bad
+// literal at a place, and those behind it.
+fn by_induction<A: Allocator + Copy>(
+    alloc: A,
+    netlist: &Netlist<A>,
+    k: usize,
+    clauses: &Vec<Vec<Literal, A>, A>,
+    bads: &[Literal],
+    place: usize,
+    limit: usize,
+) -> Result<Option<Doubt>, TaskError>
+    ensures { IfOk result (λ doubt. IfNone doubt
+        (AreShownSafe netlist.now.circuit (certificate.Induction k clauses.now) bads.now)) }
+{
+    let verdicts = certify_all::<Solver<A>, A>(alloc, netlist, bads, clauses, limit)?;
+    for further in 0..bads.len() {
+        let verdict = verdicts[further];
+        let doubt = unless_certified(alloc, netlist, bads[further], verdict, k, limit)?;
+        if doubt.is_some() {
+            return Ok(Some(Doubt {
+                bad: place.saturating_add(further),
+                verdict: (!clauses.is_empty()).then_some(verdict),
+                induction: doubt,
+            }));
+        }
+    }
+    Ok(None)
 }
 
 // Why the circuit is not known to be safe as to all its bad literals by another one.
@@ -375,7 +457,8 @@ fn by_circuit<A: Allocator + Copy>(
         Verdict::Certified => Ok(None),
         verdict => Ok(Some(Doubt {
             bad: place,
-            verdict,
+            verdict: Some(verdict),
+            induction: None,
         })),
     }
 }
@@ -394,9 +477,54 @@ fn certificate_in<A: Allocator + Copy>(
             Err(error) => Err(TaskError::of_certificate(error)),
         };
     }
+    match behind_k(text) {
+        Some((k, rest)) => {
+            let clauses = clauses_behind(alloc, circuit, rest)?;
+            Ok(Certificate::Induction(k as usize, clauses))
+        }
+        None => Ok(Certificate::Clauses(clauses_in(alloc, circuit, text)?)),
+    }
+}
+
+// The clauses that a text writes for a circuit.
+fn clauses_in<A: Allocator + Copy>(
+    alloc: A,
+    circuit: &Circuit<A>,
+    text: &[u8],
+) -> Result<Vec<Vec<Literal, A>, A>, TaskError>
+    ensures { IfOk result (λ clauses. invariant_for circuit.now text.now ≡ Some (clauses_view clauses.items)) }
+{
     match read_invariant_for(alloc, circuit, text) {
-        Ok(clauses) => Ok(Certificate::Clauses(clauses)),
+        Ok(clauses) => Ok(clauses),
         Err(error) => Err(TaskError::of_certificate(error)),
+    }
+}
+
+// The clauses that stand behind the line of a k: none where nothing comes there.
+fn clauses_behind<A: Allocator + Copy>(
+    alloc: A,
+    circuit: &Circuit<A>,
+    rest: &[u8],
+) -> Result<Vec<Vec<Literal, A>, A>, TaskError>
+    ensures { IfOk result (λ clauses. clauses_behind circuit.now rest.now ≡ Some (clauses_view clauses.items)) }
+{
+    if rest.is_empty() {
+        return Ok(Vec::new(alloc));
+    }
+    match clauses_in(alloc, circuit, rest) {
+        Ok(clauses) => Ok(clauses),
+        Err(error) => Err(a_line_later(error)),
+    }
+}
+
+// The error, where a line stands before the text.
+fn a_line_later(error: TaskError) -> TaskError {
+    match error {
+        TaskError::Certificate(AigerError::Refused(Place::Line(line), reason)) => {
+            let place = Place::Line(line.saturating_add(1));
+            TaskError::Certificate(AigerError::Refused(place, reason))
+        }
+        error => error,
     }
 }
 

@@ -5,6 +5,7 @@
 pub mod answers;
 pub mod certificates;
 pub mod error;
+pub mod induction;
 pub mod listener;
 pub mod output;
 mod parted;
@@ -16,6 +17,7 @@ pub use certificates::{
     Certificate, Doubt, certificate_of, certifies, doubt_of, witness_circuit_of,
 };
 pub use error::TaskError;
+pub use induction::InductionDoubt;
 pub use listener::Listener;
 pub use output::{Lost, Output};
 pub use witnesses::{WitnessDoubt, replays, witness_doubt};

@@ -1,10 +1,11 @@
 //! Certificates that are found, and those of others.
 
-use crate::circuits::{FALLING, HELD, KEPT, TWO};
+use crate::circuits::{CHAIN, FALLING, HELD, KEPT, TWO};
+use gipmc_aiger::read_circuit;
 use gipmc_answers::{
     Lost, Output, TaskError, answer, certificate_of, certifies, doubt_of, witness_circuit_of,
 };
-use gipmc_circuits::Verdict;
+use gipmc_circuits::{Netlist, Verdict};
 use gipmc_engines::Plan;
 use std::alloc::Global;
 
@@ -28,7 +29,7 @@ fn found(
     if is_circuit {
         witness_circuit_of(alloc, &answered.netlist, invariant, asked, usize::MAX)
     } else {
-        certificate_of(alloc, &answered.netlist, invariant, asked, usize::MAX)
+        certificate_of(alloc, &answered.netlist, invariant, None, asked, usize::MAX)
     }
 }
 
@@ -61,6 +62,18 @@ const STAYS: &[u8] = b"p cnf 1 1\n-1 0\n";
 
 const FIRST_STAYS: &[u8] = b"p cnf 2 1\n-1 0\n";
 
+const ONE: &[u8] = b"k 1\n";
+
+const NAUGHT: &[u8] = b"k 0\n";
+
+const TWO_STEPS: &[u8] = b"k 2\n";
+
+// The first bad literal is excluded by the clause.
+const NAUGHT_BESIDE: &[u8] = b"k 0\np cnf 2 1\n-1 0\n";
+
+// Its clause says nothing.
+const ONE_BESIDE: &[u8] = b"k 1\np cnf 2 1\n1 -1 0\n";
+
 const BOTH_STAY: &[u8] = b"p cnf 2 2\n-1 0\n-2 0\n";
 
 const AS_CIRCUIT: &[u8] = b"aag 1 0 1 0 0 1\n2 2\n2\n";
@@ -88,6 +101,19 @@ const JUDGED: &[(&[u8], &[u8], Option<usize>, bool)] = &[
     (TWO, BEHIND, Some(0), true),
     (TWO, ALONE, Some(0), true),
     (KEPT, UNORDERED, None, true),
+    (KEPT, ONE, None, true),
+    (KEPT, NAUGHT, None, false),
+    (HELD, ONE, None, false),
+    (HELD, TWO_STEPS, None, false),
+    (TWO, ONE, Some(0), true),
+    (TWO, ONE, Some(1), false),
+    (TWO, ONE, None, false),
+    (CHAIN, ONE, None, false),
+    (CHAIN, TWO_STEPS, None, true),
+    (FALLING, ONE, None, true),
+    (FALLING, NAUGHT_BESIDE, Some(0), true),
+    (FALLING, NAUGHT_BESIDE, None, false),
+    (FALLING, ONE_BESIDE, None, true),
     (FALLING, BOTH_STAY, None, true),
     (FALLING, FIRST_STAYS, Some(0), true),
     (FALLING, FIRST_STAYS, Some(1), false),
@@ -121,8 +147,38 @@ const DOUBTED: &[(&[u8], &[u8], Option<usize>, usize, Verdict)] = &[
 fn a_doubt_tells_the_literal_and_the_question(rt: HostRuntime) -> Result<(), TaskError> {
     for &(circuit, text, asked, bad, verdict) in DOUBTED {
         match doubt_of(rt.alloc(), circuit, text, asked, 100)? {
-            Some(doubt) => assert!(rt; doubt.bad == bad && doubt.verdict == verdict),
+            Some(doubt) => assert!(rt; doubt.bad == bad && doubt.verdict == Some(verdict)),
             None => assert!(rt; false),
+        }
+    }
+    Ok(())
+}
+
+// The circuit that a text writes.
+fn netlist_of(alloc: Global, text: &[u8]) -> Result<Netlist, TaskError> {
+    match read_circuit(alloc, text) {
+        Ok(netlist) => Ok(netlist),
+        Err(error) => Err(TaskError::Circuit(error)),
+    }
+}
+
+// A circuit, a k, the bad literal that is asked about, and the text that certifies it by this k, or none.
+const WRITTEN: &[(&[u8], usize, Option<usize>, Option<&[u8]>)] = &[
+    (KEPT, 1, None, Some(ONE)),
+    (CHAIN, 2, Some(0), Some(TWO_STEPS)),
+    (CHAIN, 1, None, None),
+    (HELD, 1, None, None),
+    (TWO, 1, Some(0), Some(ONE)),
+    (TWO, 1, None, None),
+];
+
+#[test]
+fn a_k_is_written_where_it_shows_that_it_is_safe(rt: HostRuntime) -> Result<(), TaskError> {
+    for &(circuit, k, asked, wanted) in WRITTEN {
+        let netlist = netlist_of(rt.alloc(), circuit)?;
+        match certificate_of(rt.alloc(), &netlist, &[], Some(k), asked, usize::MAX) {
+            Ok(text) => assert!(rt; wanted == Some(&text[..])),
+            Err(error) => assert!(rt; wanted.is_none() && error == TaskError::Uncertified),
         }
     }
     Ok(())

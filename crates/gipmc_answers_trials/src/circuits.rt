@@ -9,6 +9,9 @@ pub const KEPT: &[u8] = b"aag 1 0 1 0 0 1\n2 2\n2\n";
 /// A latch that stays 0, and one that holds next what the input was. Both are bad.
 pub const TWO: &[u8] = b"aag 3 1 2 0 0 2\n2\n4 4\n6 2\n4\n6\n";
 
+/// A latch that stays 0, and one that holds next what this is, and is bad.
+pub const CHAIN: &[u8] = b"aag 2 0 2 0 0 1\n2 2\n4 2\n4\n";
+
 /// Two latches that stay 0 and are bad, of which the first has the greater number, and a gate that matters to none.
 pub const FALLING: &[u8] = b"aag 9 1 2 0 1 2\n2\n18 18\n6 6\n18\n6\n8 2 18\n";
 
