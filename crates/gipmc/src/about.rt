@@ -38,11 +38,11 @@ pub const ABOUT: About<'static, Switch, Number, Text> = About {
     usage: &["gipmc [OPTION]... [FILE]"],
     summary: &[
         "Reads a circuit in the ascii or the binary form of AIGER 1.9 from FILE, or from standard input where none is \
-         named or its name is -, and searches for each bad literal in turn. As soon as it knows, it writes what it found: \
-         the lines `1`, `b` with the literal's place (from 0 on), a witness and `.`; or `0` in place of `1` where no bad \
-         state is reachable, and `2` where that is open. A line `u` with a number before a `2` says that no \
-         counterexample has so many transitions or fewer. Where the circuit has no bad literals, its outputs are taken \
-         for them; where it has neither, no answer is written.",
+         named or its name is -, and searches for all bad literals at once. As soon as it knows, it writes what it found \
+         of each in turn: the lines `1`, `b` with the literal's place (from 0 on), a witness and `.`; or `0` in place of \
+         `1` where no bad state is reachable, and `2` where that is open. A line `u` with a number before a `2` says that \
+         no counterexample has so many transitions or fewer. Where the circuit has no bad literals, its outputs are \
+         taken for them; where it has neither, no answer is written.",
     ],
     options: &OPTIONS,
     note: "The value of a long option may also stand behind `=`: --depth=20.",

@@ -38,6 +38,10 @@ both Open Fails = Fails
 both Open Safe = Open
 both Open Open = Open
 
+-- the text and the outcome are those of a verdict on the bad literal at a place, which a text may name
+abbrev pub TellsBy : {A : Type 0} → ℕ → Verdict A → Outcome → List ℕ → Type 0
+TellsBy place v outcome text = (text ≡ verdict_text place v) × (outcome ≡ outcome_of v) × (place < 2 ^ 31)
+
 -- the text is that of a right verdict on the bad literal at a place, which a text may name
 abbrev pub Tells : {A : Type 0} → Circuit A → ℕ → Outcome → List ℕ → Type 0
 Tells {A} c place outcome text =

@@ -1,20 +1,22 @@
 //! Answers about a circuit, from the bytes of its text to those of the answers.
-ghost use Rattle.std.specs.Prelude.{◌≡◌, ℕ, ◌<◌, ◌^◌, ◌++◌, codes, length, decimal, Some, IfOk, OnOk};
-ghost use Rattle.gipmc_answers.specs.Answers.{Answers, IsCircuitIn, Tells, TellsAsked, TellsFirst};
+ghost use Rattle.std.specs.Prelude.{◌≡◌, ℕ, ◌<◌, ◌^◌, ◌++◌, codes, length, map, slice_get, decimal, Some, IfOk, OnOk};
+ghost use Rattle.gipmc_answers.specs.Answers.{Answers, IsCircuitIn, Tells, TellsAsked, TellsBy, TellsFirst};
 ghost use Rattle.gipmc_answers.specs.Answers.{both, named, outcome_of, verdict_text};
 ghost use Rattle.gipmc_answers.specs.Output.{IsWritten};
 ghost use Rattle.gipmc_answers.specs.Witnesses.{Replays};
 ghost use Rattle.gipmc_answers.specs.declared.answers.Outcome.TheVariants.{Fails};
-ghost use Rattle.gipmc_engines.specs.Verdicts.{IsRightVerdict};
+ghost use Rattle.gipmc_part.specs.Parts.{IsPartOf, literal_named};
 
 use crate::error::TaskError;
 use crate::listener::Listener;
 use crate::output::Output;
-use crate::parted::check_by_part;
+use crate::parted::{Parted, part_of};
 use gipmc_aiger::{read_circuit, write_witness};
 use gipmc_circuits::Netlist;
 use gipmc_engines::{Plan, Verdict};
-use gipsat_cnf::Literal;
+use gipmc_part::Part;
+use gipsat_cnf::{Literal, SatSolver};
+use gipsat_solver::Solver;
 use std::alloc::{AllocError, Allocator, Global};
 use std::io::Write;
 
@@ -46,6 +48,13 @@ impl Outcome {
     }
 }
 
+// What is told of some bad literals.
+#[derive(Drop)]
+struct Told<A: Allocator> {
+    text: Vec<u8, A>,
+    outcome: Outcome,
+}
+
 /// What is said of some bad literals.
 #[derive(Drop)]
 pub struct Said<A: Allocator = Global> {
@@ -53,7 +62,7 @@ pub struct Said<A: Allocator = Global> {
     pub text: Vec<u8, A>,
     /// What it says of all of them.
     pub outcome: Outcome,
-    /// The clauses of the invariants that were found, over the circuit's variables.
+    /// The clauses of the invariant that was found, over the circuit's variables.
     pub invariant: Vec<Vec<Literal, A>, A>,
 }
 
@@ -67,14 +76,14 @@ pub struct Answered<A: Allocator = Global> {
 }
 
 /// Answers about the circuit that a text writes: about the bad literal at the place that is asked for, or about all.
-/// Each answer is written as soon as it is found. Where a write fails no more is written; the search stops then, and
-/// leaves the other literals open, or goes on, as the output says.
+/// One search is about all of them. Each answer is written as soon as it is found, and all before it are. Where a write
+/// fails no more is written; the search stops then, and leaves the other literals open, or goes on, as the output says.
 ///
 /// # Errors
 /// - [`TaskError::Circuit`] where the text writes no circuit.
 /// - [`TaskError::NoBad`] where there is no bad literal at the place.
-/// - [`TaskError::Memory`] where memory is refused for the circuit or a text. A search that is refused memory leaves its
-///   literal open.
+/// - [`TaskError::Memory`] where memory is refused for the circuit or a text. A search that is refused memory leaves the
+///   literals open that are not decided.
 pub fn answer<A: Allocator + Copy, L: Listener, W: Write>(
     alloc: A,
     bytes: &[u8],
@@ -122,16 +131,16 @@ fn answer_asked<A: Allocator + Copy, L: Listener, W: Write>(
         (W.contents output.old.writer) (W.contents output.new.writer) said.text.items) }
 {
     match asked {
-        None => Ok(answer_all(alloc, netlist, plan, listener, output)?),
-        Some(place) if place < netlist.circuit.bads.len() => {
-            Ok(answer_at(alloc, netlist, place, plan, listener, output)?)
-        }
+        None => Ok(answer_all::<Solver<A>, _, _, _>(alloc, netlist, plan, listener, output)?),
+        Some(place) if place < netlist.circuit.bads.len() => Ok(answer_at::<Solver<A>, _, _, _>(
+            alloc, netlist, place, plan, listener, output,
+        )?),
         Some(place) => Err(TaskError::NoBad(place, netlist.circuit.bads.len())),
     }
 }
 
 // Answers about all bad literals of a circuit.
-fn answer_all<A: Allocator + Copy, L: Listener, W: Write>(
+fn answer_all<S: SatSolver<A> + Drop, A: Allocator + Copy, L: Listener, W: Write>(
     alloc: A,
     netlist: &Netlist<A>,
     plan: &Plan,
@@ -143,24 +152,40 @@ fn answer_all<A: Allocator + Copy, L: Listener, W: Write>(
     ensures written { IfOk result (λ said. IsWritten output.old.failure output.new.failure
         (W.contents output.old.writer) (W.contents output.new.writer) said.text.items) }
 {
-    let mut text = Vec::new(alloc);
-    let mut outcome = Outcome::Safe;
-    let mut invariant = Vec::new(alloc);
-    for place in 0..netlist.circuit.bads.len() {
-        let mut said = answer_at(alloc, netlist, place, plan, listener, output)?;
-        text.extend_from_slice(&said.text)?;
-        outcome = outcome.and(said.outcome);
-        invariant.append(&mut said.invariant)?;
+    match part_of(alloc, netlist, &netlist.circuit.bads) {
+        Some(part) => answer_all_by::<S, _, _, _>(alloc, netlist, &part, plan, listener, output),
+        None => leave_all(alloc, netlist, listener, output),
     }
-    Ok(Said {
-        text,
-        outcome,
-        invariant,
-    })
+}
+
+// The same, by the part of the circuit that they depend on.
+fn answer_all_by<S: SatSolver<A> + Drop, A: Allocator + Copy, L: Listener, W: Write>(
+    alloc: A,
+    netlist: &Netlist<A>,
+    part: &Part<A>,
+    plan: &Plan,
+    listener: &mut L,
+    output: &mut Output<W>,
+) -> Result<Said<A>, AllocError>
+    requires part { IsPartOf part.now.names.names.items part.now.netlist.circuit netlist.now.circuit }
+    requires stand { map (literal_named part.now.names.names.items) part.now.netlist.circuit.bads.items
+        ≡ netlist.now.circuit.bads.items }
+    ensures tells { IfOk result (λ said.
+        TellsFirst netlist.now.circuit (length netlist.now.circuit.bads.items) said.outcome said.text.items) }
+    ensures written { IfOk result (λ said. IsWritten output.old.failure output.new.failure
+        (W.contents output.old.writer) (W.contents output.new.writer) said.text.items) }
+{
+    match Parted::<S, A>::new(alloc, netlist, &netlist.circuit.bads, part, plan) {
+        Ok(parted) => {
+            let mut parted = parted;
+            say_all(alloc, &mut parted, listener, output)
+        }
+        Err(_) => leave_all(alloc, netlist, listener, output),
+    }
 }
 
 // Answers about the bad literal at a place.
-fn answer_at<A: Allocator + Copy, L: Listener, W: Write>(
+fn answer_at<S: SatSolver<A> + Drop, A: Allocator + Copy, L: Listener, W: Write>(
     alloc: A,
     netlist: &Netlist<A>,
     place: usize,
@@ -173,46 +198,218 @@ fn answer_at<A: Allocator + Copy, L: Listener, W: Write>(
     ensures written { IfOk result (λ said. IsWritten output.old.failure output.new.failure
         (W.contents output.old.writer) (W.contents output.new.writer) said.text.items) }
 {
-    let bad = netlist.circuit.bads[place];
-    let verdict = if output.is_over() {
-        Verdict::Unknown
-    } else {
-        find_out(alloc, netlist, place, bad, plan, listener)
-    };
-    let text = verdict_text(alloc, place, &verdict)?;
-    output.tell(&text);
-    let outcome = outcome_of(&verdict);
-    Ok(Said {
-        text,
-        outcome,
-        invariant: invariant_of(alloc, verdict),
-    })
+    let bads = [netlist.circuit.bads[place]];
+    match part_of(alloc, netlist, &bads) {
+        Some(part) => {
+            answer_at_by::<S, _, _, _>(alloc, netlist, place, &bads, &part, plan, listener, output)
+        }
+        None => leave_one(alloc, netlist, place, listener, output),
+    }
 }
 
-// What is found out about the bad literal at a place: nothing where the time is over, or memory is refused.
-fn find_out<A: Allocator + Copy, L: Listener>(
+// The same, by the part of the circuit that the only one of these, which stands there, depends on.
+fn answer_at_by<S: SatSolver<A> + Drop, A: Allocator + Copy, L: Listener, W: Write>(
     alloc: A,
     netlist: &Netlist<A>,
     place: usize,
-    bad: Literal,
+    bads: &[Literal],
+    part: &Part<A>,
     plan: &Plan,
     listener: &mut L,
-) -> Verdict<A>
-    ensures { IsRightVerdict netlist.now.circuit bad result }
+    output: &mut Output<W>,
+) -> Result<Said<A>, AllocError>
+    requires within { 0 < length bads.now }
+    requires place { place < length netlist.now.circuit.bads.items }
+    requires same { slice_get netlist.now.circuit.bads.items place ≡ slice_get bads.now 0 }
+    requires part { IsPartOf part.now.names.names.items part.now.netlist.circuit netlist.now.circuit }
+    requires stand { map (literal_named part.now.names.names.items) part.now.netlist.circuit.bads.items ≡ bads.now }
+    ensures tells { IfOk result (λ said. Tells netlist.now.circuit place said.outcome said.text.items) }
+    ensures written { IfOk result (λ said. IsWritten output.old.failure output.new.failure
+        (W.contents output.old.writer) (W.contents output.new.writer) said.text.items) }
 {
-    if listener.begin(place).is_break() {
-        return Verdict::Unknown;
-    }
-    match check_by_part(alloc, netlist, bad, plan, listener) {
-        Ok(verdict) => {
-            listener.end(false);
-            verdict
+    match Parted::<S, A>::new(alloc, netlist, bads, part, plan) {
+        Ok(parted) => {
+            let mut parted = parted;
+            say_one(alloc, &mut parted, place, listener, output)
         }
-        Err(_) => {
-            listener.end(true);
-            Verdict::Unknown
-        }
+        Err(_) => leave_one(alloc, netlist, place, listener, output),
     }
+}
+
+// Says what is told of all literals that a search is about, those of its circuit.
+fn say_all<S: SatSolver<A> + Drop, A: Allocator + Copy, L: Listener, W: Write>(
+    alloc: A,
+    parted: &mut Parted<'_, S, A>,
+    listener: &mut L,
+    output: &mut Output<W>,
+) -> Result<Said<A>, AllocError>
+    requires { parted.old.bads.now ≡ parted.old.whole.now.circuit.bads.items }
+    ensures tells { IfOk result (λ said.
+        TellsFirst parted.old.whole.now.circuit (length parted.old.bads.now) said.outcome said.text.items) }
+    ensures written { IfOk result (λ said. IsWritten output.old.failure output.new.failure
+        (W.contents output.old.writer) (W.contents output.new.writer) said.text.items) }
+{
+    let told = tell_all(alloc, parted, listener, output)?;
+    Ok(made_of(told, parted.invariant(alloc)))
+}
+
+// Says what is told of the only literal that a search is about, the bad one at a place of its circuit.
+fn say_one<S: SatSolver<A> + Drop, A: Allocator + Copy, L: Listener, W: Write>(
+    alloc: A,
+    parted: &mut Parted<'_, S, A>,
+    place: usize,
+    listener: &mut L,
+    output: &mut Output<W>,
+) -> Result<Said<A>, AllocError>
+    requires within { 0 < length parted.old.bads.now }
+    requires same { slice_get parted.old.whole.now.circuit.bads.items place ≡ slice_get parted.old.bads.now 0 }
+    ensures tells { IfOk result (λ said. Tells parted.old.whole.now.circuit place said.outcome said.text.items) }
+    ensures written { IfOk result (λ said. IsWritten output.old.failure output.new.failure
+        (W.contents output.old.writer) (W.contents output.new.writer) said.text.items) }
+{
+    let told = tell_at(alloc, parted, 0, place, listener, output)?;
+    Ok(made_of(told, parted.invariant(alloc)))
+}
+
+// What is told, with an invariant.
+fn made_of<A: Allocator>(told: Told<A>, invariant: Vec<Vec<Literal, A>, A>) -> Said<A>
+    ensures outcome { result.outcome ≡ told.outcome }
+    ensures text { result.text.items ≡ told.text.items }
+{
+    Said {
+        text: told.text,
+        outcome: told.outcome,
+        invariant,
+    }
+}
+
+// Tells of all literals that a search is about, those of its circuit.
+fn tell_all<S: SatSolver<A> + Drop, A: Allocator + Copy, L: Listener, W: Write>(
+    alloc: A,
+    parted: &mut Parted<'_, S, A>,
+    listener: &mut L,
+    output: &mut Output<W>,
+) -> Result<Told<A>, AllocError>
+    requires { parted.old.bads.now ≡ parted.old.whole.now.circuit.bads.items }
+    ensures tells { IfOk result (λ told.
+        TellsFirst parted.old.whole.now.circuit (length parted.old.bads.now) told.outcome told.text.items) }
+    ensures written { IfOk result (λ told. IsWritten output.old.failure output.new.failure
+        (W.contents output.old.writer) (W.contents output.new.writer) told.text.items) }
+{
+    let mut text = Vec::new(alloc);
+    let mut outcome = Outcome::Safe;
+    for place in 0..parted.bads.len() {
+        let told = tell_at(alloc, parted, place, place, listener, output)?;
+        text.extend_from_slice(&told.text)?;
+        outcome = outcome.and(told.outcome);
+    }
+    Ok(Told { text, outcome })
+}
+
+// Tells of the literal at one of a search's places, which is the bad one at a place of the circuit.
+fn tell_at<S: SatSolver<A> + Drop, A: Allocator + Copy, L: Listener, W: Write>(
+    alloc: A,
+    parted: &mut Parted<'_, S, A>,
+    at: usize,
+    place: usize,
+    listener: &mut L,
+    output: &mut Output<W>,
+) -> Result<Told<A>, AllocError>
+    requires within { at < length parted.old.bads.now }
+    requires same { slice_get parted.old.whole.now.circuit.bads.items place ≡ slice_get parted.old.bads.now at }
+    ensures whole { parted.new.whole ≡ parted.old.whole }
+    ensures bads { parted.new.bads ≡ parted.old.bads }
+    ensures tells { IfOk result (λ told. Tells parted.old.whole.now.circuit place told.outcome told.text.items) }
+    ensures written { IfOk result (λ told. IsWritten output.old.failure output.new.failure
+        (W.contents output.old.writer) (W.contents output.new.writer) told.text.items) }
+{
+    let _bad = parted.bads[at];
+    let verdict = parted.find_out(alloc, at, place, output.is_over(), listener);
+    tell(alloc, place, &verdict, output)
+}
+
+// Leaves all bad literals of a circuit open: there is no memory for a search.
+fn leave_all<A: Allocator + Copy, L: Listener, W: Write>(
+    alloc: A,
+    netlist: &Netlist<A>,
+    listener: &mut L,
+    output: &mut Output<W>,
+) -> Result<Said<A>, AllocError>
+    ensures tells { IfOk result (λ said.
+        TellsFirst netlist.now.circuit (length netlist.now.circuit.bads.items) said.outcome said.text.items) }
+    ensures written { IfOk result (λ said. IsWritten output.old.failure output.new.failure
+        (W.contents output.old.writer) (W.contents output.new.writer) said.text.items) }
+{
+    let mut text = Vec::new(alloc);
+    let mut outcome = Outcome::Safe;
+    for place in 0..netlist.circuit.bads.len() {
+        let told = leave_at(alloc, netlist, place, listener, output)?;
+        text.extend_from_slice(&told.text)?;
+        outcome = outcome.and(told.outcome);
+    }
+    Ok(made_of(Told { text, outcome }, Vec::new(alloc)))
+}
+
+// Leaves one of them open.
+fn leave_one<A: Allocator + Copy, L: Listener, W: Write>(
+    alloc: A,
+    netlist: &Netlist<A>,
+    place: usize,
+    listener: &mut L,
+    output: &mut Output<W>,
+) -> Result<Said<A>, AllocError>
+    requires { place < length netlist.now.circuit.bads.items }
+    ensures tells { IfOk result (λ said. Tells netlist.now.circuit place said.outcome said.text.items) }
+    ensures written { IfOk result (λ said. IsWritten output.old.failure output.new.failure
+        (W.contents output.old.writer) (W.contents output.new.writer) said.text.items) }
+{
+    let told = leave_at(alloc, netlist, place, listener, output)?;
+    Ok(made_of(told, Vec::new(alloc)))
+}
+
+// Tells that one of them is open.
+fn leave_at<A: Allocator + Copy, L: Listener, W: Write>(
+    alloc: A,
+    netlist: &Netlist<A>,
+    place: usize,
+    listener: &mut L,
+    output: &mut Output<W>,
+) -> Result<Told<A>, AllocError>
+    requires { place < length netlist.now.circuit.bads.items }
+    ensures tells { IfOk result (λ told. Tells netlist.now.circuit place told.outcome told.text.items) }
+    ensures written { IfOk result (λ told. IsWritten output.old.failure output.new.failure
+        (W.contents output.old.writer) (W.contents output.new.writer) told.text.items) }
+{
+    let _bad = netlist.circuit.bads[place];
+    note_refused(place, output.is_over(), listener);
+    tell(alloc, place, &Verdict::Unknown, output)
+}
+
+// Tells a listener that memory is refused for the search about the bad literal at a place, unless it is over.
+fn note_refused<L: Listener>(place: usize, is_over: bool, listener: &mut L) {
+    if is_over || listener.begin(place).is_break() {
+        return;
+    }
+    listener.end(true);
+}
+
+// Tells of the bad literal at a place by a verdict.
+fn tell<A: Allocator + Copy, W: Write>(
+    alloc: A,
+    place: usize,
+    verdict: &Verdict<A>,
+    output: &mut Output<W>,
+) -> Result<Told<A>, AllocError>
+    ensures tells { IfOk result (λ told. TellsBy place verdict.now told.outcome told.text.items) }
+    ensures written { IfOk result (λ told. IsWritten output.old.failure output.new.failure
+        (W.contents output.old.writer) (W.contents output.new.writer) told.text.items) }
+{
+    let text = verdict_text(alloc, place, verdict)?;
+    output.tell(&text);
+    Ok(Told {
+        text,
+        outcome: outcome_of(verdict),
+    })
 }
 
 // What a verdict says of its literal.
@@ -224,14 +421,6 @@ fn outcome_of<A: Allocator>(verdict: &Verdict<A>) -> Outcome
         Verdict::Safe(_) => Outcome::Safe,
         Verdict::NoFailureWithin(_) => Outcome::Open,
         Verdict::Unknown => Outcome::Open,
-    }
-}
-
-// The invariant of a verdict.
-fn invariant_of<A: Allocator>(alloc: A, verdict: Verdict<A>) -> Vec<Vec<Literal, A>, A> {
-    match verdict {
-        Verdict::Safe(invariant) => invariant,
-        _ => Vec::new(alloc),
     }
 }
 

@@ -1,13 +1,13 @@
-//! A listener to the searches about some bad literals.
+//! A listener to a search about some bad literals.
 use gipmc_engines::Watch;
 use std::ops::ControlFlow;
 
-/// A listener to the searches about some bad literals, one after another.
+/// A listener to a search about some bad literals, which are answered one after another.
 pub trait Listener: Watch {
-    /// The search about the bad literal at this place is to begin. `Break` where there is no time for it.
+    /// The search is to go on until the bad literal at this place is decided. `Break` where there is no time for it.
     fn begin(&mut self, place: usize) -> ControlFlow<()>;
 
-    /// It ended. Whether that was because memory was refused.
+    /// It did. Whether memory was refused, and the literal is left open for that.
     fn end(&mut self, is_refused: bool);
 }
 

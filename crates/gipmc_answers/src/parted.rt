@@ -1,91 +1,185 @@
-//! Searches in a part of a circuit: what the bad literal and the constraints depend on.
-ghost use Rattle.std.specs.Prelude.{◌≡◌, IfOk};
+//! Searches in a part of a circuit: what its bad literals and the constraints depend on.
+ghost use Rattle.std.specs.Prelude.{◌≡◌, ◌<◌, length, map, slice_get, Some, IfOk, IfSome};
+ghost use Rattle.gipsat_cnf.specs.Literals.{Lit};
+ghost use Rattle.gipmc_engines.specs.Several.{verdict_by};
 ghost use Rattle.gipmc_engines.specs.Verdicts.{IsRightVerdict};
 ghost use Rattle.gipmc_part.specs.Parts.{IsPartOf, literal_named};
 
+use crate::listener::Listener;
 use gipmc_circuits::{Netlist, Trace, replay};
-use gipmc_engines::{Plan, Verdict, Watch, check};
+use gipmc_engines::{Finding, Joint, Plan, Verdict};
 use gipmc_part::Part;
-use gipsat_cnf::Literal;
-use gipsat_solver::Solver;
+use gipsat_cnf::{Literal, SatSolver};
 use std::alloc::{AllocError, Allocator};
 
-/// What engines find out about a bad literal by the part of the circuit that it depends on, or by the circuit itself where
-/// the literal is of no variable of it.
-///
-/// # Errors
-/// `AllocError` where memory is refused.
-pub(crate) fn check_by_part<A: Allocator + Copy, W: Watch>(
+/// The part of a circuit that some of its literals depend on. None where memory is refused, or where one of them is of no
+/// variable of the circuit.
+pub(crate) fn part_of<A: Allocator + Copy>(
     alloc: A,
     whole: &Netlist<A>,
-    bad: Literal,
-    plan: &Plan,
-    watch: &mut W,
-) -> Result<Verdict<A>, AllocError>
-    ensures { IfOk result (IsRightVerdict whole.now.circuit bad) }
+    bads: &[Literal],
+) -> Option<Part<A>>
+    ensures part { IfSome result (λ p. IsPartOf p.names.names.items p.netlist.circuit whole.now.circuit) }
+    ensures bads { IfSome result
+        (λ p. map (literal_named p.names.names.items) p.netlist.circuit.bads.items ≡ bads.now) }
 {
-    match Part::new(alloc, whole, &[bad])? {
-        Some(part) => check_in(alloc, whole, bad, &part, plan, watch),
-        None => check::<Solver<A>, _, _>(alloc, whole, bad, plan, watch),
+    match Part::new(alloc, whole, bads) {
+        Ok(part) => part,
+        Err(_) => None,
     }
 }
 
-// The same, by a part of the circuit.
-fn check_in<A: Allocator + Copy, W: Watch>(
-    alloc: A,
-    whole: &Netlist<A>,
-    bad: Literal,
-    part: &Part<A>,
-    plan: &Plan,
-    watch: &mut W,
-) -> Result<Verdict<A>, AllocError>
-    requires { IsPartOf part.now.names.names.items part.now.netlist.circuit whole.now.circuit }
-    ensures { IfOk result (IsRightVerdict whole.now.circuit bad) }
-{
-    let Some(own) = part.names.literal(bad) else {
-        return check::<Solver<A>, _, _>(alloc, whole, bad, plan, watch);
-    };
-    let verdict = check::<Solver<A>, _, _>(alloc, &part.netlist, own, plan, watch)?;
-    verdict_on_whole(alloc, whole, bad, part, own, &verdict)
+/// One search about some literals of a circuit, in a part of it.
+#[derive(Drop)]
+pub(crate) struct Parted<'a, S: SatSolver<A> + Drop, A: Allocator> {
+    /// The whole circuit.
+    pub(crate) whole: &'a Netlist<A>,
+    /// Its literals.
+    pub(crate) bads: &'a [Literal],
+    part: &'a Part<A>,
+    // The search about those that stand for them.
+    joint: Joint<'a, S, A>,
+    pub ghost is_part: { ∥ IsPartOf part.now.names.names.items part.now.netlist.circuit whole.now.circuit ∥₁ },
+    pub ghost same: { joint.findings.netlist.now ≡ part.now.netlist },
+    pub ghost stand: { map (literal_named part.now.names.names.items) joint.findings.bads.now ≡ bads.now },
 }
 
-// The verdict on the whole circuit, by one on the part's literal that stands for the bad one.
-fn verdict_on_whole<A: Allocator + Copy>(
-    alloc: A,
-    whole: &Netlist<A>,
-    bad: Literal,
-    part: &Part<A>,
-    own: Literal,
-    verdict: &Verdict<A>,
-) -> Result<Verdict<A>, AllocError>
-    requires part { IsPartOf part.now.names.names.items part.now.netlist.circuit whole.now.circuit }
-    requires bad { literal_named part.now.names.names.items own ≡ bad }
-    requires right { IsRightVerdict part.now.netlist.circuit own verdict.now }
-    ensures { IfOk result (IsRightVerdict whole.now.circuit bad) }
-{
-    let _own = own;
-    match verdict {
-        Verdict::Fails(trace) => fails_by(alloc, whole, bad, part, trace),
-        Verdict::Safe(invariant) => Ok(Verdict::Safe(part.names.clauses_of(alloc, invariant)?)),
-        Verdict::NoFailureWithin(depth) => Ok(Verdict::NoFailureWithin(*depth)),
-        Verdict::Unknown => Ok(Verdict::Unknown),
+impl<'a, S: SatSolver<A> + Drop, A: Allocator + Copy> Parted<'a, S, A> {
+    /// Before the search.
+    ///
+    /// # Errors
+    /// `AllocError` where memory is refused.
+    pub(crate) fn new(
+        alloc: A,
+        whole: &'a Netlist<A>,
+        bads: &'a [Literal],
+        part: &'a Part<A>,
+        plan: &Plan,
+    ) -> Result<Self, AllocError>
+        requires part { IsPartOf part.now.names.names.items part.now.netlist.circuit whole.now.circuit }
+        requires stand { map (literal_named part.now.names.names.items) part.now.netlist.circuit.bads.items ≡ bads.now }
+        ensures { IfOk result (λ p. (p.whole.now ≡ whole.now) × (p.bads.now ≡ bads.now)) }
+    {
+        let joint = Joint::new(alloc, &part.netlist, &part.netlist.circuit.bads, plan)?;
+        Ok(Parted {
+            whole,
+            bads,
+            part,
+            joint,
+        })
     }
-}
 
-// That the whole circuit fails, where a trace of the part, carried to it, is a counterexample.
-fn fails_by<A: Allocator + Copy>(
-    alloc: A,
-    whole: &Netlist<A>,
-    bad: Literal,
-    part: &Part<A>,
-    trace: &Trace<A>,
-) -> Result<Verdict<A>, AllocError>
-    ensures { IfOk result (IsRightVerdict whole.now.circuit bad) }
-{
-    let trace = part.trace_of(alloc, whole, trace)?;
-    if replay(alloc, whole, bad, &trace)? {
-        Ok(Verdict::Fails(trace))
-    } else {
-        Ok(Verdict::Unknown)
+    /// Goes on until the literal at one of the places is decided, the bad one at a place of the circuit, and answers what is
+    /// known of it then. A search that is over, or for which a listener has no time, does not go on.
+    pub(crate) fn find_out<L: Listener>(
+        &mut self,
+        alloc: A,
+        at: usize,
+        place: usize,
+        is_over: bool,
+        listener: &mut L,
+    ) -> Verdict<A>
+        requires { at < length self.old.bads.now }
+        ensures whole { self.new.whole ≡ self.old.whole }
+        ensures bads { self.new.bads ≡ self.old.bads }
+        ensures right { (bad : Lit) → slice_get self.old.bads.now at ≡ Some bad →
+            IsRightVerdict self.old.whole.now.circuit bad result }
+    {
+        if is_over || listener.begin(place).is_break() {
+            return self.known(alloc, at);
+        }
+        self.joint.find_out(at, listener);
+        let verdict = self.known(alloc, at);
+        listener.end(self.is_refused(at, &verdict));
+        verdict
+    }
+
+    // Whether a literal is left open since memory was refused.
+    fn is_refused(&self, at: usize, verdict: &Verdict<A>) -> bool {
+        let is_lost = self.joint.is_refused || !self.joint.findings.is_open(at);
+        match verdict {
+            Verdict::Fails(_) => false,
+            Verdict::Safe(_) => false,
+            Verdict::NoFailureWithin(_) => is_lost,
+            Verdict::Unknown => is_lost,
+        }
+    }
+
+    // What is known of the literal at a place: nothing where memory is refused.
+    fn known(&self, alloc: A, at: usize) -> Verdict<A>
+        requires { at < length self.now.bads.now }
+        ensures { (bad : Lit) → slice_get self.now.bads.now at ≡ Some bad →
+            IsRightVerdict self.now.whole.now.circuit bad result }
+    {
+        match self.carried(alloc, at) {
+            Ok(verdict) => verdict,
+            Err(_) => Verdict::Unknown,
+        }
+    }
+
+    // The finding about the literal at a place, as a verdict on the whole circuit.
+    fn carried(&self, alloc: A, at: usize) -> Result<Verdict<A>, AllocError>
+        requires within { at < length self.now.bads.now }
+        requires own { at < length self.now.joint.findings.bads.now }
+        ensures { IfOk result (λ verdict. (bad : Lit) → slice_get self.now.bads.now at ≡ Some bad →
+            IsRightVerdict self.now.whole.now.circuit bad verdict) }
+    {
+        let bad = self.bads[at];
+        let own = self.joint.findings.bads[at];
+        let finding = self.joint.findings.at(at);
+        if let Finding::Fails(trace) = finding {
+            return self.fails_by(alloc, bad, trace);
+        }
+        if self.joint.findings.is_shown(alloc, at)? {
+            self.on_whole(alloc, bad, own, finding)
+        } else {
+            Ok(Verdict::Unknown)
+        }
+    }
+
+    // That the whole circuit fails, where a trace of the part, carried to it, is a counterexample.
+    fn fails_by(&self, alloc: A, bad: Literal, trace: &Trace<A>) -> Result<Verdict<A>, AllocError>
+        ensures { IfOk result (IsRightVerdict self.now.whole.now.circuit bad) }
+    {
+        let trace = self.part.trace_of(alloc, self.whole, trace)?;
+        if replay(alloc, self.whole, bad, &trace)? {
+            Ok(Verdict::Fails(trace))
+        } else {
+            Ok(Verdict::Unknown)
+        }
+    }
+
+    // The verdict on the whole circuit, by a finding about the part's literal that stands for the bad one.
+    fn on_whole(
+        &self,
+        alloc: A,
+        bad: Literal,
+        own: Literal,
+        finding: &Finding<A>,
+    ) -> Result<Verdict<A>, AllocError>
+        requires bad { literal_named self.now.part.now.names.names.items own ≡ bad }
+        requires right { IsRightVerdict self.now.joint.findings.netlist.now.circuit own
+            (verdict_by self.now.joint.findings.invariant finding.now) }
+        ensures { IfOk result (IsRightVerdict self.now.whole.now.circuit bad) }
+    {
+        let (_of, _own) = (bad, own);
+        match finding {
+            Finding::Fails(_) => Ok(Verdict::Unknown),
+            Finding::Safe => {
+                let clauses = &self.joint.findings.invariant;
+                Ok(Verdict::Safe(self.part.names.clauses_of(alloc, clauses)?))
+            }
+            Finding::NoFailureWithin(depth) => Ok(Verdict::NoFailureWithin(*depth)),
+            Finding::Unknown => Ok(Verdict::Unknown),
+        }
+    }
+
+    /// The clauses of the invariant that was found, over the variables of the whole circuit; none where memory is refused.
+    pub(crate) fn invariant(&self, alloc: A) -> Vec<Vec<Literal, A>, A> {
+        let clauses = &self.joint.findings.invariant;
+        match self.part.names.clauses_of(alloc, clauses) {
+            Ok(clauses) => clauses,
+            Err(_) => Vec::new(alloc),
+        }
     }
 }

@@ -1,6 +1,6 @@
 //! What is answered, and what a write that is lost ends.
 
-use crate::circuits::{HELD, KEPT, NONE, TWO};
+use crate::circuits::{HELD, KEPT, NONE, SWAPPED, TWO};
 use crate::example::answered;
 use gipmc_answers::{Lost, Outcome, Output, TaskError, answer};
 use gipmc_engines::Plan;
@@ -25,19 +25,21 @@ fn answers_about_all_bad_literals(rt: HostRuntime) -> Result<(), TaskError> {
     Ok(())
 }
 
-// What is said of two bad literals where the first answer is lost, and whether the output tells that one was.
-fn said(alloc: Global, lost: Lost) -> Result<(Outcome, bool), TaskError> {
+// Whether the second of two bad literals, which is safe, is found to be so where the first answer is lost, and whether
+// the output tells that one was.
+fn goes_on(alloc: Global, lost: Lost) -> Result<(bool, bool), TaskError> {
     let writer = Sink::new(alloc, 9, 1, Failure::Refuses(ErrorKind::Other));
     let mut output = Output::new(writer, lost);
-    let answered = answer(alloc, TWO, None, &Plan::default(), &mut (), &mut output)?;
-    Ok((answered.said.outcome, output.failure.is_some()))
+    let answered = answer(alloc, SWAPPED, None, &Plan::default(), &mut (), &mut output)?;
+    let is_safe = answered.said.text.ends_with(b"0\nb1\n.\n");
+    Ok((is_safe, output.failure.is_some()))
 }
 
 #[test]
 fn an_answer_that_is_lost_ends_the_search_where_that_is_wanted(
     rt: HostRuntime,
 ) -> Result<(), TaskError> {
-    assert!(rt; said(rt.alloc(), Lost::Stop)? == (Outcome::Open, true));
-    assert!(rt; said(rt.alloc(), Lost::GoOn)? == (Outcome::Fails, true));
+    assert!(rt; goes_on(rt.alloc(), Lost::Stop)? == (false, true));
+    assert!(rt; goes_on(rt.alloc(), Lost::GoOn)? == (true, true));
     Ok(())
 }

@@ -9,6 +9,9 @@ pub const KEPT: &[u8] = b"aag 1 0 1 0 0 1\n2 2\n2\n";
 /// A latch that stays 0, and one that holds next what the input was. Both are bad.
 pub const TWO: &[u8] = b"aag 3 1 2 0 0 2\n2\n4 4\n6 2\n4\n6\n";
 
+/// The same latches, of which the second one is the first bad literal.
+pub const SWAPPED: &[u8] = b"aag 3 1 2 0 0 2\n2\n4 4\n6 2\n6\n4\n";
+
 /// A latch that stays 0, and one that holds next what this is, and is bad.
 pub const CHAIN: &[u8] = b"aag 2 0 2 0 0 1\n2 2\n4 2\n4\n";
 

@@ -1,13 +1,13 @@
 //! What a listener is told, and what it stops.
 
-use crate::circuits::TWO;
+use crate::circuits::SWAPPED;
 use gipmc_answers::{Listener, Lost, Outcome, Output, TaskError, answer};
 use gipmc_engines::{Plan, Watch};
 use gipmc_ic3::Statistics;
 use std::alloc::Global;
 use std::ops::ControlFlow;
 
-// Stops before the search about the bad literal at a place, and counts those that began and ended.
+// Lets no search begin about the bad literal at a place, and counts those that began and ended.
 #[derive(Clone, Copy, PartialEq, Eq)]
 struct Stopper {
     place: usize,
@@ -43,8 +43,9 @@ impl Listener for Stopper {
     }
 }
 
-// What is said of two bad literals, the first of them safe, and how many searches began and ended.
-fn said(alloc: Global, place: usize) -> Result<(Outcome, usize, usize), TaskError> {
+// What is said of two bad literals, of which the first one fails and the second one is safe: of both together, and whether
+// the second one is left open; and how many searches began and ended.
+fn said(alloc: Global, place: usize) -> Result<(Outcome, bool, usize, usize), TaskError> {
     let mut stopper = Stopper {
         place,
         begun: 0,
@@ -53,19 +54,21 @@ fn said(alloc: Global, place: usize) -> Result<(Outcome, usize, usize), TaskErro
     let mut output = Output::new(Vec::new(alloc), Lost::GoOn);
     let answered = answer(
         alloc,
-        TWO,
+        SWAPPED,
         None,
         &Plan::default(),
         &mut stopper,
         &mut output,
     )?;
-    Ok((answered.said.outcome, stopper.begun, stopper.ended))
+    let said = answered.said;
+    let is_open = said.text.ends_with(b"2\nb1\n.\n");
+    Ok((said.outcome, is_open, stopper.begun, stopper.ended))
 }
 
 #[test]
 fn a_listener_leaves_a_literal_open(rt: HostRuntime) -> Result<(), TaskError> {
-    assert!(rt; said(rt.alloc(), 1)? == (Outcome::Open, 1, 1));
-    assert!(rt; said(rt.alloc(), 0)? == (Outcome::Fails, 1, 1));
-    assert!(rt; said(rt.alloc(), 2)? == (Outcome::Fails, 2, 2));
+    assert!(rt; said(rt.alloc(), 1)? == (Outcome::Fails, true, 1, 1));
+    assert!(rt; said(rt.alloc(), 0)? == (Outcome::Open, false, 1, 1));
+    assert!(rt; said(rt.alloc(), 2)? == (Outcome::Fails, false, 2, 2));
     Ok(())
 }
