@@ -437,7 +437,7 @@ told "a great number takes little memory" $?
 
 # What is told at the end, on standard error. One clause is learned, of one literal, and then the empty one, which does
 # not count among the clauses kept.
-told='c 2 conflicts, 0 restarts, 5 clauses kept, 0 deleted, 1.000000 literals in each of the last learned'
+told='c 2 conflicts, 0 restarts, 5 clauses kept, 0 deleted, 1.00 literals in each of the last learned'
 printf 'p cnf 2 4\n1 2 0\n-1 2 0\n1 -2 0\n-1 -2 0\n' | "$gipsat" --stats > "$work/out" 2> "$work/err"
 if [ "$(cat "$work/out")" = "s UNSATISFIABLE" ] && grep -qxF "$told" "$work/err" &&
     grep -q '^c 2 variables, 4 clauses read in [0-9]*\.[0-9]\{3\} s$' "$work/err" &&

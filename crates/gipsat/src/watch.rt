@@ -23,6 +23,9 @@ const LAST: usize = 1_000;
 // How many seconds it is at least from one line to the next.
 const INTERVAL_SECONDS: u64 = 5;
 
+// The decimals of an average.
+const PLACES: u32 = 2;
+
 // What is known, as it is written in a line.
 #[derive(Clone, Copy)]
 struct Snapshot<'a> {
@@ -51,10 +54,10 @@ struct Lengths<'a>(&'a MovingAverage);
 
 impl Display for Lengths<'_> {
     fn fmt<W: fmt::Write>(&self, f: &mut fmt::Formatter<W>) -> fmt::Result {
-        if self.0.average().count() == 0 {
-            return Ok(());
+        match self.0.average().mean(PLACES) {
+            Some(mean) => write!(f, ", {mean} literals in each of the last learned"),
+            None => Ok(()),
         }
-        write!(f, ", {:?} literals in each of the last learned", self.0)
     }
 }
 
