@@ -128,7 +128,7 @@ help=$("$gipsat" --help)
 try "the help" 0 "" "$help" "" -h
 [ -z "$(printf '%s\n' "$help" | grep '.\{81\}')" ]
 told "the help fits into 80 columns" $?
-for option in --conflicts -t --time -n --no-witness -q --quiet --stats --proof --binary --lrat -f --force --relaxed -v --verbose --no-simplify --assume --models --project --check --lrat-from-drat -h --help --version --; do
+for option in --conflicts -t --time -n --no-witness -q --quiet --stats --proof --binary --lrat -f --force --relaxed -v --verbose --no-eliminate --no-vivify --no-simplify --assume --models --project --check --lrat-from-drat -h --help --version --; do
     if printf '%s\n' "$help" | grep -qE -- "^ *([^ ]+ )?${option}[ ,]"; then
         echo "ok: the help tells of $option"
         passed=$((passed + 1))
@@ -701,6 +701,15 @@ else
     echo "FAILED: variables are eliminated, but for --no-simplify ($with, $without)"
     failed=$((failed + 1))
 fi
+
+# Each of the two can be prevented alone, and proofs are checked then too.
+for switch in --no-eliminate --no-vivify; do
+    alone=$("$gipsat" -n --stats "$switch" "$work/crowd" 2>&1 > "$work/out" | grep ' conflicts, ')
+    [ -n "$alone" ] && [ "$alone" != "$with" ] && [ "$alone" != "$without" ]
+    told "a search with $switch" $?
+    try "a proof with $switch is written" 20 "" "s UNSATISFIABLE" "" -q "$switch" --proof "$work/plain" "$work/crowd"
+    try "that proof with $switch is checked" 0 "" "s VERIFIED" "" --check "$work/crowd" "$work/plain"
+done
 
 # A summary has no average of nothing.
 printf 'p cnf 2 1\n1 2 0\n' | "$gipsat" --stats > "$work/out" 2> "$work/err"

@@ -33,8 +33,14 @@ lrat : work_asked (codes "--lrat" ∷ codes "--proof" ∷ codes "p" ∷ [])
     ≡ Ok (Solve (record no_request { proof = Some (codes "p"); lrat = true }))
 lrat = refl
 
-no_simplify : work_asked (codes "--no-simplify" ∷ []) ≡ Ok (Solve (record no_request { simplify = false }))
+no_simplify : work_asked (codes "--no-simplify" ∷ []) ≡ Ok (Solve (record no_request { eliminate = false; vivify = false }))
 no_simplify = refl
+
+no_eliminate : work_asked (codes "--no-eliminate" ∷ []) ≡ Ok (Solve (record no_request { eliminate = false }))
+no_eliminate = refl
+
+no_vivify : work_asked (codes "--no-vivify" ∷ []) ≡ Ok (Solve (record no_request { vivify = false }))
+no_vivify = refl
 
 assume : work_asked (codes "--assume" ∷ codes "1 -2" ∷ codes "a" ∷ [])
     ≡ Ok (Solve (record no_request { assume = Some (codes "1 -2"); file = Some (codes "a") }))

@@ -9,7 +9,7 @@ use Rattle.gipsat.specs.Misuses.{Misuse, MissingModels, MissingProof, OutputTwic
 use Rattle.gipsat.specs.declared.about.Number.{Number}
 use Rattle.gipsat.specs.declared.about.Number.TheVariants.{Conflicts, Models, Time}
 use Rattle.gipsat.specs.declared.about.Switch.{Switch}
-use Rattle.gipsat.specs.declared.about.Switch.TheVariants.{Binary, Check, Force, Lrat, NoSimplify, NoWitness, Quiet, Relaxed, Stats, Verbose}
+use Rattle.gipsat.specs.declared.about.Switch.TheVariants.{Binary, Check, Force, Lrat, NoEliminate, NoSimplify, NoVivify, NoWitness, Quiet, Relaxed, Stats, Verbose}
 use Rattle.gipsat.specs.declared.about.Text.{Text}
 use Rattle.gipsat.specs.declared.about.Text.TheVariants.{Assume, LratFromDrat, Project, Proof}
 use Rattle.gipsat.specs.declared.options.Options.{Options}
@@ -21,6 +21,8 @@ table =
     text (codes "--assume") [] Assume ∷
     number (codes "--models") [] Models ∷
     text (codes "--project") [] Project ∷
+    switch (codes "--no-eliminate") [] NoEliminate ∷
+    switch (codes "--no-vivify") [] NoVivify ∷
     switch (codes "--no-simplify") [] NoSimplify ∷
     number (codes "--conflicts") [] Conflicts ∷
     number (codes "--time") (codes "-t") Time ∷
@@ -38,7 +40,8 @@ table =
 
 -- the limits of a search in conflicts and in seconds, what to write, which literals to add, how many models to write, if
 -- several, and which variables tell them apart, if not all, where to write a proof, if anywhere, and in which form,
--- whether to eliminate variables, what the counts of the header mean, and which file to read, if not standard input
+-- whether to eliminate variables and to shorten clauses, what the counts of the header mean, and which file to read, if
+-- not standard input
 pub record Request : Type 0 where
   pub conflicts : ℕ
   pub time : Option ℕ
@@ -53,7 +56,8 @@ pub record Request : Type 0 where
   pub force : Bool
   pub binary : Bool
   pub lrat : Bool
-  pub simplify : Bool
+  pub eliminate : Bool
+  pub vivify : Bool
   pub rule : HeaderRule
   pub file : Option (List ℕ)
 
@@ -73,7 +77,8 @@ no_request = record {
   force = false;
   binary = false;
   lrat = false;
-  simplify = true;
+  eliminate = true;
+  vivify = true;
   rule = rule.Strict;
   file = None;
 }
@@ -113,7 +118,8 @@ request_of o = record {
   force = o.force;
   binary = o.binary;
   lrat = o.lrat;
-  simplify = o.simplify;
+  eliminate = o.eliminate;
+  vivify = o.vivify;
   rule = o.rule;
   file = option_map (λ name. name.now) o.file;
 }

@@ -44,7 +44,9 @@ switched switch.Binary s word = record s { request = record s.request { binary =
 switched switch.Check s word = record s { check = true }
 switched switch.Force s word = record s { request = record s.request { force = true }; form = Some word }
 switched switch.Lrat s word = asking s word (record s.request { lrat = true })
-switched switch.NoSimplify s word = asking s word (record s.request { simplify = false })
+switched switch.NoEliminate s word = asking s word (record s.request { eliminate = false })
+switched switch.NoSimplify s word = asking s word (record s.request { eliminate = false; vivify = false })
+switched switch.NoVivify s word = asking s word (record s.request { vivify = false })
 switched switch.NoWitness s word = asking s word (record s.request { witness = false })
 switched switch.Quiet s word = asking s word (record s.request { quiet = true })
 switched switch.Relaxed s word = asking s word (record s.request { rule = rule.Relaxed })

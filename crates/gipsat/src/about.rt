@@ -8,7 +8,9 @@ pub enum Switch {
     Check,
     Force,
     Lrat,
+    NoEliminate,
     NoSimplify,
+    NoVivify,
     NoWitness,
     Quiet,
     Relaxed,
@@ -56,7 +58,7 @@ pub const ABOUT: About<'static, Switch, Number, Text> = About {
 };
 
 /// The options.
-pub const OPTIONS: [Opt<Switch, Number, Text>; 17] = [
+pub const OPTIONS: [Opt<Switch, Number, Text>; 19] = [
     Opt {
         long: "--relaxed",
         short: "",
@@ -87,11 +89,25 @@ pub const OPTIONS: [Opt<Switch, Number, Text>; 17] = [
         help: "let no two models agree on all of these variables, as in --project '1 2'; without it, on all variables",
     },
     Opt {
+        long: "--no-eliminate",
+        short: "",
+        kind: Kind::Switch(Switch::NoEliminate),
+        section: "Search",
+        help: "eliminate no variables",
+    },
+    Opt {
+        long: "--no-vivify",
+        short: "",
+        kind: Kind::Switch(Switch::NoVivify),
+        section: "Search",
+        help: "shorten no learned clauses",
+    },
+    Opt {
         long: "--no-simplify",
         short: "",
         kind: Kind::Switch(Switch::NoSimplify),
         section: "Search",
-        help: "eliminate no variables, and shorten no learned clauses",
+        help: "as --no-eliminate and --no-vivify together",
     },
     Opt {
         long: "--conflicts",

@@ -13,6 +13,7 @@ use crate::about::{Number, OPTIONS, Switch, Text};
 use crate::errors::UsageError;
 use gip_program::{Info, Item, Items, Opt};
 use gipsat_dimacs::HeaderRule;
+use gipsat_solver::Inprocessing;
 
 /// What the arguments ask for.
 #[derive(Clone, Copy)]
@@ -82,8 +83,10 @@ pub struct Options<'a> {
     pub binary: bool,
     /// Whether to write the proof in the LRAT form.
     pub lrat: bool,
-    /// Whether to eliminate variables and to shorten learned clauses.
-    pub simplify: bool,
+    /// Whether to eliminate variables.
+    pub eliminate: bool,
+    /// Whether to shorten learned clauses.
+    pub vivify: bool,
     /// What the counts of the header mean.
     pub rule: HeaderRule,
     /// The file to read, if not standard input.
@@ -109,9 +112,18 @@ impl<'a> Options<'a> {
             force: false,
             binary: false,
             lrat: false,
-            simplify: true,
+            eliminate: true,
+            vivify: true,
             rule: HeaderRule::Strict,
             file: None,
+        }
+    }
+
+    /// What the search does at its pauses.
+    pub fn inprocessing(&self) -> Inprocessing {
+        Inprocessing {
+            eliminates: self.eliminate,
+            vivifies: self.vivify,
         }
     }
 
@@ -319,8 +331,17 @@ impl<'a> Asked<'a> {
                 lrat: true,
                 ..options
             },
+            Switch::NoEliminate => Options {
+                eliminate: false,
+                ..options
+            },
             Switch::NoSimplify => Options {
-                simplify: false,
+                eliminate: false,
+                vivify: false,
+                ..options
+            },
+            Switch::NoVivify => Options {
+                vivify: false,
                 ..options
             },
             Switch::NoWitness => Options {

@@ -127,7 +127,7 @@ pub fn task_of(options: &Options) -> Task
 {
     Task {
         limit: options.conflicts,
-        simplify: options.simplify,
+        inprocessing: options.inprocessing(),
         witness: options.witness,
     }
 }

@@ -8,8 +8,8 @@ ghost use Rattle.gipsat_answers.specs.Enumeration.{differing, first_verdict, mod
 use crate::answers::{Verdict, model_text, value_in, write};
 use gipsat_cnf::{Answer, Cnf, Literal};
 use gipsat_dimacs::{DimacsError, Instance, Reason};
-use gipsat_solver::Solver;
 use gipsat_solver::progress::{Progress, solve_in_slices};
+use gipsat_solver::{Inprocessing, Solver};
 use std::alloc::{AllocError, Allocator};
 use std::io::Write;
 
@@ -61,7 +61,7 @@ pub fn write_models<A: Allocator + Copy, W: Write, P: Progress>(
 {
     let variables = instance.variables;
     let mut solver = Solver::over(alloc, instance.clauses)?;
-    solver.set_inprocessing(false);
+    solver.set_inprocessing(Inprocessing::NONE);
     match write_by(alloc, &mut solver, variables, writer, wanted, progress) {
         Ok(verdict) => Ok(Enumerated {
             verdict,

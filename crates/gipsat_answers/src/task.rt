@@ -11,8 +11,8 @@ use crate::names::{Renumbered, answer_under, renumber};
 use crate::naming::solve_named;
 use gipsat_cnf::Cnf;
 use gipsat_dimacs::{DimacsError, Instance, Reason, read_instance};
-use gipsat_solver::Solver;
 use gipsat_solver::progress::Progress;
+use gipsat_solver::{Inprocessing, Solver};
 use std::alloc::{AllocError, Allocator};
 use std::io::{Read, Write};
 
@@ -22,7 +22,7 @@ pub struct Task {
     /// After how many learned clauses it gives up.
     pub limit: usize,
     /// Whether variables are eliminated and clauses shortened on the way.
-    pub simplify: bool,
+    pub inprocessing: Inprocessing,
     /// Whether the values that satisfy the formula are written.
     pub witness: bool,
 }
@@ -64,7 +64,7 @@ pub fn solve_text<A: Allocator + Copy, R: Read, W: Write, P: Progress>(
     let instance = read_instance(alloc, reader)?;
     let task = Task {
         limit,
-        simplify: true,
+        inprocessing: Inprocessing::ALL,
         witness: true,
     };
     solve_instance(alloc, instance, writer, task, progress)
@@ -95,7 +95,7 @@ pub fn solve_instance<A: Allocator + Copy, W: Write, P: Progress>(
     let variables = instance.variables;
     let Renumbered { names, clauses } = renumber(alloc, instance.clauses)?;
     let mut solver = Solver::over(alloc, clauses)?;
-    solver.set_inprocessing(task.simplify);
+    solver.set_inprocessing(task.inprocessing);
     match write_answer(
         alloc,
         &mut solver,

@@ -9,4 +9,4 @@ mod turns;
 
 pub use gipsat_cnf::{Answer, AnswerUnder, Budget, Guess, Literal};
 pub use gipsat_search::Stats;
-pub use solver::Solver;
+pub use solver::{Inprocessing, Solver};

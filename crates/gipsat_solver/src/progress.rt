@@ -165,20 +165,22 @@ fn end_slice<A: Allocator + Copy>(solver: &mut Solver<A>, slice: Slice) -> Resul
             ..slice
         });
     }
-    if solver.is_inprocessing() {
-        inprocess(solver, slice)?;
-    }
+    inprocess(solver, slice)?;
     Ok(slice.next(solver))
 }
 
-// Eliminates variables if the slice was the first, and shortens the clauses that it learned.
+// Eliminates variables if the slice was the first, and shortens the clauses that it learned, as far as that is wanted.
 fn inprocess<A: Allocator + Copy>(solver: &mut Solver<A>, slice: Slice) -> Result<(), AllocError>
     ensures { solver.new ≡ solver.old }
 {
+    let wanted = solver.inprocessing();
     let propagations = slice.work(solver);
-    if slice.is_first {
+    if slice.is_first && wanted.eliminates {
         let more = (solver.literals() as u64).saturating_mul(SETTINGS.literal_steps);
         solver.eliminate(&[], SETTINGS.elimination_steps.saturating_add(more))?;
     }
-    solver.vivify(propagations / SETTINGS.vivification_share)
+    if wanted.vivifies {
+        solver.vivify(propagations / SETTINGS.vivification_share)?;
+    }
+    Ok(())
 }

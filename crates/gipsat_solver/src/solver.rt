@@ -15,6 +15,28 @@ use gipsat_search::{Query, Search, Stats};
 use std::alloc::{AllocError, Allocator, Global};
 use std::marker::Model;
 
+/// What a search in slices does between them.
+#[derive(Clone, Copy)]
+pub struct Inprocessing {
+    /// Whether it calls [`Solver::eliminate`] after the first slice.
+    pub eliminates: bool,
+    /// Whether it calls [`Solver::vivify`] after each.
+    pub vivifies: bool,
+}
+
+impl Inprocessing {
+    /// Both.
+    pub const ALL: Self = Inprocessing {
+        eliminates: true,
+        vivifies: true,
+    };
+    /// Neither.
+    pub const NONE: Self = Inprocessing {
+        eliminates: false,
+        vivifies: false,
+    };
+}
+
 /// A formula to which clauses may be added, and what was learned of it.
 ///
 /// It is seen as its formula, and how many clauses were learned from conflicts.
@@ -29,8 +51,8 @@ pub struct Solver<A: Allocator = Global> {
     told: usize,
     // How often a search told something wrong, so that all values were tried.
     lost: u64,
-    // Whether a search in slices is to eliminate variables and to shorten clauses.
-    is_inprocessing: bool,
+    // What a search in slices does between them.
+    inprocessing: Inprocessing,
 }
 
 impl<A: Allocator> Model for Solver<A> {
@@ -63,7 +85,7 @@ impl<A: Allocator + Copy> Solver<A> {
             learned: 0,
             told: 0,
             lost: 0,
-            is_inprocessing: true,
+            inprocessing: Inprocessing::ALL,
         }
     }
 
@@ -82,7 +104,7 @@ impl<A: Allocator + Copy> Solver<A> {
             learned: 0,
             told: 0,
             lost: 0,
-            is_inprocessing: true,
+            inprocessing: Inprocessing::ALL,
         })
     }
 
@@ -469,17 +491,16 @@ impl<A: Allocator + Copy> Solver<A> {
         }
     }
 
-    /// Sets whether a search in slices ([`crate::progress::solve_in_slices`]) calls [`Solver::eliminate`] and
-    /// [`Solver::vivify`] between them. By default it does.
-    pub fn set_inprocessing(&mut self, is_inprocessing: bool)
+    /// Sets what a search in slices ([`crate::progress::solve_in_slices`]) does between them. By default it does all.
+    pub fn set_inprocessing(&mut self, inprocessing: Inprocessing)
         ensures { self.new ≡ self.old }
     {
-        self.is_inprocessing = is_inprocessing;
+        self.inprocessing = inprocessing;
     }
 
-    /// Whether a search in slices calls [`Solver::eliminate`] and [`Solver::vivify`].
-    pub fn is_inprocessing(&self) -> bool {
-        self.is_inprocessing
+    /// What a search in slices does between them.
+    pub fn inprocessing(&self) -> Inprocessing {
+        self.inprocessing
     }
 
     /// Eliminates variables: the clauses of a variable give way to their resolvents, which become clauses of the solver,
