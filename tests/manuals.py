@@ -60,11 +60,15 @@ def options(lines):
     """The options of a section. A line whose first columns are blank goes on with the text of the one before."""
     written, texts = "", []
     for line in lines:
-        if line[:COLUMN].strip():
+        # Behind an option that is too long for its columns, the text begins in the next line.
+        is_long = line[COLUMN - 1:COLUMN].strip()
+        option, text = (line, "") if is_long else (line[:COLUMN], line[COLUMN:])
+        if option.strip():
             if written:
                 yield Option(written, " ".join(texts))
-            written, texts = line[:COLUMN].strip(), []
-        texts.append(line[COLUMN:].strip())
+            written, texts = option.strip(), []
+        if text:
+            texts.append(text.strip())
     yield Option(written, " ".join(texts))
 
 

@@ -3,7 +3,7 @@ _gipsat() {
     local word=${COMP_WORDS[COMP_CWORD]}
     COMPREPLY=()
     if [[ $word == -* ]]; then
-        mapfile -t COMPREPLY < <(compgen -W '--relaxed --assume --models --project --no-simplify --conflicts -t --time -n --no-witness -q --quiet -v --verbose --stats --proof --binary --lrat -f --force --check --lrat-from-drat -h --help --version --' -- "$word")
+        mapfile -t COMPREPLY < <(compgen -W '--relaxed --assume --models --project --no-eliminate --no-vivify --no-simplify --conflicts -t --time -n --no-witness -q --quiet -v --verbose --stats --proof --binary --lrat -f --force --check --lrat-from-drat -h --help --version --' -- "$word")
     fi
 }
 complete -o default -F _gipsat gipsat
