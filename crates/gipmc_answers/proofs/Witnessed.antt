@@ -39,6 +39,7 @@ replays_by {A} bytes text c place bad (verdict.Fails trace) circuit here small i
     let named : names_place (place ∷ []) place ≡ true = search rules in
     (c, circuit, (place ∷ [], trace) ∷ [], rw is rereads, rw named refl, (rw named ((bad, here, right), tt), tt))
 replays_by bytes text c place bad (verdict.Safe invariant) circuit here small is outcome right = absurd cc
+replays_by bytes text c place bad (verdict.Inductive k) circuit here small is outcome right = absurd cc
 replays_by bytes text c place bad (verdict.NoFailureWithin n) circuit here small is outcome right = absurd cc
 replays_by bytes text c place bad verdict.Unknown circuit here small is outcome right = absurd cc
 

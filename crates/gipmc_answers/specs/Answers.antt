@@ -20,6 +20,7 @@ named place = codes "\nb" ++ decimal place ++ codes "\n.\n"
 abbrev pub verdict_text : {A : Type 0} → ℕ → Verdict A → List ℕ
 verdict_text place (verdict.Fails trace) = witness_text place trace
 verdict_text place (verdict.Safe invariant) = codes "0" ++ named place
+verdict_text place (verdict.Inductive k) = codes "0" ++ named place
 verdict_text place (verdict.NoFailureWithin n) = codes "u" ++ decimal n ++ codes "\n2" ++ named place
 verdict_text place verdict.Unknown = codes "2" ++ named place
 
@@ -27,6 +28,7 @@ verdict_text place verdict.Unknown = codes "2" ++ named place
 abbrev pub outcome_of : {A : Type 0} → Verdict A → Outcome
 outcome_of (verdict.Fails trace) = Fails
 outcome_of (verdict.Safe invariant) = Safe
+outcome_of (verdict.Inductive k) = Safe
 outcome_of (verdict.NoFailureWithin n) = Open
 outcome_of verdict.Unknown = Open
 

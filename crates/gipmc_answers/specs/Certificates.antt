@@ -10,7 +10,7 @@ use Rattle.gipmc_circuits.specs.Circuit.{IsSafe}
 use Rattle.gipmc_circuits.specs.WitnessCircuits.{IsCertifiedBy}
 use Rattle.gipmc_circuits.specs.declared.circuit.Circuit.{Circuit}
 use Rattle.gipmc_circuits.specs.declared.witness_circuit.WitnessCircuit.{WitnessCircuit}
-use Rattle.gipmc_unroll.specs.Induction.{IsKInductive}
+use Rattle.gipmc_engines.specs.Verdicts.{IsSafeByInduction}
 use Rattle.giputils_text.specs.Lines.{pieces, space, text_lines}
 use Rattle.giputils_text.specs.Numbers.{number_up_to}
 use Rattle.gipmc_answers.specs.Answers.{IsCircuitIn}
@@ -45,11 +45,6 @@ IsCertificateIn c text (certificate.Circuit other) = WritesWitness c text other
 -- by the other circuit it is safe as to the literal
 abbrev pub IsSafeByCircuit : {A B : Type 0} → Circuit A → WitnessCircuit B → Lit → Type 0
 IsSafeByCircuit c other bad = IsCertifiedBy c bad other × IsSafe c bad
-
--- the bad literal is k-inductive, so that the circuit is safe as to it
-pub record IsSafeByInduction {A : Type 0} (c : Circuit A) (k : ℕ) (bad : Lit) : Type 0 where
-  pub inductive : IsKInductive c bad k
-  pub safe : IsSafe c bad
 
 -- by the certificate the circuit is safe as to the literal
 abbrev pub ShowsSafe : {A B : Type 0} → Circuit A → Certificate B → Lit → Type 0

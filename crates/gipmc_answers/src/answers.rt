@@ -64,6 +64,8 @@ pub struct Said<A: Allocator = Global> {
     pub outcome: Outcome,
     /// The clauses of the invariant that was found, over the circuit's variables.
     pub invariant: Vec<Vec<Literal, A>, A>,
+    /// The greatest k for which a literal was found to be k-inductive, if one was. Each that was is so for it too.
+    pub k: Option<usize>,
 }
 
 /// A circuit, and what is said of it.
@@ -250,7 +252,7 @@ fn say_all<S: SatSolver<A> + Drop, A: Allocator + Copy, L: Listener, W: Write>(
         (W.contents output.old.writer) (W.contents output.new.writer) said.text.items) }
 {
     let told = tell_all(alloc, parted, listener, output)?;
-    Ok(made_of(told, parted.invariant(alloc)))
+    Ok(made_of(told, parted.invariant(alloc), parted.k()))
 }
 
 // Says what is told of the only literal that a search is about, the bad one at a place of its circuit.
@@ -268,11 +270,15 @@ fn say_one<S: SatSolver<A> + Drop, A: Allocator + Copy, L: Listener, W: Write>(
         (W.contents output.old.writer) (W.contents output.new.writer) said.text.items) }
 {
     let told = tell_at(alloc, parted, 0, place, listener, output)?;
-    Ok(made_of(told, parted.invariant(alloc)))
+    Ok(made_of(told, parted.invariant(alloc), parted.k()))
 }
 
-// What is told, with an invariant.
-fn made_of<A: Allocator>(told: Told<A>, invariant: Vec<Vec<Literal, A>, A>) -> Said<A>
+// What is told, with an invariant and a k.
+fn made_of<A: Allocator>(
+    told: Told<A>,
+    invariant: Vec<Vec<Literal, A>, A>,
+    k: Option<usize>,
+) -> Said<A>
     ensures outcome { result.outcome ≡ told.outcome }
     ensures text { result.text.items ≡ told.text.items }
 {
@@ -280,6 +286,7 @@ fn made_of<A: Allocator>(told: Told<A>, invariant: Vec<Vec<Literal, A>, A>) -> S
         text: told.text,
         outcome: told.outcome,
         invariant,
+        k,
     }
 }
 
@@ -347,7 +354,7 @@ fn leave_all<A: Allocator + Copy, L: Listener, W: Write>(
         text.extend_from_slice(&told.text)?;
         outcome = outcome.and(told.outcome);
     }
-    Ok(made_of(Told { text, outcome }, Vec::new(alloc)))
+    Ok(made_of(Told { text, outcome }, Vec::new(alloc), None))
 }
 
 // Leaves one of them open.
@@ -364,7 +371,7 @@ fn leave_one<A: Allocator + Copy, L: Listener, W: Write>(
         (W.contents output.old.writer) (W.contents output.new.writer) said.text.items) }
 {
     let told = leave_at(alloc, netlist, place, listener, output)?;
-    Ok(made_of(told, Vec::new(alloc)))
+    Ok(made_of(told, Vec::new(alloc), None))
 }
 
 // Tells that one of them is open.
@@ -419,6 +426,7 @@ fn outcome_of<A: Allocator>(verdict: &Verdict<A>) -> Outcome
     match verdict {
         Verdict::Fails(_) => Outcome::Fails,
         Verdict::Safe(_) => Outcome::Safe,
+        Verdict::Inductive(_) => Outcome::Safe,
         Verdict::NoFailureWithin(_) => Outcome::Open,
         Verdict::Unknown => Outcome::Open,
     }
@@ -440,6 +448,7 @@ fn verdict_text<A: Allocator + Copy>(
     match verdict {
         Verdict::Fails(trace) => write_witness(alloc, place, trace),
         Verdict::Safe(_) => named(alloc, b"0", place),
+        Verdict::Inductive(_) => named(alloc, b"0", place),
         Verdict::NoFailureWithin(depth) => within(alloc, *depth, place),
         Verdict::Unknown => named(alloc, b"2", place),
     }

@@ -2,7 +2,8 @@
 ghost use Rattle.std.specs.Prelude.{◌≡◌, ◌∷◌, [], IfNone, IfOk, IfSome, ◌⊎◌};
 ghost use Rattle.gipmc_circuits.specs.declared.certificate.Verdict.TheVariants.{Certified};
 ghost use Rattle.gipmc_part.specs.Parts.{IsPartOf};
-ghost use Rattle.gipmc_answers.specs.Certificates.{BeginsWithK, IsSafeByInduction, k_in, k_of};
+ghost use Rattle.gipmc_answers.specs.Certificates.{BeginsWithK, k_in, k_of};
+ghost use Rattle.gipmc_engines.specs.Verdicts.{IsSafeByInduction};
 
 use gipmc_circuits::Netlist;
 use gipmc_circuits::certificate::Verdict as ClauseVerdict;

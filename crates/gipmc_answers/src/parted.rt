@@ -100,6 +100,7 @@ impl<'a, S: SatSolver<A> + Drop, A: Allocator + Copy> Parted<'a, S, A> {
         match verdict {
             Verdict::Fails(_) => false,
             Verdict::Safe(_) => false,
+            Verdict::Inductive(_) => false,
             Verdict::NoFailureWithin(_) => is_lost,
             Verdict::Unknown => is_lost,
         }
@@ -169,6 +170,7 @@ impl<'a, S: SatSolver<A> + Drop, A: Allocator + Copy> Parted<'a, S, A> {
                 let clauses = &self.joint.findings.invariant;
                 Ok(Verdict::Safe(self.part.names.clauses_of(alloc, clauses)?))
             }
+            Finding::Inductive(k) => Ok(Verdict::Inductive(*k)),
             Finding::NoFailureWithin(depth) => Ok(Verdict::NoFailureWithin(*depth)),
             Finding::Unknown => Ok(Verdict::Unknown),
         }
@@ -182,4 +184,20 @@ impl<'a, S: SatSolver<A> + Drop, A: Allocator + Copy> Parted<'a, S, A> {
             Err(_) => Vec::new(alloc),
         }
     }
+    /// The greatest k for which a literal was found to be k-inductive, if one was.
+    pub(crate) fn k(&self) -> Option<usize> {
+        let mut greatest = None;
+        for finding in self.joint.findings.each.iter() {
+            greatest = greater(greatest, finding);
+        }
+        greatest
+    }
+}
+
+// The greater one of a k and that of a finding, if there is one.
+fn greater<A: Allocator>(greatest: Option<usize>, finding: &Finding<A>) -> Option<usize> {
+    let Finding::Inductive(k) = finding else {
+        return greatest;
+    };
+    Some(greatest.unwrap_or(0).max(*k))
 }

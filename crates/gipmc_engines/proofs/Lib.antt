@@ -1,3 +1,2 @@
-mod Allowing
 pub mod AreRight
 pub mod Depths

@@ -1,4 +1,3 @@
 -- What engines find out about a circuit.
 pub mod Several
-pub mod Unrolling
 pub mod Verdicts

@@ -1,15 +1,17 @@
-//! Engines that decide whether a circuit fails: random simulation, bounded model checking, and IC3.
+//! Engines that decide whether a circuit fails: random simulation, bounded model checking, induction,
+//! and IC3.
 #![tactic(auto)]
 
 pub mod bounded;
 pub mod engines;
+mod guide;
 mod hits;
 pub mod joint;
 mod rounds;
 pub mod several;
 pub mod simulation;
+mod steps;
 mod turns;
-mod unrolling;
 pub mod verdict;
 pub mod watch;
 

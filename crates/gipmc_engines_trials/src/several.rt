@@ -1,6 +1,6 @@
 //! One search for several bad literals.
 
-use crate::shifter::{ALL, full, long, shifter};
+use crate::shifter::{ALL, counter, full, long, shifter};
 use gipmc_engines::{Bounds, Engine, Finding, Plan, Tries, check_all};
 use gipsat_solver::{Literal, Solver};
 use std::alloc::{AllocError, Global};
@@ -11,6 +11,8 @@ enum Said {
     // A trace of so many moments fails.
     Fails(usize),
     Safe,
+    // It is k-inductive for this k.
+    Inductive(usize),
     // No trace of at most so many transitions fails.
     Within(usize),
     Unknown,
@@ -20,6 +22,7 @@ fn said_by(finding: &Finding) -> Said {
     match finding {
         Finding::Fails(trace) => Said::Fails(trace.inputs.len()),
         Finding::Safe => Said::Safe,
+        Finding::Inductive(k) => Said::Inductive(*k),
         Finding::NoFailureWithin(depth) => Said::Within(*depth),
         Finding::Unknown => Said::Unknown,
     }
@@ -128,9 +131,99 @@ fn decided(alloc: Global, engine: Engine, rounds: usize) -> Result<[Said; 4], Al
 #[test]
 fn decides_each(rt: HostRuntime) -> Result<(), AllocError> {
     let wanted = [Said::Safe, Said::Fails(3), Said::Fails(1), Said::Fails(3)];
-    for &(engine, rounds) in &[(Engine::Ic3, 0), (Engine::All, 0), (Engine::All, 1)] {
+    assert!(rt; decided(rt.alloc(), Engine::Ic3, 0)? == wanted);
+    // No moment at all makes the first one true.
+    let wanted = [
+        Said::Inductive(0),
+        Said::Fails(3),
+        Said::Fails(1),
+        Said::Fails(3),
+    ];
+    for &(engine, rounds) in &[(Engine::Induction, 0), (Engine::All, 0), (Engine::All, 1)] {
         assert!(rt; decided(rt.alloc(), engine, rounds)? == wanted);
     }
+    Ok(())
+}
+
+// Which engines found out what stands about the five literals, by these engines and so many rounds of simulation.
+fn engines_of(
+    alloc: Global,
+    engine: Engine,
+    rounds: usize,
+) -> Result<[Option<Engine>; 5], AllocError> {
+    let netlist = shifter(alloc)?;
+    let plan = Plan {
+        engine,
+        tries: Tries {
+            rounds,
+            ..Tries::default()
+        },
+        bounds: Bounds {
+            depth: 9,
+            calls: 1000,
+            ..Bounds::default()
+        },
+    };
+    let literals = literals();
+    let found = check_all::<Solver, _, _>(alloc, &netlist, &literals, &plan, &mut ())?;
+    let mut engines = [None; 5];
+    for place in 0..5 {
+        engines[place] = found.engine(place);
+    }
+    Ok(engines)
+}
+
+#[test]
+fn tells_which_engine_decided(rt: HostRuntime) -> Result<(), AllocError> {
+    let (sim, bmc, ic3, step) = (
+        Some(Engine::Simulation),
+        Some(Engine::Bounded),
+        Some(Engine::Ic3),
+        Some(Engine::Induction),
+    );
+    assert!(rt; engines_of(rt.alloc(), Engine::Simulation, 1)? == [None, sim, sim, sim, None]);
+    assert!(rt; engines_of(rt.alloc(), Engine::Bounded, 0)? == [bmc, bmc, bmc, bmc, None]);
+    assert!(rt; engines_of(rt.alloc(), Engine::Ic3, 0)? == [ic3, ic3, ic3, ic3, None]);
+    assert!(rt; engines_of(rt.alloc(), Engine::Induction, 0)? == [step, bmc, bmc, bmc, None]);
+    assert!(rt; engines_of(rt.alloc(), Engine::All, 1)? == [step, sim, sim, sim, None]);
+    Ok(())
+}
+
+// What bounded model checking and induction find out about a counter, to this depth: both bits, the high and the low one.
+fn of_a_counter(alloc: Global, depth: usize) -> Result<[Said; 3], AllocError> {
+    let netlist = counter(alloc)?;
+    let plan = Plan {
+        engine: Engine::Induction,
+        bounds: Bounds {
+            depth,
+            ..Bounds::default()
+        },
+        ..Plan::default()
+    };
+    let literals = [
+        Literal::new(6, true),
+        Literal::new(3, true),
+        Literal::new(2, true),
+    ];
+    let found = check_all::<Solver, _, _>(alloc, &netlist, &literals, &plan, &mut ())?;
+    let mut said = [Said::Unknown; 3];
+    for (place, finding) in found.each.iter().enumerate() {
+        if place < 3 {
+            said[place] = said_by(finding);
+        }
+    }
+    Ok(said)
+}
+
+#[test]
+fn decides_by_induction(rt: HostRuntime) -> Result<(), AllocError> {
+    assert!(rt;
+        of_a_counter(rt.alloc(), 9)? == [Said::Inductive(1), Said::Fails(3), Said::Fails(2)]
+    );
+    // A base for k = 1 is that no trace of no transition fails.
+    assert!(rt;
+        of_a_counter(rt.alloc(), 0)? == [Said::Inductive(1), Said::Within(0), Said::Within(0)]
+    );
     Ok(())
 }
 

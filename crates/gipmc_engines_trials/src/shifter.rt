@@ -48,6 +48,25 @@ pub fn register<A: Allocator + Copy>(alloc: A, latches: u8) -> Result<Netlist<A>
     netlist(alloc, circuit)
 }
 
+/// Latches 2 and 3 are the bits of a number that goes through 0, 1, 2, and 0 again; 3 would be followed by 0. Gate 6 is
+/// true where both are one.
+///
+/// # Errors
+/// `AllocError` where memory is refused.
+pub fn counter<A: Allocator + Copy>(alloc: A) -> Result<Netlist<A>, AllocError> {
+    let mut circuit = Circuit::new(alloc);
+    circuit.latches.push(begins_low(2, Literal::new(4, true)))?;
+    circuit.latches.push(begins_low(3, Literal::new(5, true)))?;
+    for &(output, low, high) in &[(4u32, false, false), (5, true, false), (6, true, true)] {
+        circuit.gates.push(And {
+            output,
+            left: Literal::new(2, low),
+            right: Literal::new(3, high),
+        })?;
+    }
+    netlist(alloc, circuit)
+}
+
 // How many latches a register has that goes through many states.
 const LONG: u8 = 20;
 

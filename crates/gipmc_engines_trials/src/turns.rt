@@ -1,4 +1,4 @@
-//! What IC3 says, alone and by turns with bounded model checking, and of which slices a listener is told.
+//! What IC3 says, alone and by turns with bounded model checking and induction, and of which slices a listener is told.
 
 use crate::shifter::{full, register, shifter};
 use crate::stopper::Stopper;
@@ -12,8 +12,10 @@ use std::alloc::{AllocError, Global};
 enum Said {
     // There is a counterexample.
     Fails,
-    // There is none.
+    // There is none, by an invariant.
     Safe,
+    // There is none, by induction over so many moments.
+    Inductive(usize),
     // There is none of at most so many transitions.
     Within(usize),
     // Nothing is known.
@@ -25,6 +27,7 @@ fn said_by(verdict: &Verdict) -> Said {
     match verdict {
         Verdict::Fails(_) => Said::Fails,
         Verdict::Safe(_) => Said::Safe,
+        Verdict::Inductive(k) => Said::Inductive(*k),
         Verdict::NoFailureWithin(depth) => Said::Within(*depth),
         Verdict::Unknown => Said::Unknown,
     }
@@ -94,10 +97,11 @@ const OF_FULL: &[(Decider, Said)] = &[
 // What is said where the bad literal is never true.
 const OF_NEVER: &[(Decider, Said)] = &[
     (Decider::Alone(200), Said::Safe),
-    (Decider::ByTurns(9, 200), Said::Safe),
+    // No call is needed.
+    (Decider::ByTurns(9, 200), Said::Inductive(0)),
+    (Decider::ByTurns(0, 0), Said::Inductive(0)),
     // All calls are made.
     (Decider::Alone(0), Said::Unknown),
-    (Decider::ByTurns(0, 0), Said::Unknown),
 ];
 
 #[test]
@@ -147,7 +151,7 @@ fn told_by_turns(
     Ok(watch.slices)
 }
 
-// Both.
+// Both: alone, and by turns.
 fn told(alloc: Global, bad: Literal, calls: usize) -> Result<(usize, usize), AllocError> {
     let netlist = shifter(alloc)?;
     let alone = told_alone(alloc, &netlist, bad, calls)?;
@@ -157,9 +161,15 @@ fn told(alloc: Global, bad: Literal, calls: usize) -> Result<(usize, usize), All
 
 #[test]
 fn tells_of_each_slice(rt: HostRuntime) -> Result<(), AllocError> {
-    // Of the one that finds a trace or an invariant, and of the one behind which all calls are made.
-    for &(bad, calls) in &[(full(), 200), (never(), 200), (never(), 0)] {
-        assert!(rt; told(rt.alloc(), bad, calls)? == (1, 1));
+    // Of the one that finds a trace or an invariant, and of the one behind which all calls are made; of none where
+    // induction decides.
+    for &(bad, calls, turns) in &[
+        (full(), 200, 1),
+        (full(), 0, 1),
+        (never(), 200, 0),
+        (never(), 0, 0),
+    ] {
+        assert!(rt; told(rt.alloc(), bad, calls)? == (1, turns));
     }
     Ok(())
 }
