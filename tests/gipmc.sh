@@ -589,14 +589,30 @@ status=$?
 told "a certificate of many bad literals beside gates that do not matter" $?
 rm -f cert
 
-# A short text whose numbers are great asks for much memory. Where that is refused, nothing else is told.
-printf 'aag 16777216 1 0 0 0 1\n33554432\n33554432\n' > great.aag
+# A short text whose numbers are great takes a byte for each number, where its gates are in order.
+# NUMBER KILOBYTES: a circuit of one input of this number, within so much memory.
+great() {
+    printf 'aag %s 1 0 0 0 1\n%s\n%s\n' "$1" $((2 * $1)) $((2 * $1)) > great.aag
+    (ulimit -v "$2"; exec "$gipmc" great.aag) > out 2> err
+    status=$?
+    [ "$status" = 10 ] && [ ! -s err ] && [ "$("$gipmc" --replay out great.aag)" = "s VERIFIED" ]
+    told "a number of $1 within $2 kB of memory" $?
+}
+great 1048576 100000
+great 16777216 300000
+great 67108864 1000000
+printf 'aig 1048576 1048576 0 0 0 1\n2\n' > wide.aig
+(ulimit -v 800000; exec "$gipmc" wide.aig) > out 2> err
+status=$?
+[ "$status" = 10 ] && [ ! -s err ] && [ "$("$gipmc" --replay out wide.aig)" = "s VERIFIED" ]
+told "many inputs that do not matter" $?
+# Where memory is refused, nothing else is told.
+printf 'aag 2147483647 1 0 0 0 1\n4294967294\n4294967294\n' > great.aag
 rm -f cert
 (ulimit -v 200000; exec "$gipmc" --certificate cert great.aag) > out 2> err
 status=$?
-{ [ "$status" = 1 ] && [ "$(cat err)" = "memory: refused" ] && [ ! -s out ] && [ ! -e cert ]; } ||
-    { [ "$status" = 10 ] && [ ! -s err ] && [ "$("$gipmc" --replay out great.aag)" = "s VERIFIED" ]; }
-told "great numbers, and little memory" $?
+[ "$status" = 1 ] && [ "$(cat err)" = "memory: refused" ] && [ ! -s out ] && [ ! -e cert ]
+told "the greatest number, and little memory" $?
 printf 'aag 16777216 0 2 0 0 1\n33554432 33554432\n4 4\n33554432\n' > stays.aag
 rm -f cert
 (ulimit -v 200000; exec "$gipmc" --certificate cert stays.aag) > out 2> err
