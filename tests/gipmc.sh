@@ -685,7 +685,7 @@ summary() {
     told "$name" $?
 }
 bmc='depth [0-9]*, [0-9]* clauses, [0-9]* conflicts; '
-ic3='frame [0-9]*, [0-9]* calls, [0-9]* obligations, [^#]* literals in each of [0-9]* lemmas; '
+ic3='frame [0-9]*, [0-9]* calls, [0-9]* obligations, [0-9]*\.[0-9][0-9] literals in each of [0-9]* lemmas; '
 took='[0-9]*[.][0-9][0-9][0-9] s#'
 printf '%b' "$kept" > kept.aag
 summary "a summary" 0 "c b0: $bmc$took" --engine bmc --depth 5 kept.aag

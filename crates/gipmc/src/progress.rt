@@ -15,6 +15,9 @@ use std::time::{Duration, Instant};
 // How many seconds it is at least from one line to the next.
 const INTERVAL_SECONDS: u64 = 5;
 
+// The decimals of an average.
+const PLACES: u32 = 2;
+
 /// Writes now and then how far a search is, where standard error is a terminal or that is asked for, and a summary of
 /// each, if that is wanted. It stops a search when the time is over.
 #[derive(Drop)]
@@ -120,15 +123,11 @@ struct Lemmas<'a>(&'a Statistics);
 
 impl Display for Lemmas<'_> {
     fn fmt<W: fmt::Write>(&self, f: &mut fmt::Formatter<W>) -> fmt::Result {
-        let count = self.0.lengths.count();
-        if count == 0 {
-            return Ok(());
+        let lengths = &self.0.lengths;
+        match lengths.mean(PLACES) {
+            Some(mean) => write!(f, ", {mean} literals in each of {} lemmas", lengths.count()),
+            None => Ok(()),
         }
-        write!(
-            f,
-            ", {:?} literals in each of {count} lemmas",
-            self.0.lengths
-        )
     }
 }
 
