@@ -58,6 +58,8 @@ try "a latch that stays, within 0" 0 "" "$(open 0)" "$kept" --engine bmc --depth
 try "a latch that stays" 20 "" "$safe" "$kept"
 try "a latch that stays, by IC3" 20 "" "$safe" "$kept" --engine ic3
 try "a latch that may rise, by IC3" 10 "" "$fails" "$held" --engine ic3
+try "a latch that stays, by induction" 20 "" "$safe" "$kept" --engine induction
+try "a latch that may rise, by induction" 10 "" "$fails" "$held" --engine induction
 try "no time for IC3" 0 "" "$(printf '2\nb0\n.')" "$kept" --engine ic3 -t 0
 try "a limit of conflicts is none of IC3" 20 "" "$safe" "$kept" --engine ic3 --limit 0
 try "a latch that may rise, within 0" 0 "" "$(open 0)" "$held" --engine bmc --depth 0
@@ -639,8 +641,8 @@ try "an option that there is not" 2 "gipmc: unknown option '--deep' (try --help)
 try "a value for an option that there is not" 2 "gipmc: unknown option '--deep=3' (try --help)" "" "" --deep=3
 try "no depth" 2 "gipmc: '--depth' needs a number behind it (try --help)" "" "" --depth
 try "no witness behind the option" 2 "gipmc: '--replay' needs a file behind it (try --help)" "" "" --replay
-try "no engine" 2 "gipmc: '--engine' needs sim, bmc or ic3 behind it (try --help)" "" "" --engine
-try "another engine" 2 "gipmc: '--engine' takes sim, bmc or ic3, not 'ic4' (try --help)" "" "" --engine ic4
+try "no engine" 2 "gipmc: '--engine' needs sim, bmc, ic3 or induction behind it (try --help)" "" "" --engine
+try "another engine" 2 "gipmc: '--engine' takes sim, bmc, ic3 or induction, not 'ic4' (try --help)" "" "" --engine ic4
 try "a time that is no number" 2 "gipmc: '--time' takes a number below 2^64, not 'x' (try --help)" "" "" -t x
 try "no time behind the option" 2 "gipmc: '--time' needs a number behind it (try --help)" "" "" -t
 try "a short option with = in it" 2 "gipmc: unknown option '-t=9' (try --help)" "" "" -t=9

@@ -3,7 +3,7 @@ use Rattle.std.specs.Prelude.{ℕ, ◌^◌, ◌-◌, Bool, true, false, List, []
 use Rattle.std.specs.Option.{option_map}
 use Rattle.std.specs.Str.{bytes_eq}
 use Rattle.gipmc_engines.specs.declared.engines.Engine as engines
-use Rattle.gipmc_engines.specs.declared.engines.Engine.TheVariants.{Simulation, Bounded, Ic3, All}
+use Rattle.gipmc_engines.specs.declared.engines.Engine.TheVariants.{Simulation, Bounded, Ic3, Induction, All}
 use Rattle.gip_program.specs.Options.{Entry, number, switch, text}
 use Rattle.gipmc.specs.declared.about.Number.{Number}
 use Rattle.gipmc.specs.declared.about.Number.TheVariants.{Bad, Depth, Limit, Seed, Time}
@@ -81,6 +81,7 @@ engine_of word =
     if bytes_eq word (codes "sim") then Some Simulation
     else if bytes_eq word (codes "bmc") then Some Bounded
     else if bytes_eq word (codes "ic3") then Some Ic3
+    else if bytes_eq word (codes "induction") then Some Induction
     else None
 
 -- with what a switch turns on

@@ -62,10 +62,10 @@ pub const OPTIONS: [Opt<Switch, Number, Text>; 16] = [
     Opt {
         long: "--engine",
         short: "",
-        kind: Kind::Text(Text::Engine, "ENGINE", "sim, bmc or ic3"),
+        kind: Kind::Text(Text::Engine, "ENGINE", "sim, bmc, ic3 or induction"),
         section: "Search",
-        help: "only this one: sim (random simulation), bmc (bounded model checking) or ic3; without this, simulation for a \
-               moment, and then bmc and ic3 by turns",
+        help: "only this one: sim (random simulation), bmc (bounded model checking), ic3, or induction (k-induction, and bmc \
+               for its base); without this, simulation for a moment, and then bmc, induction and ic3 by turns",
     },
     Opt {
         long: "--depth",

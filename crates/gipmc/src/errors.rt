@@ -33,7 +33,7 @@ impl Display for UsageError<'_> {
             UsageError::Words(fault) => Display::fmt(&fault, f),
             UsageError::NoEngine(word) => write!(
                 f,
-                "'--engine' takes sim, bmc or ic3, not '{word}'"
+                "'--engine' takes sim, bmc, ic3 or induction, not '{word}'"
             ),
             UsageError::ExtraFile(name) => write!(f, "one file too many, '{name}'"),
             UsageError::TwoTasks => f.write_str("'--replay' and '--certify' exclude each other"),

@@ -192,7 +192,7 @@ fn failure<'a>(circuit: Option<&'a str>, beside: Option<&'a str>, error: TaskErr
 // What the options say of a search.
 fn plan_of(options: &Options) -> Plan {
     Plan {
-        engine: options.engine,
+        engine: engine_of(options),
         tries: Tries {
             seed: options.seed,
             rounds: ROUNDS,
@@ -203,6 +203,14 @@ fn plan_of(options: &Options) -> Plan {
             limit: options.limit,
             calls: usize::MAX,
         },
+    }
+}
+
+// The engine. An invariant makes a certificate that is a circuit.
+fn engine_of(options: &Options) -> Engine {
+    match options.engine {
+        Engine::All if options.aiger => Engine::Invariants,
+        engine => engine,
     }
 }
 
@@ -342,7 +350,7 @@ fn certificate_text(
     if options.aiger {
         return witness_circuit_of(alloc, netlist, invariant, options.bad, limit);
     }
-    certificate_of(alloc, netlist, invariant, None, options.bad, limit)
+    certificate_of(alloc, netlist, invariant, answer.said.k, options.bad, limit)
 }
 
 // Writes the certificate that was found for the circuit that the bytes write to the file.

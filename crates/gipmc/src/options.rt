@@ -188,6 +188,7 @@ fn engine<'a>(word: &'a str) -> Result<Engine, UsageError<'a>>
         "sim" => Ok(Engine::Simulation),
         "bmc" => Ok(Engine::Bounded),
         "ic3" => Ok(Engine::Ic3),
+        "induction" => Ok(Engine::Induction),
         _ => Err(UsageError::NoEngine(word)),
     }
 }
