@@ -1,9 +1,9 @@
-mod Claimed
-mod Each
+pub mod Claimed
+pub mod Each
 mod ByInduction
 mod Shown
 mod Told
 pub mod Witnessed
-mod Written
+pub mod Written
 mod OnWhole
 mod Words

@@ -15,11 +15,11 @@ use Rattle.gipmc_answers.specs.Witnesses.{Replays, names_place}
 use Rattle.gipmc_answers.specs.declared.answers.Outcome.TheVariants.{Fails, Safe}
 
 -- two numbers that pass the test are equal
-same_of_test : (m n : ℕ) → (m == n) ≡ true → m ≡ n
+pub same_of_test : (m n : ℕ) → (m == n) ≡ true → m ≡ n
 same_of_test m n is = grind (arith, is)
 
 -- rows that pass the test of their width have it
-every_row : {A : Type 0} (n : ℕ) (rows : List (Vec Bool A)) → IsTrue (have_width n rows)
+pub every_row : {A : Type 0} (n : ℕ) (rows : List (Vec Bool A)) → IsTrue (have_width n rows)
     → Every (λ row. length row.items ≡ n) rows
 every_row n [] all = tt
 every_row n (row ∷ rows) all =
