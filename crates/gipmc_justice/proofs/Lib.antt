@@ -1,0 +1,3 @@
+mod Claimed
+mod Told
+pub mod Witnessed

@@ -1,0 +1,47 @@
+-- The text of an answer that a property fails is a witness that replays.
+use Rattle.std.proofs.Common.{rules, ◌≡◌, ℕ, ◌<◌, ◌^◌, true, List, [], ◌∷◌, Some, Vec, Bool, length, IsTrue, refl}
+use Rattle.std.specs.Prelude.{◌==◌, slice_get}
+use Rattle.std.specs.List.{list_any}
+use Rattle.std.proofs.lemmas.Bool.{and_parts}
+use Rattle.gipsat_cnf.specs.Literals.{Lit}
+use Rattle.gipmc_aiger.specs.Lists.{Every}
+use Rattle.gipmc_aiger.specs.declared.liveness.Liveness.{Liveness}
+use Rattle.gipmc_aiger.proofs.WitnessRereads.{lassos_reread}
+use Rattle.gipmc_answers.proofs.Witnessed.{every_row, same_of_test}
+use Rattle.gipmc_answers.specs.declared.answers.Outcome.TheVariants.{Fails}
+use Rattle.gipmc_circuits.specs.declared.circuit.Circuit.{Circuit}
+use Rattle.gipmc_circuits.specs.Traces.{have_width}
+use Rattle.gipmc_liveness.proofs.Looped.{FailsForever-lasso}
+use Rattle.gipmc_liveness_engines.specs.Verdicts.{IsRightVerdict}
+use Rattle.gipmc_liveness_engines.specs.declared.verdict.Verdict.{Verdict}
+use Rattle.gipmc_liveness_engines.specs.declared.verdict.Verdict.TheVariants as verdict
+use Rattle.gipmc_justice.specs.Answers.{IsPropertiesIn, Tells, outcome_of, verdict_text}
+use Rattle.gipmc_justice.specs.Witnesses.{Replays}
+
+-- of a right verdict whose text says so
+replays_by : {A : Type 0} (bytes text : List ℕ) (c : Circuit A) (l : Liveness A) (place : ℕ) (justice : Vec Lit A) (v : Verdict A)
+    → IsPropertiesIn bytes c l → slice_get l.justice.items place ≡ Some justice → place < 2 ^ 31 → text ≡ verdict_text place v
+    → Fails ≡ outcome_of v → IsRightVerdict c l.fairness.items justice.items v → Replays A bytes text (Some place)
+replays_by {A} bytes text c l place justice (verdict.Fails lasso) written here small is outcome right =
+    let (latches, rows) = and_parts (length lasso.trace.latches.items == length c.latches.items)
+    (have_width (length c.inputs.items) lasso.trace.inputs.items) right.0 in
+    let rereads = lassos_reread (length c.latches.items) (length c.inputs.items) place lasso.trace small
+    (same_of_test (length lasso.trace.latches.items) (length c.latches.items) latches)
+    (every_row (length c.inputs.items) lasso.trace.inputs.items rows) in
+    let named : list_any (λ name. name == place) (place ∷ []) ≡ true = search rules in
+    let fails = FailsForever-lasso c l.fairness.items justice.items lasso right in (
+      c,
+      l,
+      written,
+      (place ∷ [], lasso.trace) ∷ [],
+      rw is rereads,
+      rw named refl,
+      (rw named ((justice, here, (lasso.start, right), fails), tt), tt),
+    )
+replays_by bytes text c l place justice (verdict.Live k invariant) written here small is outcome right = absurd cc
+replays_by bytes text c l place justice verdict.Unknown written here small is outcome right = absurd cc
+
+pub Replays-told : {A : Type 0} (bytes text : List ℕ) (c : Circuit A) (l : Liveness A) (place : ℕ) → IsPropertiesIn bytes c l
+    → Tells c l place Fails text → Replays A bytes text (Some place)
+Replays-told bytes text c l place written (justice, here, (v, right, is, outcome, small)) =
+    replays_by bytes text c l place justice v written here small is outcome right

@@ -1,0 +1,4 @@
+-- What is answered about the justice properties of a circuit.
+pub mod Answers
+pub mod Certificates
+pub mod Witnesses

@@ -1,0 +1,317 @@
+//! Answers about justice properties, from the bytes of a circuit's text to those of the answers.
+ghost use Rattle.std.specs.Prelude.{◌≡◌, ℕ, ◌<◌, ◌^◌, ◌++◌, codes, length, decimal, Some, IfOk, OnOk};
+ghost use Rattle.gipmc_answers.specs.Answers.{both};
+ghost use Rattle.gipmc_answers.specs.Output.{IsWritten};
+ghost use Rattle.gipmc_answers.specs.declared.answers.Outcome.TheVariants.{Fails};
+ghost use Rattle.gipmc_justice.specs.Answers.{Answers, IsPropertiesIn, Tells, TellsAsked, TellsFirst, TellsOf};
+ghost use Rattle.gipmc_justice.specs.Answers.{named, outcome_of, verdict_text};
+ghost use Rattle.gipmc_justice.specs.Witnesses.{Replays};
+ghost use Rattle.gipmc_liveness_engines.specs.Verdicts.{IsRightVerdict};
+
+use crate::error::JusticeError;
+use gipmc_aiger::{Liveness, read_liveness, write_lasso};
+use gipmc_answers::{Listener, Outcome, Output};
+use gipmc_circuits::Netlist;
+use gipmc_liveness_engines::{Bounds, Verdict, decide_live};
+use gipsat_cnf::Literal;
+use gipsat_solver::Solver;
+use std::alloc::{AllocError, Allocator, Global};
+use std::io::Write;
+
+/// What shows that a property holds: clauses of an invariant of the circuit that counts to `k`.
+#[derive(Drop)]
+pub struct Found<A: Allocator = Global> {
+    /// The place of the property.
+    pub place: usize,
+    /// How many literals are met in turn at most.
+    pub k: usize,
+    /// The clauses, over the variables of the circuit that counts.
+    pub invariant: Vec<Vec<Literal, A>, A>,
+}
+
+/// What is said of some justice properties.
+#[derive(Drop)]
+pub struct Said<A: Allocator = Global> {
+    /// The text.
+    pub text: Vec<u8, A>,
+    /// What it says of all of them: one fails, all hold, or neither is known.
+    pub outcome: Outcome,
+    /// What shows that they hold, of each that does.
+    pub found: Vec<Found<A>, A>,
+}
+
+/// A circuit with its properties, and what is said of them.
+#[derive(Drop)]
+pub struct Answered<A: Allocator = Global> {
+    /// The circuit.
+    pub netlist: Netlist<A>,
+    /// Its justice properties and fairness constraints.
+    pub liveness: Liveness<A>,
+    /// What is said of its justice properties.
+    pub said: Said<A>,
+}
+
+/// Answers about the circuit that a text writes: about the justice property at the place that is asked for, or about all,
+/// each under all fairness constraints. Each answer is written as soon as it is found. Where a write fails no more is
+/// written; the search stops then, and leaves the other properties open, or goes on, as the output says.
+///
+/// # Errors
+/// - [`JusticeError::Task`] where the text writes no circuit, or memory is refused for it or for a text. A search that is
+///   refused memory leaves its property open.
+/// - [`JusticeError::NoProperty`] where there is no justice property at the place.
+pub fn answer<A: Allocator + Copy, L: Listener, W: Write>(
+    alloc: A,
+    bytes: &[u8],
+    asked: Option<usize>,
+    bounds: Bounds,
+    listener: &mut L,
+    output: &mut Output<W>,
+) -> Result<Answered<A>, JusticeError>
+    ensures circuit { IfOk result (λ a. IsPropertiesIn bytes.now a.netlist.circuit a.liveness) }
+    ensures answers { IfOk result (λ a. Answers A bytes.now asked a.said.outcome a.said.text.items) }
+    ensures witness { (place : ℕ) → asked ≡ Some place →
+        IfOk result (λ a. a.said.outcome ≡ Fails → Replays A bytes.now a.said.text.items asked) }
+    ensures written { IfOk result (λ a. IsWritten output.old.failure output.new.failure
+        (W.contents output.old.writer) (W.contents output.new.writer) a.said.text.items) }
+{
+    let read = properties_in(alloc, bytes)?;
+    let said = answer_asked(alloc, &read.0, &read.1, asked, bounds, listener, output)?;
+    let (netlist, liveness) = read;
+    Ok(Answered {
+        netlist,
+        liveness,
+        said,
+    })
+}
+
+// The circuit that a text writes, with its properties.
+pub(crate) fn properties_in<A: Allocator + Copy>(
+    alloc: A,
+    bytes: &[u8],
+) -> Result<(Netlist<A>, Liveness<A>), JusticeError>
+    ensures { IfOk result (λ read. IsPropertiesIn bytes.now read.0.circuit read.1) }
+{
+    match read_liveness(alloc, bytes) {
+        Ok(read) => Ok(read),
+        Err(error) => Err(JusticeError::of_circuit(error)),
+    }
+}
+
+// Answers about the properties of a circuit.
+fn answer_asked<A: Allocator + Copy, L: Listener, W: Write>(
+    alloc: A,
+    netlist: &Netlist<A>,
+    liveness: &Liveness<A>,
+    asked: Option<usize>,
+    bounds: Bounds,
+    listener: &mut L,
+    output: &mut Output<W>,
+) -> Result<Said<A>, JusticeError>
+    ensures tells { IfOk result (λ said. TellsAsked netlist.now.circuit liveness.now asked said.outcome said.text.items) }
+    ensures written { IfOk result (λ said. IsWritten output.old.failure output.new.failure
+        (W.contents output.old.writer) (W.contents output.new.writer) said.text.items) }
+{
+    match asked {
+        None => Ok(answer_all(alloc, netlist, liveness, bounds, listener, output)?),
+        Some(place) if place < liveness.justice.len() => {
+            Ok(answer_at(alloc, netlist, liveness, place, bounds, listener, output)?)
+        }
+        Some(place) => Err(JusticeError::NoProperty(place, liveness.justice.len())),
+    }
+}
+
+// Answers about all properties of a circuit.
+fn answer_all<A: Allocator + Copy, L: Listener, W: Write>(
+    alloc: A,
+    netlist: &Netlist<A>,
+    liveness: &Liveness<A>,
+    bounds: Bounds,
+    listener: &mut L,
+    output: &mut Output<W>,
+) -> Result<Said<A>, AllocError>
+    ensures tells { IfOk result (λ said. TellsFirst netlist.now.circuit liveness.now
+        (length liveness.now.justice.items) said.outcome said.text.items) }
+    ensures written { IfOk result (λ said. IsWritten output.old.failure output.new.failure
+        (W.contents output.old.writer) (W.contents output.new.writer) said.text.items) }
+{
+    let mut text = Vec::new(alloc);
+    let mut outcome = Outcome::Safe;
+    let mut found = Vec::new(alloc);
+    for place in 0..liveness.justice.len() {
+        let mut said = answer_at(alloc, netlist, liveness, place, bounds, listener, output)?;
+        text.extend_from_slice(&said.text)?;
+        outcome = both(outcome, said.outcome);
+        found.append(&mut said.found)?;
+    }
+    Ok(Said {
+        text,
+        outcome,
+        found,
+    })
+}
+
+/// What is known of some properties together, by what is known of some of them and of the others.
+pub fn both(one: Outcome, other: Outcome) -> Outcome
+    ensures { result ≡ both one other }
+{
+    match one {
+        Outcome::Fails => Outcome::Fails,
+        Outcome::Safe => other,
+        Outcome::Open => match other {
+            Outcome::Fails => Outcome::Fails,
+            Outcome::Safe => Outcome::Open,
+            Outcome::Open => Outcome::Open,
+        },
+    }
+}
+
+// Answers about the property at a place.
+fn answer_at<A: Allocator + Copy, L: Listener, W: Write>(
+    alloc: A,
+    netlist: &Netlist<A>,
+    liveness: &Liveness<A>,
+    place: usize,
+    bounds: Bounds,
+    listener: &mut L,
+    output: &mut Output<W>,
+) -> Result<Said<A>, AllocError>
+    requires { place < length liveness.now.justice.items }
+    ensures tells { IfOk result (λ said. Tells netlist.now.circuit liveness.now place said.outcome said.text.items) }
+    ensures written { IfOk result (λ said. IsWritten output.old.failure output.new.failure
+        (W.contents output.old.writer) (W.contents output.new.writer) said.text.items) }
+{
+    let property = &liveness.justice[place];
+    answer_about(
+        alloc, netlist, liveness, place, property, bounds, listener, output,
+    )
+}
+
+// Answers about this property, which stands at a place.
+fn answer_about<A: Allocator + Copy, L: Listener, W: Write>(
+    alloc: A,
+    netlist: &Netlist<A>,
+    liveness: &Liveness<A>,
+    place: usize,
+    property: &[Literal],
+    bounds: Bounds,
+    listener: &mut L,
+    output: &mut Output<W>,
+) -> Result<Said<A>, AllocError>
+    ensures tells { IfOk result (λ said.
+        TellsOf netlist.now.circuit liveness.now property.now place said.outcome said.text.items) }
+    ensures written { IfOk result (λ said. IsWritten output.old.failure output.new.failure
+        (W.contents output.old.writer) (W.contents output.new.writer) said.text.items) }
+{
+    let verdict = if output.is_over() {
+        Verdict::Unknown
+    } else {
+        find_out(alloc, netlist, liveness, place, property, bounds, listener)
+    };
+    let text = verdict_text(alloc, place, &verdict)?;
+    output.tell(&text);
+    let outcome = outcome_of(&verdict);
+    Ok(Said {
+        text,
+        outcome,
+        found: found_in(alloc, place, verdict)?,
+    })
+}
+
+// What is found out about the property at a place: nothing where the time is over, or memory is refused.
+fn find_out<A: Allocator + Copy, L: Listener>(
+    alloc: A,
+    netlist: &Netlist<A>,
+    liveness: &Liveness<A>,
+    place: usize,
+    property: &[Literal],
+    bounds: Bounds,
+    listener: &mut L,
+) -> Verdict<A>
+    ensures { IsRightVerdict netlist.now.circuit liveness.now.fairness.items property.now result }
+{
+    if listener.begin(place).is_break() {
+        return Verdict::Unknown;
+    }
+    let fairness = &liveness.fairness;
+    match decide_live::<Solver<A>, _, _>(alloc, netlist, fairness, property, bounds, listener) {
+        Ok(verdict) => {
+            listener.end(false);
+            verdict
+        }
+        Err(_) => {
+            listener.end(true);
+            Verdict::Unknown
+        }
+    }
+}
+
+// What a verdict says of its property.
+fn outcome_of<A: Allocator>(verdict: &Verdict<A>) -> Outcome
+    ensures { result ≡ outcome_of verdict.now }
+{
+    match verdict {
+        Verdict::Fails(_) => Outcome::Fails,
+        Verdict::Live(_, _) => Outcome::Safe,
+        Verdict::Unknown => Outcome::Open,
+    }
+}
+
+// What a verdict on the property at a place has to show that it holds.
+fn found_in<A: Allocator + Copy>(
+    alloc: A,
+    place: usize,
+    verdict: Verdict<A>,
+) -> Result<Vec<Found<A>, A>, AllocError> {
+    let mut found = Vec::new(alloc);
+    if let Verdict::Live(k, invariant) = verdict {
+        found.reserve(1)?;
+        found.push_reserved(Found {
+            place,
+            k,
+            invariant,
+        });
+    }
+    Ok(found)
+}
+
+// The text of a verdict on the property at a place.
+fn verdict_text<A: Allocator + Copy>(
+    alloc: A,
+    place: usize,
+    verdict: &Verdict<A>,
+) -> Result<Vec<u8, A>, AllocError>
+    ensures text { IfOk result (λ text. text.items ≡ verdict_text place verdict.now) }
+    ensures small { IfOk result (λ text. place < 2 ^ 31) }
+{
+    if place > GREATEST {
+        return Err(AllocError);
+    }
+    let place = place as u32;
+    match verdict {
+        Verdict::Fails(lasso) => write_lasso(alloc, place, &lasso.trace),
+        Verdict::Live(_, _) => named(alloc, b"0", place),
+        Verdict::Unknown => named(alloc, b"2", place),
+    }
+}
+
+// The greatest place of a property that a text may have.
+const GREATEST: usize = 2_147_483_647;
+
+// A status, and the lines that name the property.
+fn named<A: Allocator + Copy>(alloc: A, status: &[u8], place: u32) -> Result<Vec<u8, A>, AllocError>
+    ensures { IfOk result (λ text. text.items ≡ status.now ++ named place) }
+{
+    let mut text = Vec::new(alloc);
+    text.extend_from_slice(status)?;
+    text.extend_from_slice(b"\nj")?;
+    write_number(&mut text, u64::from(place))?;
+    text.extend_from_slice(b"\n.\n")?;
+    Ok(text)
+}
+
+// Writes a number.
+fn write_number<A: Allocator>(text: &mut Vec<u8, A>, number: u64) -> Result<(), AllocError>
+    ensures { OnOk result (text.new.items ≡ text.old.items ++ decimal number) }
+{
+    write!(text, "{number}").map_err(|_| AllocError)
+}

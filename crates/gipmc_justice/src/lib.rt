@@ -1,0 +1,13 @@
+//! What is found out about the justice properties of a circuit, from the bytes of its text to those of answers, and what
+//! lassos and certificates of other programs show of them.
+#![tactic(auto)]
+
+pub mod answers;
+pub mod certificates;
+pub mod error;
+pub mod witnesses;
+
+pub use answers::{Answered, Found, Said, answer, both};
+pub use certificates::{JusticeDoubt, certificate_of, certifies, doubt_of};
+pub use error::JusticeError;
+pub use witnesses::{LassoDoubt, lasso_doubt, replays};

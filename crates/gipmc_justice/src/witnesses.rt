@@ -1,0 +1,262 @@
+//! Witnesses that justice properties fail, from the bytes of texts to the answer.
+ghost use Rattle.std.specs.Prelude.{◌≡◌, ◌==◌, ◌<◌, ◌∷◌, [], length, map, IfNone, IfOk, IsTrue, None, Some};
+ghost use Rattle.std.specs.List.{list_any};
+ghost use Rattle.gipmc_aiger.specs.Lists.{Every};
+ghost use Rattle.gipmc_justice.specs.Witnesses.{AreLassosIn, FailsAt, IsRight, Replays, claimed, names_asked};
+
+use crate::answers::properties_in;
+use crate::error::JusticeError;
+use gipmc_aiger::{Claim, Liveness, read_lassos};
+use gipmc_circuits::{Circuit, Netlist, Trace};
+use gipmc_liveness::closed;
+use std::alloc::{AllocError, Allocator};
+use std::fmt::{self, Display};
+
+/// Which witness shows no failure of a property.
+#[derive(Clone, Copy, Debug, PartialEq, Eq)]
+pub struct LassoDoubt {
+    /// Which of the witnesses of justice properties of the text it is, counted from 1.
+    pub witness: usize,
+    /// The place of the property.
+    pub property: usize,
+}
+
+/// A line that says which witness, which property, and that it is no lasso of it.
+impl Display for LassoDoubt {
+    fn fmt<W: fmt::Write>(&self, f: &mut fmt::Formatter<W>) -> fmt::Result {
+        write!(
+            f,
+            "witness {}, j{}: no trace of the circuit that leads back to one of its moments, with each literal and each \
+             fairness constraint true since",
+            self.witness, self.property
+        )
+    }
+}
+
+/// Whether each trace that the witnesses of a text write is a lasso of the circuit that the other text writes, by which
+/// a justice property fails, as [`lasso_doubt`] finds out.
+///
+/// # Errors
+/// Those of [`lasso_doubt`].
+pub fn replays<A: Allocator + Copy>(
+    alloc: A,
+    bytes: &[u8],
+    text: &[u8],
+    asked: Option<usize>,
+) -> Result<bool, JusticeError>
+    ensures { IfOk result (λ fails. IsTrue fails → Replays A bytes.now text.now asked) }
+{
+    match lasso_doubt(alloc, bytes, text, asked)? {
+        None => Ok(true),
+        Some(_) => Ok(false),
+    }
+}
+
+/// Which of the witnesses of a text shows no failure of a justice property of the circuit that the other text writes: of
+/// the one at the place that is asked for, if the witness names it, or of each that it names. None if all do.
+///
+/// # Errors
+/// - [`JusticeError::Task`] where a text has another form, or memory is refused.
+/// - [`JusticeError::NoProperties`] and [`JusticeError::NoProperty`] where the circuit has no justice property, or not the
+///   one that is asked for.
+/// - [`JusticeError::NoWitness`] and [`JusticeError::NoWitnessOf`] where the text has no witness, or none of what is asked
+///   for.
+/// - [`JusticeError::OtherProperty`] where the circuit has not the property that a witness names.
+pub fn lasso_doubt<A: Allocator + Copy>(
+    alloc: A,
+    bytes: &[u8],
+    text: &[u8],
+    asked: Option<usize>,
+) -> Result<Option<LassoDoubt>, JusticeError>
+    ensures { IfOk result (λ doubt. IfNone doubt (Replays A bytes.now text.now asked)) }
+{
+    let read = properties_in(alloc, bytes)?;
+    has_asked(&read.1, asked)?;
+    let claims = claims_in(alloc, &read.0.circuit, text)?;
+    if !name_asked(&claims, asked) {
+        return Err(unnamed(asked));
+    }
+    first_doubt(alloc, &read.0, &read.1, &claims, asked)
+}
+
+// Tests that the circuit has the property that is asked for, or one at all.
+fn has_asked<A: Allocator>(
+    liveness: &Liveness<A>,
+    asked: Option<usize>,
+) -> Result<(), JusticeError> {
+    let count = liveness.justice.len();
+    match asked {
+        None if count == 0 => Err(JusticeError::NoProperties),
+        Some(place) if place >= count => Err(JusticeError::NoProperty(place, count)),
+        _ => Ok(()),
+    }
+}
+
+// Why no witness is one of what is asked for.
+fn unnamed(asked: Option<usize>) -> JusticeError {
+    match asked {
+        Some(place) => JusticeError::NoWitnessOf(place),
+        None => JusticeError::NoWitness,
+    }
+}
+
+// What the witnesses of a text claim of a circuit's properties.
+fn claims_in<A: Allocator + Copy>(
+    alloc: A,
+    circuit: &Circuit<A>,
+    text: &[u8],
+) -> Result<Vec<Claim<A>, A>, JusticeError>
+    ensures { IfOk result (λ claims.
+        AreLassosIn circuit.now text.now (map (λ x. (x.properties.items, x.trace)) claims.items)) }
+{
+    match read_lassos(alloc, circuit.latches.len(), circuit.inputs.len(), text) {
+        Ok(claims) => Ok(claims),
+        Err(error) => Err(JusticeError::of_witness(error)),
+    }
+}
+
+// Whether a witness is one of what is asked for.
+fn name_asked<A: Allocator>(claims: &[Claim<A>], asked: Option<usize>) -> bool
+    ensures { result ≡ list_any (λ x. names_asked x.properties.items asked) claims.now }
+{
+    claims
+        .iter()
+        .any(|claim| names_asked(&claim.properties, asked))
+}
+
+// Whether a witness of these names is one of the property that is asked for, if one is.
+fn names_asked(names: &[u32], asked: Option<usize>) -> bool
+    ensures { result ≡ names_asked names.now asked }
+{
+    match asked {
+        None => true,
+        Some(place) => is_one_of(names, place),
+    }
+}
+
+// Whether a place is one of these.
+fn is_one_of(places: &[u32], place: usize) -> bool
+    ensures { result ≡ list_any (λ n. n == place) places.now }
+{
+    places.iter().any(|n| *n as usize == place)
+}
+
+// Which of some witnesses shows no failure. None if all do, here and below.
+fn first_doubt<A: Allocator + Copy>(
+    alloc: A,
+    netlist: &Netlist<A>,
+    liveness: &Liveness<A>,
+    claims: &[Claim<A>],
+    asked: Option<usize>,
+) -> Result<Option<LassoDoubt>, JusticeError>
+    ensures { IfOk result (λ doubt. IfNone doubt
+        (Every (λ x. IsRight netlist.now.circuit liveness.now asked (x.properties.items, x.trace)) claims.now)) }
+{
+    for place in 0..claims.len() {
+        if let Some(property) = claim_doubt(alloc, netlist, liveness, &claims[place], asked)? {
+            let witness = place.saturating_add(1);
+            return Ok(Some(LassoDoubt { witness, property }));
+        }
+    }
+    Ok(None)
+}
+
+// The place of a property whose failure a witness does not show.
+fn claim_doubt<A: Allocator + Copy>(
+    alloc: A,
+    netlist: &Netlist<A>,
+    liveness: &Liveness<A>,
+    claim: &Claim<A>,
+    asked: Option<usize>,
+) -> Result<Option<usize>, JusticeError>
+    ensures { IfOk result (λ doubt. IfNone doubt
+        (IsRight netlist.now.circuit liveness.now asked (claim.now.properties.items, claim.now.trace))) }
+{
+    match asked {
+        None => doubt_at_each(alloc, netlist, liveness, &claim.properties, &claim.trace),
+        Some(place) => doubt_at_asked(
+            alloc,
+            netlist,
+            liveness,
+            &claim.properties,
+            place,
+            &claim.trace,
+        ),
+    }
+}
+
+// The same where this one is asked for.
+fn doubt_at_asked<A: Allocator + Copy>(
+    alloc: A,
+    netlist: &Netlist<A>,
+    liveness: &Liveness<A>,
+    names: &[u32],
+    asked: usize,
+    trace: &Trace<A>,
+) -> Result<Option<usize>, JusticeError>
+    ensures { IfOk result (λ doubt. IfNone doubt
+        (Every (FailsAt netlist.now.circuit liveness.now trace.now) (claimed names.now (Some asked)))) }
+{
+    if !is_one_of(names, asked) {
+        return Ok(None);
+    }
+    doubt_at(alloc, netlist, liveness, asked, trace)
+}
+
+// The place of one of these properties that does not fail by the trace.
+fn doubt_at_each<A: Allocator + Copy>(
+    alloc: A,
+    netlist: &Netlist<A>,
+    liveness: &Liveness<A>,
+    places: &[u32],
+    trace: &Trace<A>,
+) -> Result<Option<usize>, JusticeError>
+    ensures { IfOk result (λ doubt. IfNone doubt
+        (Every (FailsAt netlist.now.circuit liveness.now trace.now) places.now)) }
+{
+    for k in 0..places.len() {
+        if let Some(property) = doubt_at(alloc, netlist, liveness, places[k] as usize, trace)? {
+            return Ok(Some(property));
+        }
+    }
+    Ok(None)
+}
+
+// The place, if the property there does not fail by the trace.
+fn doubt_at<A: Allocator + Copy>(
+    alloc: A,
+    netlist: &Netlist<A>,
+    liveness: &Liveness<A>,
+    place: usize,
+    trace: &Trace<A>,
+) -> Result<Option<usize>, JusticeError>
+    ensures { IfOk result (λ doubt. IfNone doubt
+        (Every (FailsAt netlist.now.circuit liveness.now trace.now) (place ∷ []))) }
+{
+    if place >= liveness.justice.len() {
+        return Err(JusticeError::OtherProperty(place, liveness.justice.len()));
+    }
+    if fails_at(alloc, netlist, liveness, place, trace)? {
+        Ok(None)
+    } else {
+        Ok(Some(place))
+    }
+}
+
+// Whether the property at a place fails by the trace.
+fn fails_at<A: Allocator + Copy>(
+    alloc: A,
+    netlist: &Netlist<A>,
+    liveness: &Liveness<A>,
+    place: usize,
+    trace: &Trace<A>,
+) -> Result<bool, AllocError>
+    requires { place < length liveness.now.justice.items }
+    ensures { IfOk result (λ fails. IsTrue fails → FailsAt netlist.now.circuit liveness.now trace.now place) }
+{
+    let justice = &liveness.justice[place];
+    match closed(alloc, netlist, &liveness.fairness, justice, trace)? {
+        Some(_) => Ok(true),
+        None => Ok(false),
+    }
+}
