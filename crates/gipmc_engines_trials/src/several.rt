@@ -220,6 +220,10 @@ fn decides_by_induction(rt: HostRuntime) -> Result<(), AllocError> {
     assert!(rt;
         of_a_counter(rt.alloc(), 9)? == [Said::Inductive(1), Said::Fails(3), Said::Fails(2)]
     );
+    // A base for k = 1 is that no trace of no transition fails.
+    assert!(rt;
+        of_a_counter(rt.alloc(), 0)? == [Said::Inductive(1), Said::Within(0), Said::Within(0)]
+    );
     Ok(())
 }
 
