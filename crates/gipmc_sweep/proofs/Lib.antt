@@ -1,0 +1,3 @@
+pub mod Carried
+mod Equalities
+mod Left
