@@ -107,7 +107,8 @@ fn answer_asked<A: Allocator + Copy, L: Listener, W: Write>(
     listener: &mut L,
     output: &mut Output<W>,
 ) -> Result<Said<A>, JusticeError>
-    ensures tells { IfOk result (λ said. TellsAsked netlist.now.circuit liveness.now asked said.outcome said.text.items) }
+    ensures tells { IfOk result (λ said.
+        TellsAsked netlist.now.circuit liveness.now asked said.outcome said.text.items) }
     ensures written { IfOk result (λ said. IsWritten output.old.failure output.new.failure
         (W.contents output.old.writer) (W.contents output.new.writer) said.text.items) }
 {
