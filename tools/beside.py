@@ -15,6 +15,8 @@ many bad literals. abc has the name berkeley-abc. Each line of the file that --k
     --keep FILE         adds each run to this file; what stands there already is run again only if it was left open with
                         a smaller limit
     --family NAME,..    the circuits of these families (how their names begin)
+    --least SECONDS     the processor time that one of two programs takes where their times are compared, 0.1 where it
+                        is not given
 
 Answers of two programs to one bad literal are compared, and each trace is replayed here by a simulation that shares
 nothing with the programs; a fault is told on the circuit's line, and the status is 1. Of the tables, one counts the bad
@@ -41,7 +43,7 @@ from lib import aiger
 
 ABC = "berkeley-abc"
 # Of two times below this the ratio is noise.
-NOISE = 0.1
+LEAST = 0.1
 # How many times another's time the first one's is where it is named as slow.
 SLOW = 3
 
@@ -123,7 +125,7 @@ def of_gipmc(text, bads):
     return answers, traces
 
 
-def measure(paths, programs, limit, processor, keep):
+def measure(paths, programs, limit, processor, keep, least):
     """Runs the programs, prints a line for each circuit and then the tables; whether all answers agree."""
     kept = {row["name"]: row for row in merged(read([keep]))} if keep and keep.exists() else {}
     rows, faults = [], 0
@@ -146,7 +148,7 @@ def measure(paths, programs, limit, processor, keep):
                 file.write(json.dumps({**row, "runs": new}) + "\n")
         faults += bool(told(row, programs))
         rows.append(row)
-    print_tables(rows, programs, limit)
+    print_tables(rows, programs, limit, least)
     return not faults
 
 
@@ -191,8 +193,9 @@ def title(program):
     return " ".join([Path(name).name, *options])
 
 
-def print_tables(rows, programs, limit):
-    """The tables of the circuits that all of these programs ran on, with a limit."""
+def print_tables(rows, programs, limit, least):
+    """The tables of the circuits that all of these programs ran on, with a limit; no ratio is of two times below the
+    least."""
     groups = collections.defaultdict(list)
     for row in rows:
         if all(program in row["runs"] for program in programs):
@@ -203,16 +206,16 @@ def print_tables(rows, programs, limit):
     heads = [title(program) for program in programs]
     print("\nBad literals that are decided: safe + failing; seconds, with the limit where some are not decided")
     print_table(["Family", "Circuits", "Bads", *heads], table, lambda group: decided(group, limit))
-    print(f"\nThe times of {heads[0]} by those of another, where both decide all and one takes {NOISE} s:")
+    print(f"\nThe times of {heads[0]} by those of another, where both decide all and one takes {least:g} s:")
     print("geometric mean on circuits that are safe, and on those of which some bad literal fails (how many)")
-    print_table(["Family", "Circuits", "Bads", *heads[1:]], table, ratios)
+    print_table(["Family", "Circuits", "Bads", *heads[1:]], table, lambda group: ratios(group, least))
     print("\nThe greatest memory in MB: the mean of the circuits that all decide, and the greatest of all")
     print_table(["Family", "Circuits", "Bads", *heads], table, memory)
     print(f"\nWhat {heads[0]} leaves open and another decides, or takes {SLOW} times as long for")
     for row, (first, *others) in table["all"]:
         whole = [other for other in others if other.is_whole()]
         best = min(whole, key=lambda other: other.seconds, default=None)
-        if best and (not first.is_whole() or first.seconds > max(NOISE, SLOW * best.seconds)):
+        if best and (not first.is_whole() or first.seconds > max(least, SLOW * best.seconds)):
             print(f"  {row['name']}: {short(first.answers)} {first.seconds:.2f} s, other {best.seconds:.2f} s")
     for name, letter in (("safe", "s"), ("failing", "f")):
         alone = [row["name"] for row, runs in table["all"] if alone_decides(runs, letter)]
@@ -244,12 +247,12 @@ def decided(group, limit):
         yield f"{counts[0]} + {counts[1]}, {seconds:.1f} s"
 
 
-def ratios(group):
+def ratios(group, least):
     first, *others = columns(group)
     for other in others:
         logs = {False: [], True: []}
         for pair in zip(first, other):
-            if all(found.is_whole() for found in pair) and max(found.seconds for found in pair) >= NOISE:
+            if all(found.is_whole() for found in pair) and max(found.seconds for found in pair) >= least:
                 one, two = (max(found.seconds, 0.01) for found in pair)
                 logs["f" in pair[0].answers].append(math.log(one / two))
         means = [f"{math.exp(sum(part) / len(part)):.2f} ({len(part)})" if part else "-" for part in logs.values()]
@@ -271,6 +274,7 @@ def parse(words):
     parser.add_argument("--processor", type=int, metavar="N")
     parser.add_argument("--keep", type=Path, metavar="FILE")
     parser.add_argument("--family", metavar="NAME,..")
+    parser.add_argument("--least", type=float, default=LEAST, metavar="SECONDS")
     asked = parser.parse_intermixed_args(words)
     for path in asked.table or []:
         if not path.is_file():
@@ -298,12 +302,12 @@ def main():
     if asked.table:
         rows = [row for row in merged(read(asked.table)) if is_chosen(row["name"], asked.family)]
         programs = asked.words or list(dict.fromkeys(program for row in rows for program in row["runs"]))
-        print_tables(rows, programs, asked.limit)
+        print_tables(rows, programs, asked.limit, asked.least)
         return 0
     folder, *programs = asked.words
     paths = [path for path in Path(folder).glob("*.aig") if is_chosen(path.name, asked.family)]
     paths.sort(key=lambda path: re.sub(r"\d+", lambda digits: digits[0].zfill(6), path.name))
-    return 0 if measure(paths, programs, asked.limit, asked.processor, asked.keep) else 1
+    return 0 if measure(paths, programs, asked.limit, asked.processor, asked.keep, asked.least) else 1
 
 
 if __name__ == "__main__":
