@@ -22,20 +22,21 @@ Answers of two programs to one bad literal are compared, and each trace is repla
 nothing with the programs; a fault is told on the circuit's line, and the status is 1. Of the tables, one counts the bad
 literals that each program decided; one compares the first program's times with those of each other; one has the memory;
 the last one names the circuits that the first program leaves open or is slow on. Times are processor times, of the user
-and of the system, with reading. It needs /usr/bin/time, prlimit and stdbuf, and taskset for --processor.
+and of the system, with reading. It needs Linux, and stdbuf for abc.
 """
 
 import argparse
 import collections
 import json
 import math
+import os
 import re
-import resource
 import shlex
 import shutil
 import subprocess
 import sys
 import tempfile
+import time
 from pathlib import Path
 from typing import NamedTuple
 
@@ -66,34 +67,41 @@ class Run(NamedTuple):
         return self if self.seconds <= limit else self._replace(answers="-" * len(self.answers), seconds=limit)
 
 
-def spent():
-    used = resource.getrusage(resource.RUSAGE_CHILDREN)
-    return used.ru_utime + used.ru_stime
-
-
-def run(program, path, bads, seconds, processor):
-    """What a program says to a circuit, and the traces by bad literals."""
+def run(program, path, bads, limit, processor):
+    """What a program says to a circuit, its processor seconds and megabytes, and the traces by bad literals."""
     with tempfile.TemporaryDirectory() as folder:
-        trace, peak = Path(folder) / "trace", Path(folder) / "peak"
+        trace = Path(folder) / "trace"
         if program.startswith("abc "):
             commands = program.removeprefix("abc ")
             tail = "" if re.search(r"pdr.* -\w*a", commands) else f"; write_cex -a {trace}"
             words = ["stdbuf", "-oL", ABC, "-c", f"read_aiger {path}; fold; {commands}{tail}"]
         else:
             words = [*shlex.split(program), str(path)]
-        words = ["/usr/bin/time", "-f", "%M", "-o", peak, "prlimit", f"--cpu={seconds}", *words]
-        if processor is not None:
-            words = ["taskset", "-c", str(processor), *words]
-        before = spent()
-        done = subprocess.run(words, stdin=subprocess.DEVNULL, capture_output=True, text=True, errors="replace")
-        took = spent() - before
-        megabytes = int(peak.read_text().split()[-1]) / 1024
+        said, used = limited(words, limit, processor, Path(folder) / "said")
         if program.startswith("abc "):
             lines = trace.read_text().split("#")[0].split() if trace.exists() else []
-            answers, traces = of_abc(done.stdout, bads, lines)
+            answers, traces = of_abc(said, bads, lines)
         else:
-            answers, traces = of_gipmc(done.stdout, bads)
-    return "".join(answers), took, megabytes, traces
+            answers, traces = of_gipmc(said, bads)
+    return "".join(answers), used.ru_utime + used.ru_stime, used.ru_maxrss / 1024, traces
+
+
+def limited(words, limit, processor, said):
+    """What a program writes until it ends or has used so many processor seconds, and what it used.
+
+    The limit of a shell counts ticks of a clock, which are too few by a half where a processor is shared."""
+    with said.open("wb") as output:
+        process = subprocess.Popen(words, stdin=subprocess.DEVNULL, stdout=output, stderr=subprocess.DEVNULL)
+        if processor is not None:
+            os.sched_setaffinity(process.pid, {processor})
+        # The clock of the processor time of a process, as clock_getcpuclockid gives it.
+        clock = ~process.pid << 3 | 2
+        while not (ended := os.wait4(process.pid, os.WNOHANG))[0]:
+            if time.clock_gettime(clock) > limit:
+                process.kill()
+            time.sleep(0.01)
+        process.returncode = os.waitstatus_to_exitcode(ended[1])
+    return said.read_text(encoding="utf-8", errors="replace"), ended[2]
 
 
 def of_abc(text, bads, trace):
