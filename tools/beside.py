@@ -22,17 +22,19 @@ Answers of two programs to one bad literal are compared, and each trace is repla
 nothing with the programs; a fault is told on the circuit's line, and the status is 1. Of the tables, one counts the bad
 literals that each program decided; one compares the first program's times with those of each other; one has the memory;
 the last one names the circuits that the first program leaves open or is slow on. Times are processor times, of the user
-and of the system, with reading. It needs Linux, and stdbuf for abc.
+and of the system, with reading. It needs Linux, /usr/bin/time, and stdbuf for abc.
 """
 
 import argparse
 import collections
+import contextlib
 import json
 import math
 import os
 import re
 import shlex
 import shutil
+import signal
 import subprocess
 import sys
 import tempfile
@@ -77,31 +79,37 @@ def run(program, path, bads, limit, processor):
             words = ["stdbuf", "-oL", ABC, "-c", f"read_aiger {path}; fold; {commands}{tail}"]
         else:
             words = [*shlex.split(program), str(path)]
-        said, used = limited(words, limit, processor, Path(folder) / "said")
+        said, took, megabytes = limited(words, limit, processor, Path(folder))
         if program.startswith("abc "):
             lines = trace.read_text().split("#")[0].split() if trace.exists() else []
             answers, traces = of_abc(said, bads, lines)
         else:
             answers, traces = of_gipmc(said, bads)
-    return "".join(answers), used.ru_utime + used.ru_stime, used.ru_maxrss / 1024, traces
+    return "".join(answers), took, megabytes, traces
 
 
-def limited(words, limit, processor, said):
-    """What a program writes until it ends or has used so many processor seconds, and what it used.
+def limited(words, limit, processor, folder):
+    """What a program writes until it ends or has used so many processor seconds, those that it used, and megabytes.
 
-    The limit of a shell counts ticks of a clock, which are too few by a half where a processor is shared."""
-    with said.open("wb") as output:
-        process = subprocess.Popen(words, stdin=subprocess.DEVNULL, stdout=output, stderr=subprocess.DEVNULL)
-        if processor is not None:
-            os.sched_setaffinity(process.pid, {processor})
-        # The clock of the processor time of a process, as clock_getcpuclockid gives it.
-        clock = ~process.pid << 3 | 2
-        while not (ended := os.wait4(process.pid, os.WNOHANG))[0]:
-            if time.clock_gettime(clock) > limit:
-                process.kill()
-            time.sleep(0.01)
-        process.returncode = os.waitstatus_to_exitcode(ended[1])
-    return said.read_text(encoding="utf-8", errors="replace"), ended[2]
+    RLIMIT_CPU counts the ticks of a timer, which can be half of what was used where a processor is shared. The memory
+    of a process that Python begins is at least that of Python; so another one begins it."""
+    peak, output = folder / "peak", folder / "output"
+    with output.open("wb") as file:
+        words = ["/usr/bin/time", "-f", "%M", "-o", str(peak), *words]
+        process = subprocess.Popen(words, stdin=subprocess.DEVNULL, stdout=file, stderr=subprocess.DEVNULL)
+    if processor is not None:
+        os.sched_setaffinity(process.pid, {processor})
+    while not (ended := os.wait4(process.pid, os.WNOHANG))[0]:
+        # The child may end meanwhile.
+        with contextlib.suppress(OSError):
+            for child in map(int, Path(f"/proc/{process.pid}/task/{process.pid}/children").read_text().split()):
+                # The clock of the processor time of a process, as clock_getcpuclockid gives it.
+                if time.clock_gettime(~child << 3 | 2) > limit:
+                    os.kill(child, signal.SIGKILL)
+        time.sleep(0.01)
+    process.returncode = os.waitstatus_to_exitcode(ended[1])
+    said = output.read_text(encoding="utf-8", errors="replace")
+    return said, ended[2].ru_utime + ended[2].ru_stime, int(peak.read_text().split()[-1]) / 1024
 
 
 def of_abc(text, bads, trace):
