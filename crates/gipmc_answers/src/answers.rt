@@ -331,7 +331,7 @@ fn tell_at<S: SatSolver<A> + Drop, A: Allocator + Copy, L: Listener, W: Write>(
         (W.contents output.old.writer) (W.contents output.new.writer) told.text.items) }
 {
     let _bad = parted.bads[at];
-    let verdict = parted.find_out(alloc, at, place, output.is_over(), listener);
+    let verdict = parted.find_out(alloc, at, place, output.wanted(), listener);
     tell(alloc, place, &verdict, output)
 }
 

@@ -19,5 +19,5 @@ pub use certificates::{
 pub use error::TaskError;
 pub use induction::InductionDoubt;
 pub use listener::Listener;
-pub use output::{Lost, Output};
+pub use output::{Lost, Output, Traces};
 pub use witnesses::{WitnessDoubt, replays, witness_doubt};

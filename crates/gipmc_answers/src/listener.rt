@@ -1,5 +1,5 @@
 //! A listener to a search about some bad literals.
-use gipmc_engines::Watch;
+use gipmc_engines::{Engine, Watch};
 use std::ops::ControlFlow;
 
 /// A listener to a search about some bad literals, which are answered one after another.
@@ -7,7 +7,14 @@ pub trait Listener: Watch {
     /// The search is to go on until the bad literal at this place is decided. `Break` where there is no time for it.
     fn begin(&mut self, place: usize) -> ControlFlow<()>;
 
-    /// It did. Whether memory was refused, and the literal is left open for that.
+    /// This engine decided the literal.
+    fn note_engine(&mut self, _engine: Engine) {}
+
+    /// A shortest trace was looked for in place of the one that was found, before the search ends. Whether the trace that
+    /// is answered is known to be one.
+    fn end_shortening(&mut self, _is_shortest: bool) {}
+
+    /// The search does not go on for this literal. Whether memory was refused, and the literal is left open for that.
     fn end(&mut self, is_refused: bool);
 }
 

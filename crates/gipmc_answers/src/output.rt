@@ -12,6 +12,26 @@ pub enum Lost {
     GoOn,
 }
 
+/// Which trace is written of a bad literal that fails.
+#[derive(Clone, Copy, PartialEq, Eq)]
+pub enum Traces {
+    /// The one that was found.
+    Found,
+    /// A shortest one, if it is found.
+    Shortest,
+}
+
+// What a search is to find out.
+#[derive(Clone, Copy, PartialEq, Eq)]
+pub(crate) enum Wanted {
+    // Nothing more: it is over.
+    Nothing,
+    // Verdicts.
+    Verdicts,
+    // Verdicts, with shortest traces.
+    Shortest,
+}
+
 /// A writer, and why it failed first. After that it takes nothing more.
 #[derive(Drop)]
 pub struct Output<W: Write> {
@@ -21,21 +41,35 @@ pub struct Output<W: Write> {
     pub failure: Option<io::Error>,
     /// What becomes of the search then.
     pub lost: Lost,
+    /// Which traces are written.
+    pub traces: Traces,
 }
 
 impl<W: Write> Output<W> {
-    /// Before the first text.
+    /// Before the first text. The traces are those that are found.
     pub fn new(writer: W, lost: Lost) -> Self {
         Output {
             writer,
             failure: None,
             lost,
+            traces: Traces::Found,
         }
     }
 
     /// Whether the search is to stop.
     pub fn is_over(&self) -> bool {
         self.failure.is_some() && self.lost == Lost::Stop
+    }
+
+    // What a search is to find out yet.
+    pub(crate) fn wanted(&self) -> Wanted {
+        if self.is_over() {
+            return Wanted::Nothing;
+        }
+        match self.traces {
+            Traces::Found => Wanted::Verdicts,
+            Traces::Shortest => Wanted::Shortest,
+        }
     }
 
     /// Writes a text, if all before it was written.

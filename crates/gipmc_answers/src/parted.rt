@@ -6,8 +6,9 @@ ghost use Rattle.gipmc_engines.specs.Verdicts.{IsRightVerdict};
 ghost use Rattle.gipmc_part.specs.Parts.{IsPartOf, literal_named};
 
 use crate::listener::Listener;
+use crate::output::Wanted;
 use gipmc_circuits::{Netlist, Trace, replay};
-use gipmc_engines::{Finding, Joint, Plan, Verdict};
+use gipmc_engines::{Bounds, Finding, Joint, Plan, Verdict, search};
 use gipmc_part::Part;
 use gipsat_cnf::{Literal, SatSolver};
 use std::alloc::{AllocError, Allocator};
@@ -39,6 +40,8 @@ pub(crate) struct Parted<'a, S: SatSolver<A> + Drop, A: Allocator> {
     part: &'a Part<A>,
     // The search about those that stand for them.
     joint: Joint<'a, S, A>,
+    // How many clauses a question about shorter traces may learn.
+    limit: usize,
     pub ghost is_part: { ∥ IsPartOf part.now.names.names.items part.now.netlist.circuit whole.now.circuit ∥₁ },
     pub ghost same: { joint.findings.netlist.now ≡ part.now.netlist },
     pub ghost stand: { map (literal_named part.now.names.names.items) joint.findings.bads.now ≡ bads.now },
@@ -66,17 +69,19 @@ impl<'a, S: SatSolver<A> + Drop, A: Allocator + Copy> Parted<'a, S, A> {
             bads,
             part,
             joint,
+            limit: plan.bounds.limit,
         })
     }
 
     /// Goes on until the literal at one of the places is decided, the bad one at a place of the circuit, and answers what is
-    /// known of it then. A search that is over, or for which a listener has no time, does not go on.
+    /// known of it then, by a shortest trace where that is wanted and found. A search that is over, or for which a listener
+    /// has no time, does not go on.
     pub(crate) fn find_out<L: Listener>(
         &mut self,
         alloc: A,
         at: usize,
         place: usize,
-        is_over: bool,
+        wanted: Wanted,
         listener: &mut L,
     ) -> Verdict<A>
         requires { at < length self.old.bads.now }
@@ -85,13 +90,99 @@ impl<'a, S: SatSolver<A> + Drop, A: Allocator + Copy> Parted<'a, S, A> {
         ensures right { (bad : Lit) → slice_get self.old.bads.now at ≡ Some bad →
             IsRightVerdict self.old.whole.now.circuit bad result }
     {
-        if is_over || listener.begin(place).is_break() {
+        if wanted == Wanted::Nothing || listener.begin(place).is_break() {
             return self.known(alloc, at);
         }
         self.joint.find_out(at, listener);
-        let verdict = self.known(alloc, at);
+        self.tell_engine(at, listener);
+        let verdict = self.told(alloc, at, wanted, listener);
         listener.end(self.is_refused(at, &verdict));
         verdict
+    }
+
+    // Tells a listener which engine decided the literal at a place, if it is decided.
+    fn tell_engine<L: Listener>(&self, at: usize, listener: &mut L) {
+        if self.joint.findings.is_open(at) {
+            return;
+        }
+        if let Some(engine) = self.joint.findings.engine(at) {
+            listener.note_engine(engine);
+        }
+    }
+
+    // What is told of the literal at a place: what is known, and where that is a trace, a shortest one if that is wanted and
+    // found.
+    fn told<L: Listener>(&self, alloc: A, at: usize, wanted: Wanted, listener: &mut L) -> Verdict<A>
+        requires { at < length self.now.bads.now }
+        ensures { (bad : Lit) → slice_get self.now.bads.now at ≡ Some bad →
+            IsRightVerdict self.now.whole.now.circuit bad result }
+    {
+        let verdict = self.known(alloc, at);
+        if wanted != Wanted::Shortest {
+            return verdict;
+        }
+        let Some(moments) = moments_of(&verdict) else {
+            return verdict;
+        };
+        match self.shorter(alloc, at, moments, listener) {
+            Some(shorter) => shorter,
+            None => verdict,
+        }
+    }
+
+    // That the literal at a place fails by a shortest trace, by bounded model checking in the part, if one is found that has
+    // fewer moments than so many. The listener is told whether there is known to be none that is shorter still.
+    fn shorter<L: Listener>(
+        &self,
+        alloc: A,
+        at: usize,
+        moments: usize,
+        listener: &mut L,
+    ) -> Option<Verdict<A>>
+        requires { at < length self.now.bads.now }
+        ensures { IfSome result (λ verdict. (bad : Lit) → slice_get self.now.bads.now at ≡ Some bad →
+            IsRightVerdict self.now.whole.now.circuit bad verdict) }
+    {
+        let bad = self.bads[at];
+        let (trace, is_shortest) = self.shorter_in_part(alloc, at, moments, listener);
+        listener.end_shortening(is_shortest);
+        let Some(trace) = trace else {
+            return None;
+        };
+        let Ok(verdict) = self.fails_by(alloc, bad, &trace) else {
+            return None;
+        };
+        if moments_of(&verdict).is_none() {
+            return None;
+        }
+        Some(verdict)
+    }
+
+    // A trace of the part on which its literal at a place becomes true, if one is found that has fewer moments than so many,
+    // and whether there is known to be none that is shorter still.
+    fn shorter_in_part<L: Listener>(
+        &self,
+        alloc: A,
+        at: usize,
+        moments: usize,
+        listener: &mut L,
+    ) -> (Option<Trace<A>>, bool) {
+        let Some(depth) = moments.checked_sub(2) else {
+            return (None, true);
+        };
+        let Some(own) = self.joint.findings.bads.get(at).copied() else {
+            return (None, false);
+        };
+        let bounds = Bounds {
+            depth,
+            limit: self.limit,
+            ..Bounds::default()
+        };
+        match search::<S, A, L>(alloc, &self.part.netlist, own, bounds, listener) {
+            Ok(Verdict::Fails(trace)) => (Some(trace), true),
+            Ok(Verdict::NoFailureWithin(cleared)) => (None, cleared >= depth),
+            _ => (None, false),
+        }
     }
 
     // Whether a literal is left open since memory was refused.
@@ -184,6 +275,7 @@ impl<'a, S: SatSolver<A> + Drop, A: Allocator + Copy> Parted<'a, S, A> {
             Err(_) => Vec::new(alloc),
         }
     }
+
     /// The greatest k for which a literal was found to be k-inductive, if one was.
     pub(crate) fn k(&self) -> Option<usize> {
         let mut greatest = None;
@@ -200,4 +292,12 @@ fn greater<A: Allocator>(greatest: Option<usize>, finding: &Finding<A>) -> Optio
         return greatest;
     };
     Some(greatest.unwrap_or(0).max(*k))
+}
+
+// How many moments the trace of a verdict has, if it has one.
+fn moments_of<A: Allocator>(verdict: &Verdict<A>) -> Option<usize> {
+    match verdict {
+        Verdict::Fails(trace) => Some(trace.inputs.len()),
+        _ => None,
+    }
 }
