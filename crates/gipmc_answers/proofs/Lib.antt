@@ -1,6 +1,7 @@
 pub mod Claimed
 pub mod Each
 mod ByInduction
+mod Depths
 mod Shown
 mod Told
 pub mod Witnessed

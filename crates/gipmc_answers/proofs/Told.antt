@@ -1,11 +1,13 @@
 -- What is told of a bad literal, and of one more.
-use Rattle.std.proofs.Common.{◌≡◌, ℕ, suc, ◌+◌, List, ◌++◌, Some, arith, refl, subst}
-use Rattle.std.specs.Prelude.{slice_get}
+use Rattle.std.proofs.Common.{◌≡◌, ℕ, suc, ◌+◌, ◌<◌, ◌^◌, List, [], ◌∷◌, ◌++◌, Some, arith, ap, refl, subst}
+use Rattle.std.proofs.lemmas.List.Elements.{All-cons, All-nil}
+use Rattle.std.specs.Prelude.{slice_get, Option, None, Result, Ok, Err, IfOk, IfSome}
 use Rattle.gipsat_cnf.specs.Literals.{Lit}
 use Rattle.gipmc_circuits.specs.declared.circuit.Circuit.{Circuit}
-use Rattle.gipmc_engines.specs.Verdicts.{IsRightVerdict}
+use Rattle.gipmc_engines.specs.Verdicts.{IsRightVerdict, NeverFailsWithin}
 use Rattle.gipmc_engines.specs.declared.verdict.Verdict.{Verdict}
-use Rattle.gipmc_answers.specs.Answers.{Tells, TellsBy, TellsFirst, both}
+use Rattle.gipmc_engines.specs.declared.verdict.Verdict.TheVariants as verdict
+use Rattle.gipmc_answers.specs.Answers.{Tells, TellsBy, TellsDepths, TellsFirst, both, depth_text}
 use Rattle.gipmc_answers.specs.declared.answers.Outcome.{Outcome}
 
 pub TellsFirst-more : {A : Type 0} (c : Circuit A) (n : ℕ) (one other : Outcome) (before last : List ℕ)
@@ -15,8 +17,43 @@ TellsFirst-more c n one other before last told tells =
     subst (λ k. TellsFirst c k (both one other) (before ++ last)) next
     (one, other, before, last, told, tells, refl, refl)
 
--- what is told by a verdict that is right
-pub Tells-by : {A : Type 0} (c : Circuit A) (place : ℕ) (bad : Lit) (v : Verdict A) (outcome : Outcome) (text : List ℕ)
+-- what is told by a verdict that is right, behind depths
+pub Tells-by : {A : Type 0} (c : Circuit A) (place : ℕ) (bad : Lit) (v : Verdict A) (outcome : Outcome) (front text : List ℕ)
+    → slice_get c.bads.items place ≡ Some bad → TellsDepths c bad front → IsRightVerdict c bad v → TellsBy place v outcome text
+    → Tells c place outcome (front ++ text)
+Tells-by c place bad v outcome front text here depths right (is, said, small) =
+    (bad, here, front, depths, v, right, ap (λ t. front ++ t) is, said, small)
+
+-- without depths
+pub Tells-alone : {A : Type 0} (c : Circuit A) (place : ℕ) (bad : Lit) (v : Verdict A) (outcome : Outcome) (text : List ℕ)
     → slice_get c.bads.items place ≡ Some bad → IsRightVerdict c bad v → TellsBy place v outcome text
     → Tells c place outcome text
-Tells-by c place bad v outcome text here right (is, said, small) = (bad, here, v, right, is, said, small)
+Tells-alone c place bad v outcome text here right told =
+    Tells-by c place bad v outcome [] text here ([], All-nil (NeverFailsWithin c bad), All-nil (λ n. n < 2 ^ 64), refl) right told
+
+-- one depth more
+pub TellsDepths-more : {A : Type 0} (c : Circuit A) (bad : Lit) (n : ℕ) (text : List ℕ) → TellsDepths c bad text
+    → NeverFailsWithin c bad n → n < 2 ^ 64 → TellsDepths c bad (text ++ depth_text n)
+TellsDepths-more c bad n text (depths, all, fit, is) never fits = (
+  n ∷ depths,
+  All-cons (NeverFailsWithin c bad) n depths never all,
+  All-cons (λ k. k < 2 ^ 64) n depths fits fit,
+  ap (λ t. t ++ depth_text n) is,
+)
+
+-- nothing is told yet
+pub TellsDepths-none : {A : Type 0} (c : Circuit A) (bad : Lit) → TellsDepths c bad []
+TellsDepths-none c bad = ([], All-nil (NeverFailsWithin c bad), All-nil (λ n. n < 2 ^ 64), refl)
+
+-- a right verdict that has a depth says that nothing fails up to it
+pub some_clear : {A B : Type 0} (r : Option ℕ) (v : Verdict B) (c : Circuit A) (bads : List Lit) (k : ℕ)
+    → IfSome r (λ n. v ≡ verdict.NoFailureWithin n)
+    → ((bad : Lit) → slice_get bads k ≡ Some bad → IsRightVerdict c bad v)
+    → IfSome r (λ n. (bad : Lit) → slice_get bads k ≡ Some bad → NeverFailsWithin c bad n)
+some_clear None v c bads k is right = tt
+some_clear (Some n) v c bads k is right = λ bad here. subst (λ w. IsRightVerdict c bad w) is (right bad here)
+
+-- what follows from what an answer says
+pub ok_more : {T E : Type 0} (P Q : T → Type 0) (r : Result T E) → ((t : T) → P t → Q t) → IfOk r P → IfOk r Q
+ok_more P Q (Ok t) more p = more t p
+ok_more P Q (Err e) more p = tt

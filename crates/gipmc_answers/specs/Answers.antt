@@ -1,11 +1,12 @@
 -- Texts of answers, and when they are right.
-use Rattle.std.specs.Prelude.{◌≡◌, ℕ, zero, suc, ◌<◌, ◌^◌, List, [], ◌++◌, length, slice_get, codes, decimal, Option, Some, None, IsTrue}
+use Rattle.std.specs.Prelude.{◌≡◌, ℕ, zero, suc, ◌<◌, ◌^◌, List, [], ◌∷◌, ◌++◌, length, slice_get, codes, decimal, Option, Some, None, IsTrue}
+use Rattle.std.specs.List.{All}
 use Rattle.gipsat_cnf.specs.Literals.{Lit}
 use Rattle.gipmc_aiger.specs.Circuits.{Writes}
 use Rattle.gipmc_aiger.specs.Traces.{witness_text}
 use Rattle.gipmc_circuits.specs.declared.circuit.Circuit.{Circuit}
 use Rattle.gipmc_circuits.specs.WellFormed.{is_well_formed}
-use Rattle.gipmc_engines.specs.Verdicts.{IsRightVerdict}
+use Rattle.gipmc_engines.specs.Verdicts.{IsRightVerdict, NeverFailsWithin}
 use Rattle.gipmc_engines.specs.declared.verdict.Verdict.{Verdict}
 use Rattle.gipmc_engines.specs.declared.verdict.Verdict.TheVariants as verdict
 use Rattle.gipmc_answers.specs.declared.answers.Outcome.{Outcome}
@@ -23,6 +24,20 @@ verdict_text place (verdict.Safe invariant) = codes "0" ++ named place
 verdict_text place (verdict.Inductive k) = codes "0" ++ named place
 verdict_text place (verdict.NoFailureWithin n) = codes "u" ++ decimal n ++ codes "\n2" ++ named place
 verdict_text place verdict.Unknown = codes "2" ++ named place
+
+-- the line that tells that nothing fails up to a depth
+abbrev pub depth_text : ℕ → List ℕ
+depth_text n = codes "u" ++ decimal n ++ codes "\n"
+
+-- such lines, the last one of the first depth
+abbrev pub depths_text : List ℕ → List ℕ
+depths_text [] = []
+depths_text (n ∷ before) = depths_text before ++ depth_text n
+
+-- the text has such lines of depths up to which no trace fails
+abbrev pub TellsDepths : {A : Type 0} → Circuit A → Lit → List ℕ → Type 0
+TellsDepths c bad text =
+    (depths : List ℕ) × All (NeverFailsWithin c bad) depths × All (λ n. n < 2 ^ 64) depths × (text ≡ depths_text depths)
 
 -- what a verdict says of its literal
 abbrev pub outcome_of : {A : Type 0} → Verdict A → Outcome
@@ -44,11 +59,12 @@ both Open Open = Open
 abbrev pub TellsBy : {A : Type 0} → ℕ → Verdict A → Outcome → List ℕ → Type 0
 TellsBy place v outcome text = (text ≡ verdict_text place v) × (outcome ≡ outcome_of v) × (place < 2 ^ 31)
 
--- the text is that of a right verdict on the bad literal at a place, which a text may name
+-- the text is that of a right verdict on the bad literal at a place, which a text may name; before it there may be lines
+-- that tell up to which depths no trace fails
 abbrev pub Tells : {A : Type 0} → Circuit A → ℕ → Outcome → List ℕ → Type 0
 Tells {A} c place outcome text =
-    (bad : Lit) × (slice_get c.bads.items place ≡ Some bad) × (v : Verdict A) × IsRightVerdict c bad v
-    × (text ≡ verdict_text place v) × (outcome ≡ outcome_of v) × (place < 2 ^ 31)
+    (bad : Lit) × (slice_get c.bads.items place ≡ Some bad) × (front : List ℕ) × TellsDepths c bad front × (v : Verdict A)
+    × IsRightVerdict c bad v × (text ≡ front ++ verdict_text place v) × (outcome ≡ outcome_of v) × (place < 2 ^ 31)
 
 -- the text tells of each of the first n bad literals in turn
 abbrev pub TellsFirst : {A : Type 0} → Circuit A → ℕ → Outcome → List ℕ → Type 0

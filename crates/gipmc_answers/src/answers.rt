@@ -1,7 +1,7 @@
 //! Answers about a circuit, from the bytes of its text to those of the answers.
 ghost use Rattle.std.specs.Prelude.{◌≡◌, ℕ, ◌<◌, ◌^◌, ◌++◌, codes, length, map, slice_get, decimal, Some, IfOk, OnOk};
-ghost use Rattle.gipmc_answers.specs.Answers.{Answers, IsCircuitIn, Tells, TellsAsked, TellsBy, TellsFirst};
-ghost use Rattle.gipmc_answers.specs.Answers.{both, named, outcome_of, verdict_text};
+ghost use Rattle.gipmc_answers.specs.Answers.{Answers, IsCircuitIn, Tells, TellsAsked, TellsBy, TellsDepths, TellsFirst};
+ghost use Rattle.gipmc_answers.specs.Answers.{both, depth_text, named, outcome_of, verdict_text};
 ghost use Rattle.gipmc_answers.specs.Output.{IsWritten};
 ghost use Rattle.gipmc_answers.specs.Witnesses.{Replays};
 ghost use Rattle.gipmc_answers.specs.declared.answers.Outcome.TheVariants.{Fails};
@@ -9,7 +9,7 @@ ghost use Rattle.gipmc_part.specs.Parts.{IsPartOf, literal_named};
 
 use crate::error::TaskError;
 use crate::listener::Listener;
-use crate::output::Output;
+use crate::output::{Output, Wanted};
 use crate::parted::{Parted, part_of};
 use gipmc_aiger::{read_circuit, write_witness};
 use gipmc_circuits::Netlist;
@@ -330,9 +330,89 @@ fn tell_at<S: SatSolver<A> + Drop, A: Allocator + Copy, L: Listener, W: Write>(
     ensures written { IfOk result (λ told. IsWritten output.old.failure output.new.failure
         (W.contents output.old.writer) (W.contents output.new.writer) told.text.items) }
 {
-    let _bad = parted.bads[at];
-    let verdict = parted.find_out(alloc, at, place, output.wanted(), listener);
-    tell(alloc, place, &verdict, output)
+    let bad = parted.bads[at];
+    let wanted = wanted_at(place, output.wanted(), listener);
+    let mut text = tell_depths(alloc, parted, at, bad, wanted, listener, output)?;
+    let verdict = parted.find_out(alloc, at, wanted, listener);
+    let told = tell(alloc, place, &verdict, output)?;
+    text.extend_from_slice(&told.text)?;
+    Ok(Told {
+        text,
+        outcome: told.outcome,
+    })
+}
+
+// What is to be found out of the literal at a place: nothing if the search is over, or a listener has no time for it.
+fn wanted_at<L: Listener>(place: usize, wanted: Wanted, listener: &mut L) -> Wanted {
+    if wanted == Wanted::Nothing || listener.begin(place).is_break() {
+        return Wanted::Nothing;
+    }
+    wanted
+}
+
+// How often a number can be doubled.
+const DOUBLINGS: usize = 64;
+
+// Goes on with the search about the literal at one of its places, if progress is to be written, and tells up to which
+// depths nothing fails, each of which is more than twice the one before.
+fn tell_depths<S: SatSolver<A> + Drop, A: Allocator + Copy, L: Listener, W: Write>(
+    alloc: A,
+    parted: &mut Parted<'_, S, A>,
+    at: usize,
+    bad: Literal,
+    wanted: Wanted,
+    listener: &mut L,
+    output: &mut Output<W>,
+) -> Result<Vec<u8, A>, AllocError>
+    requires { slice_get parted.old.bads.now at ≡ Some bad }
+    ensures whole { parted.new.whole ≡ parted.old.whole }
+    ensures bads { parted.new.bads ≡ parted.old.bads }
+    ensures depths { IfOk result (λ text. TellsDepths parted.old.whole.now.circuit bad text.items) }
+    ensures written { IfOk result (λ text. IsWritten output.old.failure output.new.failure
+        (W.contents output.old.writer) (W.contents output.new.writer) text.items) }
+{
+    let _of = bad;
+    let mut text = Vec::new(alloc);
+    if wanted == Wanted::Nothing || !output.progress {
+        return Ok(text);
+    }
+    let mut next: usize = 0;
+    for _ in 0..DOUBLINGS {
+        let Some(depth) = parted.clear(alloc, at, next, listener) else {
+            return Ok(text);
+        };
+        tell_depth(alloc, depth, &mut text, output)?;
+        next = depth.saturating_mul(2).saturating_add(1);
+    }
+    Ok(text)
+}
+
+// Tells of a depth.
+fn tell_depth<A: Allocator + Copy, W: Write>(
+    alloc: A,
+    depth: usize,
+    text: &mut Vec<u8, A>,
+    output: &mut Output<W>,
+) -> Result<(), AllocError>
+    ensures text { OnOk result (text.new.items ≡ text.old.items ++ depth_text depth) }
+    ensures written { OnOk result (IsWritten output.old.failure output.new.failure
+        (W.contents output.old.writer) (W.contents output.new.writer) (depth_text depth)) }
+{
+    let line = depth_text(alloc, depth)?;
+    text.extend_from_slice(&line)?;
+    output.tell(&line);
+    Ok(())
+}
+
+// The line that tells a depth.
+fn depth_text<A: Allocator + Copy>(alloc: A, depth: usize) -> Result<Vec<u8, A>, AllocError>
+    ensures { IfOk result (λ text. text.items ≡ depth_text depth) }
+{
+    let mut text = Vec::new(alloc);
+    text.extend_from_slice(b"u")?;
+    write_number(&mut text, depth as u64)?;
+    text.extend_from_slice(b"\n")?;
+    Ok(text)
 }
 
 // Leaves all bad literals of a circuit open: there is no memory for a search.

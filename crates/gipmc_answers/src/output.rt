@@ -43,16 +43,20 @@ pub struct Output<W: Write> {
     pub lost: Lost,
     /// Which traces are written.
     pub traces: Traces,
+    /// Whether a line `u N` is written before an answer each time that nothing is known to fail within more than twice as
+    /// many transitions.
+    pub progress: bool,
 }
 
 impl<W: Write> Output<W> {
-    /// Before the first text. The traces are those that are found.
+    /// Before the first text. The traces are those that are found, and no progress is written.
     pub fn new(writer: W, lost: Lost) -> Self {
         Output {
             writer,
             failure: None,
             lost,
             traces: Traces::Found,
+            progress: false,
         }
     }
 

@@ -2,7 +2,8 @@
 ghost use Rattle.std.specs.Prelude.{◌≡◌, ◌<◌, length, map, slice_get, Some, IfOk, IfSome};
 ghost use Rattle.gipsat_cnf.specs.Literals.{Lit};
 ghost use Rattle.gipmc_engines.specs.Several.{verdict_by};
-ghost use Rattle.gipmc_engines.specs.Verdicts.{IsRightVerdict};
+ghost use Rattle.gipmc_engines.specs.Verdicts.{IsRightVerdict, NeverFailsWithin};
+ghost use Rattle.gipmc_engines.specs.declared.verdict.Verdict.TheVariants.{NoFailureWithin};
 ghost use Rattle.gipmc_part.specs.Parts.{IsPartOf, literal_named};
 
 use crate::listener::Listener;
@@ -73,14 +74,12 @@ impl<'a, S: SatSolver<A> + Drop, A: Allocator + Copy> Parted<'a, S, A> {
         })
     }
 
-    /// Goes on until the literal at one of the places is decided, the bad one at a place of the circuit, and answers what is
-    /// known of it then, by a shortest trace where that is wanted and found. A search that is over, or for which a listener
-    /// has no time, does not go on.
+    /// Goes on until the literal at one of the places is decided, and answers what is known of it then, by a shortest trace
+    /// where that is wanted and found. A search that is over does not go on.
     pub(crate) fn find_out<L: Listener>(
         &mut self,
         alloc: A,
         at: usize,
-        place: usize,
         wanted: Wanted,
         listener: &mut L,
     ) -> Verdict<A>
@@ -90,7 +89,7 @@ impl<'a, S: SatSolver<A> + Drop, A: Allocator + Copy> Parted<'a, S, A> {
         ensures right { (bad : Lit) → slice_get self.old.bads.now at ≡ Some bad →
             IsRightVerdict self.old.whole.now.circuit bad result }
     {
-        if wanted == Wanted::Nothing || listener.begin(place).is_break() {
+        if wanted == Wanted::Nothing {
             return self.known(alloc, at);
         }
         self.joint.find_out(at, listener);
@@ -98,6 +97,28 @@ impl<'a, S: SatSolver<A> + Drop, A: Allocator + Copy> Parted<'a, S, A> {
         let verdict = self.told(alloc, at, wanted, listener);
         listener.end(self.is_refused(at, &verdict));
         verdict
+    }
+
+    /// Goes on until it is known that no trace of at most so many transitions fails as to the literal at one of the places,
+    /// and answers up to how many it is known. None where the literal is decided, or the search cannot go on.
+    pub(crate) fn clear<L: Listener>(
+        &mut self,
+        alloc: A,
+        at: usize,
+        depth: usize,
+        listener: &mut L,
+    ) -> Option<usize>
+        requires { at < length self.old.bads.now }
+        ensures whole { self.new.whole ≡ self.old.whole }
+        ensures bads { self.new.bads ≡ self.old.bads }
+        ensures clear { IfSome result (λ n. (bad : Lit) → slice_get self.old.bads.now at ≡ Some bad →
+            NeverFailsWithin self.old.whole.now.circuit bad n) }
+    {
+        if !self.joint.find_out_to(at, depth, listener) {
+            return None;
+        }
+        let verdict = self.known(alloc, at);
+        depth_of(&verdict)
     }
 
     // Tells a listener which engine decided the literal at a place, if it is decided.
@@ -298,6 +319,16 @@ fn greater<A: Allocator>(greatest: Option<usize>, finding: &Finding<A>) -> Optio
 fn moments_of<A: Allocator>(verdict: &Verdict<A>) -> Option<usize> {
     match verdict {
         Verdict::Fails(trace) => Some(trace.inputs.len()),
+        _ => None,
+    }
+}
+
+// Up to how many transitions a verdict says that nothing fails, if it says that.
+fn depth_of<A: Allocator>(verdict: &Verdict<A>) -> Option<usize>
+    ensures { IfSome result (λ n. verdict.now ≡ NoFailureWithin n) }
+{
+    match verdict {
+        Verdict::NoFailureWithin(depth) => Some(*depth),
         _ => None,
     }
 }

@@ -1,0 +1,27 @@
+-- The depths are told, and behind them the verdict.
+use Rattle.std.proofs.Common.{◌≡◌, ◌∙◌, Some, get_or, subst, sym}
+use Rattle.std.specs.Prelude.{slice_get}
+use Rattle.std.proofs.lemmas.Option.{slice_get-get_or}
+use Rattle.gipmc_engines.specs.Verdicts.{IsRightVerdict}
+use Rattle.gipmc_answers.proofs.Told.{Tells-by}
+use Rattle.gipmc_answers.proofs.Written.{IsWritten-more}
+use Rattle.gipmc_answers.proofs.answers.tell_at.Goals as goal
+
+pub returns-clause-tells : goal.returns-clause-tells
+returns-clause-tells g c =
+    let circuit = c.args.parted.now.whole.now.circuit in
+    let bads = c.args.parted.now.bads.now in
+    let bad = get_or bads c.args.at c.index-parted-at.result in
+    let verdict = c.find_out-verdict.result in
+    let at : slice_get bads c.args.at ≡ Some bad = slice_get-get_or bads c.args.at c.index-parted-at.result c.requires.within in
+    let here = subst (λ b. slice_get b.now c.args.at ≡ Some bad) (sym c.in_ok-text.ensures.bads) at in
+    let right = subst (λ w. IsRightVerdict w.now.circuit bad verdict) c.in_ok-text.ensures.whole
+    (c.find_out-verdict.ensures.right bad here) in
+    rw (c.in_ok-extend_from_slice.ensures.items, c.deref.ensures.value)
+    (Tells-by circuit c.args.place bad verdict c.in_ok-told.told.outcome c.in_ok-text.text.items c.in_ok-told.told.text.items
+    (c.requires.same ∙ at) c.in_ok-text.ensures.depths right c.in_ok-told.ensures.tells)
+
+pub returns-clause-written : goal.returns-clause-written
+returns-clause-written g c =
+    rw (c.in_ok-extend_from_slice.ensures.items, c.deref.ensures.value)
+    (IsWritten-more _ _ _ _ _ _ _ _ c.in_ok-text.ensures.written c.in_ok-told.ensures.written)
