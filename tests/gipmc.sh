@@ -542,23 +542,114 @@ for words in "--certify cert --bad 0 two.aag" two.aag --help --version; do
 done
 rm -f cert
 
+# Justice properties. One arbiter changes whose turn it is, and one never does; the client waits from the start on.
+fair='aag 3 0 2 0 1 0 0 1\n2 3\n4 6 1\n1\n4\n6 4 3\n'
+starves='aag 3 0 2 0 1 0 0 1\n2 2\n4 6 1\n1\n4\n6 4 3\n'
+is_live=$(printf '0\nj0\n.')
+printf '1\nj0\n01\n\n.\n' > lasso
+no_lasso() {
+    printf '%s: witness 1, j0: no trace of the circuit that leads back to one of its moments, ' "$1"
+    printf 'with each literal and each fairness constraint true since'
+}
+try "a fair arbiter" 20 "" "$is_live" "$fair"
+try "an arbiter that lets a client starve" 10 "" "$(cat lasso)" "$starves"
+try "the lasso of it" 0 "" "s VERIFIED" "$starves" --replay lasso
+try "a loop that does not close" 1 "$(no_lasso lasso)" "s NOT VERIFIED" "$fair" --replay lasso
+never='aag 1 0 1 0 0 0 0 1 1\n2 2\n1\n1\n2\n'
+try "fairness that no run meets" 20 "" "$is_live" "$never"
+printf '1\nj0\n0\n\n.\n' > lasso
+try "a lasso that forgets fairness" 1 "$(no_lasso lasso)" "s NOT VERIFIED" "$never" --replay lasso
+try "a constraint that ends every run" 20 "" "$is_live" 'aag 1 0 1 0 0 0 1 1\n2 1\n3\n1\n1\n'
+printf '1\nj0\n0\n\n\n.\n' > lasso
+try "a property that is met outside the loop" 1 "$(no_lasso lasso)" "s NOT VERIFIED" \
+    'aag 1 0 1 0 0 0 0 1\n2 1\n1\n3\n' --replay lasso
+try "no bad literal beside a justice property" 1 "<stdin>: no bad literal 0, of 0" "" "$fair" --bad 0
+try "a justice property that is not there" 1 "<stdin>: no justice property 1, of 1" "" "$fair" --justice 1
+
+# A bad literal, and two justice properties under a fairness constraint.
+several='aag 1 0 1 0 0 1 0 2 1\n2 2\n2\n1\n2\n3\n1\n2\n3\n'
+printf '0\nb0\n.\n1\nj0\n0\n\n.\n0\nj1\n.\n' > all
+try "a bad literal and justice properties, in order" 10 "" "$(cat all)" "$several"
+try "the bad literal alone" 20 "" "$safe" "$several" --bad 0
+try "a justice property alone" 20 "" "$(printf '0\nj1\n.')" "$several" --justice 1
+try "a justice property, which is asked for last" 10 "" "$(printf '1\nj0\n0\n\n.')" "$several" --bad 0 --justice 0
+try "the witnesses of all answers" 0 "" "s VERIFIED" "$several" --replay all
+try "no witness of the other property" 1 "all: no witness of justice property 1, which '--justice' asks for" "" \
+    "$several" --replay all --justice 1
+try "no witness of the bad literal" 1 "all: no witness of bad literal 0, which '--bad' asks for" "" \
+    "$several" --replay all --bad 0
+
+# Certificates of justice properties: the latches of a chain that counts stand behind those of the circuit.
+rm -f counts
+try "a certificate of a justice property" 20 "" "$is_live" "$fair" --certificate counts
+try "it certifies the property" 0 "" "s VERIFIED" "$fair" --certify counts --justice 0
+printf '%b' "$starves" | "$gipmc" --certify counts --justice 0 > out 2> err
+status=$?
+[ "$status" = 1 ] && [ "$(cat out)" = "s NOT VERIFIED" ]
+told "it certifies no other circuit" $?
+printf 'p cnf 2 0\n' > counts
+try "a count that is too small" 1 "counts: j0: the clauses allow one literal more to be met" "s NOT VERIFIED" \
+    "$fair" --certify counts --justice 0
+rm -f counts
+try "no certificate of several properties" 1 \
+    "counts: not written, since '--justice' asks for the property that it is to be of" \
+    "$(printf '0\nj0\n.\n0\nj1\n.')" 'aag 1 0 1 0 0 0 0 2\n2 2\n1\n1\n2\n2\n' --certificate counts
+[ ! -e counts ]
+told "no file of such a certificate" $?
+
+# Lassos with names. A latch rises and stays up.
+printf '%b' 'aag 1 0 1 0 0 0 0 2\n2 1\n1\n1\n2\n0\nl0 top.up\nj0 stays up\nj1 never\n' > rises.aag
+"$gipmc" --names rises.aag > out 2> err
+status=$?
+table='c j0 stays up
+c #0 top.up = 0
+c #1 top.up = 1
+c #2 is #1 again
+c j1 never: safe'
+[ "$status" = 10 ] && [ ! -s err ] && [ "$(grep '^c' out)" = "$table" ] && [ "$("$gipmc" --replay out rises.aag)" = "s VERIFIED" ]
+told "names of a lasso and of a property that holds" $?
+rm -f wave
+"$gipmc" --vcd wave rises.aag > out 2> err
+status=$?
+# shellcheck disable=SC2016
+wave='$timescale 1 ns $end
+$scope module circuit $end
+$scope module top $end
+$var reg 1 ! up  $end
+$upscope $end
+$upscope $end
+$scope module lasso $end
+$var wire 1 " again  $end
+$upscope $end
+$enddefinitions $end
+#0
+0!
+0"
+#1
+1!
+1"
+#2'
+[ "$status" = 10 ] && [ ! -s err ] && [ "$(cat wave)" = "$wave" ]
+told "a wave of a lasso" $?
+rm -f wave
+rm -f traces/*
+"$gipmc" --witness traces/ rises.aag > out 2> err
+status=$?
+[ "$status" = 10 ] && [ "$(ls traces)" = j0.aiw ] && [ "$(cat traces/j0.aiw)" = "$(printf '1\nj0\n0\n\n\n.')" ] &&
+    [ "$("$gipmc" --replay traces/j0.aiw --justice 0 rises.aag)" = "s VERIFIED" ]
+told "a file of a lasso" $?
+
 # Texts that are refused.
 # shellcheck disable=SC2016
 try "an empty input" 1 '<stdin>:1: no header `aag` or `aig`' "" ""
-left="left out: justice properties 1, fairness constraints 0"
-try "a justice property alone" 1 \
-    "$(printf 'c <stdin>: %s\n<stdin>:1: justice without bad literals is not supported' "$left")" "" \
-    'aag 0 0 0 0 0 0 0 1\n0\n'
 live='aag 1 0 1 0 0 1 0 2 1\n2 2\n2\n1\n2\n3\n1\n2\n3\nl0 held\nj1 live\nb0 bad\n'
-left="left out: justice properties 2, fairness constraints 1"
-try "justice properties beside a bad literal" 20 "c <stdin>: $left" "$safe" "$live"
 printf '%b' "$live" > live.aag
-try "a certificate beside justice properties" 0 "c live.aag: $left" "s VERIFIED" 'p cnf 1 1\n-1 0\n' --certify - live.aag
+try "a certificate of bad literals beside justice properties" 0 "" "s VERIFIED" 'p cnf 1 1\n-1 0\n' --certify - live.aag
 printf '%b' 'aag 1 0 1 0 0 1 0 1\n2 2 1\n2\n1\n3\nl0 held\nj0 live\nb0 bad\n' > live.aag
 "$gipmc" --engine bmc --names live.aag > out 2> err
 status=$?
-[ "$status" = 10 ] && [ "$(grep '^c' out)" = "$(printf 'c b0 bad\nc #0 held = 1')" ]
-told "names beside a justice property" $?
+[ "$status" = 10 ] && [ "$(grep '^c' out)" = "$(printf 'c b0 bad\nc #0 held = 1\nc j0 live: safe')" ]
+told "names of a bad literal and of a justice property" $?
 try "a latch that is not there" 1 "<stdin>:2: not a number" "" 'aag 1 0 1 0 0\n'
 try "a literal that is too great" 1 "<stdin>:3: a number that is too great" "" 'aag 1 0 1 0 0 1\n2 2\n4\n'
 try "a variable that is not defined" 1 "<stdin>: variable 1 is not defined" "" 'aag 1 0 0 0 0 1\n2\n'

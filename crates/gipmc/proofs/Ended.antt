@@ -1,5 +1,5 @@
 -- What the status of a run says.
-use Rattle.std.proofs.Common.{◌≡◌, ℕ, Bool, true, false, Ok, Err, IsTrue, refl}
+use Rattle.std.proofs.Common.{◌≡◌, Bool, true, false, Ok, Err, IsTrue, refl}
 use Rattle.std.specs.Prelude.{Result, IfOk}
 use Rattle.gipmc.specs.Statuses.{search_status, verified_status}
 use Rattle.gipmc_answers.specs.declared.answers.Outcome.{Outcome}

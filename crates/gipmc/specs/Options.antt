@@ -6,7 +6,7 @@ use Rattle.gipmc_engines.specs.declared.engines.Engine as engines
 use Rattle.gipmc_engines.specs.declared.engines.Engine.TheVariants.{Simulation, Bounded, Ic3, Induction, All}
 use Rattle.gip_program.specs.Options.{Entry, number, switch, text}
 use Rattle.gipmc.specs.declared.about.Number.{Number}
-use Rattle.gipmc.specs.declared.about.Number.TheVariants.{Bad, Depth, Limit, Seed, Time}
+use Rattle.gipmc.specs.declared.about.Number.TheVariants.{Bad, Depth, Justice, Limit, Seed, Time}
 use Rattle.gipmc.specs.declared.about.Switch.{Switch}
 use Rattle.gipmc.specs.declared.about.Switch.TheVariants.{Aiger, Names, Quiet, Stats, Verbose}
 use Rattle.gipmc.specs.declared.about.Text.{Text}
@@ -17,6 +17,7 @@ use Rattle.gipmc.specs.declared.options.Options.{Options}
 abbrev pub table : List (Entry Switch Number Text)
 table =
     number (codes "--bad") [] Bad ∷
+    number (codes "--justice") [] Justice ∷
     text (codes "--engine") [] Engine ∷
     number (codes "--depth") [] Depth ∷
     number (codes "--limit") [] Limit ∷
@@ -34,13 +35,15 @@ table =
     switch (codes "--stats") [] Stats ∷
     []
 
--- the file of the circuit, if not standard input, the place of its bad literal, if not all, what searches, the most
+-- the file of the circuit, if not standard input, the place of the bad literal or of the justice property that is asked
+-- for, if not all, what searches, the most
 -- transitions, if that is said, the most conflicts of a question, the seed, the limit in seconds, if there is one,
 -- what to write, where to write a certificate, if one is wanted, and whether as a circuit, whether to tell traces with
 -- names, and where to write a wave and witnesses, if these are wanted
 pub record Request : Type 0 where
   pub file : Option (List ℕ)
   pub bad : Option ℕ
+  pub justice : Option ℕ
   pub engine : engines.Engine
   pub depth : Option ℕ
   pub limit : ℕ
@@ -60,6 +63,7 @@ abbrev pub no_request : Request
 no_request = record {
   file = None;
   bad = None;
+  justice = None;
   engine = All;
   depth = None;
   limit = 2 ^ 64 - 1;
@@ -94,7 +98,8 @@ switched Verbose r = record r { verbose = true }
 
 -- with this value of an option
 abbrev pub counted : Number → ℕ → Request → Request
-counted Bad n r = record r { bad = Some n }
+counted Bad n r = record r { bad = Some n; justice = None }
+counted Justice n r = record r { bad = None; justice = Some n }
 counted Depth n r = record r { depth = Some n }
 counted Limit n r = record r { limit = n }
 counted Seed n r = record r { seed = n }
@@ -105,6 +110,7 @@ abbrev pub request_of : Options → Request
 request_of o = record {
   file = option_map (λ name. name.now) o.file;
   bad = o.bad;
+  justice = o.justice;
   engine = o.engine;
   depth = o.depth;
   limit = o.limit;

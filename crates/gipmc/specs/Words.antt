@@ -68,6 +68,7 @@ scope_of_switch s = Each
 
 abbrev pub scope_of_number : Number → Scope
 scope_of_number number.Bad = Each
+scope_of_number number.Justice = Each
 scope_of_number number.Limit = Limit
 scope_of_number n = Search
 

@@ -16,6 +16,7 @@ pub enum Switch {
 pub enum Number {
     Bad,
     Depth,
+    Justice,
     Limit,
     Seed,
     Time,
@@ -41,23 +42,34 @@ pub const ABOUT: About<'static, Switch, Number, Text> = About {
          named or its name is -, and searches for all bad literals at once. As soon as it knows, it writes what it found \
          of each in turn: the lines `1`, `b` with the literal's place (from 0 on), a witness and `.`; or `0` in place of \
          `1` where no bad state is reachable, and `2` where that is open. A line `u` with a number before a `2` says that \
-         no counterexample has so many transitions or fewer. Where the circuit has no bad literals, its outputs are \
-         taken for them; where it has neither, no answer is written.",
+         no counterexample has so many transitions or fewer. Justice properties follow, with `j` in place of `b`: a witness \
+         is a lasso, and `0` says that on no run each literal of the property and each fairness constraint is true again \
+         and again. Where the circuit has neither bad literals nor justice properties, its outputs are taken for bad \
+         literals; where it has none of these, no answer is written.",
     ],
     options: &OPTIONS,
     note: "The value of a long option may also stand behind `=`: --depth=20.",
-    statuses: "Exit status: 10 unsafe, a bad state is reachable; 20 safe, none is; 0 open, verified, or help; 1 an error, \
+    statuses: "Exit status: 10 unsafe, a bad state is reachable or a justice property fails; 20 safe, neither; 0 open, verified, or help; 1 an error, \
                or not verified; 2 arguments that have no meaning.",
 };
 
 /// The options.
-pub const OPTIONS: [Opt<Switch, Number, Text>; 16] = [
+pub const OPTIONS: [Opt<Switch, Number, Text>; 17] = [
     Opt {
         long: "--bad",
         short: "",
         kind: Kind::Number(Number::Bad, "I"),
         section: "Input",
         help: "only the bad literal at place I",
+    },
+    Opt {
+        long: "--justice",
+        short: "",
+        kind: Kind::Number(Number::Justice, "I"),
+        section: "Input",
+        help: "only the justice property at place I. Then the clauses of --certificate and --certify are over the latches \
+               and, behind these, more that count how often its literals and the fairness constraints were met in turn. Of \
+               --bad and --justice the last one counts",
     },
     Opt {
         long: "--engine",
@@ -138,25 +150,25 @@ pub const OPTIONS: [Opt<Switch, Number, Text>; 16] = [
         short: "",
         kind: Kind::Switch(Switch::Names),
         section: "Output",
-        help: "write behind the answers, for each bad literal, lines that begin with c: its name in the circuit's file, and \
+        help: "write behind the answers, for each property, lines that begin with c: its name in the circuit's file, and \
                whether it is safe or open, if it has one; or, where it fails, what each input and latch is at first, and \
-               later where it changes",
+               later where it changes; of a lasso, at the end, to which moment it leads back",
     },
     Opt {
         long: "--vcd",
         short: "",
         kind: Kind::Text(Text::Vcd, "F", "a file"),
         section: "Output",
-        help: "write the trace of the first bad literal that fails to the file F, which must not be there, as a value \
-               change dump for a viewer of waves",
+        help: "write the trace of the first property that fails to the file F, which must not be there, as a value change \
+               dump for a viewer of waves; in the loop of a lasso its signal lasso.again is true",
     },
     Opt {
         long: "--witness",
         short: "",
         kind: Kind::Text(Text::Witness, "PREFIX", "the front of file names"),
         section: "Output",
-        help: "write the witness of each bad literal that fails to a file of its own, which must not be there: PREFIX, then \
-               b and the literal's place, then .aiw",
+        help: "write the witness of each property that fails to a file of its own, which must not be there: PREFIX, then b \
+               or j and the property's place, then .aiw",
     },
     Opt {
         long: "--quiet",

@@ -2,6 +2,7 @@
 use gip_program::{Cause, Fault, FinishError};
 use gipmc_aiger::{AigerError, Place, Reason};
 use gipmc_answers::TaskError;
+use gipmc_justice::JusticeError;
 use std::alloc::AllocError;
 use std::fmt::{self, Display};
 use std::io;
@@ -64,14 +65,18 @@ pub enum Failure<'a> {
     Create(&'a str, io::Error),
     /// A write to the file of this name failed.
     WriteFile(&'a str, io::Error),
-    /// The witness of the bad literal at this place was not written to the file whose name begins so.
-    Witness(&'a str, u32, io::Error),
+    /// The witness of the property of this letter and place was not written to the file whose name begins so.
+    Witness(&'a str, &'static str, u32, io::Error),
     /// A file was written, and did not get its name.
     Finish(FinishError<'a>),
     /// No certificate was written to this file.
     NoCertificate(Option<&'a str>, TaskError),
     /// The task on the text in this input was not done.
     Task(Option<&'a str>, TaskError),
+    /// The task on justice properties was not done, for what this input has.
+    Justice(Option<&'a str>, JusticeError),
+    /// No certificate was written to this file, since it would be one of several properties.
+    SeveralProperties(Option<&'a str>),
     /// Memory was refused.
     Memory,
 }
@@ -101,9 +106,9 @@ impl Display for Failure<'_> {
             Failure::WriteFile(name, error) => {
                 write!(f, "{name}: cannot be written: {}", Cause(Some(error)))
             }
-            Failure::Witness(prefix, place, error) => write!(
+            Failure::Witness(prefix, letter, place, error) => write!(
                 f,
-                "{prefix}b{place}.aiw: cannot be written: {}",
+                "{prefix}{letter}{place}.aiw: cannot be written: {}",
                 Cause(Some(error))
             ),
             Failure::Finish(error) => Display::fmt(&error, f),
@@ -135,6 +140,17 @@ impl Display for Failure<'_> {
                     None => write!(f, "{name}: {error}"),
                 }
             }
+            Failure::Justice(name, JusticeError::NoWitnessOf(asked)) => write!(
+                f,
+                "{}: no witness of justice property {asked}, which '--justice' asks for",
+                name.unwrap_or("<stdin>")
+            ),
+            Failure::Justice(name, error) => write!(f, "{}: {error}", name.unwrap_or("<stdin>")),
+            Failure::SeveralProperties(name) => write!(
+                f,
+                "{}: not written, since '--justice' asks for the property that it is to be of",
+                name.unwrap_or("<stdout>")
+            ),
             Failure::Memory => f.write_str("memory: refused"),
         }
     }

@@ -5,18 +5,24 @@
 //! error.
 #![tactic(auto)]
 
-ghost use Rattle.std.specs.Prelude.{◌≡◌, false, IfOk, IsTrue};
+ghost use Rattle.std.specs.Prelude.{◌≡◌, false, IfNone, IfOk, IfSome, IsTrue, None, Some};
 ghost use Rattle.std.specs.Process.{exit_status};
 ghost use Rattle.std.specs.declared.alloc.Global.{Global};
-ghost use Rattle.gipmc_answers.specs.Answers.{Answers, IsAnswered, IsCircuitIn};
+ghost use Rattle.gipmc_answers.specs.Answers.{Answers, IsCircuitIn};
 ghost use Rattle.gipmc_answers.specs.Certificates.{Certifies};
 ghost use Rattle.gipmc_answers.specs.Witnesses.{Replays};
 ghost use Rattle.gipmc_answers.specs.declared.answers.Outcome.TheVariants.{Fails, Safe};
+ghost use Rattle.gipmc_justice.specs.Certificates as certificates;
+ghost use Rattle.gipmc_justice.specs.Witnesses as justice;
+ghost use Rattle.gipmc.specs.Asked.{AreBadsLeftOut, CertifiesAsked, IsAnsweredAsked, ReplaysAsked, ReplaysEach};
+ghost use Rattle.gipmc.specs.Asked.{outcome_of_bads};
 ghost use Rattle.gipmc.specs.Statuses.{outcome_status, search_status, verified_status};
 
 mod about;
 mod errors;
 mod files;
+mod justice;
+mod kinds;
 mod options;
 mod progress;
 mod traces;
@@ -25,12 +31,14 @@ use about::ABOUT;
 use errors::Failure;
 use files::{bytes_of, new_file, write_out, write_whole};
 use gip_program::{NewFile, begin, explain, refuse, tell};
-use gipmc_aiger::read_header;
 use gipmc_answers::{
     Answered, Lost, Outcome, Output, TaskError, answer, certificate_of, doubt_of,
     witness_circuit_of, witness_doubt,
 };
 use gipmc_engines::{Bounds, Engine, Plan, Tries};
+use gipmc_justice::{JusticeError, both, lasso_doubt};
+use justice::{justice_failure, keep_of_justice, outcome_of_justice, search_justice};
+use kinds::{has_justice, is_of_bads};
 use options::{Options, Task};
 use progress::Teller;
 use std::fmt::Display;
@@ -63,24 +71,9 @@ fn main(rt: HostRuntime) -> ExitCode {
     }
 }
 
-// The text of the circuit that the options name, or of standard input. Tells what it has that is not answered about.
-fn circuit_of<'a>(rt: &HostRuntime, options: &Options<'a>) -> Result<Vec<u8>, Failure<'a>> {
-    let bytes = bytes_of(rt, options.file)?;
-    if let Ok(header) = read_header(&bytes) {
-        let (justice, fairness) = (header.justice, header.fairness);
-        if justice > 0 || fairness > 0 {
-            let name = options.file.unwrap_or("<stdin>");
-            let _ = eprintln!(rt;
-                "c {name}: left out: justice properties {justice}, fairness constraints {fairness}"
-            );
-        }
-    }
-    Ok(bytes)
-}
-
 // The status of a search in the circuit of the file that the options name, or of standard input.
 fn run_search(rt: &HostRuntime, options: &Options) -> ExitCode {
-    match circuit_of(rt, options) {
+    match bytes_of(rt, options.file) {
         Ok(bytes) => search_in(rt, options, &bytes),
         Err(error) => refuse(rt, &error),
     }
@@ -88,8 +81,10 @@ fn run_search(rt: &HostRuntime, options: &Options) -> ExitCode {
 
 // The status of a search in the circuit that the bytes write.
 fn search_in(rt: &HostRuntime, options: &Options, bytes: &[u8]) -> ExitCode
-    ensures safe { exit_status result ≡ 20 → IsAnswered Global bytes.now options.now.bad Safe }
-    ensures fails { exit_status result ≡ 10 → IsAnswered Global bytes.now options.now.bad Fails }
+    ensures safe { exit_status result ≡ 20 →
+        IsAnsweredAsked Global bytes.now options.now.bad options.now.justice Safe }
+    ensures fails { exit_status result ≡ 10 →
+        IsAnsweredAsked Global bytes.now options.now.bad options.now.justice Fails }
 {
     end_search(rt, search_circuit(rt, options, bytes))
 }
@@ -110,7 +105,8 @@ fn replay_in(
     bytes: &[u8],
     witness: &[u8],
 ) -> ExitCode
-    ensures { exit_status result ≡ 0 → Replays Global bytes.now witness.now options.now.bad }
+    ensures { exit_status result ≡ 0 →
+        ReplaysAsked Global bytes.now witness.now options.now.bad options.now.justice }
 {
     end_check(rt, replay(rt, options, name, bytes, witness))
 }
@@ -131,7 +127,8 @@ fn certify_in(
     bytes: &[u8],
     text: &[u8],
 ) -> ExitCode
-    ensures { exit_status result ≡ 0 → Certifies Global bytes.now text.now options.now.bad }
+    ensures { exit_status result ≡ 0 →
+        CertifiesAsked Global bytes.now text.now options.now.bad options.now.justice }
 {
     end_check(rt, certify(rt, options, name, bytes, text))
 }
@@ -142,7 +139,7 @@ fn texts_of<'a>(
     options: &Options<'a>,
     name: Option<&'a str>,
 ) -> Result<(Vec<u8>, Vec<u8>), Failure<'a>> {
-    let bytes = circuit_of(rt, options)?;
+    let bytes = bytes_of(rt, options.file)?;
     let text = bytes_of(rt, name)?;
     Ok((bytes, text))
 }
@@ -180,7 +177,11 @@ fn end_check(rt: &HostRuntime, ended: Result<bool, Failure>) -> ExitCode
 }
 
 // The failure of a task on the circuit in one input and an answer in another.
-fn failure<'a>(circuit: Option<&'a str>, beside: Option<&'a str>, error: TaskError) -> Failure<'a> {
+pub(crate) fn failure<'a>(
+    circuit: Option<&'a str>,
+    beside: Option<&'a str>,
+    error: TaskError,
+) -> Failure<'a> {
     match error {
         TaskError::Circuit(_) | TaskError::NoBad(_, _) | TaskError::NoBads => {
             Failure::Task(circuit, error)
@@ -228,7 +229,7 @@ fn search_circuit<'a>(
     options: &Options<'a>,
     bytes: &[u8],
 ) -> Result<Outcome, Failure<'a>>
-    ensures { IfOk result (IsAnswered Global bytes.now options.now.bad) }
+    ensures { IfOk result (IsAnsweredAsked Global bytes.now options.now.bad options.now.justice) }
 {
     let certificate = new_file(rt, options.certificate)?;
     let wave = new_file(rt, options.vcd)?;
@@ -243,46 +244,65 @@ fn search_for<'a>(
     certificate: Option<NewFile<'a>>,
     wave: Option<NewFile<'a>>,
 ) -> Result<Outcome, Failure<'a>>
-    ensures { IfOk result (IsAnswered Global bytes.now options.now.bad) }
+    ensures { IfOk result (IsAnsweredAsked Global bytes.now options.now.bad options.now.justice) }
 {
     let mut output = Output::new(rt.stdout(), lost(options));
-    let answer = search(rt, options, bytes, &mut output)?;
-    let kept = keep(rt, options, bytes, &answer, certificate, wave);
+    let found = search(rt, options, bytes, &mut output)?;
+    let kept = keep_found(rt, options, bytes, &found, certificate, wave);
     written(&output)?;
     kept?;
-    Ok(answer.said.outcome)
+    Ok(found.outcome)
 }
 
-// Writes the certificate that was found for the circuit that the bytes write, and what is told of traces.
-fn keep<'a>(
+// Writes the certificate that was found, and what is told of traces.
+fn keep_found<'a>(
     rt: &HostRuntime,
     options: &Options<'a>,
     bytes: &[u8],
-    answer: &Answered,
+    found: &Found,
     certificate: Option<NewFile<'a>>,
     wave: Option<NewFile<'a>>,
 ) -> Result<(), Failure<'a>>
-    requires circuit { IsCircuitIn bytes.now answer.now.netlist.circuit }
+    requires circuit { IfSome found.now.bads (λ a. IsCircuitIn bytes.now a.netlist.circuit) }
 {
-    let certified = keep_certificate(rt, options, bytes, answer, certificate);
-    let told = tell_traces(rt, options, bytes, answer, wave);
+    let certified = match certificate {
+        Some(file) => keep_certificate(rt, options, bytes, found, file),
+        None => Ok(()),
+    };
+    let told = tell_traces(rt, options, bytes, found, wave);
     certified?;
     told
 }
 
-// Writes the certificate that was found for the circuit that the bytes write, if there is one and a file for it.
+// Writes the certificate of the bad literals, if these were asked about; else that of the justice property.
 fn keep_certificate<'a>(
     rt: &HostRuntime,
     options: &Options<'a>,
     bytes: &[u8],
+    found: &Found,
+    file: NewFile<'a>,
+) -> Result<(), Failure<'a>>
+    requires circuit { IfSome found.now.bads (λ a. IsCircuitIn bytes.now a.netlist.circuit) }
+{
+    if let Some(answer) = &found.bads {
+        return keep_of_bads(rt, options, bytes, answer, file);
+    }
+    match &found.justice {
+        Some(answer) => keep_of_justice(rt, answer, file),
+        None => Ok(()),
+    }
+}
+
+// Writes the certificate that was found for the circuit that the bytes write, if there is one.
+fn keep_of_bads<'a>(
+    rt: &HostRuntime,
+    options: &Options<'a>,
+    bytes: &[u8],
     answer: &Answered,
-    certificate: Option<NewFile<'a>>,
+    file: NewFile<'a>,
 ) -> Result<(), Failure<'a>>
     requires circuit { IsCircuitIn bytes.now answer.now.netlist.circuit }
 {
-    let Some(file) = certificate else {
-        return Ok(());
-    };
     match answer.said.outcome {
         Outcome::Safe => write_certificate(rt, options, bytes, answer, file),
         _ => Ok(()),
@@ -298,22 +318,70 @@ fn lost(options: &Options) -> Lost {
     }
 }
 
+// What is answered about a circuit: about its bad literals, where these are asked about, and about its justice
+// properties, where these are.
+#[derive(Drop)]
+pub(crate) struct Found {
+    pub(crate) bads: Option<Answered>,
+    pub(crate) justice: Option<gipmc_justice::Answered>,
+    // What is known of all of them together.
+    outcome: Outcome,
+}
+
 // Answers about a circuit, and writes each answer when it is found.
 fn search<'a>(
     rt: &HostRuntime,
     options: &Options<'a>,
     bytes: &[u8],
     output: &mut Output<Stdout>,
-) -> Result<Answered, Failure<'a>>
-    ensures circuit { IfOk result (λ a. IsCircuitIn bytes.now a.netlist.circuit) }
-    ensures answers { IfOk result (λ a. Answers Global bytes.now options.now.bad a.said.outcome a.said.text.items) }
+) -> Result<Found, Failure<'a>>
+    ensures circuit { IfOk result (λ f. IfSome f.bads (λ a. IsCircuitIn bytes.now a.netlist.circuit)) }
+    ensures answers { IfOk result
+        (λ f. IsAnsweredAsked Global bytes.now options.now.bad options.now.justice f.outcome) }
 {
-    let plan = plan_of(options);
     let mut teller = Teller::new(rt, options);
-    match answer(rt.alloc(), bytes, options.bad, &plan, &mut teller, output) {
+    let bads = search_bads(rt, options, bytes, &mut teller, output)?;
+    let justice = search_justice(rt, options, bytes, &mut teller, output)?;
+    let outcome = both(outcome_of_bads(&bads), outcome_of_justice(&justice));
+    Ok(Found {
+        bads,
+        justice,
+        outcome,
+    })
+}
+
+// What is known of the bad literals, if they were asked about.
+fn outcome_of_bads(bads: &Option<Answered>) -> Outcome
+    ensures { result ≡ outcome_of_bads bads.now }
+{
+    match bads {
+        Some(answer) => answer.said.outcome,
+        None => Outcome::Safe,
+    }
+}
+
+// Answers about the bad literals, if these are asked about.
+fn search_bads<'a>(
+    rt: &HostRuntime,
+    options: &Options<'a>,
+    bytes: &[u8],
+    teller: &mut Teller,
+    output: &mut Output<Stdout>,
+) -> Result<Option<Answered>, Failure<'a>>
+    ensures none { IfOk result (λ found. IfNone found
+        (AreBadsLeftOut bytes.now options.now.bad options.now.justice)) }
+    ensures circuit { IfOk result (λ found. IfSome found (λ a. IsCircuitIn bytes.now a.netlist.circuit)) }
+    ensures answers { IfOk result (λ found. IfSome found
+        (λ a. Answers Global bytes.now options.now.bad a.said.outcome a.said.text.items)) }
+{
+    if !is_of_bads(options, bytes) {
+        return Ok(None);
+    }
+    let plan = plan_of(options);
+    match answer(rt.alloc(), bytes, options.bad, &plan, teller, output) {
         Ok(answer) => {
             tell_of_none(rt, options, &answer);
-            Ok(answer)
+            Ok(Some(answer))
         }
         Err(error) => Err(failure(options.file, None, error)),
     }
@@ -377,9 +445,104 @@ fn replay<'a>(
     bytes: &[u8],
     witness: &[u8],
 ) -> Result<bool, Failure<'a>>
-    ensures { IfOk result (λ verified. IsTrue verified → Replays Global bytes.now witness.now options.now.bad) }
+    ensures { IfOk result (λ verified. IsTrue verified →
+        ReplaysAsked Global bytes.now witness.now options.now.bad options.now.justice) }
 {
-    match witness_doubt(rt.alloc(), bytes, witness, options.bad) {
+    match options.bad {
+        Some(bad) => replay_of_bads(rt, options, name, bytes, witness, Some(bad)),
+        None => replay_unless_bad(rt, options, name, bytes, witness),
+    }
+}
+
+// Replays the witnesses of the justice property that is asked for, or all.
+fn replay_unless_bad<'a>(
+    rt: &HostRuntime,
+    options: &Options<'a>,
+    name: Option<&'a str>,
+    bytes: &[u8],
+    witness: &[u8],
+) -> Result<bool, Failure<'a>>
+    ensures { IfOk result (λ verified. IsTrue verified →
+        ReplaysAsked Global bytes.now witness.now None options.now.justice) }
+{
+    match options.justice {
+        Some(place) => replay_of_justice(rt, options, name, bytes, witness, place),
+        None => replay_each(rt, options, name, bytes, witness),
+    }
+}
+
+// Replays the witnesses of justice properties, and those of bad literals, of which one may be missing.
+fn replay_each<'a>(
+    rt: &HostRuntime,
+    options: &Options<'a>,
+    name: Option<&'a str>,
+    bytes: &[u8],
+    witness: &[u8],
+) -> Result<bool, Failure<'a>>
+    ensures { IfOk result (λ verified. IsTrue verified → ReplaysEach Global bytes.now witness.now) }
+{
+    if !has_justice(bytes) {
+        return replay_of_bads(rt, options, name, bytes, witness, None);
+    }
+    match lasso_doubt(rt.alloc(), bytes, witness, None) {
+        Ok(Some(doubt)) => doubted(rt, name, &doubt),
+        Ok(None) => replay_beside_lassos(rt, options, name, bytes, witness),
+        Err(JusticeError::NoWitness) if is_of_bads(options, bytes) => {
+            replay_of_bads(rt, options, name, bytes, witness, None)
+        }
+        Err(error) => Err(justice_failure(options.file, name, error)),
+    }
+}
+
+// Replays the witnesses of bad literals, if there are some, where those of justice properties are right.
+fn replay_beside_lassos<'a>(
+    rt: &HostRuntime,
+    options: &Options<'a>,
+    name: Option<&'a str>,
+    bytes: &[u8],
+    witness: &[u8],
+) -> Result<bool, Failure<'a>> {
+    if !is_of_bads(options, bytes) {
+        return verified_text(rt, true);
+    }
+    match witness_doubt(rt.alloc(), bytes, witness, None) {
+        Ok(Some(doubt)) => doubted(rt, name, &doubt),
+        Ok(None) | Err(TaskError::NoWitness) => verified_text(rt, true),
+        Err(error) => Err(failure(options.file, name, error)),
+    }
+}
+
+// Replays the witnesses of the justice property at a place.
+fn replay_of_justice<'a>(
+    rt: &HostRuntime,
+    options: &Options<'a>,
+    name: Option<&'a str>,
+    bytes: &[u8],
+    witness: &[u8],
+    place: usize,
+) -> Result<bool, Failure<'a>>
+    ensures { IfOk result (λ verified. IsTrue verified →
+        justice.Replays Global bytes.now witness.now (Some place)) }
+{
+    match lasso_doubt(rt.alloc(), bytes, witness, Some(place)) {
+        Ok(None) => verified_text(rt, true),
+        Ok(Some(doubt)) => doubted(rt, name, &doubt),
+        Err(error) => Err(justice_failure(options.file, name, error)),
+    }
+}
+
+// Replays the witnesses of the bad literal that is asked for, or of all.
+fn replay_of_bads<'a>(
+    rt: &HostRuntime,
+    options: &Options<'a>,
+    name: Option<&'a str>,
+    bytes: &[u8],
+    witness: &[u8],
+    bad: Option<usize>,
+) -> Result<bool, Failure<'a>>
+    ensures { IfOk result (λ verified. IsTrue verified → Replays Global bytes.now witness.now bad) }
+{
+    match witness_doubt(rt.alloc(), bytes, witness, bad) {
         Ok(None) => verified_text(rt, true),
         Ok(Some(doubt)) => doubted(rt, name, &doubt),
         Err(error) => Err(failure(options.file, name, error)),
@@ -388,6 +551,41 @@ fn replay<'a>(
 
 // Certifies by a certificate, which the file of this name has, or standard input.
 fn certify<'a>(
+    rt: &HostRuntime,
+    options: &Options<'a>,
+    name: Option<&'a str>,
+    bytes: &[u8],
+    text: &[u8],
+) -> Result<bool, Failure<'a>>
+    ensures { IfOk result (λ verified. IsTrue verified →
+        CertifiesAsked Global bytes.now text.now options.now.bad options.now.justice) }
+{
+    match options.justice {
+        None => certify_bads(rt, options, name, bytes, text),
+        Some(place) => certify_property(rt, options, name, bytes, text, place),
+    }
+}
+
+// Certifies that the justice property at a place holds.
+fn certify_property<'a>(
+    rt: &HostRuntime,
+    options: &Options<'a>,
+    name: Option<&'a str>,
+    bytes: &[u8],
+    text: &[u8],
+    place: usize,
+) -> Result<bool, Failure<'a>>
+    ensures { IfOk result (λ verified. IsTrue verified → certificates.Certifies Global bytes.now text.now place) }
+{
+    match gipmc_justice::doubt_of(rt.alloc(), bytes, text, place, options.limit) {
+        Ok(None) => verified_text(rt, true),
+        Ok(Some(doubt)) => doubted(rt, name, &doubt),
+        Err(error) => Err(justice_failure(options.file, name, error)),
+    }
+}
+
+// Certifies that the circuit is safe as to the bad literal that is asked for, or as to all.
+fn certify_bads<'a>(
     rt: &HostRuntime,
     options: &Options<'a>,
     name: Option<&'a str>,

@@ -57,8 +57,10 @@ impl<'a> Task<'a> {
 pub struct Options<'a> {
     /// The file of the circuit, if not standard input.
     pub file: Option<&'a str>,
-    /// The place of the bad literal, if not all.
+    /// The place of the bad literal, if one is asked for.
     pub bad: Option<usize>,
+    /// The place of the justice property, if one is asked for; then no bad literal is.
+    pub justice: Option<usize>,
     /// What searches.
     pub engine: Engine,
     /// The most transitions of bounded model checking, if that is said.
@@ -95,6 +97,7 @@ impl<'a> Options<'a> {
         Options {
             file: None,
             bad: None,
+            justice: None,
             engine: Engine::All,
             depth: None,
             limit: usize::MAX,
@@ -146,10 +149,16 @@ impl<'a> Options<'a> {
         match number {
             Number::Bad => Options {
                 bad: Some(value),
+                justice: None,
                 ..self
             },
             Number::Depth => Options {
                 depth: Some(value),
+                ..self
+            },
+            Number::Justice => Options {
+                bad: None,
+                justice: Some(value),
                 ..self
             },
             Number::Limit => Options {
@@ -236,7 +245,7 @@ impl Number {
         ensures { result ≡ scope_of_number self }
     {
         match self {
-            Number::Bad => Scope::Each,
+            Number::Bad | Number::Justice => Scope::Each,
             Number::Limit => Scope::Limit,
             Number::Depth | Number::Seed | Number::Time => Scope::Search,
         }

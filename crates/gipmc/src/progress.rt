@@ -31,7 +31,9 @@ pub struct Teller<'a> {
     is_told: bool,
     // Whether summaries are written.
     stats: bool,
-    // When the search about this bad literal began, and how far it is.
+    // The letter of what is searched for: `b` for bad literals, `j` for justice properties.
+    letter: char,
+    // When the search about this property began, and how far it is.
     begun: Option<Instant>,
     snapshot: Snapshot,
 }
@@ -39,6 +41,7 @@ pub struct Teller<'a> {
 // How far the search about a bad literal is. A part that did not run says nothing.
 #[derive(Clone, Copy)]
 struct Snapshot {
+    letter: char,
     place: usize,
     simulated: Simulated,
     unrolled: Unrolled,
@@ -47,8 +50,9 @@ struct Snapshot {
 
 impl Snapshot {
     // Before the search.
-    fn new(place: usize) -> Self {
+    fn new(letter: char, place: usize) -> Self {
         Snapshot {
+            letter,
             place,
             simulated: Simulated(None),
             unrolled: Unrolled(None),
@@ -61,8 +65,8 @@ impl Display for Snapshot {
     fn fmt<W: fmt::Write>(&self, f: &mut fmt::Formatter<W>) -> fmt::Result {
         write!(
             f,
-            "b{}: {}{}{}",
-            self.place, self.simulated, self.unrolled, self.framed
+            "{}{}: {}{}{}",
+            self.letter, self.place, self.simulated, self.unrolled, self.framed
         )
     }
 }
@@ -177,9 +181,15 @@ impl<'a> Teller<'a> {
             time: options.time.map(Duration::from_secs),
             is_told: options.verbose || (!options.quiet && rt.stderr().is_terminal()),
             stats: options.stats,
+            letter: 'b',
             begun: started,
-            snapshot: Snapshot::new(0),
+            snapshot: Snapshot::new('b', 0),
         }
+    }
+
+    /// Goes on with justice properties.
+    pub fn go_on_with_justice(&mut self) {
+        self.letter = 'j';
     }
 
     // The time since then, or none where there is no clock.
@@ -214,14 +224,14 @@ impl<'a> Teller<'a> {
 impl Listener for Teller<'_> {
     fn begin(&mut self, place: usize) -> ControlFlow<()> {
         self.begun = Instant::now(self.rt).ok();
-        self.snapshot = Snapshot::new(place);
+        self.snapshot = Snapshot::new(self.letter, place);
         self.go_on(self.since(self.started))
     }
 
     fn end(&mut self, is_refused: bool) {
         if is_refused {
-            let place = self.snapshot.place;
-            let _ = eprintln!(self.rt; "memory: refused (b{place} is left open)");
+            let Snapshot { letter, place, .. } = self.snapshot;
+            let _ = eprintln!(self.rt; "memory: refused ({letter}{place} is left open)");
         }
         if self.stats {
             let took = Seconds(self.since(self.begun));

@@ -1,7 +1,16 @@
-//! The names of a circuit's inputs, latches and bad literals, which its text has behind the gates.
+//! The names of a circuit's inputs, latches and properties, which its text has behind the gates.
 use gipmc_circuits::Circuit;
 use giputils_text::{number, split_line, split_once};
 use std::alloc::{AllocError, Allocator, Global};
+
+/// A property of a circuit, by its place among those of its kind.
+#[derive(Clone, Copy)]
+pub enum Property {
+    /// A bad literal.
+    Bad(usize),
+    /// A justice property.
+    Justice(usize),
+}
 
 /// The names of a circuit, as its text writes them. Where there is none, it is empty.
 #[derive(Drop)]
@@ -12,6 +21,8 @@ pub struct Names<'a, A: Allocator = Global> {
     pub latches: Vec<&'a [u8], A>,
     /// Of the bad literals.
     pub bads: Vec<&'a [u8], A>,
+    /// Of the justice properties.
+    pub justice: Vec<&'a [u8], A>,
 }
 
 impl<'a, A: Allocator + Copy> Names<'a, A> {
@@ -20,15 +31,14 @@ impl<'a, A: Allocator + Copy> Names<'a, A> {
     /// # Errors
     /// `AllocError` where memory is refused.
     pub fn read(alloc: A, circuit: &Circuit<A>, text: &'a [u8]) -> Result<Self, AllocError> {
+        let (first, rest) = split_line(text).unwrap_or((text, &[]));
+        let header = Header::of(first);
         let mut names = Names {
             inputs: unnamed(alloc, circuit.inputs.len())?,
             latches: unnamed(alloc, circuit.latches.len())?,
             bads: unnamed(alloc, circuit.bads.len())?,
+            justice: unnamed(alloc, header.justice as usize)?,
         };
-        let Some((first, rest)) = split_line(text) else {
-            return Ok(names);
-        };
-        let header = Header::of(first);
         let mut rest = header.tail(rest);
         while let Some((line, after)) = split_line(rest) {
             if begins_comment(line) {
@@ -40,10 +50,14 @@ impl<'a, A: Allocator + Copy> Names<'a, A> {
         Ok(names)
     }
 
-    /// The name of the bad literal at a place, empty where it has none.
-    pub fn bad(&self, place: usize) -> &'a [u8] {
+    /// The name of a property, empty where it has none.
+    pub fn of(&self, property: Property) -> &'a [u8] {
         let none: &'a [u8] = &[];
-        self.bads.get(place).copied().unwrap_or(none)
+        let name = match property {
+            Property::Bad(place) => self.bads.get(place),
+            Property::Justice(place) => self.justice.get(place),
+        };
+        name.copied().unwrap_or(none)
     }
 
     // Takes the name of a line, if it has one.
@@ -62,6 +76,7 @@ impl<'a, A: Allocator + Copy> Names<'a, A> {
             b'i' => name_at(&mut self.inputs, place, name),
             b'l' => name_at(&mut self.latches, place, name),
             b'b' => name_at(&mut self.bads, place, name),
+            b'j' => name_at(&mut self.justice, place, name),
             b'o' if header.bads == 0 => name_at(&mut self.bads, place, name),
             _ => {}
         }

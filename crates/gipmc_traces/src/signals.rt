@@ -14,6 +14,8 @@ pub struct Scene<'a, A: Allocator = Global> {
     pub trace: &'a Trace<A>,
     /// What the latches hold at each moment, as [`latch_rows`](crate::latch_rows) finds out.
     pub latches: &'a [Vec<bool, A>],
+    /// Of a lasso, the moment at which its loop begins: it follows the last moment again.
+    pub start: Option<usize>,
 }
 
 // What a signal is in the circuit.

@@ -1,59 +1,64 @@
 //! What changes from moment to moment of a trace, in lines that a reader of witnesses passes over.
-use crate::names::Names;
+use crate::names::{Names, Property};
 use crate::signals::{Scene, Signal, signals};
 use std::alloc::{AllocError, Allocator};
 use std::io::Write;
 
-/// The table of a trace at whose last moment the bad literal at a place is true: a line with the name of this literal,
-/// then lines `c #MOMENT NAME = VALUE` for what each input and latch is at moment 0, and later for what is another
-/// value than at the moment before.
+/// The table of a trace by which a property fails: a line with the name of the property, then lines
+/// `c #MOMENT NAME = VALUE` for what each input and latch is at moment 0, and later for what is another value than at the
+/// moment before. A lasso ends with the line `c #END is #START again`: behind its last moment its loop begins anew.
 ///
 /// # Errors
 /// `AllocError` where memory is refused.
 pub fn table_text<A: Allocator + Copy>(
     alloc: A,
     scene: &Scene<A>,
-    bad: usize,
+    property: Property,
 ) -> Result<Vec<u8, A>, AllocError> {
     let signals = signals(alloc, scene.names)?;
     let mut text = Vec::new(alloc);
-    write_title(&mut text, scene.names, bad)?;
+    write_title(&mut text, scene.names, property)?;
     text.push(b'\n')?;
     for moment in 0..scene.latches.len() {
         write_changes(&mut text, scene, &signals, moment)?;
     }
+    write_loop(&mut text, scene)?;
     Ok(text)
 }
 
-/// What is known of the bad literal at a place, in a line with its name; no line where it has no name.
+/// What is known of a property, in a line with its name; no line where it has no name.
 ///
 /// # Errors
 /// `AllocError` where memory is refused.
 pub fn known_text<A: Allocator + Copy>(
     alloc: A,
     names: &Names<A>,
-    bad: usize,
+    property: Property,
     known: &[u8],
 ) -> Result<Vec<u8, A>, AllocError> {
     let mut text = Vec::new(alloc);
-    if names.bad(bad).is_empty() {
+    if names.of(property).is_empty() {
         return Ok(text);
     }
-    write_title(&mut text, names, bad)?;
+    write_title(&mut text, names, property)?;
     text.extend_from_slice(b": ")?;
     text.extend_from_slice(known)?;
     text.push(b'\n')?;
     Ok(text)
 }
 
-// Writes what names a bad literal.
+// Writes what names a property.
 fn write_title<A: Allocator + Copy>(
     text: &mut Vec<u8, A>,
     names: &Names<A>,
-    bad: usize,
+    property: Property,
 ) -> Result<(), AllocError> {
-    write!(text, "c b{bad}").map_err(|_| AllocError)?;
-    let name = names.bad(bad);
+    let (letter, place) = match property {
+        Property::Bad(place) => ('b', place),
+        Property::Justice(place) => ('j', place),
+    };
+    write!(text, "c {letter}{place}").map_err(|_| AllocError)?;
+    let name = names.of(property);
     if !name.is_empty() {
         text.push(b' ')?;
     }
@@ -62,6 +67,15 @@ fn write_title<A: Allocator + Copy>(
         text.push(if is_shown { *byte } else { b'_' })?;
     }
     Ok(())
+}
+
+// Writes where the loop of a lasso begins anew.
+fn write_loop<A: Allocator>(text: &mut Vec<u8, A>, scene: &Scene<A>) -> Result<(), AllocError> {
+    let Some(start) = scene.start else {
+        return Ok(());
+    };
+    let end = scene.latches.len();
+    writeln!(text, "c #{end} is #{start} again").map_err(|_| AllocError)
 }
 
 // Writes the lines of a moment.

@@ -4,7 +4,8 @@ use std::alloc::{AllocError, Allocator};
 use std::io::Write;
 
 /// The value change dump of a trace: a moment is a unit of time, and the last one lasts one unit too. A name `a.b.c` is
-/// the signal `c` in the scope `b` of the scope `a`, and all are in the scope `circuit`.
+/// the signal `c` in the scope `b` of the scope `a`, and all are in the scope `circuit`. Of a lasso there is a signal
+/// `again` in the scope `lasso`, which is true in the loop.
 ///
 /// # Errors
 /// `AllocError` where memory is refused.
@@ -13,7 +14,11 @@ pub fn vcd_text<A: Allocator + Copy>(alloc: A, scene: &Scene<A>) -> Result<Vec<u
     let mut text = Vec::new(alloc);
     text.extend_from_slice(b"$timescale 1 ns $end\n$scope module circuit $end\n")?;
     write_variables(&mut text, &signals)?;
-    text.extend_from_slice(b"$upscope $end\n$enddefinitions $end\n")?;
+    text.extend_from_slice(b"$upscope $end\n")?;
+    if scene.start.is_some() {
+        write_lasso_variable(&mut text, signals.len())?;
+    }
+    text.extend_from_slice(b"$enddefinitions $end\n")?;
     for moment in 0..scene.latches.len() {
         write_moment(&mut text, scene, &signals, moment)?;
     }
@@ -102,6 +107,17 @@ fn write_variable<A: Allocator>(
     Ok(())
 }
 
+// Writes what the variable of a lasso's loop is, which stands at a place.
+fn write_lasso_variable<A: Allocator>(
+    text: &mut Vec<u8, A>,
+    place: usize,
+) -> Result<(), AllocError> {
+    text.extend_from_slice(b"$scope module lasso $end\n$var wire 1 ")?;
+    write_code(text, place)?;
+    text.extend_from_slice(b" again  $end\n$upscope $end\n")?;
+    Ok(())
+}
+
 // Writes the code of the signal at a place: its digits to the base 94, the lowest first.
 fn write_code<A: Allocator>(text: &mut Vec<u8, A>, mut place: usize) -> Result<(), AllocError> {
     while place >= 94 {
@@ -125,6 +141,25 @@ fn write_moment<A: Allocator>(
             write_change(text, scene, place, signal, moment)?;
         }
     }
+    match scene.start {
+        Some(start) => write_lasso_change(text, signals.len(), start, moment),
+        None => Ok(()),
+    }
+}
+
+// Writes whether a moment is in the loop that begins at `start`, where that changes.
+fn write_lasso_change<A: Allocator>(
+    text: &mut Vec<u8, A>,
+    place: usize,
+    start: usize,
+    moment: usize,
+) -> Result<(), AllocError> {
+    if moment != 0 && moment != start {
+        return Ok(());
+    }
+    text.push(if moment == start { b'1' } else { b'0' })?;
+    write_code(text, place)?;
+    text.push(b'\n')?;
     Ok(())
 }
 

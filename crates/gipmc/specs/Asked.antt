@@ -1,0 +1,74 @@
+-- What is answered, replayed and certified of what a command line asks for: bad literals, justice properties, or both.
+use Rattle.std.specs.Prelude.{◌≡◌, ◌==◌, ◌⊎◌, ℕ, Bool, true, false, List, if◌then◌else◌, Option, Some, None}
+use Rattle.gipmc_aiger.specs.Circuits.{IsHeaderOf}
+use Rattle.gipmc_aiger.specs.declared.header.Header.{Header}
+use Rattle.gipmc_answers.specs.Answers as bads
+use Rattle.gipmc_answers.specs.Certificates as bads_certified
+use Rattle.gipmc_answers.specs.Witnesses as bads_replayed
+use Rattle.gipmc_answers.specs.declared.answers.Answered.{Answered}
+use Rattle.gipmc_answers.specs.declared.answers.Outcome.{Outcome}
+use Rattle.gipmc_answers.specs.declared.answers.Outcome.TheVariants.{Safe}
+use Rattle.gipmc_justice.specs.Answers as justice
+use Rattle.gipmc_justice.specs.Certificates as justice_certified
+use Rattle.gipmc_justice.specs.Witnesses as justice_replayed
+use Rattle.gipmc_justice.specs.declared.answers.Answered as properties
+
+-- what is known of what was asked about; of nothing, that it is safe
+abbrev pub outcome_of_bads : {A : Type 0} → Option (Answered A) → Outcome
+outcome_of_bads None = Safe
+outcome_of_bads (Some answer) = answer.said.outcome
+
+abbrev pub outcome_of_justice : {A : Type 0} → Option (properties.Answered A) → Outcome
+outcome_of_justice None = Safe
+outcome_of_justice (Some answer) = answer.said.outcome
+
+-- whether a search is about the bad literals of a circuit with this header: not where a justice property is asked for, nor
+-- where nothing is and there are justice properties alone
+abbrev pub asks_of_bads : Header → Option ℕ → Option ℕ → Bool
+asks_of_bads h bad (Some asked) = false
+asks_of_bads h (Some bad) None = true
+asks_of_bads h None None = if h.bads == 0 then h.justice == 0 else true
+
+-- whether it is about the justice properties: where one is asked for, or nothing is and there are some
+abbrev pub asks_of_justice : Header → Option ℕ → Option ℕ → Bool
+asks_of_justice h bad (Some asked) = true
+asks_of_justice h (Some bad) None = false
+asks_of_justice h None None = if h.justice == 0 then false else true
+
+-- the bytes write a header by which the search is about no bad literal, or about no justice property
+abbrev pub AreBadsLeftOut : List ℕ → Option ℕ → Option ℕ → Type 0
+AreBadsLeftOut bytes bad asked = (h : Header) × IsHeaderOf bytes h × (asks_of_bads h bad asked ≡ false)
+
+abbrev pub IsJusticeLeftOut : List ℕ → Option ℕ → Option ℕ → Type 0
+IsJusticeLeftOut bytes bad asked = (h : Header) × IsHeaderOf bytes h × (asks_of_justice h bad asked ≡ false)
+
+-- some text answers so about the bad literal that is asked for, or about all, or they are left out
+abbrev pub AreBadsAnswered : (A : Type 0) → List ℕ → Option ℕ → Option ℕ → Outcome → Type 0
+AreBadsAnswered A bytes bad asked outcome =
+    bads.IsAnswered A bytes bad outcome ⊎ (AreBadsLeftOut bytes bad asked × (outcome ≡ Safe))
+
+-- and about the justice property, or about all
+abbrev pub IsJusticeAnswered : (A : Type 0) → List ℕ → Option ℕ → Option ℕ → Outcome → Type 0
+IsJusticeAnswered A bytes bad asked outcome =
+    ((text : List ℕ) × justice.Answers A bytes asked outcome text) ⊎ (IsJusticeLeftOut bytes bad asked × (outcome ≡ Safe))
+
+-- both are, and this is known of all of them together
+abbrev pub IsAnsweredAsked : (A : Type 0) → List ℕ → Option ℕ → Option ℕ → Outcome → Type 0
+IsAnsweredAsked A bytes bad asked outcome =
+    (one : Outcome) × (other : Outcome) × AreBadsAnswered A bytes bad asked one × IsJusticeAnswered A bytes bad asked other
+    × (outcome ≡ bads.both one other)
+
+-- the text writes witnesses of bad literals, all of them right, or such of justice properties
+abbrev pub ReplaysEach : (A : Type 0) → List ℕ → List ℕ → Type 0
+ReplaysEach A bytes text = bads_replayed.Replays A bytes text None ⊎ justice_replayed.Replays A bytes text None
+
+-- it writes witnesses of the bad literal or of the justice property that is asked for, or some witnesses
+abbrev pub ReplaysAsked : (A : Type 0) → List ℕ → List ℕ → Option ℕ → Option ℕ → Type 0
+ReplaysAsked A bytes text (Some bad) asked = bads_replayed.Replays A bytes text (Some bad)
+ReplaysAsked A bytes text None (Some asked) = justice_replayed.Replays A bytes text (Some asked)
+ReplaysAsked A bytes text None None = ReplaysEach A bytes text
+
+-- the text is a certificate as to the justice property that is asked for, or else as to the bad literal that is, or to all
+abbrev pub CertifiesAsked : (A : Type 0) → List ℕ → List ℕ → Option ℕ → Option ℕ → Type 0
+CertifiesAsked A bytes text bad None = bads_certified.Certifies A bytes text bad
+CertifiesAsked A bytes text bad (Some asked) = justice_certified.Certifies A bytes text asked

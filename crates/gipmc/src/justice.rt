@@ -1,0 +1,103 @@
+//! The program's work on justice properties.
+ghost use Rattle.std.specs.Prelude.{◌≡◌, IfNone, IfOk, IfSome};
+ghost use Rattle.std.specs.declared.alloc.Global.{Global};
+ghost use Rattle.gipmc_justice.specs.Answers.{Answers};
+ghost use Rattle.gipmc.specs.Asked.{IsJusticeLeftOut, outcome_of_justice};
+
+use crate::errors::Failure;
+use crate::failure;
+use crate::files::write_whole;
+use crate::kinds::is_of_justice;
+use crate::options::Options;
+use crate::progress::Teller;
+use gip_program::NewFile;
+use gipmc_answers::{Outcome, Output};
+use gipmc_justice::{Answered, Found, JusticeError, answer, certificate_of};
+use gipmc_liveness_engines::Bounds;
+use std::io::Stdout;
+
+/// The failure of a task on the justice properties of the circuit in one input, and an answer in another.
+pub fn justice_failure<'a>(
+    circuit: Option<&'a str>,
+    beside: Option<&'a str>,
+    error: JusticeError,
+) -> Failure<'a> {
+    match error {
+        JusticeError::Task(error) => failure(circuit, beside, error),
+        JusticeError::NoProperty(_, _) | JusticeError::NoProperties => {
+            Failure::Justice(circuit, error)
+        }
+        _ => Failure::Justice(beside, error),
+    }
+}
+
+/// Answers about the justice properties, if these are asked about.
+pub fn search_justice<'a>(
+    rt: &HostRuntime,
+    options: &Options<'a>,
+    bytes: &[u8],
+    teller: &mut Teller,
+    output: &mut Output<Stdout>,
+) -> Result<Option<Answered>, Failure<'a>>
+    ensures none { IfOk result (λ found. IfNone found
+        (IsJusticeLeftOut bytes.now options.now.bad options.now.justice)) }
+    ensures answers { IfOk result (λ found. IfSome found
+        (λ a. Answers Global bytes.now options.now.justice a.said.outcome a.said.text.items)) }
+{
+    if !is_of_justice(options, bytes) {
+        return Ok(None);
+    }
+    teller.go_on_with_justice();
+    let bounds = Bounds::default();
+    match answer(rt.alloc(), bytes, options.justice, bounds, teller, output) {
+        Ok(answer) => Ok(Some(answer)),
+        Err(error) => Err(justice_failure(options.file, None, error)),
+    }
+}
+
+/// What is known of the justice properties, if they were asked about.
+pub fn outcome_of_justice(justice: &Option<Answered>) -> Outcome
+    ensures { result ≡ outcome_of_justice justice.now }
+{
+    match justice {
+        Some(answer) => answer.said.outcome,
+        None => Outcome::Safe,
+    }
+}
+
+/// Writes the certificate of a justice property that holds, if it is the only one that was asked about, to the file.
+///
+/// # Errors
+/// [`Failure::SeveralProperties`] where several hold, and those of the certificate and of its file.
+pub fn keep_of_justice<'a>(
+    rt: &HostRuntime,
+    answer: &Answered,
+    file: NewFile<'a>,
+) -> Result<(), Failure<'a>> {
+    if answer.said.outcome != Outcome::Safe {
+        return Ok(());
+    }
+    match answer.said.found.as_slice() {
+        [found] => write_certificate(rt, answer, found, file),
+        _ => Err(Failure::SeveralProperties(Some(file.name()))),
+    }
+}
+
+// Writes the certificate of a property to the file.
+fn write_certificate<'a>(
+    rt: &HostRuntime,
+    answer: &Answered,
+    found: &Found,
+    file: NewFile<'a>,
+) -> Result<(), Failure<'a>> {
+    match certificate_of(
+        rt.alloc(),
+        &answer.netlist,
+        &answer.liveness,
+        found,
+        usize::MAX,
+    ) {
+        Ok(text) => write_whole(file, &text),
+        Err(error) => Err(justice_failure(Some(file.name()), Some(file.name()), error)),
+    }
+}
