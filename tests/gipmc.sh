@@ -103,6 +103,28 @@ done
 [ "$status" = 10 ] && [ "$moments" -gt 2 ] && [ "$early" = 0 ]
 told "a trace by simulation fails at its last moment alone" $?
 
+# A latch that holds next whether twelve inputs are true. Few runs come to it at once.
+{
+    printf 'aag 24 12 1 0 11 1\n'
+    for ((n = 1; n <= 12; n++)); do echo $((2 * n)); done
+    printf '26 48\n26\n28 2 4\n'
+    for ((n = 15; n <= 24; n++)); do echo "$((2 * n)) $((2 * n - 2)) $((2 * n - 24))"; done
+} > wide.aag
+"$gipmc" --engine sim wide.aag > sim.wit 2> err
+status=$?
+[ "$status" = 10 ] && [ "$(wc -l < sim.wit)" -gt 6 ]
+told "a trace by simulation that is not a shortest one" $?
+"$gipmc" --engine sim --shortest wide.aag > out 2> err
+status=$?
+[ "$status" = 10 ] && [ ! -s err ] && [ "$(wc -l < out)" = 6 ] && [ "$("$gipmc" --replay out wide.aag)" = "s VERIFIED" ]
+told "a shortest trace in place of one by simulation" $?
+"$gipmc" --engine sim --shortest --limit 0 wide.aag > out 2> err
+status=$?
+[ "$status" = 10 ] && [ "$(cat err)" = "c b0: there may be a shorter trace" ] && cmp -s out sim.wit
+told "a trace that may not be a shortest one" $?
+try "a shortest trace of one moment" 10 "" "$(printf '1\nb0\n1\n\n.')" 'aag 1 0 1 0 0 1\n2 2 1\n2\n' --shortest
+try "a shortest trace where nothing fails" 20 "" "$safe" "$kept" --shortest
+
 # Witnesses of other programs.
 witness() { printf '%b' "$1" > wit; }
 witness '1\nb0\n0\n1\n0\n.\n'
@@ -744,7 +766,7 @@ try "a witness and a certificate" 2 \
     "gipmc: '--replay' and '--certify' exclude each other (try --help)" "" "" --replay a --certify b
 try "a witness, and a file for a certificate" 2 \
     "gipmc: '--certificate' goes with neither '--replay' nor '--certify' (try --help)" "" "" --replay a --certificate b
-for option in --engine=bmc --depth=9 --seed=1 --time=9 --stats; do
+for option in --engine=bmc --depth=9 --seed=1 --shortest --time=9 --stats; do
     for task in --replay --certify; do
         try "$option beside $task" 2 \
             "gipmc: '$option' goes with neither '--replay' nor '--certify' (try --help)" "" "" "$task" a "$option"
@@ -819,6 +841,13 @@ while read -r name said depth text; do
         [ "$status" = 10 ] && [ "$("$gipmc" --replay out row.aag)" = "s VERIFIED" ]
     fi
     told "$name $said $depth, by all engines" $?
+    if [ "$said" != safe ]; then
+        "$gipmc" --shortest row.aag > out 2> err
+        status=$?
+        [ "$status" = 10 ] && [ ! -s err ] && [ "$(wc -l < out)" = $((depth + 5)) ] &&
+            [ "$("$gipmc" --replay out row.aag)" = "s VERIFIED" ]
+        told "$name $said $depth, the shortest" $?
+    fi
 done < "$rows"
 
 echo "$passed passed, $failed failed"

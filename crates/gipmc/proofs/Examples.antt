@@ -22,6 +22,10 @@ switches : work_asked (codes "a" ∷ codes "-q" ∷ codes "--stats" ∷ codes "-
     ≡ Ok (Answer (record no_request { quiet = true; stats = true; verbose = true; file = Some (codes "a") }))
 switches = refl
 
+shortest : work_asked (codes "--shortest" ∷ codes "a" ∷ [])
+    ≡ Ok (Answer (record no_request { shortest = true; file = Some (codes "a") }))
+shortest = refl
+
 time : work_asked (codes "-t" ∷ codes "5" ∷ codes "--verbose" ∷ codes "--time=9" ∷ [])
     ≡ Ok (Answer (record no_request { time = Some 9; verbose = true }))
 time = refl

@@ -8,7 +8,7 @@ use Rattle.gip_program.specs.Options.{Entry, number, switch, text}
 use Rattle.gipmc.specs.declared.about.Number.{Number}
 use Rattle.gipmc.specs.declared.about.Number.TheVariants.{Bad, Depth, Justice, Limit, Seed, Time}
 use Rattle.gipmc.specs.declared.about.Switch.{Switch}
-use Rattle.gipmc.specs.declared.about.Switch.TheVariants.{Aiger, Names, Quiet, Stats, Verbose}
+use Rattle.gipmc.specs.declared.about.Switch.TheVariants.{Aiger, Names, Quiet, Shortest, Stats, Verbose}
 use Rattle.gipmc.specs.declared.about.Text.{Text}
 use Rattle.gipmc.specs.declared.about.Text.TheVariants.{Certificate, Certify, Engine, Replay, Vcd, Witness}
 use Rattle.gipmc.specs.declared.options.Options.{Options}
@@ -23,6 +23,7 @@ table =
     number (codes "--limit") [] Limit ∷
     number (codes "--time") (codes "-t") Time ∷
     number (codes "--seed") [] Seed ∷
+    switch (codes "--shortest") [] Shortest ∷
     text (codes "--replay") [] Replay ∷
     text (codes "--certify") [] Certify ∷
     text (codes "--certificate") [] Certificate ∷
@@ -36,10 +37,10 @@ table =
     []
 
 -- the file of the circuit, if not standard input, the place of the bad literal or of the justice property that is asked
--- for, if not all, what searches, the most
--- transitions, if that is said, the most conflicts of a question, the seed, the limit in seconds, if there is one,
--- what to write, where to write a certificate, if one is wanted, and whether as a circuit, whether to tell traces with
--- names, and where to write a wave and witnesses, if these are wanted
+-- for, if not all, what searches, the most transitions, if that is said, the most conflicts of a question, the seed,
+-- whether traces are to be shortest, the limit in seconds, if there is one, what to write, where to write a certificate,
+-- if one is wanted, and whether as a circuit, whether to tell with names, and where to write a wave and witnesses, if
+-- these are wanted
 pub record Request : Type 0 where
   pub file : Option (List ℕ)
   pub bad : Option ℕ
@@ -48,6 +49,7 @@ pub record Request : Type 0 where
   pub depth : Option ℕ
   pub limit : ℕ
   pub seed : ℕ
+  pub shortest : Bool
   pub time : Option ℕ
   pub quiet : Bool
   pub verbose : Bool
@@ -68,6 +70,7 @@ no_request = record {
   depth = None;
   limit = 2 ^ 64 - 1;
   seed = 0;
+  shortest = false;
   time = None;
   quiet = false;
   verbose = false;
@@ -93,6 +96,7 @@ abbrev pub switched : Switch → Request → Request
 switched Aiger r = record r { aiger = true }
 switched Names r = record r { names = true }
 switched Quiet r = record r { quiet = true }
+switched Shortest r = record r { shortest = true }
 switched Stats r = record r { stats = true }
 switched Verbose r = record r { verbose = true }
 
@@ -115,6 +119,7 @@ request_of o = record {
   depth = o.depth;
   limit = o.limit;
   seed = o.seed;
+  shortest = o.shortest;
   time = o.time;
   quiet = o.quiet;
   verbose = o.verbose;

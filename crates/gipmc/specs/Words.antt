@@ -63,6 +63,7 @@ after_file s name =
 abbrev pub scope_of_switch : Switch → Scope
 scope_of_switch switch.Aiger = Search
 scope_of_switch switch.Names = Search
+scope_of_switch switch.Shortest = Search
 scope_of_switch switch.Stats = Search
 scope_of_switch s = Each
 

@@ -7,6 +7,7 @@ pub enum Switch {
     Aiger,
     Names,
     Quiet,
+    Shortest,
     Stats,
     Verbose,
 }
@@ -54,7 +55,7 @@ pub const ABOUT: About<'static, Switch, Number, Text> = About {
 };
 
 /// The options.
-pub const OPTIONS: [Opt<Switch, Number, Text>; 17] = [
+pub const OPTIONS: [Opt<Switch, Number, Text>; 18] = [
     Opt {
         long: "--bad",
         short: "",
@@ -107,6 +108,14 @@ pub const OPTIONS: [Opt<Switch, Number, Text>; 17] = [
         kind: Kind::Number(Number::Seed, "N"),
         section: "Search",
         help: "the seed of random simulation (0)",
+    },
+    Opt {
+        long: "--shortest",
+        short: "",
+        kind: Kind::Switch(Switch::Shortest),
+        section: "Search",
+        help: "where a trace was found, look by bmc for a shortest one, and answer with that; where --time or --limit end \
+               this, with the first one, and say so",
     },
     Opt {
         long: "--replay",

@@ -32,7 +32,7 @@ use errors::Failure;
 use files::{bytes_of, new_file, write_out, write_whole};
 use gip_program::{NewFile, begin, explain, refuse, tell};
 use gipmc_answers::{
-    Answered, Lost, Outcome, Output, TaskError, answer, certificate_of, doubt_of,
+    Answered, Lost, Outcome, Output, TaskError, Traces, answer, certificate_of, doubt_of,
     witness_circuit_of, witness_doubt,
 };
 use gipmc_engines::{Bounds, Engine, Plan, Tries};
@@ -247,6 +247,7 @@ fn search_for<'a>(
     ensures { IfOk result (IsAnsweredAsked Global bytes.now options.now.bad options.now.justice) }
 {
     let mut output = Output::new(rt.stdout(), lost(options));
+    output.traces = traces(options);
     let found = search(rt, options, bytes, &mut output)?;
     let kept = keep_found(rt, options, bytes, &found, certificate, wave);
     written(&output)?;
@@ -315,6 +316,15 @@ fn lost(options: &Options) -> Lost {
         Lost::GoOn
     } else {
         Lost::Stop
+    }
+}
+
+// Which traces are written.
+fn traces(options: &Options) -> Traces {
+    if options.shortest {
+        Traces::Shortest
+    } else {
+        Traces::Found
     }
 }
 

@@ -69,6 +69,8 @@ pub struct Options<'a> {
     pub limit: usize,
     /// The seed of simulation.
     pub seed: u64,
+    /// Whether shortest traces are looked for.
+    pub shortest: bool,
     /// After how many seconds to give up, if after any.
     pub time: Option<u64>,
     /// Whether no progress is written.
@@ -102,6 +104,7 @@ impl<'a> Options<'a> {
             depth: None,
             limit: usize::MAX,
             seed: 0,
+            shortest: false,
             time: None,
             quiet: false,
             verbose: false,
@@ -129,6 +132,10 @@ impl<'a> Options<'a> {
             },
             Switch::Quiet => Options {
                 quiet: true,
+                ..self
+            },
+            Switch::Shortest => Options {
+                shortest: true,
                 ..self
             },
             Switch::Stats => Options {
@@ -235,7 +242,7 @@ impl Switch {
     {
         match self {
             Switch::Quiet | Switch::Verbose => Scope::Each,
-            Switch::Aiger | Switch::Names | Switch::Stats => Scope::Search,
+            Switch::Aiger | Switch::Names | Switch::Shortest | Switch::Stats => Scope::Search,
         }
     }
 }

@@ -228,6 +228,13 @@ impl Listener for Teller<'_> {
         self.go_on(self.since(self.started))
     }
 
+    fn end_shortening(&mut self, is_shortest: bool) {
+        if !is_shortest {
+            let place = self.snapshot.place;
+            let _ = eprintln!(self.rt; "c b{place}: there may be a shorter trace");
+        }
+    }
+
     fn end(&mut self, is_refused: bool) {
         if is_refused {
             let Snapshot { letter, place, .. } = self.snapshot;
