@@ -496,6 +496,20 @@ $enddefinitions $end'
 [ "$status" = 10 ] && [ ! -s err ] && [ "$(head -n 13 wave)" = "$wave" ] && grep -qx 'b[01]1 #' wave &&
     [ "$(grep '^#' wave | tr '\n' ' ')" = "#0 #1 #2 " ]
 told "a wave" $?
+# Another program reads a wave and tells what it found: the same variables in the same scopes, and the same changes.
+variables() { grep -E '^[$](scope|var|upscope)' "$1" | tr -s ' '; }
+changes() { awk '/^#/ { moment = $0; next } /^[01b]/ { print moment, $0 }' "$1" | sort; }
+read_back() {
+    if command -v vcd2fst > path; then
+        rm -f wave.fst
+        vcd2fst wave wave.fst > out 2> err && fst2vcd wave.fst > again 2> err &&
+            [ "$(variables wave)" = "$(variables again)" ] && [ "$(changes wave)" = "$(changes again)" ]
+        told "$1" $?
+    else
+        echo "left out: $1 (no vcd2fst)"
+    fi
+}
+read_back "a wave that GTKWave reads"
 try "a wave, and a file that is there" 1 "wave: cannot be made: entity already exists" "" "" --vcd wave named.aag
 rm -f wave
 "$gipmc" --vcd wave kept.aag > out 2> err
@@ -653,6 +667,7 @@ $enddefinitions $end
 #2'
 [ "$status" = 10 ] && [ ! -s err ] && [ "$(cat wave)" = "$wave" ]
 told "a wave of a lasso" $?
+read_back "a wave of a lasso that GTKWave reads"
 rm -f wave
 rm -f traces/*
 "$gipmc" --witness traces/ rises.aag > out 2> err
@@ -805,14 +820,15 @@ took='[0-9]*[.][0-9][0-9][0-9] s#'
 printf '%b' "$kept" > kept.aag
 summary "a summary" 0 "c b0: $bmc$took" --engine bmc --depth 5 kept.aag
 summary "a summary of simulation" 0 "c b0: round [0-9]*; $took" --engine sim kept.aag
-summary "a summary of IC3 where its first calls decide" 20 "c b0: $ic3$took" --engine ic3 kept.aag
+summary "a summary of simulation that decides" 10 "c b0: \(round [0-9]*; \)*decided by sim; $took" --engine sim held.aag
+summary "a summary of IC3 where its first calls decide" 20 "c b0: ${ic3}decided by ic3; $took" --engine ic3 kept.aag
 printf '%b' 'aag 0 0 0 0 0 1\n0\n' > constant.aag
 summary "a summary of IC3 without a lemma" 20 \
-    "c b0: frame [0-9]*, [0-9]* calls, [0-9]* obligations; $took" --engine ic3 constant.aag
+    "c b0: frame [0-9]*, [0-9]* calls, [0-9]* obligations; decided by ic3; $took" --engine ic3 constant.aag
 # `tools/pdr.py --family queue_length 4` made it.
-summary "a summary of IC3" 20 "c b0: $ic3$took" --engine ic3 "$top/tests/queue.aag"
-summary "a summary of two literals" 10 "c b0: $bmc${took}c b1: $bmc$took" --engine bmc --depth 3 two.aag
-summary "a summary of the second literal" 10 "c b1: $bmc$took" --engine bmc --bad 1 two.aag
+summary "a summary of IC3" 20 "c b0: ${ic3}decided by ic3; $took" --engine ic3 "$top/tests/queue.aag"
+summary "a summary of two literals" 10 "c b0: $bmc${took}c b1: ${bmc}decided by bmc; $took" --engine bmc --depth 3 two.aag
+summary "a summary of the second literal" 10 "c b1: ${bmc}decided by bmc; $took" --engine bmc --bad 1 two.aag
 printf '%b' "$kept" | "$gipmc" --quiet > out 2> err
 status=$?
 [ "$status" = 20 ] && [ ! -s err ]

@@ -22,8 +22,8 @@ abbrev pub outcome_of_justice : {A : Type 0} → Option (properties.Answered A) 
 outcome_of_justice None = Safe
 outcome_of_justice (Some answer) = answer.said.outcome
 
--- whether a search is about the bad literals of a circuit with this header: not where a justice property is asked for, nor
--- where nothing is and there are justice properties alone
+-- whether a search is about the bad literals of a circuit with this header: not where a justice property is asked for,
+-- nor where nothing is and there are justice properties alone
 abbrev pub asks_of_bads : Header → Option ℕ → Option ℕ → Bool
 asks_of_bads h bad (Some asked) = false
 asks_of_bads h (Some bad) None = true
@@ -50,13 +50,14 @@ AreBadsAnswered A bytes bad asked outcome =
 -- and about the justice property, or about all
 abbrev pub IsJusticeAnswered : (A : Type 0) → List ℕ → Option ℕ → Option ℕ → Outcome → Type 0
 IsJusticeAnswered A bytes bad asked outcome =
-    ((text : List ℕ) × justice.Answers A bytes asked outcome text) ⊎ (IsJusticeLeftOut bytes bad asked × (outcome ≡ Safe))
+    ((text : List ℕ) × justice.Answers A bytes asked outcome text)
+    ⊎ (IsJusticeLeftOut bytes bad asked × (outcome ≡ Safe))
 
 -- both are, and this is known of all of them together
 abbrev pub IsAnsweredAsked : (A : Type 0) → List ℕ → Option ℕ → Option ℕ → Outcome → Type 0
 IsAnsweredAsked A bytes bad asked outcome =
-    (one : Outcome) × (other : Outcome) × AreBadsAnswered A bytes bad asked one × IsJusticeAnswered A bytes bad asked other
-    × (outcome ≡ bads.both one other)
+    (one : Outcome) × (other : Outcome) × AreBadsAnswered A bytes bad asked one
+    × IsJusticeAnswered A bytes bad asked other × (outcome ≡ bads.both one other)
 
 -- the text writes witnesses of bad literals, all of them right, or such of justice properties
 abbrev pub ReplaysEach : (A : Type 0) → List ℕ → List ℕ → Type 0
@@ -68,7 +69,8 @@ ReplaysAsked A bytes text (Some bad) asked = bads_replayed.Replays A bytes text 
 ReplaysAsked A bytes text None (Some asked) = justice_replayed.Replays A bytes text (Some asked)
 ReplaysAsked A bytes text None None = ReplaysEach A bytes text
 
--- the text is a certificate as to the justice property that is asked for, or else as to the bad literal that is, or to all
+-- the text is a certificate as to the justice property that is asked for, or else as to the bad literal that is, or to
+-- all
 abbrev pub CertifiesAsked : (A : Type 0) → List ℕ → List ℕ → Option ℕ → Option ℕ → Type 0
 CertifiesAsked A bytes text bad None = bads_certified.Certifies A bytes text bad
 CertifiesAsked A bytes text bad (Some asked) = justice_certified.Certifies A bytes text asked

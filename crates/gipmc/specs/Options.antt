@@ -38,9 +38,9 @@ table =
 
 -- the file of the circuit, if not standard input, the place of the bad literal or of the justice property that is asked
 -- for, if not all, what searches, the most transitions, if that is said, the most conflicts of a question, the seed,
--- whether traces are to be shortest, the limit in seconds, if there is one, what to write, where to write a certificate,
--- if one is wanted, and whether as a circuit, whether to tell with names, and where to write a wave and witnesses, if
--- these are wanted
+-- whether traces are to be shortest, the limit in seconds, if there is one, what to write, where to write a
+-- certificate, if one is wanted, and whether as a circuit, whether to tell with names, and where to write a wave and
+-- witnesses, if these are wanted
 pub record Request : Type 0 where
   pub file : Option (List ℕ)
   pub bad : Option ℕ

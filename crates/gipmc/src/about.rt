@@ -50,8 +50,8 @@ pub const ABOUT: About<'static, Switch, Number, Text> = About {
     ],
     options: &OPTIONS,
     note: "The value of a long option may also stand behind `=`: --depth=20.",
-    statuses: "Exit status: 10 unsafe, a bad state is reachable or a justice property fails; 20 safe, neither; 0 open, verified, or help; 1 an error, \
-               or not verified; 2 arguments that have no meaning.",
+    statuses: "Exit status: 10 unsafe, a bad state is reachable or a justice property fails; 20 safe, neither; 0 open, \
+               verified, or help; 1 an error, or not verified; 2 arguments that have no meaning.",
 };
 
 /// The options.
@@ -92,8 +92,8 @@ pub const OPTIONS: [Opt<Switch, Number, Text>; 18] = [
         short: "",
         kind: Kind::Number(Number::Limit, "N"),
         section: "Search",
-        help: "leave a question to a solver open after N conflicts: one of bmc, which ends there, or of --certify; without \
-               this there is no bound",
+        help: "leave a question to a solver open after N conflicts, of bmc, induction, --shortest and --certify; without this \
+               there is no bound",
     },
     Opt {
         long: "--time",
@@ -198,7 +198,7 @@ pub const OPTIONS: [Opt<Switch, Number, Text>; 18] = [
         short: "",
         kind: Kind::Switch(Switch::Stats),
         section: "Output",
-        help: "write a summary on standard error for each bad literal that was searched for (lines that begin with c): how \
-               far each engine that ran came, and the time",
+        help: "write a summary on standard error for each property that was searched for (lines that begin with c): how far \
+               each engine that ran came, which one decided of a bad literal, and the time",
     },
 ];

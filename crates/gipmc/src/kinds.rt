@@ -5,8 +5,8 @@ ghost use Rattle.gipmc.specs.Asked.{AreBadsLeftOut, IsJusticeLeftOut, asks_of_ba
 use crate::options::Options;
 use gipmc_aiger::{Header, read_header};
 
-/// Whether the bad literals of the circuit that the bytes write are asked about. Of bytes that write none they are: this is
-/// told then.
+/// Whether the bad literals of the circuit that the bytes write are asked about. They are where the bytes write none: a
+/// search tells that.
 pub fn is_of_bads(options: &Options, bytes: &[u8]) -> bool
     ensures { result ≡ false → AreBadsLeftOut bytes.now options.now.bad options.now.justice }
 {

@@ -247,7 +247,7 @@ fn search_for<'a>(
     ensures { IfOk result (IsAnsweredAsked Global bytes.now options.now.bad options.now.justice) }
 {
     let mut output = Output::new(rt.stdout(), lost(options));
-    output.traces = traces(options);
+    output.traces = traces_asked(options);
     let found = search(rt, options, bytes, &mut output)?;
     let kept = keep_found(rt, options, bytes, &found, certificate, wave);
     written(&output)?;
@@ -320,7 +320,7 @@ fn lost(options: &Options) -> Lost {
 }
 
 // Which traces are written.
-fn traces(options: &Options) -> Traces {
+fn traces_asked(options: &Options) -> Traces {
     if options.shortest {
         Traces::Shortest
     } else {

@@ -1,7 +1,7 @@
 //! How far a search is, in lines on standard error.
 use crate::options::Options;
 use gipmc_answers::Listener;
-use gipmc_engines::Watch;
+use gipmc_engines::{Engine, Watch};
 use gipmc_ic3::Statistics;
 use giputils_stat::logger::IntervalLogger;
 use log::kv::Source;
@@ -38,7 +38,7 @@ pub struct Teller<'a> {
     snapshot: Snapshot,
 }
 
-// How far the search about a bad literal is. A part that did not run says nothing.
+// How far the search about a property is. A part that did not run says nothing.
 #[derive(Clone, Copy)]
 struct Snapshot {
     letter: char,
@@ -46,6 +46,7 @@ struct Snapshot {
     simulated: Simulated,
     unrolled: Unrolled,
     framed: Framed,
+    decided: Decided,
 }
 
 impl Snapshot {
@@ -57,6 +58,7 @@ impl Snapshot {
             simulated: Simulated(None),
             unrolled: Unrolled(None),
             framed: Framed(None),
+            decided: Decided(None),
         }
     }
 }
@@ -65,8 +67,8 @@ impl Display for Snapshot {
     fn fmt<W: fmt::Write>(&self, f: &mut fmt::Formatter<W>) -> fmt::Result {
         write!(
             f,
-            "{}{}: {}{}{}",
-            self.letter, self.place, self.simulated, self.unrolled, self.framed
+            "{}{}: {}{}{}{}",
+            self.letter, self.place, self.simulated, self.unrolled, self.framed, self.decided
         )
     }
 }
@@ -131,6 +133,22 @@ impl Display for Lemmas<'_> {
         match lengths.mean(PLACES) {
             Some(mean) => write!(f, ", {mean} literals in each of {} lemmas", lengths.count()),
             None => Ok(()),
+        }
+    }
+}
+
+// The engine that decided, if one did.
+#[derive(Clone, Copy)]
+struct Decided(Option<Engine>);
+
+impl Display for Decided {
+    fn fmt<W: fmt::Write>(&self, f: &mut fmt::Formatter<W>) -> fmt::Result {
+        match self.0 {
+            Some(Engine::Simulation) => f.write_str("decided by sim; "),
+            Some(Engine::Bounded) => f.write_str("decided by bmc; "),
+            Some(Engine::Ic3) => f.write_str("decided by ic3; "),
+            Some(Engine::Induction) => f.write_str("decided by induction; "),
+            _ => Ok(()),
         }
     }
 }
@@ -228,10 +246,14 @@ impl Listener for Teller<'_> {
         self.go_on(self.since(self.started))
     }
 
+    fn note_engine(&mut self, engine: Engine) {
+        self.snapshot.decided = Decided(Some(engine));
+    }
+
     fn end_shortening(&mut self, is_shortest: bool) {
         if !is_shortest {
-            let place = self.snapshot.place;
-            let _ = eprintln!(self.rt; "c b{place}: there may be a shorter trace");
+            let Snapshot { letter, place, .. } = self.snapshot;
+            let _ = eprintln!(self.rt; "c {letter}{place}: there may be a shorter trace");
         }
     }
 

@@ -217,15 +217,24 @@ fn tell_named<'a>(
 fn next_answer<'a>(text: &'a [u8], letter: &str) -> Option<(&'a [u8], usize, &'a [u8])>
     ensures { IfSome result (λ answer. length answer.2.now < length text.now) }
 {
-    let (first, rest) = split_line(text)?;
-    let (status, rest) = match first {
-        // How far it was searched stands before the status.
-        [b'u', ..] => split_line(rest)?,
-        _ => (first, rest),
-    };
+    let (status, rest) = split_line(behind_depths(text))?;
     let (name, rest) = split_line(rest)?;
     let place = number(name.strip_prefix(letter.as_bytes())?, u32::MAX)?;
     Some((status, place as usize, behind_answer(rest)))
+}
+
+// What stands behind the lines that tell how far a search has come.
+fn behind_depths(text: &[u8]) -> &[u8]
+    ensures { length result.now ≤ length text.now }
+{
+    let mut rest = text;
+    while let Some((line, after)) = split_line(rest) {
+        if !line.starts_with(b"u") {
+            return rest;
+        }
+        rest = after;
+    }
+    rest
 }
 
 // What stands behind the line that ends an answer.
