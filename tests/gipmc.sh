@@ -428,6 +428,11 @@ told "no time" $?
 "$gipmc" "${endless[@]}" -v -t 6 kept.aag > out 2> err
 grep -q '^c b0: depth [0-9]*, [0-9]* clauses, [0-9]* conflicts; [0-9]*[.][0-9][0-9][0-9] s$' err
 told "progress in a file" $?
+"$gipmc" --engine bmc --depth 7 --verbose kept.aag > out 2> err
+status=$?
+[ "$status" = 0 ] && [ "$(grep -v '^u' out)" = "$(printf '2\nb0\n.')" ] && [ "$(tail -n 4 out | head -n 1)" = u7 ] &&
+    [ "$(grep -c '^u' out)" -gt 2 ] && sed -n 's/^u//p' out | sort -cn
+told "progress in the answer" $?
 
 # Traces with names. The circuit has a vector of two inputs and one of two latches, which are given in opposite orders.
 cat > named.aag << 'END'

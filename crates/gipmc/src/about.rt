@@ -191,7 +191,8 @@ pub const OPTIONS: [Opt<Switch, Number, Text>; 18] = [
         short: "-v",
         kind: Kind::Switch(Switch::Verbose),
         section: "Output",
-        help: "write progress every five seconds, whatever standard error is, and also with -q",
+        help: "write progress every five seconds, whatever standard error is, and also with -q; and on standard output, before \
+               the answer about a bad literal, lines `u` with a number as the search comes farther",
     },
     Opt {
         long: "--stats",

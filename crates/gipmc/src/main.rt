@@ -248,6 +248,7 @@ fn search_for<'a>(
 {
     let mut output = Output::new(rt.stdout(), lost(options));
     output.traces = traces_asked(options);
+    output.progress = options.verbose;
     let found = search(rt, options, bytes, &mut output)?;
     let kept = keep_found(rt, options, bytes, &found, certificate, wave);
     written(&output)?;
