@@ -3,7 +3,7 @@ _gipmc() {
     local word=${COMP_WORDS[COMP_CWORD]}
     COMPREPLY=()
     if [[ $word == -* ]]; then
-        mapfile -t COMPREPLY < <(compgen -W '--bad --engine --depth --limit -t --time --seed --shortest --replay --certify --certificate --aiger --names --vcd --witness -q --quiet -v --verbose --stats -h --help --version --' -- "$word")
+        mapfile -t COMPREPLY < <(compgen -W '--bad --justice --engine --depth --limit -t --time --seed --shortest --replay --certify --certificate --aiger --names --vcd --witness -q --quiet -v --verbose --stats -h --help --version --' -- "$word")
     fi
 }
 complete -o default -F _gipmc gipmc
