@@ -604,7 +604,7 @@ try "a constraint that ends every run" 20 "" "$is_live" 'aag 1 0 1 0 0 0 1 1\n2 
 printf '1\nj0\n0\n\n\n.\n' > lasso
 try "a property that is met outside the loop" 1 "$(no_lasso lasso)" "s NOT VERIFIED" \
     'aag 1 0 1 0 0 0 0 1\n2 1\n1\n3\n' --replay lasso
-try "no bad literal beside a justice property" 1 "<stdin>: no bad literal 0, of 0" "" "$fair" --bad 0
+try "no bad literal beside a justice property" 1 "<stdin>: no bad literal" "" "$fair" --bad 0
 try "a justice property that is not there" 1 "<stdin>: no justice property 1, of 1" "" "$fair" --justice 1
 
 # A bad literal, and two justice properties under a fairness constraint.

@@ -136,6 +136,8 @@ impl Display for Failure<'_> {
             Failure::Task(name, error) => {
                 let name = name.unwrap_or("<stdin>");
                 match refusal(error) {
+                    // The circuit has justice properties alone.
+                    Some((_, Reason::Liveness)) => write!(f, "{name}: no bad literal"),
                     Some((line, reason)) => write!(f, "{name}:{line}: {reason}"),
                     None => write!(f, "{name}: {error}"),
                 }
