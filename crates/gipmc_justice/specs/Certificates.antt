@@ -5,14 +5,14 @@ use Rattle.gipmc_aiger.specs.Invariants.{clauses_view, invariant_for}
 use Rattle.gipmc_aiger.specs.declared.liveness.Liveness.{Liveness}
 use Rattle.gipmc_circuits.specs.Certificate.{IsSafeByClauses}
 use Rattle.gipmc_circuits.specs.declared.circuit.Circuit.{Circuit}
+use Rattle.gipmc_liveness.specs.Chains.{IsCounterOf}
 use Rattle.gipmc_liveness.specs.Liveness.{IsLive}
-use Rattle.gipmc_liveness.specs.Turns.{CountsTo}
 use Rattle.gipmc_justice.specs.Answers.{IsPropertiesIn}
 
--- the text writes clauses over the latches of a circuit that counts to k, by which that is safe
+-- the text writes clauses over the latches of the circuit with a chain that counts to k, by which that is safe
 abbrev pub CountsSafelyBy : {A : Type 0} → Circuit A → List Lit → ℕ → List ℕ → Type 0
 CountsSafelyBy {A} c literals k text =
-    (e : Circuit A) × (bad : Lit) × CountsTo c literals k e bad × (clauses : List (Vec Lit A))
+    (e : Circuit A) × (bad : Lit) × IsCounterOf c literals k e bad × (clauses : List (Vec Lit A))
     × (invariant_for e text ≡ Some (clauses_view clauses)) × IsSafeByClauses e clauses bad
 
 -- so for some k; and the circuit is live

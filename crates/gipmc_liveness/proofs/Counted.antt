@@ -16,9 +16,9 @@ use Rattle.gipmc_circuits.specs.declared.circuit.Latch.{Latch}
 use Rattle.gipmc_circuits.specs.Circuit.{FailsAfter, IsSafe, IsTrace, has_value, holds_next, holds_reset, is_initial, is_moment, is_transition, is_valuation}
 use Rattle.gipmc_circuits.specs.Encoding.{is_below, literal_below}
 use Rattle.gipmc_circuits.specs.Widened.{IsWidened, are_numbered, are_stacked}
-use Rattle.gipmc_circuits.proofs.Agreeing.{AgreeBelow, is_true-alike}
+use Rattle.gipmc_circuits.proofs.Agreeing.{AgreeBelow, below-parts, is_true-alike}
 use Rattle.gipmc_circuits.proofs.Widened.{IsTrace-widened}
-use Rattle.gipmc_liveness.specs.Chains.{IsChained, all_passed, last_gate, not_of, passed, passing, stage_gates, stage_latches, top, waiting, yes_of}
+use Rattle.gipmc_liveness.specs.Chains.{IsChained, IsCounterOf, all_passed, last_gate, not_of, passed, passing, stage_gates, stage_latches, top, waiting, yes_of}
 use Rattle.gipmc_liveness.specs.Liveness.{AllRecur, FailsForever, IsLive, IsRun, Recurs}
 use Rattle.gipmc_liveness.specs.Turns.{CountsTo, MeetsMore, MetBetween, always, turn, turns}
 
@@ -345,7 +345,7 @@ FailsAfter-met n c e stages last m is (u, trace, fails) =
     (u, IsTrace-chained n c e stages last m u is trace, MetBetween-before u k 0 m stages (omega arith) met, ends)
 
 -- so it counts the literals in turn
-pub CountsTo-chained : {A B : Type 0} (n : ℕ) (c : Circuit A) (e : Circuit B) (literals : List Lit) (k : ℕ)
+CountsTo-chained : {A B : Type 0} (n : ℕ) (c : Circuit A) (e : Circuit B) (literals : List Lit) (k : ℕ)
     → IsChained n c e (turns literals k) (turn literals k) → IsTrue (is_below n c) → 0 < n
     → IsTrue (list_all (literal_below n) (turns literals k)) → IsTrue (literal_below n (turn literals k))
     → CountsTo c literals k e (yes_of (top n (turns literals k)))
@@ -354,6 +354,13 @@ CountsTo-chained n c e literals k is within some all below m = (
   λ (t, trace, met, ends).
       FailsAfter-chained n c e (turns literals k) (turn literals k) m t is within some all below trace met ends,
 )
+
+-- a circuit with such a chain counts to k
+pub CountsTo-counter : {A B : Type 0} (c : Circuit A) (literals : List Lit) (k : ℕ) (e : Circuit B) (bad : Lit)
+    → IsCounterOf c literals k e bad → CountsTo c literals k e bad
+CountsTo-counter c literals k e bad (n, is) =
+    subst (CountsTo c literals k e) (sym is.counted)
+    (CountsTo-chained n c e literals k is.chained is.fresh (below-parts n c is.fresh).some is.stages is.last)
 
 -- each literal recurs whose turn it is
 Recurs-at : {A : Type 0} (c : Circuit A) (t : ℕ → Assignment) (ls : List Lit) (i : ℕ) → IsRun c t → AllRecur t ls

@@ -1,10 +1,12 @@
 -- Chains of latches, by which a circuit counts how often literals are met in turn.
-use Rattle.std.specs.Prelude.{◌≡◌, ℕ, ◌+◌, ◌*◌, ◌++◌, Bool, true, false, List, [], ◌∷◌, Some, length}
+use Rattle.std.specs.Prelude.{◌≡◌, ℕ, ◌+◌, ◌*◌, ◌++◌, Bool, true, false, List, [], ◌∷◌, Some, length, IsTrue}
+use Rattle.std.specs.List.{list_all}
 use Rattle.gipsat_cnf.specs.Literals.{Lit}
 use Rattle.gipmc_circuits.specs.declared.circuit.And.{And}
 use Rattle.gipmc_circuits.specs.declared.circuit.Circuit.{Circuit}
 use Rattle.gipmc_circuits.specs.declared.circuit.Latch.{Latch}
-use Rattle.gipmc_liveness.specs.Turns.{always}
+use Rattle.gipmc_circuits.specs.Encoding.{is_below, literal_below}
+use Rattle.gipmc_liveness.specs.Turns.{always, turn, turns}
 
 -- the literal of a variable, and its negation
 abbrev pub yes_of : ℕ → Lit
@@ -66,6 +68,19 @@ pub record IsChained {A B : Type 0} (n : ℕ) (c : Circuit A) (e : Circuit B) (s
   pub gates : e.gates.items
       ≡ c.gates.items ++ (stage_gates n (n + length stages) always stages ++ last_gate n stages last ∷ [])
   pub constraints : e.constraints.items ≡ c.constraints.items
+
+-- e is c with a chain of k latches, whose variables are n and those behind it, as c has none: each waits for one of the
+-- literals in turn, and the last gate is bad, for one literal more
+pub record IsCounterFrom {A B : Type 0} (n : ℕ) (c : Circuit A) (literals : List Lit) (k : ℕ) (e : Circuit B) (bad : Lit) : Type 0 where
+  pub fresh : IsTrue (is_below n c)
+  pub stages : IsTrue (list_all (literal_below n) (turns literals k))
+  pub last : IsTrue (literal_below n (turn literals k))
+  pub chained : IsChained n c e (turns literals k) (turn literals k)
+  pub counted : bad ≡ yes_of (top n (turns literals k))
+
+-- e is c with such a chain
+abbrev pub IsCounterOf : {A B : Type 0} → Circuit A → List Lit → ℕ → Circuit B → Lit → Type 0
+IsCounterOf c literals k e bad = (n : ℕ) × IsCounterFrom n c literals k e bad
 
 -- e has the latches, gates and constraints of c
 pub record IsCopied {A : Type 0} (c e : Circuit A) : Type 0 where

@@ -4,7 +4,7 @@ ghost use Rattle.std.specs.List.{list_all};
 ghost use Rattle.gipmc_circuits.specs.Certificate.{is_certified};
 ghost use Rattle.gipmc_circuits.specs.Circuit.{IsSafe};
 ghost use Rattle.gipmc_circuits.specs.Encoding.{literal_below};
-ghost use Rattle.gipmc_liveness.specs.Chains.{AddsStage, AddsStages, IsChained, IsCopied, all_passed, top, yes_of};
+ghost use Rattle.gipmc_liveness.specs.Chains.{AddsStage, AddsStages, IsChained, IsCopied, IsCounterOf, all_passed, top, yes_of};
 ghost use Rattle.gipmc_liveness.specs.Liveness.{IsLive};
 ghost use Rattle.gipmc_liveness.specs.Turns.{CountsTo, always, turn, turns};
 
@@ -166,6 +166,8 @@ pub fn counting<A: Allocator + Copy>(
     justice: &[Literal],
     k: usize,
 ) -> Result<Option<(Netlist<A>, Literal)>, AllocError>
+    ensures counter { IfOk result (λ made. IfSome made
+        (λ m. IsCounterOf netlist.now.circuit (fairness.now ++ justice.now) k m.0.circuit m.1)) }
     ensures counts { IfOk result (λ made. IfSome made
         (λ m. CountsTo netlist.now.circuit (fairness.now ++ justice.now) k m.0.circuit m.1)) }
     ensures live { IfOk result (λ made. IfSome made

@@ -3,7 +3,7 @@ use Rattle.gipmc_justice.proofs.certificates.counted_by.Goals as goal
 
 pub returns : goal.returns
 returns g c certified =
-    let counts = rw c.in-Some.is at c.in_ok-made.ensures.counts in
+    let counter = rw c.in-Some.is at c.in_ok-made.ensures.counter in
     let live = rw c.in-Some.is at c.in_ok-made.ensures.live in
     let said = rw (c.deref.ensures.value) at c.in_ok-verdict.ensures in (
       (
@@ -11,7 +11,7 @@ returns g c certified =
         (
           c.in-Some.made.circuit,
           c.in-Some.bad,
-          counts,
+          counter,
           c.in_ok-clauses.clauses.items,
           c.in_ok-clauses.ensures,
           record {
