@@ -17,14 +17,34 @@ pub(crate) enum Answer {
     Wrong,
 }
 
+// What the lemmas of a search name.
+#[derive(Clone, Copy)]
+pub(crate) enum Names {
+    Latches,
+    Gates,
+}
+
+// A search about bad literals, which has not begun.
+pub(crate) fn search_about<'a>(
+    alloc: Global,
+    netlist: &'a Netlist,
+    bads: &[Literal],
+    names: Names,
+) -> Result<Search<'a, Solver, Global>, AllocError> {
+    match names {
+        Names::Latches => Search::for_all(alloc, netlist, bads),
+        Names::Gates => Search::with_gates(alloc, netlist, bads),
+    }
+}
+
 // What a search of one slice finds out about a circuit.
 fn answer_of(
     alloc: Global,
     netlist: &Netlist,
     bad: Literal,
-    calls: u64,
+    names: Names,
 ) -> Result<Answer, AllocError> {
-    let found = found_in_a_slice(alloc, netlist, bad, calls)?;
+    let found = found_in_a_slice(alloc, netlist, bad, names)?;
     checked(alloc, netlist, bad, &found)
 }
 
@@ -33,10 +53,10 @@ fn found_in_a_slice(
     alloc: Global,
     netlist: &Netlist,
     bad: Literal,
-    calls: u64,
+    names: Names,
 ) -> Result<Found, AllocError> {
-    let mut search = Search::<Solver, _>::new(alloc, netlist, bad)?;
-    search.run(calls)
+    let mut search = search_about(alloc, netlist, &[bad], names)?;
+    search.run(1000)
 }
 
 // What is believed where this was found: a trace is replayed, and an invariant is certified.
@@ -122,15 +142,55 @@ const ANSWERS: &[(Kind, (u8, bool), Answer)] = &[
 ];
 
 // What a search of one slice finds out about a circuit of this kind.
-fn answer_about(alloc: Global, kind: Kind, bad: (u8, bool)) -> Result<Answer, AllocError> {
+fn answer_about(
+    alloc: Global,
+    kind: Kind,
+    bad: (u8, bool),
+    names: Names,
+) -> Result<Answer, AllocError> {
     let netlist = made(alloc, kind)?;
-    answer_of(alloc, &netlist, literal(bad), 1000)
+    answer_of(alloc, &netlist, literal(bad), names)
 }
 
 #[test]
 fn finds_shortest_traces_and_invariants(rt: HostRuntime) -> Result<(), AllocError> {
     for &(kind, bad, answer) in ANSWERS {
-        assert!(rt; answer_about(rt.alloc(), kind, bad)? == answer);
+        for &names in &[Names::Latches, Names::Gates] {
+            assert!(rt; answer_about(rt.alloc(), kind, bad, names)? == answer);
+        }
     }
+    Ok(())
+}
+
+// The greatest variable of an invariant. 0 where none was found.
+fn greatest_variable(found: &Found) -> u32 {
+    let Found::Invariant(invariant) = found else {
+        return 0;
+    };
+    let mut greatest = 0;
+    for clause in invariant {
+        for l in clause {
+            greatest = greatest.max(l.variable());
+        }
+    }
+    greatest
+}
+
+// The greatest variable of an invariant by which gate 6 is false at each moment.
+fn greatest_about(alloc: Global, kind: Kind, names: Names) -> Result<u32, AllocError> {
+    let netlist = made(alloc, kind)?;
+    greatest_of(alloc, &netlist, names)
+}
+
+fn greatest_of(alloc: Global, netlist: &Netlist, names: Names) -> Result<u32, AllocError> {
+    let found = found_in_a_slice(alloc, netlist, Literal::new(6, true), names)?;
+    Ok(greatest_variable(&found))
+}
+
+#[test]
+fn names_gates_where_it_may(rt: HostRuntime) -> Result<(), AllocError> {
+    // The latches are 2 and 3, and latches alone decide the bad gate.
+    assert!(rt; greatest_about(rt.alloc(), Kind::Exchange, Names::Latches)? == 3);
+    assert!(rt; greatest_about(rt.alloc(), Kind::Exchange, Names::Gates)? == 6);
     Ok(())
 }

@@ -1,6 +1,6 @@
 //! Searches about several bad literals at once.
 
-use crate::answers::{Answer, checked};
+use crate::answers::{Answer, Names, checked, search_about};
 use crate::circuits::{Kind, literal, made};
 use gipmc_circuits::Netlist;
 use gipmc_ic3::{Found, Search};
@@ -63,9 +63,10 @@ fn count_about(
     alloc: Global,
     netlist: &Netlist,
     bads: &[Literal],
+    names: Names,
     calls: u64,
 ) -> Result<Count, AllocError> {
-    let mut search = Search::<Solver, _>::for_all(alloc, netlist, bads)?;
+    let mut search = search_about(alloc, netlist, bads, names)?;
     count_in_slices(alloc, netlist, bads, &mut search, calls)
 }
 
@@ -73,6 +74,7 @@ fn count_of(
     alloc: Global,
     kind: Kind,
     bads: &[(u8, bool)],
+    names: Names,
     calls: u64,
 ) -> Result<Count, AllocError> {
     let netlist = made(alloc, kind)?;
@@ -80,7 +82,7 @@ fn count_of(
     for bad in bads {
         literals.push(literal(*bad))?;
     }
-    count_about(alloc, &netlist, &literals, calls)
+    count_about(alloc, &netlist, &literals, names, calls)
 }
 
 // A circuit, bad literals, and how many of them fail and are safe.
@@ -99,11 +101,20 @@ const COUNTS: &[(Kind, &[(u8, bool)], (u8, u8))] = &[
     ),
 ];
 
+// What the lemmas of a search name, and how many calls a slice has.
+const SEARCHES: &[(Names, u64)] = &[
+    (Names::Latches, 1),
+    (Names::Latches, 1000),
+    (Names::Gates, 1),
+    (Names::Gates, 1000),
+];
+
 #[test]
 fn decides_several_at_once(rt: HostRuntime) -> Result<(), AllocError> {
     for &(kind, bads, (failing, safe)) in COUNTS {
-        for &calls in &[1, 1000] {
-            assert!(rt; count_of(rt.alloc(), kind, bads, calls)? == Count { failing, safe });
+        for &(names, calls) in SEARCHES {
+            let count = count_of(rt.alloc(), kind, bads, names, calls)?;
+            assert!(rt; count == Count { failing, safe });
         }
     }
     Ok(())
