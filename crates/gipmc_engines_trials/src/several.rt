@@ -57,6 +57,7 @@ fn found_out(
             depth,
             ..Bounds::default()
         },
+        ..Plan::default()
     };
     let literals = literals();
     let found = check_all::<Solver, _, _>(alloc, &netlist, &literals, &plan, &mut ())?;
@@ -163,6 +164,7 @@ fn engines_of(
             calls: 1000,
             ..Bounds::default()
         },
+        ..Plan::default()
     };
     let literals = literals();
     let found = check_all::<Solver, _, _>(alloc, &netlist, &literals[..4], &plan, &mut ())?;
@@ -262,5 +264,37 @@ fn decides_a_literal_beside_a_hard_one(rt: HostRuntime) -> Result<(), AllocError
     // Then each has a search of its own for a while.
     assert!(rt; decided_beside(rt.alloc(), &[hard, never], 5000)? == [Said::Unknown, Said::Safe]);
     assert!(rt; decided_beside(rt.alloc(), &[never, hard], 5000)? == [Said::Safe, Said::Unknown]);
+    Ok(())
+}
+
+// The greatest variable of the clauses.
+fn greatest_variable(clauses: &[Vec<Literal>]) -> u32 {
+    let mut greatest = 0;
+    for clause in clauses {
+        for l in clause {
+            greatest = greatest.max(l.variable());
+        }
+    }
+    greatest
+}
+
+// The greatest variable of the invariant by which IC3 shows that gate 6 of the counter is never true.
+fn greatest_of_a_counter(alloc: Global, names_gates: bool) -> Result<u32, AllocError> {
+    let netlist = counter(alloc)?;
+    let plan = Plan {
+        engine: Engine::Ic3,
+        names_gates,
+        ..Plan::default()
+    };
+    let literals = [Literal::new(6, true)];
+    let found = check_all::<Solver, _, _>(alloc, &netlist, &literals, &plan, &mut ())?;
+    Ok(greatest_variable(&found.invariant))
+}
+
+#[test]
+fn names_gates_where_the_plan_lets_it(rt: HostRuntime) -> Result<(), AllocError> {
+    // The latches are 2 and 3, and latches alone decide the gate.
+    assert!(rt; greatest_of_a_counter(rt.alloc(), false)? == 3);
+    assert!(rt; greatest_of_a_counter(rt.alloc(), true)? == 6);
     Ok(())
 }
