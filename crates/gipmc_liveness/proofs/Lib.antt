@@ -1,5 +1,9 @@
 pub mod Counted
 mod Examples
 pub mod Looped
+mod Pigeons
 mod Replayed
+mod Rounds
+pub mod Saved
+mod Saving
 mod Stages

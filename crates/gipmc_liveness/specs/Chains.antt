@@ -82,8 +82,9 @@ pub record IsCounterFrom {A B : Type 0} (n : ℕ) (c : Circuit A) (literals : Li
 abbrev pub IsCounterOf : {A B : Type 0} → Circuit A → List Lit → ℕ → Circuit B → Lit → Type 0
 IsCounterOf c literals k e bad = (n : ℕ) × IsCounterFrom n c literals k e bad
 
--- e has the latches, gates and constraints of c
+-- e has the inputs, latches, gates and constraints of c
 pub record IsCopied {A : Type 0} (c e : Circuit A) : Type 0 where
+  pub inputs : e.inputs.items ≡ c.inputs.items
   pub latches : e.latches.items ≡ c.latches.items
   pub gates : e.gates.items ≡ c.gates.items
   pub constraints : e.constraints.items ≡ c.constraints.items

@@ -28,7 +28,7 @@ fn is_below(n: usize, l: Literal) -> bool
 }
 
 // Whether the variable of each literal is.
-fn are_below(n: usize, literals: &[Literal]) -> bool
+pub(crate) fn are_below(n: usize, literals: &[Literal]) -> bool
     ensures { result ≡ list_all (literal_below n) literals.now }
 {
     literals.iter().all(|l| is_below(n, *l))

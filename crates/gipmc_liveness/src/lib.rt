@@ -8,4 +8,4 @@ pub mod safety;
 
 pub use counter::{certify_live, counting};
 pub use lasso::{Lasso, closed, replay_lasso};
-pub use safety::{lasso_of, to_safety};
+pub use safety::{certify_without_lasso, lasso_of, to_safety};

@@ -1,96 +1,265 @@
 //! Liveness as safety: a circuit whose traces lead round a loop, and the lassos that they are.
-ghost use Rattle.std.specs.Prelude.{IfOk, IfSome};
+ghost use Rattle.std.specs.Prelude.{◌≡◌, ◌+◌, ◌++◌, ◌*◌, ◌^◌, ◌<◌, [], ◌∷◌, length, map, IfOk, IfSome, IsTrue, OnOk};
+ghost use Rattle.std.specs.List.{list_all};
+ghost use Rattle.gipmc_circuits.specs.Certificate.{is_certified};
+ghost use Rattle.gipmc_circuits.specs.Circuit.{IsSafe};
+ghost use Rattle.gipmc_circuits.specs.Encoding.{is_below, latch_below};
+ghost use Rattle.gipmc_circuits.specs.WellFormed.{latch_variables};
+ghost use Rattle.gipmc_liveness.specs.Chains.{not_of, yes_of};
 ghost use Rattle.gipmc_liveness.specs.Lassos.{IsLasso};
+ghost use Rattle.gipmc_liveness.specs.Liveness.{IsLive};
+ghost use Rattle.gipmc_liveness.specs.Saved.{Adds, AddsSaving, FailsByLassos, IsSaverOf, IsSaving, gate, last_of};
+ghost use Rattle.gipmc_liveness.specs.Saved.{latch, note, note_latches, notes, shadow, shadow_latches, shadows};
 
-use crate::counter::copied;
+use crate::counter::{are_below, copied};
 use crate::lasso::{Lasso, both, replay_lasso};
-use gipmc_builder::Builder;
-use gipmc_circuits::{Netlist, Trace};
-use gipsat_cnf::Literal;
+use gipmc_circuits::{And, Circuit, Latch, Netlist, Trace, Verdict, certify};
+use gipsat_cnf::{Literal, SatSolver};
 use std::alloc::{AllocError, Allocator};
 
-// Adds a latch that keeps what the literal was when it was saved. The literal that it is the same now.
+// The literal of a variable.
+fn yes_of(variable: usize) -> Literal
+    requires { variable < 2 ^ 31 }
+    ensures { result ≡ yes_of variable }
+{
+    Literal::new(variable as u32, true)
+}
+
+// Its negation.
+fn not_of(variable: usize) -> Literal
+    requires { variable < 2 ^ 31 }
+    ensures { result ≡ not_of variable }
+{
+    Literal::new(variable as u32, false)
+}
+
+// The gate of these operands.
+fn gate(output: usize, left: Literal, right: Literal) -> And
+    requires { output < 2 ^ 31 }
+    ensures { result ≡ gate output left right }
+{
+    And {
+        output: output as u32,
+        left,
+        right,
+    }
+}
+
+// The latch that is 0 at first, and then what the gate is not.
+fn latch(variable: usize, gate: usize) -> Latch
+    requires latch { variable < 2 ^ 31 }
+    requires gate { gate < 2 ^ 31 }
+    ensures { result ≡ latch variable gate }
+{
+    Latch {
+        variable: variable as u32,
+        next: not_of(gate),
+        reset: Some(false),
+    }
+}
+
+// Adds an input, the latch behind it, which tells that something is saved, and the first gates.
+fn add_saving<A: Allocator + Copy>(
+    circuit: &mut Circuit<A>,
+    n: usize,
+    first: usize,
+) -> Result<(), AllocError>
+    requires input { n + 1 < 2 ^ 31 }
+    requires gates { first + 1 < 2 ^ 31 }
+    ensures { OnOk result (AddsSaving circuit.old circuit.new n first) }
+{
+    circuit.inputs.push(n as u32)?;
+    circuit.latches.push(latch(n + 1, first))?;
+    circuit.gates.extend_from_slice(&[
+        gate(first, not_of(n + 1), not_of(n)),
+        gate(first + 1, yes_of(n + 1), yes_of(n + 1)),
+    ])?;
+    Ok(())
+}
+
+// Adds a latch that keeps what another one held when it was saved, and what tells that they are the same.
 fn add_shadow<A: Allocator + Copy>(
-    build: &mut Builder<A>,
-    saved: Literal,
-    l: Literal,
-) -> Result<Literal, AllocError> {
-    let shadow = build.bit()?;
-    let next = build.mux(saved, shadow, l)?;
-    build.latch(shadow, Some(false), next)?;
-    build.equal(shadow, l)
+    circuit: &mut Circuit<A>,
+    saved: usize,
+    kept: usize,
+    variable: usize,
+    before: usize,
+) -> Result<(), AllocError>
+    requires saved { saved < 2 ^ 31 }
+    requires kept { kept < 2 ^ 31 }
+    requires variable { variable < 2 ^ 31 }
+    requires gates { before + 7 < 2 ^ 31 }
+    ensures { OnOk result
+        (Adds circuit.old circuit.new (latch variable (before + 3) ∷ []) (shadow saved kept variable before)) }
+{
+    circuit.latches.push(latch(variable, before + 3))?;
+    circuit.gates.extend_from_slice(&[
+        gate(before + 1, yes_of(saved), yes_of(variable)),
+        gate(before + 2, not_of(saved), yes_of(kept)),
+        gate(before + 3, not_of(before + 1), not_of(before + 2)),
+        gate(before + 4, yes_of(variable), not_of(kept)),
+        gate(before + 5, not_of(variable), yes_of(kept)),
+        gate(before + 6, not_of(before + 4), not_of(before + 5)),
+        gate(before + 7, yes_of(before), yes_of(before + 6)),
+    ])?;
+    Ok(())
 }
 
-// Adds a latch that notes that the literal was true inside the loop.
+// Adds a latch that notes that the literal was true since something was saved.
 fn add_note<A: Allocator + Copy>(
-    build: &mut Builder<A>,
-    inside: Literal,
+    circuit: &mut Circuit<A>,
+    outside: usize,
     l: Literal,
-) -> Result<Literal, AllocError> {
-    let noted = build.bit()?;
-    let now = build.and(inside, l)?;
-    let next = build.or(noted, now)?;
-    build.latch(noted, Some(false), next)?;
-    Ok(noted)
+    variable: usize,
+    before: usize,
+) -> Result<(), AllocError>
+    requires outside { outside < 2 ^ 31 }
+    requires variable { variable < 2 ^ 31 }
+    requires gates { before + 3 < 2 ^ 31 }
+    ensures { OnOk result
+        (Adds circuit.old circuit.new (latch variable (before + 2) ∷ []) (note outside l variable before)) }
+{
+    circuit.latches.push(latch(variable, before + 2))?;
+    circuit.gates.extend_from_slice(&[
+        gate(before + 1, not_of(outside), l),
+        gate(before + 2, not_of(variable), not_of(before + 1)),
+        gate(before + 3, yes_of(before), yes_of(variable)),
+    ])?;
+    Ok(())
 }
 
-// The literal of a latch.
-fn literal_of(variable: u32) -> Result<Literal, AllocError> {
-    if variable >= 1 << 31 {
-        return Err(AllocError);
+// Adds such a latch for each of these.
+fn add_shadows<A: Allocator + Copy>(
+    circuit: &mut Circuit<A>,
+    latches: &[Latch],
+    n: usize,
+    variable: usize,
+    before: usize,
+) -> Result<(), AllocError>
+    requires input { n + 1 < 2 ^ 31 }
+    requires kept { IsTrue (list_all (latch_below n) latches.now) }
+    requires variables { variable + length latches.now < 2 ^ 31 }
+    requires gates { before + 7 * length latches.now < 2 ^ 31 }
+    ensures { OnOk result (Adds circuit.old circuit.new (shadow_latches variable before (length latches.now))
+        (shadows (n + 1) variable before (map (λ l. l.variable) latches.now) (length latches.now))) }
+{
+    for place in 0..latches.len() {
+        let kept = latches[place].variable as usize;
+        add_shadow(circuit, n + 1, kept, variable + place, before + 7 * place)?;
     }
-    Ok(Literal::new(variable, true))
+    Ok(())
 }
 
-// Adds what tells that the latches are as they were when they were saved, and that each literal was true since.
-fn add_loop<A: Allocator + Copy>(
-    build: &mut Builder<A>,
-    netlist: &Netlist<A>,
+// Adds such a latch for each of the literals.
+fn add_notes<A: Allocator + Copy>(
+    circuit: &mut Circuit<A>,
     literals: &[Literal],
-) -> Result<Literal, AllocError> {
-    let save = build.input()?;
-    let saved = build.bit()?;
-    let inside = build.or(saved, save)?;
-    build.latch(saved, Some(false), inside)?;
-    let mut looped = saved;
-    for latch in &netlist.circuit.latches {
-        let l = literal_of(latch.variable)?;
-        let same = add_shadow(build, saved, l)?;
-        looped = build.and(looped, same)?;
+    outside: usize,
+    variable: usize,
+    before: usize,
+) -> Result<(), AllocError>
+    requires outside { outside < 2 ^ 31 }
+    requires variables { variable + length literals.now < 2 ^ 31 }
+    requires gates { before + 3 * length literals.now < 2 ^ 31 }
+    ensures { OnOk result (Adds circuit.old circuit.new (note_latches variable before (length literals.now))
+        (notes outside variable before literals.now (length literals.now))) }
+{
+    for place in 0..literals.len() {
+        add_note(circuit, outside, literals[place], variable + place, before + 3 * place)?;
     }
-    for l in literals {
-        let noted = add_note(build, inside, *l)?;
-        looped = build.and(looped, noted)?;
-    }
-    build.bad(looped)?;
-    Ok(looped)
+    Ok(())
+}
+
+// The circuit with an input that saves, and the literal that the latches hold what was saved, and each of the literals
+// was true since.
+fn saver<A: Allocator + Copy>(
+    alloc: A,
+    circuit: &Circuit<A>,
+    n: usize,
+    literals: &[Literal],
+) -> Result<(Circuit<A>, Literal), AllocError>
+    requires within { IsTrue (is_below n circuit.now) }
+    requires variables { n < 2 ^ 27 }
+    requires latches { length circuit.now.latches.items < 2 ^ 27 }
+    requires literals { length literals.now < 2 ^ 27 }
+    ensures saves { IfOk result (λ made. IsSaving n circuit.now made.0 literals.now) }
+    ensures bad { IfOk result
+        (λ made. made.1 ≡ yes_of (last_of n (length (latch_variables circuit.now)) (length literals.now))) }
+{
+    let count = circuit.latches.len();
+    let first = n + 2 + count + literals.len();
+    let noted = first + 1 + 7 * count;
+    let mut made = copied(alloc, circuit)?;
+    add_saving(&mut made, n, first)?;
+    add_shadows(&mut made, &circuit.latches, n, n + 2, first + 1)?;
+    add_notes(&mut made, literals, first, n + 2 + count, noted)?;
+    let bad = yes_of(noted + 3 * literals.len());
+    made.bads.push(bad)?;
+    Ok((made, bad))
 }
 
 /// The circuit with an input that saves what the latches hold, and the literal that is true where the latches hold it
-/// again, and each fairness constraint and each literal of the justice property was true since. None if one of the
-/// literals is of no variable of the circuit.
+/// again, and each fairness constraint and each literal of the justice property was true since. If this never happens,
+/// they do not all recur on a run. None if one of the literals is of no variable of the circuit.
 ///
 /// A trace that ends where it is true is a lasso: `lasso_of` carries it back. The input is the last one of the new
 /// circuit, and the literal its only bad one.
 ///
 /// # Errors
-/// `AllocError` where memory is refused, or where a variable would be 2^31 or more.
+/// `AllocError` where memory is refused, or where the number of variables, or that of the literals, is 2^27 or more.
 pub fn to_safety<A: Allocator + Copy>(
     alloc: A,
     netlist: &Netlist<A>,
     fairness: &[Literal],
     justice: &[Literal],
-) -> Result<Option<(Netlist<A>, Literal)>, AllocError> {
+) -> Result<Option<(Netlist<A>, Literal)>, AllocError>
+    ensures saver { IfOk result (λ made. IfSome made
+        (λ m. IsSaverOf netlist.now.circuit (fairness.now ++ justice.now) m.0.circuit m.1)) }
+    ensures fails { IfOk result (λ made. IfSome made
+        (λ m. FailsByLassos netlist.now.circuit (fairness.now ++ justice.now) m.0.circuit m.1)) }
+    ensures live { IfOk result (λ made. IfSome made
+        (λ m. IsSafe m.0.circuit m.1 → IsLive netlist.now.circuit fairness.now justice.now)) }
+{
+    let n = netlist.variables;
+    let circuit = &netlist.circuit;
     let literals = both(alloc, fairness, justice)?;
-    let mut build = Builder {
-        circuit: copied(alloc, &netlist.circuit)?,
-        variables: netlist.variables,
-    };
-    let looped = add_loop(&mut build, netlist, &literals)?;
-    match build.finish(alloc)? {
-        Some(made) => Ok(Some((made, looped))),
+    if !are_below(n, &literals) {
+        return Ok(None);
+    }
+    if n >= 1 << 27 || circuit.latches.len() >= 1 << 27 || literals.len() >= 1 << 27 {
+        return Err(AllocError);
+    }
+    let (circuit, bad) = saver(alloc, circuit, n, &literals)?;
+    match Netlist::new(alloc, circuit)? {
+        Some(made) => Ok(Some((made, bad))),
         None => Ok(None),
     }
+}
+
+/// Whether the invariant shows that the fairness constraints and the literals of the justice property do not all recur
+/// on a run: an invariant of the circuit that `to_safety` makes.
+///
+/// None if one of the literals is of no variable of the circuit. Each question to the solver may learn `limit` clauses.
+///
+/// # Errors
+/// `AllocError` where memory is refused, where the number of variables, or that of the literals, is 2^27 or more, or
+/// where two moments would have more than 2^31 variables.
+pub fn certify_without_lasso<S: SatSolver<A> + Drop, A: Allocator + Copy>(
+    alloc: A,
+    netlist: &Netlist<A>,
+    fairness: &[Literal],
+    justice: &[Literal],
+    invariant: &[Vec<Literal, A>],
+    limit: usize,
+) -> Result<Option<Verdict>, AllocError>
+    ensures { IfOk result (λ said. IfSome said
+        (λ verdict. IsTrue (is_certified verdict) → IsLive netlist.now.circuit fairness.now justice.now)) }
+{
+    let Some((made, bad)) = to_safety(alloc, netlist, fairness, justice)? else {
+        return Ok(None);
+    };
+    let verdict = certify::<S, A>(alloc, &made, bad, invariant, limit)?;
+    Ok(Some(verdict))
 }
 
 // The values at the first places.
