@@ -1,25 +1,22 @@
 -- A circuit that counts: it fails exactly where literals are met in turn, and a run on which they recur meets them.
-use Rattle.std.proofs.Common.{◌≡◌, ◌⊎◌, ⊎_elim, inl, inr, ℕ, zero, suc, ◌+◌, ◌-◌, ◌*◌, ◌%◌, ◌<◌, ◌≤◌, ◌++◌, ◌&&◌, eqb, ltb, get_or, Bool, true, false, not, List, [], ◌∷◌, length, IsTrue, arith, refl, sym, ap, append_assoc, subst, ◌∙◌}
-use Rattle.std.specs.Prelude.{slice_get, Some}
+use Rattle.std.proofs.Common.{◌≡◌, ⊎_elim, ℕ, zero, suc, ◌+◌, ◌-◌, ◌*◌, ◌%◌, ◌<◌, ◌≤◌, ◌++◌, ◌&&◌, eqb, get_or, Bool, true, false, not, List, [], ◌∷◌, length, IsTrue, arith, refl, sym, ap, subst, ◌∙◌}
 use Rattle.std.specs.Bool.{beq}
 use Rattle.std.specs.Cmp.{booleans_Decides}
 use Rattle.std.specs.List.{list_all}
-use Rattle.std.proofs.lemmas.Bool.{and_cases, and_from, and_parts, and_right, cases_Bool, eq-eqb, false≢true, lt-ltb, ltb-true, not-true}
+use Rattle.std.proofs.lemmas.Bool.{and_cases, and_from, and_parts, and_right, eq-eqb, false≢true, lt-ltb, ltb-true, not-true}
 use Rattle.std.proofs.lemmas.List.Folds.{list_all-append}
 use Rattle.gipsat_cnf.specs.Assumptions.{makes_true}
 use Rattle.gipsat_cnf.specs.Formulas.{Assignment, Has, is_true}
 use Rattle.gipsat_cnf.specs.Literals.{Lit}
-use Rattle.gipsat_cnf.proofs.Places.{each_push, none_some, stands_last, stays_before}
-use Rattle.gipmc_circuits.specs.declared.circuit.And.{And}
+use Rattle.gipsat_cnf.proofs.Places.{each_push, none_some}
 use Rattle.gipmc_circuits.specs.declared.circuit.Circuit.{Circuit}
-use Rattle.gipmc_circuits.specs.declared.circuit.Latch.{Latch}
 use Rattle.gipmc_circuits.specs.Circuit.{FailsAfter, IsSafe, IsTrace, has_value, holds_next, holds_reset, is_initial, is_moment, is_transition, is_valuation}
 use Rattle.gipmc_circuits.specs.Encoding.{is_below, literal_below}
 use Rattle.gipmc_circuits.specs.Widened.{IsWidened, are_numbered, are_stacked}
 use Rattle.gipmc_circuits.proofs.Agreeing.{AgreeBelow, below-parts, is_true-alike}
 use Rattle.gipmc_circuits.proofs.Widened.{IsTrace-widened}
 use Rattle.gipmc_liveness.specs.Chains.{IsChained, IsCounterOf, all_passed, last_gate, not_of, passed, passing, stage_gates, stage_latches, top, waiting, yes_of}
-use Rattle.gipmc_liveness.specs.Liveness.{AllRecur, FailsForever, IsLive, IsRun, Recurs}
+use Rattle.gipmc_liveness.specs.Liveness.{AllRecur, IsLive, IsRun, Recurs}
 use Rattle.gipmc_liveness.specs.Turns.{CountsTo, MeetsMore, MetBetween, always, turn, turns}
 
 -- the parts of a run are traces

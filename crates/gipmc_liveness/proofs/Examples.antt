@@ -1,22 +1,23 @@
 -- Worked examples: an arbiter that is fair and one that starves, fairness that no run meets, a constraint that ends every
--- run, and lassos.
-use Rattle.std.proofs.Common.{◌≡◌, ℕ, zero, suc, ◌+◌, ◌<◌, ◌≤◌, ◌++◌, ◌-◌, ◌&&◌, ◌||◌, eqb, Bool, true, false, not, List, [], ◌∷◌, Vec, Some, None, length, map, IsTrue, arith, refl, sym, ap, subst, ◌∙◌}
+-- run, lassos, and the longer circuits.
+use Rattle.std.proofs.Common.{◌≡◌, ℕ, zero, suc, ◌+◌, ◌≤◌, ◌++◌, ◌-◌, ◌&&◌, ◌||◌, eqb, Bool, true, false, not, List, [], ◌∷◌, Some, IsTrue, arith, refl, sym, ap, subst, ◌∙◌}
 use Rattle.std.specs.Prelude.{slice_get}
 use Rattle.std.specs.Bool.{beq}
 use Rattle.std.specs.Cmp.{booleans_Decides}
 use Rattle.std.specs.List.{list_all}
 use Rattle.std.proofs.lemmas.Bool.{and_parts, eqb-true, false≢true, not-true}
 use Rattle.gipsat_cnf.specs.Assumptions.{makes_true}
-use Rattle.gipsat_cnf.specs.Formulas.{Assignment, Has, is_true}
+use Rattle.gipsat_cnf.specs.Formulas.{Assignment, is_true}
 use Rattle.gipsat_cnf.specs.Literals.{Lit}
 use Rattle.gipsat_cnf.proofs.Places.{none_some, same_some}
 use Rattle.gipmc_circuits.specs.declared.circuit.And.{And}
 use Rattle.gipmc_circuits.specs.declared.circuit.Circuit.{Circuit}
 use Rattle.gipmc_circuits.specs.declared.circuit.Latch.{Latch}
-use Rattle.gipmc_circuits.specs.Circuit.{has_value, holds_next, holds_reset, is_initial, is_moment, is_transition, is_valuation}
+use Rattle.gipmc_circuits.specs.Circuit.{has_value, holds_next, holds_reset, is_moment, is_valuation}
 use Rattle.gipmc_liveness.specs.Chains.{all_passed, not_of, stage_gates, stage_latches, top, yes_of}
 use Rattle.gipmc_liveness.specs.Lassos.{IsMet}
-use Rattle.gipmc_liveness.specs.Liveness.{AllRecur, FailsForever, IsLive, IsRun, Recurs}
+use Rattle.gipmc_liveness.specs.Saved.{HasLasso, gate, last_of, latch, note, saver_gates, saver_latches, saving, shadow}
+use Rattle.gipmc_liveness.specs.Liveness.{FailsForever, IsLive, IsRun}
 use Rattle.gipmc_liveness.specs.Turns.{MetBetween, always, turn, turns}
 
 -- an arbiter grants by turns: its turn changes at each transition; another one never lets it change
@@ -177,3 +178,46 @@ one_passed = refl
 
 one_top : top 2 (yes_of 1 ∷ []) ≡ 5
 one_top = refl
+
+-- a circuit whose one latch is 1 saves by the input 2; 3 is the latch that something is saved, 4 keeps what latch 1 held,
+-- 5 notes that it was 1
+saver_of_one : saver_latches 2 (1 ∷ []) (yes_of 1 ∷ []) ≡ latch 3 6 ∷ latch 4 10 ∷ latch 5 16 ∷ []
+saver_of_one = refl
+
+saving_gates : saving 2 3 6 ≡ gate 6 (not_of 3) (not_of 2) ∷ gate 7 (yes_of 3) (yes_of 3) ∷ []
+saving_gates = refl
+
+-- behind gate 7 are those of what is kept, and behind gate 14 those of what is noted
+gates_of_one : saver_gates 2 (1 ∷ []) (yes_of 1 ∷ []) ≡ saving 2 3 6 ++ (shadow 3 1 4 7 ++ note 6 (yes_of 1) 5 14)
+gates_of_one = refl
+
+-- the last gate: the latch holds what was saved, and it was 1 since
+bad_of_one : last_of 2 1 1 ≡ 17
+bad_of_one = refl
+
+ends_in_bad : note 6 (yes_of 1) 5 14
+    ≡ gate 15 (not_of 6) (yes_of 1) ∷ gate 16 (not_of 5) (not_of 15) ∷ gate 17 (yes_of 14) (yes_of 5) ∷ []
+ends_in_bad = refl
+
+-- where the turn stays, the first moment alone is a lasso
+waiting_round : {A : Type 0} (c : Circuit A) → c.latches.items ≡ stays ∷ waits ∷ [] → c.gates.items ≡ still ∷ []
+    → c.constraints.items ≡ [] → HasLasso c (yes_of 2 ∷ []) 0
+waiting_round c latches gates constraints = (
+  0,
+  (λ i. waiting_forever),
+  record {
+    trace = record {
+      initial = rw latches refl;
+      moments = λ i within. rw (gates, constraints) refl;
+      transitions = λ i less. rw latches refl;
+    };
+    within = omega arith;
+    back = rw latches refl;
+  },
+  λ l (k, at). (
+    0,
+    omega arith,
+    omega arith,
+    subst (λ m. IsTrue (is_true waiting_forever m)) (only_one (yes_of 2) l k at) refl,
+  ),
+)

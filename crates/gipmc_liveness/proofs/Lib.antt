@@ -5,5 +5,5 @@ mod Pigeons
 mod Replayed
 mod Rounds
 pub mod Saved
-mod Saving
+mod Savers
 mod Stages

@@ -1,9 +1,8 @@
 -- Rounds of a run in which literals are all true: two of them begin with the same latches, and between them is a lasso.
-use Rattle.std.proofs.Common.{◌≡◌, ⊎_elim, ℕ, zero, suc, ◌+◌, ◌-◌, ◌*◌, ◌<◌, ◌≤◌, ◌++◌, ◌&&◌, cond, Bool, true, false, List, [], ◌∷◌, map, IsTrue, arith, refl, sym, ap, subst, ◌∙◌}
+use Rattle.std.proofs.Common.{◌≡◌, ℕ, zero, suc, ◌+◌, ◌-◌, ◌*◌, ◌<◌, ◌≤◌, ◌++◌, cond, Bool, true, false, List, [], ◌∷◌, map, IsTrue, arith, refl, sym, subst}
 use Rattle.std.specs.Bool.{beq}
-use Rattle.std.specs.Cmp.{booleans_Decides}
 use Rattle.std.specs.List.{list_all}
-use Rattle.std.proofs.lemmas.Bool.{and_from, and_parts, cases_lt}
+use Rattle.std.proofs.lemmas.Bool.{and_from, and_parts}
 use Rattle.gipsat_cnf.specs.Formulas.{Assignment, Has, is_true}
 use Rattle.gipsat_cnf.specs.Literals.{Lit}
 use Rattle.gipsat_cnf.proofs.Places.{none_some, same_some}
@@ -11,7 +10,7 @@ use Rattle.gipmc_circuits.specs.declared.circuit.Circuit.{Circuit}
 use Rattle.gipmc_circuits.specs.declared.circuit.Latch.{Latch}
 use Rattle.gipmc_circuits.specs.Circuit.{holds_next, is_transition}
 use Rattle.gipmc_circuits.specs.WellFormed.{latch_variables}
-use Rattle.gipmc_liveness.specs.Liveness.{AllRecur, IsLive, IsRun, Recurs}
+use Rattle.gipmc_liveness.specs.Liveness.{IsLive, IsRun, Recurs}
 use Rattle.gipmc_liveness.specs.Saved.{HasLasso}
 use Rattle.gipmc_liveness.proofs.Counted.{IsTrace-run}
 use Rattle.gipmc_liveness.proofs.Pigeons.{no_room}

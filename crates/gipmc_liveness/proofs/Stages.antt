@@ -5,7 +5,7 @@ use Rattle.gipsat_cnf.specs.Literals.{Lit}
 use Rattle.gipmc_circuits.specs.declared.circuit.And.{And}
 use Rattle.gipmc_circuits.specs.declared.circuit.Circuit.{Circuit}
 use Rattle.gipmc_circuits.specs.declared.circuit.Latch.{Latch}
-use Rattle.gipmc_liveness.specs.Chains.{AddsStage, AddsStages, IsChained, IsCopied, all_passed, last_gate, passed, passing, stage_gates, stage_latches, waiting, yes_of}
+use Rattle.gipmc_liveness.specs.Chains.{AddsStage, AddsStages, IsChained, IsCopied, all_passed, passed, passing, stage_gates, stage_latches, waiting, yes_of}
 use Rattle.gipmc_liveness.specs.Turns.{always}
 
 -- the latches, the gates and the last literal of the stages from a place on

@@ -165,7 +165,13 @@ fn add_notes<A: Allocator + Copy>(
         (notes outside variable before literals.now (length literals.now))) }
 {
     for place in 0..literals.len() {
-        add_note(circuit, outside, literals[place], variable + place, before + 3 * place)?;
+        add_note(
+            circuit,
+            outside,
+            literals[place],
+            variable + place,
+            before + 3 * place,
+        )?;
     }
     Ok(())
 }

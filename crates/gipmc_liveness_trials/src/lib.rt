@@ -9,4 +9,6 @@ mod loops;
 #[cfg(test)]
 mod plain;
 #[cfg(test)]
+mod saved;
+#[cfg(test)]
 mod small;
