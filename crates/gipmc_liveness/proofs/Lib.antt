@@ -3,7 +3,7 @@ mod Examples
 pub mod Looped
 mod Pigeons
 mod Replayed
-mod Rounds
+pub mod Rounds
 pub mod Saved
 mod Savers
 mod Stages

@@ -28,6 +28,11 @@ impl<W: Watch> Watch for Hearing<'_, W> {
         self.noted(flow)
     }
 
+    fn note_moments(&mut self, moments: usize) -> ControlFlow<()> {
+        let flow = self.watch.note_moments(moments);
+        self.noted(flow)
+    }
+
     fn note(&mut self, depth: usize, clauses: usize, learned: usize) -> ControlFlow<()> {
         let flow = self.watch.note(depth, clauses, learned);
         self.noted(flow)
@@ -35,6 +40,11 @@ impl<W: Watch> Watch for Hearing<'_, W> {
 
     fn note_slice(&mut self, frame: usize, statistics: &Statistics) -> ControlFlow<()> {
         let flow = self.watch.note_slice(frame, statistics);
+        self.noted(flow)
+    }
+
+    fn note_step(&mut self, k: usize, clauses: usize, learned: usize) -> ControlFlow<()> {
+        let flow = self.watch.note_step(k, clauses, learned);
         self.noted(flow)
     }
 }

@@ -6,4 +6,4 @@ pub mod rounds;
 pub mod verdict;
 
 pub use rounds::{Bounds, decide_live};
-pub use verdict::Verdict;
+pub use verdict::{Means, Verdict};

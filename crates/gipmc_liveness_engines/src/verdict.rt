@@ -4,13 +4,22 @@ use gipmc_liveness::Lasso;
 use gipsat_cnf::Literal;
 use std::alloc::{Allocator, Global};
 
+/// The longer circuit whose invariant shows that a circuit is live.
+#[derive(Clone, Copy, Debug, PartialEq, Eq)]
+pub enum Means {
+    /// The circuit that counts to this k, of `counting`.
+    Counting(usize),
+    /// The circuit that saves what its latches hold, of `to_safety`.
+    Saving,
+}
+
 /// What is found out about a justice property.
 #[derive(Drop)]
 pub enum Verdict<A: Allocator = Global> {
     /// This lasso, which was replayed, is a counterexample.
     Fails(Lasso<A>),
-    /// The circuit is live, as these clauses show: an invariant of the circuit that counts to so many literals.
-    Live(usize, Vec<Vec<Literal, A>, A>),
+    /// The circuit is live, as these clauses show: an invariant of the longer circuit.
+    Live(Means, Vec<Vec<Literal, A>, A>),
     /// Nothing was found out.
     Unknown,
 }
