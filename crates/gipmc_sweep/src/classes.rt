@@ -31,6 +31,8 @@ pub(crate) struct Classes<A: Allocator> {
     table: Vec<u32, A>,
     // Whether gates join classes.
     with_gates: bool,
+    // The variables that may be in a class with others.
+    members: Vec<u32, A>,
 }
 
 impl<A: Allocator + Copy> Classes<A> {
@@ -57,6 +59,7 @@ impl<A: Allocator + Copy> Classes<A> {
             leaders,
             table,
             with_gates,
+            members: members(alloc, netlist, with_gates)?,
         })
     }
 
@@ -78,9 +81,10 @@ impl<A: Allocator + Copy> Classes<A> {
         if runs.alive == 0 {
             return;
         }
-        for variable in 0..number(self.signatures.len()) {
+        for variable in self.members.iter().copied() {
             let value = runs.value(variable);
-            let opposite = if self.is_turned(variable) {
+            let is_turned = self.turned.get(variable as usize).copied();
+            let opposite = if is_turned.unwrap_or(false) {
                 !value
             } else {
                 value
@@ -168,6 +172,16 @@ impl<A: Allocator + Copy> Classes<A> {
         }
     }
 
+    /// Whether each class has one variable.
+    pub(crate) fn are_single(&self) -> bool {
+        for (variable, leader) in self.leaders.iter().enumerate() {
+            if *leader != number(variable) {
+                return false;
+            }
+        }
+        true
+    }
+
     /// The literal of its leader that has been what the variable was.
     pub(crate) fn leader(&self, variable: u32) -> Literal {
         let leader = self
@@ -189,6 +203,27 @@ impl<A: Allocator + Copy> Classes<A> {
         }
         Ok(Merges { literals })
     }
+}
+
+// The variables that may be in a class with others: 0, latches and inputs, and gates if these are merged.
+fn members<A: Allocator + Copy>(
+    alloc: A,
+    netlist: &Netlist<A>,
+    with_gates: bool,
+) -> Result<Vec<u32, A>, AllocError> {
+    let circuit = &netlist.circuit;
+    let mut members = Vec::new(alloc);
+    members.push(0)?;
+    for latch in &circuit.latches {
+        members.push(latch.variable)?;
+    }
+    members.extend_from_slice(&circuit.inputs)?;
+    if with_gates {
+        for gate in &circuit.gates {
+            members.push(gate.output)?;
+        }
+    }
+    Ok(members)
 }
 
 // The variables that are of no gate, and those that the constraints of a moment depend on.

@@ -32,8 +32,8 @@ pub(crate) struct Graph<S: Drop, A: Allocator> {
     table: Vec<Gate, A>,
     // How many gates it has.
     gates: usize,
-    // How many clauses a question may learn.
-    limit: usize,
+    // What a question may do.
+    budget: Budget,
 }
 
 /// The literal that is false.
@@ -47,8 +47,8 @@ pub(crate) fn is_same(l: Literal, m: Literal) -> bool {
 }
 
 impl<S: SatSolver<A> + Drop, A: Allocator + Copy> Graph<S, A> {
-    /// No gate, with room for about so many. Each question may learn so many clauses.
-    pub(crate) fn new(alloc: A, gates: usize, limit: usize) -> Result<Self, AllocError> {
+    /// No gate, with room for about so many. Each question may do so much.
+    pub(crate) fn new(alloc: A, gates: usize, budget: Budget) -> Result<Self, AllocError> {
         let mut solver = S::new(alloc);
         solver.add_clause(&[never().negated()])?;
         let mut table = Vec::new(alloc);
@@ -65,7 +65,7 @@ impl<S: SatSolver<A> + Drop, A: Allocator + Copy> Graph<S, A> {
             variables: 1,
             table,
             gates: 0,
-            limit,
+            budget,
         })
     }
 
@@ -151,13 +151,15 @@ impl<S: SatSolver<A> + Drop, A: Allocator + Copy> Graph<S, A> {
         }
     }
 
+    /// How much was done: literals that were propagated, and clauses that were added.
+    pub(crate) fn work(&self) -> u64 {
+        let effort = self.solver.effort();
+        effort.propagations.saturating_add(effort.clauses as u64)
+    }
+
     // Whether not all of them can be true.
     fn ask(&mut self, literals: &[Literal]) -> Result<Said<A>, AllocError> {
-        let budget = Budget {
-            clauses: self.limit,
-            propagations: u64::MAX,
-        };
-        match self.solver.solve_limited(literals, budget)? {
+        match self.solver.solve_limited(literals, self.budget)? {
             AnswerUnder::Sat(values) => Ok(Said::Differ(values)),
             AnswerUnder::Unsat(_) => Ok(Said::Equal),
             AnswerUnder::Unknown => Ok(Said::Open),
