@@ -3,7 +3,7 @@ ghost use Rattle.std.specs.Prelude.{[], ◌∷◌, IfOk};
 ghost use Rattle.gipmc_liveness_engines.specs.Verdicts.{IsRightVerdict};
 
 use gipmc_circuits::{And, Circuit, Latch, Netlist};
-use gipmc_liveness_engines::{Bounds, Verdict, decide_live};
+use gipmc_liveness_engines::{Bounds, Means, Verdict, decide_live};
 use gipsat_solver::{Literal, Solver};
 use std::alloc::{AllocError, Allocator};
 
@@ -51,7 +51,7 @@ fn the_client_waits_forever_where_no_grant_has_to_come(rt: HostRuntime) -> Resul
     assert!(rt;
         matches!(
             verdict(rt.alloc(), &netlist, &[grant], waits)?,
-            Verdict::Live(1, _)
+            Verdict::Live(Means::Counting(1), _)
         )
     );
     Ok(())

@@ -9,6 +9,8 @@ mod plain;
 #[cfg(test)]
 mod questions;
 #[cfg(test)]
+mod saved;
+#[cfg(test)]
 mod stopped;
 #[cfg(test)]
 mod worked;

@@ -2,8 +2,8 @@
 
 use gipmc_circuits::{And, Circuit, Latch, Netlist, certificate};
 use gipmc_engines::Watch;
-use gipmc_liveness::{certify_live, replay_lasso};
-use gipmc_liveness_engines::{Bounds, Verdict, decide_live};
+use gipmc_liveness::{certify_live, certify_without_lasso, replay_lasso};
+use gipmc_liveness_engines::{Bounds, Means, Verdict, decide_live};
 use gipsat_solver::{Literal, Solver};
 use std::alloc::{AllocError, Global};
 
@@ -92,34 +92,33 @@ pub fn asked(
     })
 }
 
-/// Whether the invariant is certified.
-fn is_certified(
+// What is found out of the invariant of a longer circuit.
+fn judged(
     alloc: Global,
     question: &Question,
-    k: usize,
+    means: Means,
     invariant: &[Vec<Literal>],
-) -> Result<bool, AllocError> {
-    let said = certify_live::<Solver, _>(
-        alloc,
-        &question.netlist,
-        &question.fairness,
-        &question.justice,
-        k,
-        invariant,
-        10_000,
-    )?;
-    Ok(matches!(said, Some(certificate::Verdict::Certified)))
+) -> Result<Option<certificate::Verdict>, AllocError> {
+    let netlist = &question.netlist;
+    let (fairness, justice) = (&question.fairness, &question.justice);
+    match means {
+        Means::Counting(k) => {
+            certify_live::<Solver, _>(alloc, netlist, fairness, justice, k, invariant, 10_000)
+        }
+        Means::Saving => {
+            certify_without_lasso::<Solver, _>(alloc, netlist, fairness, justice, invariant, 10_000)
+        }
+    }
 }
 
 // What is said where this is the verdict.
 fn said_by(alloc: Global, question: &Question, verdict: &Verdict) -> Result<Said, AllocError> {
     match verdict {
         Verdict::Unknown => Ok(Said::Unknown),
-        Verdict::Live(k, invariant) => {
-            if is_certified(alloc, question, *k, invariant)? {
-                Ok(Said::Live)
-            } else {
-                Ok(Said::Refuted)
+        Verdict::Live(means, invariant) => {
+            match judged(alloc, question, *means, invariant)? {
+                Some(certificate::Verdict::Certified) => Ok(Said::Live),
+                _ => Ok(Said::Refuted),
             }
         }
         Verdict::Fails(lasso) => {

@@ -83,9 +83,8 @@ const BOUNDED: &[(u32, (usize, usize, usize), Said)] = &[
     (LAST_IS_SET, (4, 1000, 1), Said::Fails),
     // Six literals are met in turn, and not a seventh one.
     (LAST_IS_NOT_SET, (7, 1000, 2), Said::Live),
-    (LAST_IS_NOT_SET, (6, 1000, 9), Said::Unknown),
-    // The first round counts below 4.
-    (LAST_IS_NOT_SET, (7, 1000, 1), Said::Unknown),
+    // No literal is counted, but there is no lasso.
+    (LAST_IS_NOT_SET, (0, 1000, 1), Said::Live),
     (LAST_IS_NOT_SET, (7, 1000, 0), Said::Unknown),
     // No call is allowed.
     (LAST_IS_NOT_SET, (7, 0, 9), Said::Unknown),
