@@ -38,7 +38,7 @@ replays_by {A} bytes text c l place justice (verdict.Fails lasso) written here s
       rw named refl,
       (rw named ((justice, here, (lasso.start, right), fails), tt), tt),
     )
-replays_by bytes text c l place justice (verdict.Live k invariant) written here small is outcome right = absurd cc
+replays_by bytes text c l place justice (verdict.Live means invariant) written here small is outcome right = absurd cc
 replays_by bytes text c l place justice verdict.Unknown written here small is outcome right = absurd cc
 
 pub Replays-told : {A : Type 0} (bytes text : List ℕ) (c : Circuit A) (l : Liveness A) (place : ℕ) → IsPropertiesIn bytes c l

@@ -20,13 +20,13 @@ named place = codes "\nj" ++ decimal place ++ codes "\n.\n"
 -- the text of a verdict on the property at a place: `1` and a lasso as a witness, `0`, or `2`
 abbrev pub verdict_text : {A : Type 0} → ℕ → Verdict A → List ℕ
 verdict_text place (verdict.Fails lasso) = lasso_text place lasso.trace
-verdict_text place (verdict.Live k invariant) = codes "0" ++ named place
+verdict_text place (verdict.Live means invariant) = codes "0" ++ named place
 verdict_text place verdict.Unknown = codes "2" ++ named place
 
 -- what a verdict says of its property; a live circuit is safe as to it
 abbrev pub outcome_of : {A : Type 0} → Verdict A → Outcome
 outcome_of (verdict.Fails lasso) = Fails
-outcome_of (verdict.Live k invariant) = Safe
+outcome_of (verdict.Live means invariant) = Safe
 outcome_of verdict.Unknown = Open
 
 -- the text is that of a right verdict on a property, at a place which a text may name

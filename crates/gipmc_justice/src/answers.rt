@@ -12,20 +12,20 @@ use crate::error::JusticeError;
 use gipmc_aiger::{Liveness, read_liveness, write_lasso};
 use gipmc_answers::{Listener, Outcome, Output};
 use gipmc_circuits::Netlist;
-use gipmc_liveness_engines::{Bounds, Verdict, decide_live};
+use gipmc_liveness_engines::{Bounds, Means, Verdict, decide_live};
 use gipsat_cnf::Literal;
 use gipsat_solver::Solver;
 use std::alloc::{AllocError, Allocator, Global};
 use std::io::Write;
 
-/// What shows that a property holds: clauses of an invariant of the circuit that counts to `k`.
+/// What shows that a property holds: clauses of an invariant of a longer circuit.
 #[derive(Drop)]
 pub struct Found<A: Allocator = Global> {
     /// The place of the property.
     pub place: usize,
-    /// How many literals are met in turn at most.
-    pub k: usize,
-    /// The clauses, over the variables of the circuit that counts.
+    /// The longer circuit.
+    pub means: Means,
+    /// The clauses, over its variables.
     pub invariant: Vec<Vec<Literal, A>, A>,
 }
 
@@ -264,11 +264,11 @@ fn found_in<A: Allocator + Copy>(
     verdict: Verdict<A>,
 ) -> Result<Vec<Found<A>, A>, AllocError> {
     let mut found = Vec::new(alloc);
-    if let Verdict::Live(k, invariant) = verdict {
+    if let Verdict::Live(means, invariant) = verdict {
         found.reserve(1)?;
         found.push_reserved(Found {
             place,
-            k,
+            means,
             invariant,
         });
     }

@@ -1,9 +1,12 @@
-//! Certificates that justice properties hold, from the bytes of texts to the answer: clauses over the latches of a circuit
-//! that counts.
-ghost use Rattle.std.specs.Prelude.{◌≡◌, ◌<◌, Some, length, IfNone, IfOk, IsTrue};
+//! Certificates that justice properties hold, from the bytes of texts to the answer: clauses over the latches of a longer
+//! circuit.
+ghost use Rattle.std.specs.Prelude.{◌≡◌, ◌++◌, ◌<◌, Some, length, IfNone, IfOk, IfSome, IsTrue};
 ghost use Rattle.gipmc_aiger.specs.Invariants.{clauses_view, invariant_for};
 ghost use Rattle.gipmc_circuits.specs.Certificate.{is_certified};
+ghost use Rattle.gipmc_circuits.specs.Circuit.{IsSafe};
 ghost use Rattle.gipmc_justice.specs.Certificates.{Certifies, CertifiesAt, IsLiveByText};
+ghost use Rattle.gipmc_liveness.specs.Liveness.{IsLive};
+ghost use Rattle.gipmc_liveness_engines.specs.Verdicts.{IsMadeBy};
 
 use crate::answers::{Found, properties_in};
 use crate::error::JusticeError;
@@ -11,7 +14,8 @@ use gipmc_aiger::{Liveness, read_invariant_for, write_invariant};
 use gipmc_answers::TaskError;
 use gipmc_circuits::certificate::Verdict;
 use gipmc_circuits::{Circuit, Netlist, certify};
-use gipmc_liveness::counting;
+use gipmc_liveness::{counting, to_safety};
+use gipmc_liveness_engines::Means;
 use gipsat_cnf::Literal;
 use gipsat_solver::Solver;
 use giputils_text::{number, split_line};
@@ -23,6 +27,8 @@ use std::fmt::{self, Display};
 pub struct JusticeDoubt {
     /// The place of the property.
     pub property: usize,
+    /// The longer circuit that the clauses are about.
+    pub means: Means,
     /// What was found out of the clauses.
     pub verdict: Verdict,
 }
@@ -41,7 +47,10 @@ impl Display for JusticeDoubt {
                 let clause = place.saturating_add(1);
                 write!(f, "clause {clause} is not kept by a transition")
             }
-            Verdict::NotSafe => f.write_str("the clauses allow one literal more to be met"),
+            Verdict::NotSafe => f.write_str(match self.means {
+                Means::Counting(_) => "the clauses allow one literal more to be met",
+                Means::Saving => "the clauses allow a lasso",
+            }),
             Verdict::Unknown => f.write_str("a question was left open at the limit"),
         }
     }
@@ -70,8 +79,9 @@ pub fn certifies<A: Allocator + Copy>(
 /// Why the certificate that a text writes is not known to show that the justice property at a place holds of the circuit of
 /// another text. None if it shows it. Each question to the solver may learn `limit` clauses.
 ///
-/// A certificate is clauses over the latches of the circuit and, behind these, over those of the chain that counts: so the
-/// text tells by its number of latches how far it counts.
+/// A certificate is clauses over the latches of the circuit and, behind these, over those of the longer circuit. That is
+/// the one that saves what the latches hold, if the text has the line `c no lasso` before its header, and else one that
+/// counts: so the text tells by its number of latches how far.
 ///
 /// # Errors
 /// - [`JusticeError::Task`] where a text has another form, where the clauses are over fewer latches than the circuit has,
@@ -106,34 +116,55 @@ fn certifies_at<A: Allocator + Copy>(
     ensures { IfOk result (λ doubt. IfNone doubt (CertifiesAt netlist.now.circuit liveness.now text.now place)) }
 {
     let (fairness, justice) = (&liveness.fairness, &liveness.justice[place]);
-    match counted_by(alloc, netlist, fairness, justice, text, limit)? {
+    let means = means_in(&netlist.circuit, text);
+    match shown_by(alloc, netlist, fairness, justice, means, text, limit)? {
         Verdict::Certified => Ok(None),
         verdict => Ok(Some(JusticeDoubt {
             property: place,
+            means,
             verdict,
         })),
     }
 }
 
-// What the clauses of a text show of the circuit that counts as far as they say.
-fn counted_by<A: Allocator + Copy>(
+// What the clauses of a text show of a longer circuit.
+fn shown_by<A: Allocator + Copy>(
     alloc: A,
     netlist: &Netlist<A>,
     fairness: &[Literal],
     justice: &[Literal],
+    means: Means,
     text: &[u8],
     limit: usize,
 ) -> Result<Verdict, JusticeError>
     ensures { IfOk result (λ verdict. IsTrue (is_certified verdict) →
         IsLiveByText netlist.now.circuit fairness.now justice.now text.now) }
 {
-    let k = count_in(&netlist.circuit, text);
-    let Some((made, bad)) = counting(alloc, netlist, fairness, justice, k)? else {
+    let Some((made, bad)) = made_by(alloc, netlist, fairness, justice, means)? else {
         return Ok(Verdict::Unknown);
     };
     let clauses = clauses_in(alloc, &made.circuit, text)?;
     let verdict = certify::<Solver<A>, _>(alloc, &made, bad, &clauses, limit)?;
     Ok(verdict)
+}
+
+// The longer circuit, and its literal, which is never true only if the circuit is live.
+fn made_by<A: Allocator + Copy>(
+    alloc: A,
+    netlist: &Netlist<A>,
+    fairness: &[Literal],
+    justice: &[Literal],
+    means: Means,
+) -> Result<Option<(Netlist<A>, Literal)>, AllocError>
+    ensures made { IfOk result (λ made. IfSome made
+        (λ m. IsMadeBy netlist.now.circuit (fairness.now ++ justice.now) means m.0.circuit m.1)) }
+    ensures live { IfOk result (λ made. IfSome made
+        (λ m. IsSafe m.0.circuit m.1 → IsLive netlist.now.circuit fairness.now justice.now)) }
+{
+    match means {
+        Means::Counting(k) => counting(alloc, netlist, fairness, justice, k),
+        Means::Saving => to_safety(alloc, netlist, fairness, justice),
+    }
 }
 
 // The clauses that a text writes over the latches of a circuit.
@@ -150,17 +181,23 @@ fn clauses_in<A: Allocator + Copy>(
     }
 }
 
-// How far a text counts: how many more latches it names than the circuit has.
-fn count_in<A: Allocator>(circuit: &Circuit<A>, text: &[u8]) -> usize {
+// The line, before the header, that says that the clauses are over the latches of the circuit that saves.
+const NO_LASSO: &[u8] = b"c no lasso";
+
+// The longer circuit that a text is about. It counts as far as the text names more latches than the circuit has.
+fn means_in<A: Allocator>(circuit: &Circuit<A>, text: &[u8]) -> Means {
     let mut rest = text;
     while let Some((line, after)) = split_line(rest) {
+        if line == NO_LASSO {
+            return Means::Saving;
+        }
         if let Some(counts) = line.strip_prefix(b"p cnf ") {
             let latches = latches_in(counts).unwrap_or(0);
-            return latches.saturating_sub(circuit.latches.len());
+            return Means::Counting(latches.saturating_sub(circuit.latches.len()));
         }
         rest = after;
     }
-    0
+    Means::Counting(0)
 }
 
 // The number before the first space.
@@ -197,7 +234,7 @@ pub fn certificate_of<A: Allocator + Copy>(
     Ok(text)
 }
 
-// The text of the clauses that were found, over the latches of the circuit that counts.
+// The text of the clauses that were found, over the latches of the longer circuit.
 fn text_of<A: Allocator + Copy>(
     alloc: A,
     netlist: &Netlist<A>,
@@ -208,7 +245,7 @@ fn text_of<A: Allocator + Copy>(
         Some(justice) => justice,
         None => &[],
     };
-    let made = counting(alloc, netlist, &liveness.fairness, justice, found.k)?;
+    let made = made_by(alloc, netlist, &liveness.fairness, justice, found.means)?;
     let Some((made, _)) = made else {
         return Err(JusticeError::Task(TaskError::Uncertified));
     };
@@ -219,7 +256,26 @@ fn text_of<A: Allocator + Copy>(
         clauses.reserve(1)?;
         clauses.push_reserved(clause);
     }
-    Ok(write_invariant(alloc, made.circuit.latches.len(), &clauses)?)
+    let written = write_invariant(alloc, made.circuit.latches.len(), &clauses)?;
+    Ok(told_of(alloc, found.means, written)?)
+}
+
+// The text of the clauses, and before it the line that says of which circuit they are.
+fn told_of<A: Allocator + Copy>(
+    alloc: A,
+    means: Means,
+    written: Vec<u8, A>,
+) -> Result<Vec<u8, A>, AllocError> {
+    match means {
+        Means::Counting(_) => Ok(written),
+        Means::Saving => {
+            let mut text = Vec::new(alloc);
+            text.extend_from_slice(NO_LASSO)?;
+            text.push(b'\n')?;
+            text.extend_from_slice(&written)?;
+            Ok(text)
+        }
+    }
 }
 
 // The place of the latch of each variable that is a latch's.

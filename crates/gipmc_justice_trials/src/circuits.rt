@@ -25,3 +25,10 @@ pub const CHANGES: &[u8] = b"aag 1 0 1 0 0 1 0 1\n2 3\n0\n2\n2\n3\n";
 
 /// No property at all.
 pub const NONE: &[u8] = b"aag 1 0 1 0 0 1\n2 2\n2\n";
+
+/// A latch is 1 once the input was. The property is that the input is true where the latch is 0.
+pub const ONCE: &[u8] = b"aag 4 1 1 0 2 0 0 1\n2\n4 9\n1\n6\n6 5 2\n8 5 3\n";
+
+/// A counter of three bits, which stays at 7. The property is that it counts.
+pub const COUNTS: &[u8] =
+    b"aag 16 1 3 0 12 0 0 1\n2\n4 20\n6 26\n8 32\n1\n14\n10 4 6\n12 10 8\n14 2 13\n16 14 4\n18 15 5\n20 17 19\n22 16 6\n24 17 7\n26 23 25\n28 22 8\n30 23 9\n32 29 31\n";

@@ -1,6 +1,8 @@
 //! What is answered, replayed and certified, and why that is not done.
 
-use crate::circuits::{CHANGES, ENDS, FAIR, GRANTED, NEVER_FAIR, NONE, STARVES, WAITS};
+use crate::circuits::{
+    CHANGES, COUNTS, ENDS, FAIR, GRANTED, NEVER_FAIR, NONE, ONCE, STARVES, WAITS,
+};
 use gipmc_aiger::{AigerError, Place, Reason};
 use gipmc_answers::{Lost, Output, TaskError};
 use gipmc_justice::{JusticeError, answer, certificate_of, certifies, replays};
@@ -66,6 +68,16 @@ const BOTH: &[u8] = b"1\nj0\n1\n1\n1\n.\n0\nj1\n.\n";
 // The client waits at one moment at most, as does the latch that counts, or at two.
 const AT_MOST_ONE: &[u8] = b"p cnf 3 2\n-2 -3 0\n-1 -2 0\n";
 
+// What is 1 stays 1. Where the input was true since something was saved (latch 2) with latch 1 at 0, as latch 4 notes, so
+// is latch 3, which keeps what latch 1 was, and latch 1 is 1.
+const NO_LASSO: &[u8] = b"c no lasso\np cnf 4 4\n-2 -3 1 0\n-4 2 0\n-4 -3 0\n-4 1 0\n";
+
+// The same, of the circuit that counts to 3.
+const COUNTED: &[u8] = b"p cnf 4 4\n-2 -3 1 0\n-4 2 0\n-4 -3 0\n-4 1 0\n";
+
+// One clause less.
+const A_LASSO: &[u8] = b"c no lasso\np cnf 4 3\n-2 -3 1 0\n-4 2 0\n-4 -3 0\n";
+
 const QUESTIONS: &[(&[u8], Question<'static>, Result<bool, JusticeError>)] = &[
     (FAIR, Question::Answer(None, LIVE), Ok(true)),
     (STARVES, Question::Answer(Some(0), WAITS), Ok(true)),
@@ -125,6 +137,21 @@ const QUESTIONS: &[(&[u8], Question<'static>, Result<bool, JusticeError>)] = &[
     ),
     // Too small a count: the circuit that counts to 0 is not safe by any clause.
     (FAIR, Question::Certify(b"p cnf 2 0\n", 0), Ok(false)),
+    (ONCE, Question::Answer(None, LIVE), Ok(true)),
+    (COUNTS, Question::Answer(None, LIVE), Ok(true)),
+    (COUNTS, Question::Found(0), Ok(true)),
+    (ONCE, Question::Certify(NO_LASSO, 0), Ok(true)),
+    (ONCE, Question::Certify(COUNTED, 0), Ok(false)),
+    (ONCE, Question::Certify(A_LASSO, 0), Ok(false)),
+    // A latch less than the circuit has that saves.
+    (
+        ONCE,
+        Question::Certify(b"c no lasso\np cnf 3 0\n", 0),
+        Err(JusticeError::Task(TaskError::Certificate(AigerError::Refused(
+            Place::Line(2),
+            Reason::Clauses,
+        )))),
+    ),
     (
         FAIR,
         Question::Certify(AT_MOST_ONE, 3),

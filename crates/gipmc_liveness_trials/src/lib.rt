@@ -7,6 +7,8 @@ pub mod example;
 #[cfg(test)]
 mod loops;
 #[cfg(test)]
+mod memory;
+#[cfg(test)]
 mod plain;
 #[cfg(test)]
 mod saved;

@@ -8,7 +8,7 @@ use gipsat_solver::{Literal, Solver};
 use std::alloc::{AllocError, Allocator, Global};
 
 /// Latch 1 is 1 once input 2 was. Gate 3 is true where it is for the first time.
-fn button<A: Allocator + Copy>(alloc: A) -> Result<Netlist<A>, AllocError> {
+pub fn button<A: Allocator + Copy>(alloc: A) -> Result<Netlist<A>, AllocError> {
     let mut circuit = Circuit::new(alloc);
     circuit.inputs.push(2)?;
     circuit.gates.push(And {

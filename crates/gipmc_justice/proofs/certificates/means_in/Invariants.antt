@@ -1,6 +1,6 @@
 -- Each line shortens the rest.
 use Rattle.std.proofs.Common.{length}
-use Rattle.gipmc_justice.proofs.certificates.count_in.Given as goal
+use Rattle.gipmc_justice.proofs.certificates.means_in.Given as goal
 
 abbrev pub decreases-loop-line : goal.decreases-loop-line
 decreases-loop-line g l = length l.rest

@@ -1,9 +1,9 @@
--- The circuit that counts is safe by the clauses that were read, and so the circuit is live.
-use Rattle.gipmc_justice.proofs.certificates.counted_by.Goals as goal
+-- The longer circuit is safe by the clauses that were read, and so the circuit is live.
+use Rattle.gipmc_justice.proofs.certificates.shown_by.Goals as goal
 
 pub returns : goal.returns
 returns g c certified =
-    let counter = rw c.in-Some.is at c.in_ok-made.ensures.counter in
+    let made = rw c.in-Some.is at c.in_ok-made.ensures.made in
     let live = rw c.in-Some.is at c.in_ok-made.ensures.live in
     let said = rw (c.deref.ensures.value) at c.in_ok-verdict.ensures in (
       (
@@ -11,7 +11,7 @@ returns g c certified =
         (
           c.in-Some.made.circuit,
           c.in-Some.bad,
-          counter,
+          made,
           c.in_ok-clauses.clauses.items,
           c.in_ok-clauses.ensures,
           record {
