@@ -1,10 +1,9 @@
 -- The text of an answer that a property fails is a witness that replays.
-use Rattle.std.proofs.Common.{rules, ◌≡◌, ℕ, ◌<◌, ◌^◌, true, List, [], ◌∷◌, Some, Vec, Bool, length, IsTrue, refl}
+use Rattle.std.proofs.Common.{rules, ◌≡◌, ℕ, ◌<◌, ◌^◌, true, List, [], ◌∷◌, Some, Vec, length, refl}
 use Rattle.std.specs.Prelude.{◌==◌, slice_get}
 use Rattle.std.specs.List.{list_any}
 use Rattle.std.proofs.lemmas.Bool.{and_parts}
 use Rattle.gipsat_cnf.specs.Literals.{Lit}
-use Rattle.gipmc_aiger.specs.Lists.{Every}
 use Rattle.gipmc_aiger.specs.declared.liveness.Liveness.{Liveness}
 use Rattle.gipmc_aiger.proofs.WitnessRereads.{lassos_reread}
 use Rattle.gipmc_answers.proofs.Witnessed.{every_row, same_of_test}
