@@ -1,7 +1,5 @@
 -- What is k-inductive in a part of a circuit is so in the circuit.
 use Rattle.std.proofs.Common.{◌≡◌, ℕ, ◌+◌, List, subst}
-use Rattle.std.proofs.Math.Logic.{∥∥₁_elim}
-use Rattle.std.proofs.Props.{props}
 use Rattle.gipsat_cnf.specs.Formulas.{Assignment}
 use Rattle.gipsat_cnf.specs.Literals.{Lit}
 use Rattle.gipmc_circuits.specs.declared.circuit.Circuit.{Circuit}
@@ -34,10 +32,3 @@ IsSafeByInduction-whole names part whole own bad k is stands by =
       inductive = IsKInductive-part names part whole own k is by.inductive;
       safe = IsSafe-part names part whole own is by.safe;
     })
-
--- the same where it is only known that there is a proof
-pub IsSafeByInduction-some : {A B : Type 0} (names : List ℕ) (part : Circuit A) (whole : Circuit B) (own bad : Lit) (k : ℕ)
-    → ∥ IsPartOf names part whole ∥₁ → literal_named names own ≡ bad → IsSafeByInduction part k own
-    → IsSafeByInduction whole k bad
-IsSafeByInduction-some names part whole own bad k is stands by =
-    ∥∥₁_elim is (hlevel props) (λ p. IsSafeByInduction-whole names part whole own bad k p stands by)

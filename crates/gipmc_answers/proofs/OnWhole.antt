@@ -1,53 +1,64 @@
--- What a verdict on a part says of the whole circuit.
-use Rattle.std.proofs.Common.{◌≡◌, ◌∙◌, ℕ, ◌<◌, List, Vec, length, map, ap, sym, subst}
-use Rattle.std.specs.Option.{option_map}
-use Rattle.std.specs.Prelude.{slice_get, Some}
+-- Smaller circuits that stand for a circuit.
+use Rattle.std.proofs.Common.{◌≡◌, ◌∙◌, ℕ, ◌<◌, List, Vec, length, map, ap, get_or, sym, subst}
+use Rattle.std.specs.Option.{ForSome, option_map}
+use Rattle.std.specs.Prelude.{slice_get, Option, Some, None, IfSome}
 use Rattle.std.proofs.lemmas.List.{length-map}
-use Rattle.std.proofs.lemmas.Option.{slice_get-map}
-use Rattle.std.proofs.Math.Logic.{∥∥₁_elim}
-use Rattle.std.proofs.Props.{props}
+use Rattle.std.proofs.lemmas.Option.{slice_get-get_or, slice_get-map, slice_get_within}
 use Rattle.gipsat_cnf.specs.Literals.{Lit}
 use Rattle.gipsat_cnf.proofs.Places.{same_some}
-use Rattle.gipmc_circuits.specs.Certificate.{IsSafeByClauses}
 use Rattle.gipmc_circuits.specs.Circuit.{FailsAfter}
 use Rattle.gipmc_circuits.specs.declared.circuit.Circuit.{Circuit}
-use Rattle.gipmc_engines.specs.Verdicts.{NeverFailsWithin}
-use Rattle.gipmc_part.specs.Parts.{IsPartOf, literal_named, rows, rows_named}
-use Rattle.gipmc_part.proofs.Carried.{FailsAfter-part, IsSafeByClauses-part}
+use Rattle.gipmc_part.specs.Parts.{IsPartOf, literal_named}
+use Rattle.gipmc_part.proofs.Carried.{FailsAfter-part}
+use Rattle.gipmc_sweep.specs.Merges.{IsSweptOf, merged}
+use Rattle.gipmc_sweep.proofs.Carried.{FailsAfter-swept}
+use Rattle.gipmc_answers.specs.Left.{StandFor}
 
-pub NeverFailsWithin-whole : {A B : Type 0} (names : List ℕ) (part : Circuit A) (whole : Circuit B) (own bad : Lit) (n : ℕ)
-    → IsPartOf names part whole → literal_named names own ≡ bad → NeverFailsWithin part own n → NeverFailsWithin whole bad n
-NeverFailsWithin-whole names part whole own bad n is stands never m within fails =
-    never m within (FailsAfter-part names part whole own m is (subst (λ l. FailsAfter whole l m) (sym stands) fails))
+-- what a function makes of the item at a place is the item there of the list that it makes
+item_made : {X Y : Type 0} (f : X → Y) (xs : List X) (ys : List Y) (k : ℕ) (x : X) (y : Y) → map f xs ≡ ys
+    → slice_get xs k ≡ Some x → slice_get ys k ≡ Some y → f x ≡ y
+item_made f xs ys k x y same at here =
+    same_some (f x) y
+    (sym (ap (option_map f) at) ∙ (sym (slice_get-map f xs k) ∙ (ap (λ items. slice_get items k) same ∙ here)))
 
-pub IsSafeByClauses-whole : {A B C D : Type 0} (names : List ℕ) (part : Circuit A) (whole : Circuit B) (own bad : Lit)
-    → (clauses : List (Vec Lit C)) (named : List (Vec Lit D)) → IsPartOf names part whole → literal_named names own ≡ bad
-    → rows named ≡ rows_named names clauses → IsSafeByClauses part clauses own → IsSafeByClauses whole named bad
-IsSafeByClauses-whole names part whole own bad clauses named is stands same by =
-    subst (λ l. IsSafeByClauses whole named l) stands (IsSafeByClauses-part names part whole own clauses named is same by)
+-- the literals of a part stand for those of the circuit
+pub StandFor-part : {A B : Type 0} (names : List ℕ) (part : Circuit A) (whole : Circuit B) (owns bads : List Lit)
+    → IsPartOf names part whole → map (literal_named names) owns ≡ bads → StandFor part owns whole bads
+StandFor-part names part whole owns bads is same = record {
+  count = sym (length-map owns (literal_named names)) ∙ ap length same;
+  each = λ k own bad at here n never fails.
+      let named = item_made (literal_named names) owns bads k own bad same at here in
+      never (FailsAfter-part names part whole own n is (subst (λ l. FailsAfter whole l n) (sym named) fails));
+}
 
--- the same where it is only known that there is a proof
-pub NeverFailsWithin-some : {A B : Type 0} (names : List ℕ) (part : Circuit A) (whole : Circuit B) (own bad : Lit) (n : ℕ)
-    → ∥ IsPartOf names part whole ∥₁ → literal_named names own ≡ bad → NeverFailsWithin part own n → NeverFailsWithin whole bad n
-NeverFailsWithin-some names part whole own bad n is stands never =
-    ∥∥₁_elim is (hlevel props) (λ p. NeverFailsWithin-whole names part whole own bad n p stands never)
+-- what stands for the literals after merges
+pub StandFor-swept : {A B C : Type 0} (merges : List Lit) (invariant : List (Vec Lit A)) (small : Circuit B) (whole : Circuit C)
+    → (owns bads : List Lit) → IsSweptOf merges invariant small whole → owns ≡ map (merged merges) bads
+    → StandFor small owns whole bads
+StandFor-swept merges invariant small whole owns bads is same = record {
+  count = ap length same ∙ length-map bads (merged merges);
+  each = λ k own bad at here n never fails.
+      let own_is = item_made (merged merges) bads owns k bad own (sym same) here at in
+      never (subst (λ l. FailsAfter small l n) own_is (FailsAfter-swept merges invariant small whole bad n is fails));
+}
 
-pub IsSafeByClauses-some : {A B C D : Type 0} (names : List ℕ) (part : Circuit A) (whole : Circuit B) (own bad : Lit)
-    → (clauses : List (Vec Lit C)) (named : List (Vec Lit D)) → ∥ IsPartOf names part whole ∥₁ → literal_named names own ≡ bad
-    → rows named ≡ rows_named names clauses → IsSafeByClauses part clauses own → IsSafeByClauses whole named bad
-IsSafeByClauses-some names part whole own bad clauses named is stands same by =
-    ∥∥₁_elim is (hlevel props) (λ p. IsSafeByClauses-whole names part whole own bad clauses named p stands same by)
+-- through a circuit between
+pub StandFor-through : {A B C : Type 0} (small : Circuit A) (owns : List Lit) (between : Circuit B) (mids : List Lit)
+    → (whole : Circuit C) (bads : List Lit) → StandFor small owns between mids → StandFor between mids whole bads
+    → StandFor small owns whole bads
+StandFor-through small owns between mids whole bads lower upper = record {
+  count = lower.count ∙ upper.count;
+  each = λ k own bad at here n never.
+      let less = subst (λ m. k < m) (sym upper.count) (slice_get_within bads k bad here) in
+      let there = slice_get-get_or mids k own less in
+      upper.each k (get_or mids k own) bad there here n (lower.each k own (get_or mids k own) at there n never);
+}
 
--- the part has as many literals as stand for those of the whole circuit
-pub as_many : (names : List ℕ) (owns bads : List Lit) (k : ℕ) → map (literal_named names) owns ≡ bads → k < length bads
-    → k < length owns
-as_many names owns bads k same less =
-    subst (λ n. k < n) (sym (ap length same) ∙ length-map owns (literal_named names)) less
+-- what follows from what is found
+pub some_more : {T : Type 0} (P Q : T → Type 0) (r : Option T) → ((t : T) → P t → Q t) → IfSome r P → IfSome r Q
+some_more P Q (Some t) more p = more t p
+some_more P Q None more p = tt
 
--- the literal at a place stands for the one at that place
-pub stands_at : (names : List ℕ) (owns bads : List Lit) (k : ℕ) (own bad : Lit) → map (literal_named names) owns ≡ bads
-    → slice_get owns k ≡ Some own → slice_get bads k ≡ Some bad → literal_named names own ≡ bad
-stands_at names owns bads k own bad same at here =
-    same_some (literal_named names own) bad
-    (sym (ap (option_map (literal_named names)) at)
-    ∙ (sym (slice_get-map (literal_named names) owns k) ∙ (ap (λ bs. slice_get bs k) same ∙ here)))
+-- what holds of what is found, as an equation tells it
+pub for_some : {T : Type 0} (P : T → Type 0) (r : Option T) → IfSome r P → ForSome r P
+for_some P r holds found is = subst (λ o. IfSome o P) is holds

@@ -4,11 +4,11 @@ use Rattle.std.proofs.lemmas.List.Elements.{All-cons, All-nil}
 use Rattle.std.specs.Prelude.{slice_get, Option, None, Result, Ok, Err, IfOk, IfSome}
 use Rattle.gipsat_cnf.specs.Literals.{Lit}
 use Rattle.gipmc_circuits.specs.declared.circuit.Circuit.{Circuit}
-use Rattle.gipmc_engines.specs.Verdicts.{IsRightVerdict, NeverFailsWithin}
-use Rattle.gipmc_engines.specs.declared.verdict.Verdict.{Verdict}
-use Rattle.gipmc_engines.specs.declared.verdict.Verdict.TheVariants as verdict
-use Rattle.gipmc_answers.specs.Answers.{Tells, TellsBy, TellsDepths, TellsFirst, both, depth_text}
+use Rattle.gipmc_engines.specs.Verdicts.{NeverFailsWithin}
+use Rattle.gipmc_answers.specs.Answers.{IsKnown, Tells, TellsBy, TellsDepths, TellsFirst, both, depth_text}
 use Rattle.gipmc_answers.specs.declared.answers.Outcome.{Outcome}
+use Rattle.gipmc_answers.specs.declared.known.Known.{Known}
+use Rattle.gipmc_answers.specs.declared.known.Known.TheVariants as known
 
 pub TellsFirst-more : {A : Type 0} (c : Circuit A) (n : ℕ) (one other : Outcome) (before last : List ℕ)
     → TellsFirst c n one before → Tells c n other last → TellsFirst c (n + 1) (both one other) (before ++ last)
@@ -17,19 +17,19 @@ TellsFirst-more c n one other before last told tells =
     subst (λ k. TellsFirst c k (both one other) (before ++ last)) next
     (one, other, before, last, told, tells, refl, refl)
 
--- what is told by a verdict that is right, behind depths
-pub Tells-by : {A : Type 0} (c : Circuit A) (place : ℕ) (bad : Lit) (v : Verdict A) (outcome : Outcome) (front text : List ℕ)
-    → slice_get c.bads.items place ≡ Some bad → TellsDepths c bad front → IsRightVerdict c bad v → TellsBy place v outcome text
+-- what is told of what is known, behind depths
+pub Tells-by : {A : Type 0} (c : Circuit A) (place : ℕ) (bad : Lit) (k : Known A) (outcome : Outcome) (front text : List ℕ)
+    → slice_get c.bads.items place ≡ Some bad → TellsDepths c bad front → IsKnown c bad k → TellsBy place k outcome text
     → Tells c place outcome (front ++ text)
-Tells-by c place bad v outcome front text here depths right (is, said, small) =
-    (bad, here, front, depths, v, right, ap (λ t. front ++ t) is, said, small)
+Tells-by c place bad k outcome front text here depths right (is, said, small) =
+    (bad, here, front, depths, k, right, ap (λ t. front ++ t) is, said, small)
 
 -- without depths
-pub Tells-alone : {A : Type 0} (c : Circuit A) (place : ℕ) (bad : Lit) (v : Verdict A) (outcome : Outcome) (text : List ℕ)
-    → slice_get c.bads.items place ≡ Some bad → IsRightVerdict c bad v → TellsBy place v outcome text
+pub Tells-alone : {A : Type 0} (c : Circuit A) (place : ℕ) (bad : Lit) (k : Known A) (outcome : Outcome) (text : List ℕ)
+    → slice_get c.bads.items place ≡ Some bad → IsKnown c bad k → TellsBy place k outcome text
     → Tells c place outcome text
-Tells-alone c place bad v outcome text here right told =
-    Tells-by c place bad v outcome [] text here ([], All-nil (NeverFailsWithin c bad), All-nil (λ n. n < 2 ^ 64), refl) right told
+Tells-alone c place bad k outcome text here right told =
+    Tells-by c place bad k outcome [] text here ([], All-nil (NeverFailsWithin c bad), All-nil (λ n. n < 2 ^ 64), refl) right told
 
 -- one depth more
 pub TellsDepths-more : {A : Type 0} (c : Circuit A) (bad : Lit) (n : ℕ) (text : List ℕ) → TellsDepths c bad text
@@ -45,13 +45,13 @@ TellsDepths-more c bad n text (depths, all, fit, is) never fits = (
 pub TellsDepths-none : {A : Type 0} (c : Circuit A) (bad : Lit) → TellsDepths c bad []
 TellsDepths-none c bad = ([], All-nil (NeverFailsWithin c bad), All-nil (λ n. n < 2 ^ 64), refl)
 
--- a right verdict that has a depth says that nothing fails up to it
-pub some_clear : {A B : Type 0} (r : Option ℕ) (v : Verdict B) (c : Circuit A) (bads : List Lit) (k : ℕ)
-    → IfSome r (λ n. v ≡ verdict.NoFailureWithin n)
-    → ((bad : Lit) → slice_get bads k ≡ Some bad → IsRightVerdict c bad v)
+-- if a depth is known, nothing fails up to it
+pub some_clear : {A B : Type 0} (r : Option ℕ) (v : Known B) (c : Circuit A) (bads : List Lit) (k : ℕ)
+    → IfSome r (λ n. v ≡ known.NoFailureWithin n)
+    → ((bad : Lit) → slice_get bads k ≡ Some bad → IsKnown c bad v)
     → IfSome r (λ n. (bad : Lit) → slice_get bads k ≡ Some bad → NeverFailsWithin c bad n)
 some_clear None v c bads k is right = tt
-some_clear (Some n) v c bads k is right = λ bad here. subst (λ w. IsRightVerdict c bad w) is (right bad here)
+some_clear (Some n) v c bads k is right = λ bad here. subst (λ w. IsKnown c bad w) is (right bad here)
 
 -- what follows from what an answer says
 pub ok_more : {T E : Type 0} (P Q : T → Type 0) (r : Result T E) → ((t : T) → P t → Q t) → IfOk r P → IfOk r Q

@@ -8,12 +8,11 @@ use Rattle.gipmc_aiger.specs.Lists.{Every}
 use Rattle.gipmc_aiger.proofs.WitnessRereads.{claims_reread}
 use Rattle.gipmc_circuits.specs.declared.circuit.Circuit.{Circuit}
 use Rattle.gipmc_circuits.specs.Traces.{have_width}
-use Rattle.gipmc_engines.specs.Verdicts.{IsRightVerdict}
-use Rattle.gipmc_engines.specs.declared.verdict.Verdict.{Verdict}
-use Rattle.gipmc_engines.specs.declared.verdict.Verdict.TheVariants as verdict
-use Rattle.gipmc_answers.specs.Answers.{IsCircuitIn, Tells, depths_text, outcome_of, verdict_text}
+use Rattle.gipmc_answers.specs.Answers.{IsCircuitIn, IsKnown, Tells, depths_text, known_text, outcome_of}
 use Rattle.gipmc_answers.specs.Witnesses.{Replays, names_place}
 use Rattle.gipmc_answers.proofs.Depths.{depths-read_over}
+use Rattle.gipmc_answers.specs.declared.known.Known.{Known}
+use Rattle.gipmc_answers.specs.declared.known.Known.TheVariants as known
 use Rattle.gipmc_answers.specs.declared.answers.Outcome.TheVariants.{Fails, Safe}
 
 -- two numbers that pass the test are equal
@@ -28,26 +27,25 @@ every_row n (row ∷ rows) all =
     let (one, others) = and_parts (length row.items == n) (have_width n rows) all in
     (same_of_test (length row.items) n one, every_row n rows others)
 
--- of a right verdict whose text says so, behind depths
-replays_by : {A : Type 0} (bytes text : List ℕ) (c : Circuit A) (place : ℕ) (bad : Lit) (v : Verdict A) (depths : List ℕ)
+-- of what is known whose text says so, behind depths
+replays_by : {A : Type 0} (bytes text : List ℕ) (c : Circuit A) (place : ℕ) (bad : Lit) (k : Known A) (depths : List ℕ)
     → IsCircuitIn bytes c → slice_get c.bads.items place ≡ Some bad → place < 2 ^ 31 → All (λ n. n < 2 ^ 64) depths
-    → text ≡ depths_text depths ++ verdict_text place v
-    → Fails ≡ outcome_of v → IsRightVerdict c bad v → Replays A bytes text (Some place)
-replays_by {A} bytes text c place bad (verdict.Fails trace) depths circuit here small fit is outcome right =
+    → text ≡ depths_text depths ++ known_text place k
+    → Fails ≡ outcome_of k → IsKnown c bad k → Replays A bytes text (Some place)
+replays_by {A} bytes text c place bad (known.Fails trace) depths circuit here small fit is outcome right =
     let (latches, rows) = and_parts (length trace.latches.items == length c.latches.items)
     (have_width (length c.inputs.items) trace.inputs.items) right.0 in
     let rereads = claims_reread (length c.latches.items) (length c.inputs.items) place trace small
     (same_of_test (length trace.latches.items) (length c.latches.items) latches)
     (every_row (length c.inputs.items) trace.inputs.items rows) in
     let named : names_place (place ∷ []) place ≡ true = search rules in
-    let over = depths-read_over depths (verdict_text place (verdict.Fails trace)) fit in
+    let over = depths-read_over depths (known_text place (known.Fails trace)) fit in
     (c, circuit, (place ∷ [], trace) ∷ [], rw (is, over) rereads, rw named refl, (rw named ((bad, here, right), tt), tt))
-replays_by bytes text c place bad (verdict.Safe invariant) depths circuit here small fit is outcome right = absurd cc
-replays_by bytes text c place bad (verdict.Inductive k) depths circuit here small fit is outcome right = absurd cc
-replays_by bytes text c place bad (verdict.NoFailureWithin n) depths circuit here small fit is outcome right = absurd cc
-replays_by bytes text c place bad verdict.Unknown depths circuit here small fit is outcome right = absurd cc
+replays_by bytes text c place bad known.Safe depths circuit here small fit is outcome right = absurd cc
+replays_by bytes text c place bad (known.NoFailureWithin n) depths circuit here small fit is outcome right = absurd cc
+replays_by bytes text c place bad known.Nothing depths circuit here small fit is outcome right = absurd cc
 
 pub Replays-told : {A : Type 0} (bytes text : List ℕ) (c : Circuit A) (place : ℕ) → IsCircuitIn bytes c
     → Tells c place Fails text → Replays A bytes text (Some place)
-Replays-told bytes text c place circuit (bad, here, front, (depths, all, fit, same), v, right, is, outcome, small) =
-    replays_by bytes text c place bad v depths circuit here small fit (is ∙ ap (λ t. t ++ verdict_text place v) same) outcome right
+Replays-told bytes text c place circuit (bad, here, front, (depths, all, fit, same), k, right, is, outcome, small) =
+    replays_by bytes text c place bad k depths circuit here small fit (is ∙ ap (λ t. t ++ known_text place k) same) outcome right

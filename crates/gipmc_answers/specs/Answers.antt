@@ -1,29 +1,37 @@
 -- Texts of answers, and when they are right.
-use Rattle.std.specs.Prelude.{◌≡◌, ℕ, zero, suc, ◌<◌, ◌^◌, List, [], ◌∷◌, ◌++◌, length, slice_get, codes, decimal, Option, Some, None, IsTrue}
+use Rattle.std.specs.Prelude.{◌≡◌, ℕ, zero, suc, ◌<◌, ◌^◌, List, [], ◌∷◌, ◌++◌, length, slice_get, codes, decimal, Option, Some, None, IsTrue, ⊤}
 use Rattle.std.specs.List.{All}
 use Rattle.gipsat_cnf.specs.Literals.{Lit}
 use Rattle.gipmc_aiger.specs.Circuits.{Writes}
 use Rattle.gipmc_aiger.specs.Traces.{witness_text}
+use Rattle.gipmc_circuits.specs.Circuit.{IsSafe}
+use Rattle.gipmc_circuits.specs.Traces.{FailsBy}
 use Rattle.gipmc_circuits.specs.declared.circuit.Circuit.{Circuit}
 use Rattle.gipmc_circuits.specs.WellFormed.{is_well_formed}
-use Rattle.gipmc_engines.specs.Verdicts.{IsRightVerdict, NeverFailsWithin}
-use Rattle.gipmc_engines.specs.declared.verdict.Verdict.{Verdict}
-use Rattle.gipmc_engines.specs.declared.verdict.Verdict.TheVariants as verdict
+use Rattle.gipmc_engines.specs.Verdicts.{NeverFailsWithin}
 use Rattle.gipmc_answers.specs.declared.answers.Outcome.{Outcome}
 use Rattle.gipmc_answers.specs.declared.answers.Outcome.TheVariants.{Fails, Safe, Open}
+use Rattle.gipmc_answers.specs.declared.known.Known.{Known}
+use Rattle.gipmc_answers.specs.declared.known.Known.TheVariants as known
 
 -- the lines that name the bad literal at a place and end an answer
 abbrev pub named : ℕ → List ℕ
 named place = codes "\nb" ++ decimal place ++ codes "\n.\n"
 
--- the text of a verdict on the bad literal at a place: `1` and a witness, `0`, or `2`; before a `2`, behind a `u`, the
+-- what is known of the bad literal holds
+abbrev pub IsKnown : {A B : Type 0} → Circuit A → Lit → Known B → Type 0
+IsKnown c bad (known.Fails trace) = FailsBy c bad trace
+IsKnown c bad known.Safe = IsSafe c bad
+IsKnown c bad (known.NoFailureWithin n) = NeverFailsWithin c bad n
+IsKnown c bad known.Nothing = ⊤
+
+-- the text of what is known of the bad literal at a place: `1` and a witness, `0`, or `2`; before a `2`, behind a `u`, the
 -- most transitions up to which nothing fails
-abbrev pub verdict_text : {A : Type 0} → ℕ → Verdict A → List ℕ
-verdict_text place (verdict.Fails trace) = witness_text place trace
-verdict_text place (verdict.Safe invariant) = codes "0" ++ named place
-verdict_text place (verdict.Inductive k) = codes "0" ++ named place
-verdict_text place (verdict.NoFailureWithin n) = codes "u" ++ decimal n ++ codes "\n2" ++ named place
-verdict_text place verdict.Unknown = codes "2" ++ named place
+abbrev pub known_text : {A : Type 0} → ℕ → Known A → List ℕ
+known_text place (known.Fails trace) = witness_text place trace
+known_text place known.Safe = codes "0" ++ named place
+known_text place (known.NoFailureWithin n) = codes "u" ++ decimal n ++ codes "\n2" ++ named place
+known_text place known.Nothing = codes "2" ++ named place
 
 -- the line that tells that nothing fails up to a depth
 abbrev pub depth_text : ℕ → List ℕ
@@ -39,13 +47,12 @@ abbrev pub TellsDepths : {A : Type 0} → Circuit A → Lit → List ℕ → Typ
 TellsDepths c bad text =
     (depths : List ℕ) × All (NeverFailsWithin c bad) depths × All (λ n. n < 2 ^ 64) depths × (text ≡ depths_text depths)
 
--- what a verdict says of its literal
-abbrev pub outcome_of : {A : Type 0} → Verdict A → Outcome
-outcome_of (verdict.Fails trace) = Fails
-outcome_of (verdict.Safe invariant) = Safe
-outcome_of (verdict.Inductive k) = Safe
-outcome_of (verdict.NoFailureWithin n) = Open
-outcome_of verdict.Unknown = Open
+-- what is known of a literal, in a word
+abbrev pub outcome_of : {A : Type 0} → Known A → Outcome
+outcome_of (known.Fails trace) = Fails
+outcome_of known.Safe = Safe
+outcome_of (known.NoFailureWithin n) = Open
+outcome_of known.Nothing = Open
 
 -- of two: one fails, both are safe, or neither is known
 abbrev pub both : Outcome → Outcome → Outcome
@@ -55,16 +62,16 @@ both Open Fails = Fails
 both Open Safe = Open
 both Open Open = Open
 
--- the text and the outcome are those of a verdict on the bad literal at a place, which a text may name
-abbrev pub TellsBy : {A : Type 0} → ℕ → Verdict A → Outcome → List ℕ → Type 0
-TellsBy place v outcome text = (text ≡ verdict_text place v) × (outcome ≡ outcome_of v) × (place < 2 ^ 31)
+-- the text and the outcome are those of what is known of the bad literal at a place, which a text may name
+abbrev pub TellsBy : {A : Type 0} → ℕ → Known A → Outcome → List ℕ → Type 0
+TellsBy place k outcome text = (text ≡ known_text place k) × (outcome ≡ outcome_of k) × (place < 2 ^ 31)
 
--- the text is that of a right verdict on the bad literal at a place, which a text may name; before it there may be lines
--- that tell up to which depths no trace fails
+-- the text is that of what is known, and holds, of the bad literal at a place, which a text may name; before it there may be
+-- lines that tell up to which depths no trace fails
 abbrev pub Tells : {A : Type 0} → Circuit A → ℕ → Outcome → List ℕ → Type 0
 Tells {A} c place outcome text =
-    (bad : Lit) × (slice_get c.bads.items place ≡ Some bad) × (front : List ℕ) × TellsDepths c bad front × (v : Verdict A)
-    × IsRightVerdict c bad v × (text ≡ front ++ verdict_text place v) × (outcome ≡ outcome_of v) × (place < 2 ^ 31)
+    (bad : Lit) × (slice_get c.bads.items place ≡ Some bad) × (front : List ℕ) × TellsDepths c bad front × (k : Known A)
+    × IsKnown c bad k × (text ≡ front ++ known_text place k) × (outcome ≡ outcome_of k) × (place < 2 ^ 31)
 
 -- the text tells of each of the first n bad literals in turn
 abbrev pub TellsFirst : {A : Type 0} → Circuit A → ℕ → Outcome → List ℕ → Type 0
@@ -77,6 +84,13 @@ TellsFirst c (suc n) outcome text =
 abbrev pub TellsAsked : {A : Type 0} → Circuit A → Option ℕ → Outcome → List ℕ → Type 0
 TellsAsked c None outcome text = TellsFirst c (length c.bads.items) outcome text
 TellsAsked c (Some place) outcome text = Tells c place outcome text
+
+-- the literals are all bad ones of the circuit, or the first of them is the bad one that is asked for
+pub record AreAsked {A : Type 0} (c : Circuit A) (asked : Option ℕ) (bads : List Lit) : Type 0 where
+  pub all : asked ≡ None → bads ≡ c.bads.items
+  pub within : (place : ℕ) → asked ≡ Some place → place < length c.bads.items
+  pub first : (place : ℕ) → asked ≡ Some place → 0 < length bads
+  pub same : (place : ℕ) → asked ≡ Some place → slice_get c.bads.items place ≡ slice_get bads 0
 
 -- the bytes write the circuit, and it is well-formed
 abbrev pub IsCircuitIn : {A : Type 0} → List ℕ → Circuit A → Type 0

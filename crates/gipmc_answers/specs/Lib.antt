@@ -1,5 +1,6 @@
 -- What is answered about a circuit.
 pub mod Answers
 pub mod Certificates
+pub mod Left
 pub mod Output
 pub mod Witnesses

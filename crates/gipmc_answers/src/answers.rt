@@ -1,19 +1,21 @@
 //! Answers about a circuit, from the bytes of its text to those of the answers.
 ghost use Rattle.std.specs.Prelude.{◌≡◌, ℕ, ◌<◌, ◌^◌, ◌++◌, codes, length, map, slice_get, decimal, Some, IfOk, OnOk};
 ghost use Rattle.gipmc_answers.specs.Answers.{Answers, IsCircuitIn, Tells, TellsAsked, TellsBy, TellsDepths, TellsFirst};
-ghost use Rattle.gipmc_answers.specs.Answers.{both, depth_text, named, outcome_of, verdict_text};
+ghost use Rattle.gipmc_answers.specs.Answers.{AreAsked, both, depth_text, known_text, named, outcome_of};
+ghost use Rattle.gipmc_answers.specs.Left.{StandFor};
 ghost use Rattle.gipmc_answers.specs.Output.{IsWritten};
 ghost use Rattle.gipmc_answers.specs.Witnesses.{Replays};
 ghost use Rattle.gipmc_answers.specs.declared.answers.Outcome.TheVariants.{Fails};
-ghost use Rattle.gipmc_part.specs.Parts.{IsPartOf, literal_named};
 
 use crate::error::TaskError;
+use crate::known::Known;
 use crate::listener::Listener;
-use crate::output::{Output, Wanted};
+use crate::output::{Certifying, Output, Wanted};
 use crate::parted::{Parted, part_of};
+use crate::query::Query;
 use gipmc_aiger::{read_circuit, write_witness};
 use gipmc_circuits::Netlist;
-use gipmc_engines::{Plan, Verdict};
+use gipmc_engines::{Engine, Plan};
 use gipmc_part::Part;
 use gipsat_cnf::{Literal, SatSolver};
 use gipsat_solver::Solver;
@@ -133,144 +135,172 @@ fn answer_asked<A: Allocator + Copy, L: Listener, W: Write>(
         (W.contents output.old.writer) (W.contents output.new.writer) said.text.items) }
 {
     match asked {
-        None => Ok(answer_all::<Solver<A>, _, _, _>(alloc, netlist, plan, listener, output)?),
-        Some(place) if place < netlist.circuit.bads.len() => Ok(answer_at::<Solver<A>, _, _, _>(
-            alloc, netlist, place, plan, listener, output,
-        )?),
+        None => {
+            let bads = &netlist.circuit.bads;
+            Ok(answer_about::<Solver<A>, _, _, _>(
+                alloc, netlist, bads, None, plan, listener, output,
+            )?)
+        }
+        Some(place) if place < netlist.circuit.bads.len() => {
+            let bads = [netlist.circuit.bads[place]];
+            Ok(answer_about::<Solver<A>, _, _, _>(
+                alloc,
+                netlist,
+                &bads,
+                Some(place),
+                plan,
+                listener,
+                output,
+            )?)
+        }
         Some(place) => Err(TaskError::NoBad(place, netlist.circuit.bads.len())),
     }
 }
 
-// Answers about all bad literals of a circuit.
-fn answer_all<S: SatSolver<A> + Drop, A: Allocator + Copy, L: Listener, W: Write>(
+// Answers about the bad literals that are asked for: these.
+fn answer_about<S: SatSolver<A> + Drop, A: Allocator + Copy, L: Listener, W: Write>(
     alloc: A,
     netlist: &Netlist<A>,
+    bads: &[Literal],
+    asked: Option<usize>,
     plan: &Plan,
     listener: &mut L,
     output: &mut Output<W>,
 ) -> Result<Said<A>, AllocError>
-    ensures tells { IfOk result (λ said.
-        TellsFirst netlist.now.circuit (length netlist.now.circuit.bads.items) said.outcome said.text.items) }
+    requires { AreAsked netlist.now.circuit asked bads.now }
+    ensures tells { IfOk result (λ said. TellsAsked netlist.now.circuit asked said.outcome said.text.items) }
     ensures written { IfOk result (λ said. IsWritten output.old.failure output.new.failure
         (W.contents output.old.writer) (W.contents output.new.writer) said.text.items) }
 {
-    match part_of(alloc, netlist, &netlist.circuit.bads) {
-        Some(part) => answer_all_by::<S, _, _, _>(alloc, netlist, &part, plan, listener, output),
-        None => leave_all(alloc, netlist, listener, output),
+    match part_of(alloc, netlist, bads) {
+        Some(part) => answer_by::<S, _, _, _>(
+            alloc, netlist, bads, asked, &part, plan, listener, output,
+        ),
+        None => leave(alloc, netlist, asked, listener, output),
     }
 }
 
 // The same, by the part of the circuit that they depend on.
-fn answer_all_by<S: SatSolver<A> + Drop, A: Allocator + Copy, L: Listener, W: Write>(
+fn answer_by<S: SatSolver<A> + Drop, A: Allocator + Copy, L: Listener, W: Write>(
     alloc: A,
     netlist: &Netlist<A>,
-    part: &Part<A>,
-    plan: &Plan,
-    listener: &mut L,
-    output: &mut Output<W>,
-) -> Result<Said<A>, AllocError>
-    requires part { IsPartOf part.now.names.names.items part.now.netlist.circuit netlist.now.circuit }
-    requires stand { map (literal_named part.now.names.names.items) part.now.netlist.circuit.bads.items
-        ≡ netlist.now.circuit.bads.items }
-    ensures tells { IfOk result (λ said.
-        TellsFirst netlist.now.circuit (length netlist.now.circuit.bads.items) said.outcome said.text.items) }
-    ensures written { IfOk result (λ said. IsWritten output.old.failure output.new.failure
-        (W.contents output.old.writer) (W.contents output.new.writer) said.text.items) }
-{
-    match Parted::<S, A>::new(alloc, netlist, &netlist.circuit.bads, part, plan) {
-        Ok(parted) => {
-            let mut parted = parted;
-            say_all(alloc, &mut parted, listener, output)
-        }
-        Err(_) => leave_all(alloc, netlist, listener, output),
-    }
-}
-
-// Answers about the bad literal at a place.
-fn answer_at<S: SatSolver<A> + Drop, A: Allocator + Copy, L: Listener, W: Write>(
-    alloc: A,
-    netlist: &Netlist<A>,
-    place: usize,
-    plan: &Plan,
-    listener: &mut L,
-    output: &mut Output<W>,
-) -> Result<Said<A>, AllocError>
-    requires { place < length netlist.now.circuit.bads.items }
-    ensures tells { IfOk result (λ said. Tells netlist.now.circuit place said.outcome said.text.items) }
-    ensures written { IfOk result (λ said. IsWritten output.old.failure output.new.failure
-        (W.contents output.old.writer) (W.contents output.new.writer) said.text.items) }
-{
-    let bads = [netlist.circuit.bads[place]];
-    match part_of(alloc, netlist, &bads) {
-        Some(part) => {
-            answer_at_by::<S, _, _, _>(alloc, netlist, place, &bads, &part, plan, listener, output)
-        }
-        None => leave_one(alloc, netlist, place, listener, output),
-    }
-}
-
-// The same, by the part of the circuit that the only one of these, which stands there, depends on.
-fn answer_at_by<S: SatSolver<A> + Drop, A: Allocator + Copy, L: Listener, W: Write>(
-    alloc: A,
-    netlist: &Netlist<A>,
-    place: usize,
     bads: &[Literal],
+    asked: Option<usize>,
     part: &Part<A>,
     plan: &Plan,
     listener: &mut L,
     output: &mut Output<W>,
 ) -> Result<Said<A>, AllocError>
-    requires within { 0 < length bads.now }
-    requires place { place < length netlist.now.circuit.bads.items }
-    requires same { slice_get netlist.now.circuit.bads.items place ≡ slice_get bads.now 0 }
-    requires part { IsPartOf part.now.names.names.items part.now.netlist.circuit netlist.now.circuit }
-    requires stand { map (literal_named part.now.names.names.items) part.now.netlist.circuit.bads.items ≡ bads.now }
-    ensures tells { IfOk result (λ said. Tells netlist.now.circuit place said.outcome said.text.items) }
+    requires asked { AreAsked netlist.now.circuit asked bads.now }
+    requires part { StandFor part.now.netlist.circuit part.now.netlist.circuit.bads.items
+        netlist.now.circuit bads.now }
+    ensures tells { IfOk result (λ said. TellsAsked netlist.now.circuit asked said.outcome said.text.items) }
     ensures written { IfOk result (λ said. IsWritten output.old.failure output.new.failure
         (W.contents output.old.writer) (W.contents output.new.writer) said.text.items) }
 {
     match Parted::<S, A>::new(alloc, netlist, bads, part, plan) {
-        Ok(parted) => {
-            let mut parted = parted;
-            say_one(alloc, &mut parted, place, listener, output)
-        }
-        Err(_) => leave_one(alloc, netlist, place, listener, output),
+        Ok(parted) => answer_with(alloc, parted, asked, plan, listener, output),
+        Err(_) => leave(alloc, netlist, asked, listener, output),
+    }
+}
+
+// The same, by a search in that part: in what is left of it where equal variables are merged, if that is much smaller and no
+// certificate is wanted.
+fn answer_with<S: SatSolver<A> + Drop, A: Allocator + Copy, L: Listener, W: Write>(
+    alloc: A,
+    mut parted: Parted<'_, S, A>,
+    asked: Option<usize>,
+    plan: &Plan,
+    listener: &mut L,
+    output: &mut Output<W>,
+) -> Result<Said<A>, AllocError>
+    requires { AreAsked parted.whole.now.circuit asked parted.bads.now }
+    ensures tells { IfOk result
+        (λ said. TellsAsked parted.entry.whole.now.circuit asked said.outcome said.text.items) }
+    ensures written { IfOk result (λ said. IsWritten output.old.failure output.new.failure
+        (W.contents output.old.writer) (W.contents output.new.writer) said.text.items) }
+{
+    let first = first_wanted(&parted, asked, output.wanted(), listener);
+    let merges = first != Wanted::Nothing && merges(plan.engine, output.certifying);
+    let left = parted.find_left(alloc, merges, listener);
+    let mut query = Query::new(alloc, parted, &left, plan, first);
+    say(alloc, &mut query, asked, listener, output)
+}
+
+// What is to be found out of the first literal of a search, if it has one.
+fn first_wanted<S: SatSolver<A> + Drop, A: Allocator + Copy, L: Listener>(
+    parted: &Parted<'_, S, A>,
+    asked: Option<usize>,
+    wanted: Wanted,
+    listener: &mut L,
+) -> Wanted {
+    if parted.bads.is_empty() {
+        return Wanted::Nothing;
+    }
+    wanted_at(asked.unwrap_or(0), wanted, listener)
+}
+
+// Whether equal variables are merged where these engines search, and this is certified.
+fn merges(engine: Engine, certifying: Certifying) -> bool {
+    match engine {
+        Engine::Invariants | Engine::All => certifying == Certifying::Nothing,
+        Engine::Simulation | Engine::Bounded | Engine::Ic3 | Engine::Induction => false,
+    }
+}
+
+// Says what is told of the literals that are asked for, about which a search is.
+fn say<S: SatSolver<A> + Drop, A: Allocator + Copy, L: Listener, W: Write>(
+    alloc: A,
+    query: &mut Query<'_, S, A>,
+    asked: Option<usize>,
+    listener: &mut L,
+    output: &mut Output<W>,
+) -> Result<Said<A>, AllocError>
+    requires { AreAsked query.old.whole.now.circuit asked query.old.bads.now }
+    ensures tells { IfOk result
+        (λ said. TellsAsked query.old.whole.now.circuit asked said.outcome said.text.items) }
+    ensures written { IfOk result (λ said. IsWritten output.old.failure output.new.failure
+        (W.contents output.old.writer) (W.contents output.new.writer) said.text.items) }
+{
+    match asked {
+        None => say_all(alloc, query, listener, output),
+        Some(place) => say_one(alloc, query, place, listener, output),
     }
 }
 
 // Says what is told of all literals that a search is about, those of its circuit.
 fn say_all<S: SatSolver<A> + Drop, A: Allocator + Copy, L: Listener, W: Write>(
     alloc: A,
-    parted: &mut Parted<'_, S, A>,
+    query: &mut Query<'_, S, A>,
     listener: &mut L,
     output: &mut Output<W>,
 ) -> Result<Said<A>, AllocError>
-    requires { parted.old.bads.now ≡ parted.old.whole.now.circuit.bads.items }
+    requires { query.old.bads.now ≡ query.old.whole.now.circuit.bads.items }
     ensures tells { IfOk result (λ said.
-        TellsFirst parted.old.whole.now.circuit (length parted.old.bads.now) said.outcome said.text.items) }
+        TellsFirst query.old.whole.now.circuit (length query.old.bads.now) said.outcome said.text.items) }
     ensures written { IfOk result (λ said. IsWritten output.old.failure output.new.failure
         (W.contents output.old.writer) (W.contents output.new.writer) said.text.items) }
 {
-    let told = tell_all(alloc, parted, listener, output)?;
-    Ok(made_of(told, parted.invariant(alloc), parted.k()))
+    let told = tell_all(alloc, query, listener, output)?;
+    Ok(made_of(told, query.invariant(alloc), query.k()))
 }
 
 // Says what is told of the only literal that a search is about, the bad one at a place of its circuit.
 fn say_one<S: SatSolver<A> + Drop, A: Allocator + Copy, L: Listener, W: Write>(
     alloc: A,
-    parted: &mut Parted<'_, S, A>,
+    query: &mut Query<'_, S, A>,
     place: usize,
     listener: &mut L,
     output: &mut Output<W>,
 ) -> Result<Said<A>, AllocError>
-    requires within { 0 < length parted.old.bads.now }
-    requires same { slice_get parted.old.whole.now.circuit.bads.items place ≡ slice_get parted.old.bads.now 0 }
-    ensures tells { IfOk result (λ said. Tells parted.old.whole.now.circuit place said.outcome said.text.items) }
+    requires within { 0 < length query.old.bads.now }
+    requires same { slice_get query.old.whole.now.circuit.bads.items place ≡ slice_get query.old.bads.now 0 }
+    ensures tells { IfOk result (λ said. Tells query.old.whole.now.circuit place said.outcome said.text.items) }
     ensures written { IfOk result (λ said. IsWritten output.old.failure output.new.failure
         (W.contents output.old.writer) (W.contents output.new.writer) said.text.items) }
 {
-    let told = tell_at(alloc, parted, 0, place, listener, output)?;
-    Ok(made_of(told, parted.invariant(alloc), parted.k()))
+    let told = tell_at(alloc, query, 0, place, listener, output)?;
+    Ok(made_of(told, query.invariant(alloc), query.k()))
 }
 
 // What is told, with an invariant and a k.
@@ -293,20 +323,20 @@ fn made_of<A: Allocator>(
 // Tells of all literals that a search is about, those of its circuit.
 fn tell_all<S: SatSolver<A> + Drop, A: Allocator + Copy, L: Listener, W: Write>(
     alloc: A,
-    parted: &mut Parted<'_, S, A>,
+    query: &mut Query<'_, S, A>,
     listener: &mut L,
     output: &mut Output<W>,
 ) -> Result<Told<A>, AllocError>
-    requires { parted.old.bads.now ≡ parted.old.whole.now.circuit.bads.items }
+    requires { query.old.bads.now ≡ query.old.whole.now.circuit.bads.items }
     ensures tells { IfOk result (λ told.
-        TellsFirst parted.old.whole.now.circuit (length parted.old.bads.now) told.outcome told.text.items) }
+        TellsFirst query.old.whole.now.circuit (length query.old.bads.now) told.outcome told.text.items) }
     ensures written { IfOk result (λ told. IsWritten output.old.failure output.new.failure
         (W.contents output.old.writer) (W.contents output.new.writer) told.text.items) }
 {
     let mut text = Vec::new(alloc);
     let mut outcome = Outcome::Safe;
-    for place in 0..parted.bads.len() {
-        let told = tell_at(alloc, parted, place, place, listener, output)?;
+    for place in 0..query.bads.len() {
+        let told = tell_at(alloc, query, place, place, listener, output)?;
         text.extend_from_slice(&told.text)?;
         outcome = outcome.and(told.outcome);
     }
@@ -316,30 +346,44 @@ fn tell_all<S: SatSolver<A> + Drop, A: Allocator + Copy, L: Listener, W: Write>(
 // Tells of the literal at one of a search's places, which is the bad one at a place of the circuit.
 fn tell_at<S: SatSolver<A> + Drop, A: Allocator + Copy, L: Listener, W: Write>(
     alloc: A,
-    parted: &mut Parted<'_, S, A>,
+    query: &mut Query<'_, S, A>,
     at: usize,
     place: usize,
     listener: &mut L,
     output: &mut Output<W>,
 ) -> Result<Told<A>, AllocError>
-    requires within { at < length parted.old.bads.now }
-    requires same { slice_get parted.old.whole.now.circuit.bads.items place ≡ slice_get parted.old.bads.now at }
-    ensures whole { parted.new.whole ≡ parted.old.whole }
-    ensures bads { parted.new.bads ≡ parted.old.bads }
-    ensures tells { IfOk result (λ told. Tells parted.old.whole.now.circuit place told.outcome told.text.items) }
+    requires within { at < length query.old.bads.now }
+    requires same { slice_get query.old.whole.now.circuit.bads.items place ≡ slice_get query.old.bads.now at }
+    ensures whole { query.new.whole ≡ query.old.whole }
+    ensures bads { query.new.bads ≡ query.old.bads }
+    ensures tells { IfOk result (λ told. Tells query.old.whole.now.circuit place told.outcome told.text.items) }
     ensures written { IfOk result (λ told. IsWritten output.old.failure output.new.failure
         (W.contents output.old.writer) (W.contents output.new.writer) told.text.items) }
 {
-    let bad = parted.bads[at];
-    let wanted = wanted_at(place, output.wanted(), listener);
-    let mut text = tell_depths(alloc, parted, at, bad, wanted, listener, output)?;
-    let verdict = parted.find_out(alloc, at, wanted, listener);
-    let told = tell(alloc, place, &verdict, output)?;
+    let bad = query.bads[at];
+    let wanted = wanted_of(query, at, place, output.wanted(), listener);
+    let mut text = tell_depths(alloc, query, at, bad, wanted, listener, output)?;
+    let known = query.find_out(alloc, at, wanted, listener);
+    let told = tell(alloc, place, &known, output)?;
     text.extend_from_slice(&told.text)?;
     Ok(Told {
         text,
         outcome: told.outcome,
     })
+}
+
+// What is to be found out of the literal at one of a search's places, which is the bad one at a place of the circuit.
+fn wanted_of<S: SatSolver<A> + Drop, A: Allocator + Copy, L: Listener>(
+    query: &Query<'_, S, A>,
+    at: usize,
+    place: usize,
+    wanted: Wanted,
+    listener: &mut L,
+) -> Wanted {
+    if at == 0 {
+        return query.first;
+    }
+    wanted_at(place, wanted, listener)
 }
 
 // What is to be found out of the literal at a place: nothing if the search is over, or a listener has no time for it.
@@ -357,17 +401,17 @@ const DOUBLINGS: usize = 64;
 // depths nothing fails, each of which is more than twice the one before.
 fn tell_depths<S: SatSolver<A> + Drop, A: Allocator + Copy, L: Listener, W: Write>(
     alloc: A,
-    parted: &mut Parted<'_, S, A>,
+    query: &mut Query<'_, S, A>,
     at: usize,
     bad: Literal,
     wanted: Wanted,
     listener: &mut L,
     output: &mut Output<W>,
 ) -> Result<Vec<u8, A>, AllocError>
-    requires { slice_get parted.old.bads.now at ≡ Some bad }
-    ensures whole { parted.new.whole ≡ parted.old.whole }
-    ensures bads { parted.new.bads ≡ parted.old.bads }
-    ensures depths { IfOk result (λ text. TellsDepths parted.old.whole.now.circuit bad text.items) }
+    requires { slice_get query.old.bads.now at ≡ Some bad }
+    ensures whole { query.new.whole ≡ query.old.whole }
+    ensures bads { query.new.bads ≡ query.old.bads }
+    ensures depths { IfOk result (λ text. TellsDepths query.old.whole.now.circuit bad text.items) }
     ensures written { IfOk result (λ text. IsWritten output.old.failure output.new.failure
         (W.contents output.old.writer) (W.contents output.new.writer) text.items) }
 {
@@ -378,7 +422,7 @@ fn tell_depths<S: SatSolver<A> + Drop, A: Allocator + Copy, L: Listener, W: Writ
     }
     let mut next: usize = 0;
     for _ in 0..DOUBLINGS {
-        let Some(depth) = parted.clear(alloc, at, next, listener) else {
+        let Some(depth) = query.clear(alloc, at, next, listener) else {
             return Ok(text);
         };
         tell_depth(alloc, depth, &mut text, output)?;
@@ -415,7 +459,26 @@ fn depth_text<A: Allocator + Copy>(alloc: A, depth: usize) -> Result<Vec<u8, A>,
     Ok(text)
 }
 
-// Leaves all bad literals of a circuit open: there is no memory for a search.
+// Leaves the bad literals that are asked for open: there is no memory for a search.
+fn leave<A: Allocator + Copy, L: Listener, W: Write>(
+    alloc: A,
+    netlist: &Netlist<A>,
+    asked: Option<usize>,
+    listener: &mut L,
+    output: &mut Output<W>,
+) -> Result<Said<A>, AllocError>
+    requires { (place : ℕ) → asked ≡ Some place → place < length netlist.now.circuit.bads.items }
+    ensures tells { IfOk result (λ said. TellsAsked netlist.now.circuit asked said.outcome said.text.items) }
+    ensures written { IfOk result (λ said. IsWritten output.old.failure output.new.failure
+        (W.contents output.old.writer) (W.contents output.new.writer) said.text.items) }
+{
+    match asked {
+        None => leave_all(alloc, netlist, listener, output),
+        Some(place) => leave_one(alloc, netlist, place, listener, output),
+    }
+}
+
+// Leaves all of them open.
 fn leave_all<A: Allocator + Copy, L: Listener, W: Write>(
     alloc: A,
     netlist: &Netlist<A>,
@@ -469,7 +532,7 @@ fn leave_at<A: Allocator + Copy, L: Listener, W: Write>(
 {
     let _bad = netlist.circuit.bads[place];
     note_refused(place, output.is_over(), listener);
-    tell(alloc, place, &Verdict::Unknown, output)
+    tell(alloc, place, &Known::Nothing, output)
 }
 
 // Tells a listener that memory is refused for the search about the bad literal at a place, unless it is over.
@@ -480,57 +543,55 @@ fn note_refused<L: Listener>(place: usize, is_over: bool, listener: &mut L) {
     listener.end(true);
 }
 
-// Tells of the bad literal at a place by a verdict.
+// Tells what is known of the bad literal at a place.
 fn tell<A: Allocator + Copy, W: Write>(
     alloc: A,
     place: usize,
-    verdict: &Verdict<A>,
+    known: &Known<A>,
     output: &mut Output<W>,
 ) -> Result<Told<A>, AllocError>
-    ensures tells { IfOk result (λ told. TellsBy place verdict.now told.outcome told.text.items) }
+    ensures tells { IfOk result (λ told. TellsBy place known.now told.outcome told.text.items) }
     ensures written { IfOk result (λ told. IsWritten output.old.failure output.new.failure
         (W.contents output.old.writer) (W.contents output.new.writer) told.text.items) }
 {
-    let text = verdict_text(alloc, place, verdict)?;
+    let text = known_text(alloc, place, known)?;
     output.tell(&text);
     Ok(Told {
         text,
-        outcome: outcome_of(verdict),
+        outcome: outcome_of(known),
     })
 }
 
-// What a verdict says of its literal.
-fn outcome_of<A: Allocator>(verdict: &Verdict<A>) -> Outcome
-    ensures { result ≡ outcome_of verdict.now }
+// What is known of a literal, in a word.
+fn outcome_of<A: Allocator>(known: &Known<A>) -> Outcome
+    ensures { result ≡ outcome_of known.now }
 {
-    match verdict {
-        Verdict::Fails(_) => Outcome::Fails,
-        Verdict::Safe(_) => Outcome::Safe,
-        Verdict::Inductive(_) => Outcome::Safe,
-        Verdict::NoFailureWithin(_) => Outcome::Open,
-        Verdict::Unknown => Outcome::Open,
+    match known {
+        Known::Fails(_) => Outcome::Fails,
+        Known::Safe => Outcome::Safe,
+        Known::NoFailureWithin(_) => Outcome::Open,
+        Known::Nothing => Outcome::Open,
     }
 }
 
-// The text of a verdict on the bad literal at a place.
-fn verdict_text<A: Allocator + Copy>(
+// The text of what is known of the bad literal at a place.
+fn known_text<A: Allocator + Copy>(
     alloc: A,
     place: usize,
-    verdict: &Verdict<A>,
+    known: &Known<A>,
 ) -> Result<Vec<u8, A>, AllocError>
-    ensures text { IfOk result (λ text. text.items ≡ verdict_text place verdict.now) }
+    ensures text { IfOk result (λ text. text.items ≡ known_text place known.now) }
     ensures small { IfOk result (λ text. place < 2 ^ 31) }
 {
     if place > GREATEST {
         return Err(AllocError);
     }
     let place = place as u32;
-    match verdict {
-        Verdict::Fails(trace) => write_witness(alloc, place, trace),
-        Verdict::Safe(_) => named(alloc, b"0", place),
-        Verdict::Inductive(_) => named(alloc, b"0", place),
-        Verdict::NoFailureWithin(depth) => within(alloc, *depth, place),
-        Verdict::Unknown => named(alloc, b"2", place),
+    match known {
+        Known::Fails(trace) => write_witness(alloc, place, trace),
+        Known::Safe => named(alloc, b"0", place),
+        Known::NoFailureWithin(depth) => within(alloc, *depth, place),
+        Known::Nothing => named(alloc, b"2", place),
     }
 }
 

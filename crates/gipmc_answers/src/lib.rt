@@ -6,9 +6,13 @@ pub mod answers;
 pub mod certificates;
 pub mod error;
 pub mod induction;
+pub mod known;
+mod left;
 pub mod listener;
+mod meter;
 pub mod output;
 mod parted;
+mod query;
 mod strengthened;
 pub mod witnesses;
 
@@ -18,6 +22,7 @@ pub use certificates::{
 };
 pub use error::TaskError;
 pub use induction::InductionDoubt;
+pub use known::Known;
 pub use listener::Listener;
-pub use output::{Lost, Output, Traces};
+pub use output::{Certifying, Lost, Output, Traces};
 pub use witnesses::{WitnessDoubt, replays, witness_doubt};

@@ -21,6 +21,18 @@ pub enum Traces {
     Shortest,
 }
 
+/// What a certificate is made of that shows what is safe.
+#[derive(Clone, Copy, PartialEq, Eq)]
+pub enum Certifying {
+    /// Clauses over latches, as [`certificate_of`](crate::certificate_of) takes them, or a k.
+    Clauses,
+    /// A circuit, as [`witness_circuit_of`](crate::witness_circuit_of) makes it.
+    Circuit,
+    /// No certificate is wanted. Equal latches and gates may be merged in a search that takes long, and what is shown of the
+    /// rest makes no certificate of the circuit.
+    Nothing,
+}
+
 // What a search is to find out.
 #[derive(Clone, Copy, PartialEq, Eq)]
 pub(crate) enum Wanted {
@@ -43,19 +55,23 @@ pub struct Output<W: Write> {
     pub lost: Lost,
     /// Which traces are written.
     pub traces: Traces,
+    /// What a certificate is to be made of.
+    pub certifying: Certifying,
     /// Whether a line `u N` is written before an answer each time that nothing is known to fail within more than twice as
     /// many transitions.
     pub progress: bool,
 }
 
 impl<W: Write> Output<W> {
-    /// Before the first text. The traces are those that are found, and no progress is written.
+    /// Before the first text. The traces are those that are found, a certificate is made of clauses, and no progress is
+    /// written.
     pub fn new(writer: W, lost: Lost) -> Self {
         Output {
             writer,
             failure: None,
             lost,
             traces: Traces::Found,
+            certifying: Certifying::Clauses,
             progress: false,
         }
     }

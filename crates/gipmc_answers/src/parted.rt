@@ -1,18 +1,35 @@
-//! Searches in a part of a circuit: what its bad literals and the constraints depend on.
+//! Searches in a part of a circuit, what its bad literals and the constraints depend on, or in what is left of that.
 ghost use Rattle.std.specs.Prelude.{◌≡◌, ◌<◌, length, map, slice_get, Some, IfOk, IfSome};
 ghost use Rattle.gipsat_cnf.specs.Literals.{Lit};
+ghost use Rattle.gipmc_answers.specs.Answers.{IsKnown};
+ghost use Rattle.gipmc_answers.specs.Left.{StandFor, StandsFor};
+ghost use Rattle.gipmc_answers.specs.declared.known.Known.TheVariants.{NoFailureWithin};
 ghost use Rattle.gipmc_engines.specs.Several.{verdict_by};
 ghost use Rattle.gipmc_engines.specs.Verdicts.{IsRightVerdict, NeverFailsWithin};
-ghost use Rattle.gipmc_engines.specs.declared.verdict.Verdict.TheVariants.{NoFailureWithin};
 ghost use Rattle.gipmc_part.specs.Parts.{IsPartOf, literal_named};
 
+use crate::known::Known;
+use crate::left::Left;
 use crate::listener::Listener;
+use crate::meter::Meter;
 use crate::output::Wanted;
 use gipmc_circuits::{Netlist, Trace, replay};
-use gipmc_engines::{Bounds, Finding, Joint, Plan, Verdict, search};
+use gipmc_engines::{Bounds, Finding, Joint, Plan, Tries, Verdict, search};
 use gipmc_part::Part;
 use gipsat_cnf::{Literal, SatSolver};
 use std::alloc::{AllocError, Allocator};
+
+// How many literals IC3 propagates before what is left is looked for.
+const FIRST: u64 = 200_000;
+
+// How many times as much it does until that is tried again.
+const LATER: u64 = 8;
+
+// How often it is tried.
+const SWEEPS: usize = 3;
+
+// Which part of what IC3 propagated a sweep may do.
+const SHARE: u64 = 2;
 
 /// The part of a circuit that some of its literals depend on. None where memory is refused, or where one of them is of no
 /// variable of the circuit.
@@ -31,25 +48,28 @@ pub(crate) fn part_of<A: Allocator + Copy>(
     }
 }
 
-/// One search about some literals of a circuit, in a part of it.
+/// One search about some literals of a circuit, in a part of it or in what is left of that.
 #[derive(Drop)]
 pub(crate) struct Parted<'a, S: SatSolver<A> + Drop, A: Allocator> {
     /// The whole circuit.
     pub(crate) whole: &'a Netlist<A>,
     /// Its literals.
     pub(crate) bads: &'a [Literal],
-    part: &'a Part<A>,
-    // The search about those that stand for them.
+    /// The part.
+    pub(crate) part: &'a Part<A>,
+    // What is left of it, if the search is about that.
+    left: Option<&'a Left<A>>,
+    // The search about the literals that stand for those of the circuit.
     joint: Joint<'a, S, A>,
     // How many clauses a question about shorter traces may learn.
     limit: usize,
-    pub ghost is_part: { ∥ IsPartOf part.now.names.names.items part.now.netlist.circuit whole.now.circuit ∥₁ },
-    pub ghost same: { joint.findings.netlist.now ≡ part.now.netlist },
-    pub ghost stand: { map (literal_named part.now.names.names.items) joint.findings.bads.now ≡ bads.now },
+    pub ghost part_stands: { StandFor part.now.netlist.circuit part.now.netlist.circuit.bads.items
+        whole.now.circuit bads.now },
+    pub ghost stand: { StandFor joint.findings.netlist.now.circuit joint.findings.bads.now whole.now.circuit bads.now },
 }
 
 impl<'a, S: SatSolver<A> + Drop, A: Allocator + Copy> Parted<'a, S, A> {
-    /// Before the search.
+    /// Before the search in a part.
     ///
     /// # Errors
     /// `AllocError` where memory is refused.
@@ -60,18 +80,115 @@ impl<'a, S: SatSolver<A> + Drop, A: Allocator + Copy> Parted<'a, S, A> {
         part: &'a Part<A>,
         plan: &Plan,
     ) -> Result<Self, AllocError>
-        requires part { IsPartOf part.now.names.names.items part.now.netlist.circuit whole.now.circuit }
-        requires stand { map (literal_named part.now.names.names.items) part.now.netlist.circuit.bads.items ≡ bads.now }
-        ensures { IfOk result (λ p. (p.whole.now ≡ whole.now) × (p.bads.now ≡ bads.now)) }
+        requires { StandFor part.now.netlist.circuit part.now.netlist.circuit.bads.items whole.now.circuit bads.now }
+        ensures whole { IfOk result (λ p. p.whole.now ≡ whole.now) }
+        ensures bads { IfOk result (λ p. p.bads.now ≡ bads.now) }
     {
         let joint = Joint::new(alloc, &part.netlist, &part.netlist.circuit.bads, plan)?;
         Ok(Parted {
             whole,
             bads,
             part,
+            left: None,
             joint,
             limit: plan.bounds.limit,
         })
+    }
+
+    /// Before the search in what is left of a part. It begins without simulation, which has been in the part.
+    ///
+    /// # Errors
+    /// `AllocError` where memory is refused.
+    pub(crate) fn in_left(
+        alloc: A,
+        whole: &'a Netlist<A>,
+        bads: &'a [Literal],
+        part: &'a Part<A>,
+        left: &'a Left<A>,
+        plan: &Plan,
+    ) -> Result<Self, AllocError>
+        requires part { StandFor part.now.netlist.circuit part.now.netlist.circuit.bads.items
+            whole.now.circuit bads.now }
+        requires left { StandFor left.now.part.netlist.circuit left.now.part.netlist.circuit.bads.items
+            whole.now.circuit bads.now }
+        ensures whole { IfOk result (λ p. p.whole.now ≡ whole.now) }
+        ensures bads { IfOk result (λ p. p.bads.now ≡ bads.now) }
+    {
+        let netlist = &left.part.netlist;
+        let joint = Joint::new(
+            alloc,
+            netlist,
+            &netlist.circuit.bads,
+            &without_simulation(plan),
+        )?;
+        Ok(Parted {
+            whole,
+            bads,
+            part,
+            left: Some(left),
+            joint,
+            limit: plan.bounds.limit,
+        })
+    }
+
+    /// Goes on with the search about the first literal, and now and then tries to find out what is left of the part, by a
+    /// part of the work that the search has done. None where nothing is to be merged, where the literal is decided before, and
+    /// where that work does not suffice.
+    pub(crate) fn find_left<L: Listener>(
+        &mut self,
+        alloc: A,
+        merges: bool,
+        listener: &mut L,
+    ) -> Option<Left<A>>
+        ensures whole { self.new.whole ≡ self.old.whole }
+        ensures bads { self.new.bads ≡ self.old.bads }
+        ensures left { IfSome result (λ left. StandFor left.part.netlist.circuit
+            left.part.netlist.circuit.bads.items self.old.whole.now.circuit self.old.bads.now) }
+    {
+        if !merges {
+            return None;
+        }
+        let mut done = FIRST;
+        for _ in 0..SWEEPS {
+            done = self.go_on_to(done, listener)?;
+            let left = self.sweep(alloc, done / SHARE);
+            if left.is_some() {
+                return left;
+            }
+            done = done.saturating_mul(LATER);
+        }
+        None
+    }
+
+    // What is left of the part, if so much work suffices to find that out.
+    fn sweep(&self, alloc: A, work: u64) -> Option<Left<A>>
+        ensures { IfSome result (λ left. StandFor left.part.netlist.circuit
+            left.part.netlist.circuit.bads.items self.now.whole.now.circuit self.now.bads.now) }
+    {
+        Left::of::<S>(alloc, &self.part.netlist, work)
+    }
+
+    // Goes on with the search about the first literal, until IC3 has propagated so many literals, and answers how many it
+    // has. None where the literal is decided before, or the search cannot go on.
+    fn go_on_to<L: Listener>(&mut self, propagations: u64, listener: &mut L) -> Option<u64>
+        ensures whole { self.new.whole ≡ self.old.whole }
+        ensures bads { self.new.bads ≡ self.old.bads }
+    {
+        let mut meter = Meter::new(listener);
+        for depth in 0..usize::MAX {
+            if !self.joint.find_out_to(0, depth, &mut meter) {
+                return None;
+            }
+            if meter.propagations >= propagations {
+                return Some(meter.propagations);
+            }
+        }
+        None
+    }
+
+    /// Whether nothing is decided about the literal at a place.
+    pub(crate) fn is_open(&self, at: usize) -> bool {
+        self.joint.findings.is_open(at)
     }
 
     /// Goes on until the literal at one of the places is decided, and answers what is known of it then, by a shortest trace
@@ -82,12 +199,12 @@ impl<'a, S: SatSolver<A> + Drop, A: Allocator + Copy> Parted<'a, S, A> {
         at: usize,
         wanted: Wanted,
         listener: &mut L,
-    ) -> Verdict<A>
+    ) -> Known<A>
         requires { at < length self.old.bads.now }
         ensures whole { self.new.whole ≡ self.old.whole }
         ensures bads { self.new.bads ≡ self.old.bads }
         ensures right { (bad : Lit) → slice_get self.old.bads.now at ≡ Some bad →
-            IsRightVerdict self.old.whole.now.circuit bad result }
+            IsKnown self.old.whole.now.circuit bad result }
     {
         if wanted == Wanted::Nothing {
             return self.known(alloc, at);
@@ -117,8 +234,8 @@ impl<'a, S: SatSolver<A> + Drop, A: Allocator + Copy> Parted<'a, S, A> {
         if !self.joint.find_out_to(at, depth, listener) {
             return None;
         }
-        let verdict = self.known(alloc, at);
-        depth_of(&verdict)
+        let known = self.known(alloc, at);
+        depth_of(&known)
     }
 
     // Tells a listener which engine decided the literal at a place, if it is decided.
@@ -133,55 +250,55 @@ impl<'a, S: SatSolver<A> + Drop, A: Allocator + Copy> Parted<'a, S, A> {
 
     // What is told of the literal at a place: what is known, and where that is a trace, a shortest one if that is wanted and
     // found.
-    fn told<L: Listener>(&self, alloc: A, at: usize, wanted: Wanted, listener: &mut L) -> Verdict<A>
+    fn told<L: Listener>(&self, alloc: A, at: usize, wanted: Wanted, listener: &mut L) -> Known<A>
         requires { at < length self.now.bads.now }
         ensures { (bad : Lit) → slice_get self.now.bads.now at ≡ Some bad →
-            IsRightVerdict self.now.whole.now.circuit bad result }
+            IsKnown self.now.whole.now.circuit bad result }
     {
-        let verdict = self.known(alloc, at);
+        let known = self.known(alloc, at);
         if wanted != Wanted::Shortest {
-            return verdict;
+            return known;
         }
-        let Some(moments) = moments_of(&verdict) else {
-            return verdict;
+        let Some(moments) = moments_of(&known) else {
+            return known;
         };
         match self.shorter(alloc, at, moments, listener) {
             Some(shorter) => shorter,
-            None => verdict,
+            None => known,
         }
     }
 
-    // That the literal at a place fails by a shortest trace, by bounded model checking in the part, if one is found that has
-    // fewer moments than so many. The listener is told whether there is known to be none that is shorter still.
+    // That the literal at a place fails by a shortest trace, by bounded model checking, if one is found that has fewer moments
+    // than so many. The listener is told whether there is known to be none that is shorter still.
     fn shorter<L: Listener>(
         &self,
         alloc: A,
         at: usize,
         moments: usize,
         listener: &mut L,
-    ) -> Option<Verdict<A>>
+    ) -> Option<Known<A>>
         requires { at < length self.now.bads.now }
-        ensures { IfSome result (λ verdict. (bad : Lit) → slice_get self.now.bads.now at ≡ Some bad →
-            IsRightVerdict self.now.whole.now.circuit bad verdict) }
+        ensures { IfSome result (λ known. (bad : Lit) → slice_get self.now.bads.now at ≡ Some bad →
+            IsKnown self.now.whole.now.circuit bad known) }
     {
         let bad = self.bads[at];
-        let (trace, is_shortest) = self.shorter_in_part(alloc, at, moments, listener);
+        let (trace, is_shortest) = self.shorter_trace(alloc, at, moments, listener);
         listener.end_shortening(is_shortest);
         let Some(trace) = trace else {
             return None;
         };
-        let Ok(verdict) = self.fails_by(alloc, bad, &trace) else {
+        let Ok(known) = self.fails_by(alloc, bad, &trace) else {
             return None;
         };
-        if moments_of(&verdict).is_none() {
+        if moments_of(&known).is_none() {
             return None;
         }
-        Some(verdict)
+        Some(known)
     }
 
-    // A trace of the part on which its literal at a place becomes true, if one is found that has fewer moments than so many,
-    // and whether there is known to be none that is shorter still.
-    fn shorter_in_part<L: Listener>(
+    // A trace of the circuit that is searched on which its literal at a place becomes true, if one is found that has fewer
+    // moments than so many, and whether there is known to be none that is shorter still.
+    fn shorter_trace<L: Listener>(
         &self,
         alloc: A,
         at: usize,
@@ -199,7 +316,7 @@ impl<'a, S: SatSolver<A> + Drop, A: Allocator + Copy> Parted<'a, S, A> {
             limit: self.limit,
             ..Bounds::default()
         };
-        match search::<S, A, L>(alloc, &self.part.netlist, own, bounds, listener) {
+        match search::<S, A, L>(alloc, self.joint.findings.netlist, own, bounds, listener) {
             Ok(Verdict::Fails(trace)) => (Some(trace), true),
             Ok(Verdict::NoFailureWithin(cleared)) => (None, cleared >= depth),
             _ => (None, false),
@@ -207,35 +324,34 @@ impl<'a, S: SatSolver<A> + Drop, A: Allocator + Copy> Parted<'a, S, A> {
     }
 
     // Whether a literal is left open since memory was refused.
-    fn is_refused(&self, at: usize, verdict: &Verdict<A>) -> bool {
+    fn is_refused(&self, at: usize, known: &Known<A>) -> bool {
         let is_lost = self.joint.is_refused || !self.joint.findings.is_open(at);
-        match verdict {
-            Verdict::Fails(_) => false,
-            Verdict::Safe(_) => false,
-            Verdict::Inductive(_) => false,
-            Verdict::NoFailureWithin(_) => is_lost,
-            Verdict::Unknown => is_lost,
+        match known {
+            Known::Fails(_) => false,
+            Known::Safe => false,
+            Known::NoFailureWithin(_) => is_lost,
+            Known::Nothing => is_lost,
         }
     }
 
-    // What is known of the literal at a place: nothing where memory is refused.
-    fn known(&self, alloc: A, at: usize) -> Verdict<A>
+    /// What is known of the literal at a place: nothing where memory is refused.
+    pub(crate) fn known(&self, alloc: A, at: usize) -> Known<A>
         requires { at < length self.now.bads.now }
         ensures { (bad : Lit) → slice_get self.now.bads.now at ≡ Some bad →
-            IsRightVerdict self.now.whole.now.circuit bad result }
+            IsKnown self.now.whole.now.circuit bad result }
     {
         match self.carried(alloc, at) {
-            Ok(verdict) => verdict,
-            Err(_) => Verdict::Unknown,
+            Ok(known) => known,
+            Err(_) => Known::Nothing,
         }
     }
 
-    // The finding about the literal at a place, as a verdict on the whole circuit.
-    fn carried(&self, alloc: A, at: usize) -> Result<Verdict<A>, AllocError>
+    // What the finding about the literal at a place says of the whole circuit.
+    fn carried(&self, alloc: A, at: usize) -> Result<Known<A>, AllocError>
         requires within { at < length self.now.bads.now }
         requires own { at < length self.now.joint.findings.bads.now }
-        ensures { IfOk result (λ verdict. (bad : Lit) → slice_get self.now.bads.now at ≡ Some bad →
-            IsRightVerdict self.now.whole.now.circuit bad verdict) }
+        ensures { IfOk result (λ known. (bad : Lit) → slice_get self.now.bads.now at ≡ Some bad →
+            IsKnown self.now.whole.now.circuit bad known) }
     {
         let bad = self.bads[at];
         let own = self.joint.findings.bads[at];
@@ -244,51 +360,54 @@ impl<'a, S: SatSolver<A> + Drop, A: Allocator + Copy> Parted<'a, S, A> {
             return self.fails_by(alloc, bad, trace);
         }
         if self.joint.findings.is_shown(alloc, at)? {
-            self.on_whole(alloc, bad, own, finding)
+            Ok(self.on_whole(bad, own, finding))
         } else {
-            Ok(Verdict::Unknown)
+            Ok(Known::Nothing)
         }
     }
 
-    // That the whole circuit fails, where a trace of the part, carried to it, is a counterexample.
-    fn fails_by(&self, alloc: A, bad: Literal, trace: &Trace<A>) -> Result<Verdict<A>, AllocError>
-        ensures { IfOk result (IsRightVerdict self.now.whole.now.circuit bad) }
+    // That the whole circuit fails, where a trace of the one that is searched, carried to it, is a counterexample.
+    fn fails_by(&self, alloc: A, bad: Literal, trace: &Trace<A>) -> Result<Known<A>, AllocError>
+        ensures { IfOk result (IsKnown self.now.whole.now.circuit bad) }
     {
-        let trace = self.part.trace_of(alloc, self.whole, trace)?;
+        let trace = self.trace_of(alloc, trace)?;
         if replay(alloc, self.whole, bad, &trace)? {
-            Ok(Verdict::Fails(trace))
+            Ok(Known::Fails(trace))
         } else {
-            Ok(Verdict::Unknown)
+            Ok(Known::Nothing)
         }
     }
 
-    // The verdict on the whole circuit, by a finding about the part's literal that stands for the bad one.
-    fn on_whole(
-        &self,
-        alloc: A,
-        bad: Literal,
-        own: Literal,
-        finding: &Finding<A>,
-    ) -> Result<Verdict<A>, AllocError>
-        requires bad { literal_named self.now.part.now.names.names.items own ≡ bad }
+    // The trace of the whole circuit that goes on as one of the circuit that is searched does.
+    fn trace_of(&self, alloc: A, trace: &Trace<A>) -> Result<Trace<A>, AllocError> {
+        match self.left {
+            Some(left) => {
+                let trace = left.trace_of(alloc, &self.part.netlist, trace)?;
+                self.part.trace_of(alloc, self.whole, &trace)
+            }
+            None => self.part.trace_of(alloc, self.whole, trace),
+        }
+    }
+
+    // What a finding about the literal that stands for the bad one says of the whole circuit.
+    fn on_whole(&self, bad: Literal, own: Literal, finding: &Finding<A>) -> Known<A>
+        requires stands { StandsFor self.now.joint.findings.netlist.now.circuit own self.now.whole.now.circuit bad }
         requires right { IsRightVerdict self.now.joint.findings.netlist.now.circuit own
             (verdict_by self.now.joint.findings.invariant finding.now) }
-        ensures { IfOk result (IsRightVerdict self.now.whole.now.circuit bad) }
+        ensures { IsKnown self.now.whole.now.circuit bad result }
     {
         let (_of, _own) = (bad, own);
         match finding {
-            Finding::Fails(_) => Ok(Verdict::Unknown),
-            Finding::Safe => {
-                let clauses = &self.joint.findings.invariant;
-                Ok(Verdict::Safe(self.part.names.clauses_of(alloc, clauses)?))
-            }
-            Finding::Inductive(k) => Ok(Verdict::Inductive(*k)),
-            Finding::NoFailureWithin(depth) => Ok(Verdict::NoFailureWithin(*depth)),
-            Finding::Unknown => Ok(Verdict::Unknown),
+            Finding::Fails(_) => Known::Nothing,
+            Finding::Safe => Known::Safe,
+            Finding::Inductive(_) => Known::Safe,
+            Finding::NoFailureWithin(depth) => Known::NoFailureWithin(*depth),
+            Finding::Unknown => Known::Nothing,
         }
     }
 
-    /// The clauses of the invariant that was found, over the variables of the whole circuit; none where memory is refused.
+    /// The clauses of the invariant that was found in the part, over the variables of the whole circuit; none where memory is
+    /// refused.
     pub(crate) fn invariant(&self, alloc: A) -> Vec<Vec<Literal, A>, A> {
         let clauses = &self.joint.findings.invariant;
         match self.part.names.clauses_of(alloc, clauses) {
@@ -315,20 +434,31 @@ fn greater<A: Allocator>(greatest: Option<usize>, finding: &Finding<A>) -> Optio
     Some(greatest.unwrap_or(0).max(*k))
 }
 
-// How many moments the trace of a verdict has, if it has one.
-fn moments_of<A: Allocator>(verdict: &Verdict<A>) -> Option<usize> {
-    match verdict {
-        Verdict::Fails(trace) => Some(trace.inputs.len()),
+// How many moments a trace has that is known.
+fn moments_of<A: Allocator>(known: &Known<A>) -> Option<usize> {
+    match known {
+        Known::Fails(trace) => Some(trace.inputs.len()),
         _ => None,
     }
 }
 
-// Up to how many transitions a verdict says that nothing fails, if it says that.
-fn depth_of<A: Allocator>(verdict: &Verdict<A>) -> Option<usize>
-    ensures { IfSome result (λ n. verdict.now ≡ NoFailureWithin n) }
+// Up to how many transitions it is known that nothing fails, if that is all.
+fn depth_of<A: Allocator>(known: &Known<A>) -> Option<usize>
+    ensures { IfSome result (λ n. known.now ≡ NoFailureWithin n) }
 {
-    match verdict {
-        Verdict::NoFailureWithin(depth) => Some(*depth),
+    match known {
+        Known::NoFailureWithin(depth) => Some(*depth),
         _ => None,
+    }
+}
+
+// The same plan without simulation.
+fn without_simulation(plan: &Plan) -> Plan {
+    Plan {
+        tries: Tries {
+            rounds: 0,
+            ..plan.tries
+        },
+        ..*plan
     }
 }

@@ -1,8 +1,8 @@
 //! What is answered, and what a write that is lost ends.
 
-use crate::circuits::{HELD, KEPT, NONE, SWAPPED, TWO};
+use crate::circuits::{COPIES, HELD, KEPT, NONE, SWAPPED, TWO};
 use crate::example::answered;
-use gipmc_answers::{Lost, Outcome, Output, TaskError, answer};
+use gipmc_answers::{Certifying, Lost, Outcome, Output, TaskError, answer};
 use gipmc_engines::Plan;
 use giputils_refusing::devices::{Failure, Sink};
 use std::alloc::Global;
@@ -14,6 +14,7 @@ const ANSWERS: &[(&[u8], Outcome, Option<u8>)] = &[
     (KEPT, Outcome::Safe, Some(b'0')),
     (TWO, Outcome::Fails, Some(b'0')),
     (NONE, Outcome::Safe, None),
+    (COPIES, Outcome::Safe, Some(b'0')),
 ];
 
 #[test]
@@ -21,6 +22,23 @@ fn answers_about_all_bad_literals(rt: HostRuntime) -> Result<(), TaskError> {
     for &(circuit, outcome, first) in ANSWERS {
         let (found, text) = answered(rt.alloc(), circuit)?;
         assert!(rt; found == outcome && text.first().copied() == first);
+    }
+    Ok(())
+}
+
+// The same where no certificate is wanted.
+fn uncertified(alloc: Global, circuit: &[u8]) -> Result<(Outcome, Option<u8>), TaskError> {
+    let mut output = Output::new(Vec::new(alloc), Lost::GoOn);
+    output.certifying = Certifying::Nothing;
+    let answered = answer(alloc, circuit, None, &Plan::default(), &mut (), &mut output)?;
+    let said = answered.said;
+    Ok((said.outcome, said.text.first().copied()))
+}
+
+#[test]
+fn answers_where_no_certificate_is_wanted(rt: HostRuntime) -> Result<(), TaskError> {
+    for &(circuit, outcome, first) in ANSWERS {
+        assert!(rt; uncertified(rt.alloc(), circuit)? == (outcome, first));
     }
     Ok(())
 }

@@ -1,7 +1,7 @@
 -- Nothing is told of the literal at the place.
 use Rattle.std.proofs.Common.{get_or}
 use Rattle.std.proofs.lemmas.Option.{slice_get-get_or}
-use Rattle.gipmc_engines.specs.declared.verdict.Verdict.TheVariants as verdict
+use Rattle.gipmc_answers.specs.declared.known.Known.TheVariants as known
 use Rattle.gipmc_answers.proofs.Told.{Tells-alone, ok_more}
 use Rattle.gipmc_answers.proofs.answers.leave_at.Goals as goal
 
@@ -11,6 +11,6 @@ returns-clause-tells g c =
     let bads = circuit.bads.items in
     let some = c.index-bad.result.now in
     ok_more _ _ c.tell.result
-    (λ t told. Tells-alone circuit c.args.place (get_or bads c.args.place some) verdict.Unknown t.outcome t.text.items
+    (λ t told. Tells-alone circuit c.args.place (get_or bads c.args.place some) known.Nothing t.outcome t.text.items
     (slice_get-get_or bads c.args.place some c.requires) tt told)
     c.tell.ensures.tells

@@ -13,7 +13,7 @@ loop-place-preserved g c =
       whole = c.in_ok-told.ensures.whole ∙ c.loop-place.invariant.whole;
       bads = c.in_ok-told.ensures.bads ∙ c.loop-place.invariant.bads;
       tells = rw (c.in_ok-extend_from_slice.ensures.items, c.deref.ensures.value, c.and-outcome.ensures)
-          (TellsFirst-more c.args.parted.now.whole.now.circuit c.loop-place.place _ _ _ _ c.loop-place.invariant.tells
+          (TellsFirst-more c.args.query.now.whole.now.circuit c.loop-place.place _ _ _ _ c.loop-place.invariant.tells
           (subst (λ w. Tells w.now.circuit c.loop-place.place told.outcome told.text.items) c.loop-place.invariant.whole
           c.in_ok-told.ensures.tells));
       written = rw (c.in_ok-extend_from_slice.ensures.items, c.deref.ensures.value)
@@ -22,5 +22,5 @@ loop-place-preserved g c =
 
 pub returns-clause-tells : goal.returns-clause-tells
 returns-clause-tells g c =
-    let all : c.loop-place.place ≡ length c.args.parted.now.bads.now = grind (arith, common_steps) in
+    let all : c.loop-place.place ≡ length c.args.query.now.bads.now = grind (arith, common_steps) in
     rw all at c.loop-place.invariant.tells

@@ -6,9 +6,9 @@ use Rattle.gipmc_answers.proofs.answers.tell_all.Given as goal
 
 abbrev pub invariant-loop-place : goal.invariant-loop-place
 invariant-loop-place g l = record {
-  whole : l.parted.whole ≡ l.fn.parted.whole;
-  bads : l.parted.bads ≡ l.fn.parted.bads;
-  tells : TellsFirst l.fn.parted.whole.now.circuit l.place l.outcome l.text.items;
+  whole : l.query.whole ≡ l.fn.query.whole;
+  bads : l.query.bads ≡ l.fn.query.bads;
+  tells : TellsFirst l.fn.query.whole.now.circuit l.place l.outcome l.text.items;
   written
       : IsWritten l.fn.output.failure l.output.failure (g.W.Write.contents l.fn.output.writer) (g.W.Write.contents l.output.writer) l.text.items;
 }

@@ -8,7 +8,7 @@ use Rattle.gipmc_answers.proofs.answers.tell_depths.Goals as goal
 
 pub loop-preserved : goal.loop-preserved
 loop-preserved g c =
-    let circuit = c.args.parted.now.whole.now.circuit in
+    let circuit = c.args.query.now.whole.now.circuit in
     let bad = c.args.bad in
     let depth = c.in-Some.depth in
     let here = subst (λ b. slice_get b.now c.args.at ≡ Some bad) (sym c.loop.invariant.bads) c.requires in

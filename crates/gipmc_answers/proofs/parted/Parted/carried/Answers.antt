@@ -1,18 +1,16 @@
--- The literal of the part stands for the bad one, and what is shown of it is right.
+-- The literal stands for the bad one, and what is shown of it is right.
 use Rattle.std.proofs.Common.{get_or}
 use Rattle.std.proofs.lemmas.Option.{slice_get-get_or}
-use Rattle.gipmc_answers.proofs.OnWhole.{stands_at}
 use Rattle.gipmc_answers.proofs.parted.Parted.carried.Goals as goal
 
-pub on_whole-requires-clause-bad : goal.on_whole-requires-clause-bad
-on_whole-requires-clause-bad g c =
+pub on_whole-requires-clause-stands : goal.on_whole-requires-clause-stands
+on_whole-requires-clause-stands g c =
     let now = c.args.self.now in
     let owns = now.joint.findings.bads.now in
     let own = c.index-self-at-2.result in
     let bad = c.index-self-at.result in
-    stands_at now.part.now.names.names.items owns now.bads.now c.args.at (get_or owns c.args.at own)
-    (get_or now.bads.now c.args.at bad) now.stand (slice_get-get_or owns c.args.at own c.requires.own)
-    (slice_get-get_or now.bads.now c.args.at bad c.requires.within)
+    now.stand.each c.args.at (get_or owns c.args.at own) (get_or now.bads.now c.args.at bad)
+    (slice_get-get_or owns c.args.at own c.requires.own) (slice_get-get_or now.bads.now c.args.at bad c.requires.within)
 
 pub on_whole-requires-clause-right : goal.on_whole-requires-clause-right
 on_whole-requires-clause-right g c =
