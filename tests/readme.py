@@ -3,8 +3,8 @@
 
 A command is a line `$ COMMAND` of a block ```console, which bash runs at the top of the checkout. It has to end with
 status 0, and to print the lines that follow, to standard output or error; a line `...` stands for any lines, and a
-command with no line below it may print anything. `./test`, which runs this script, and `rt ci`, which runs before it,
-are not run.
+command with no line below it may print anything. A page shows what a terminal shows: lines `u N`, which gipmc writes to
+a pipe alone, are left out. `./test`, which runs this script, and `rt ci`, which runs before it, are not run.
 
 The commands of a page run in order in a copy of the files that git lists, with the programs crates/NAME/out/NAME that
 `rt ci` has built. Those of a page that needs a program which is not installed are not run. A command counts as a test.
@@ -74,7 +74,8 @@ def run(command, folder):
 def is_as_shown(printed, lines):
     """Whether a command printed what is shown; spaces at the ends of lines are no matter."""
     wanted = "".join(r"(?:.*\n)*" if line == "..." else re.escape(line.rstrip()) + "\n" for line in lines)
-    return not lines or re.fullmatch(wanted, "".join(f"{line.rstrip()}\n" for line in printed.splitlines()))
+    told = (line.rstrip() for line in printed.splitlines() if not re.fullmatch(r"u\d+", line))
+    return not lines or re.fullmatch(wanted, "".join(f"{line}\n" for line in told))
 
 
 def run_page(name):

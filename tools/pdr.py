@@ -344,7 +344,8 @@ def run(words, seconds):
 
 
 def answer_of_gipmc(text):
-    return {"0": "safe", "1": "fails"}.get(text.split("\n")[0], "-")
+    """The status behind the lines that tell how far the search is."""
+    return {"0": "safe", "1": "fails"}.get(re.sub(r"^(u\d+\n)*", "", text).split("\n")[0], "-")
 
 
 def answer_of_pdr(text):
