@@ -32,13 +32,19 @@ told() {
     fi
 }
 
+# [FILE]: what it answers, without the lines `u N` that tell before an answer how far the search is. The last one before `2`
+# belongs to the answer.
+answers() {
+    awk '/^u/ { told = $0 "\n"; next } { if ($0 == "2") printf "%s", told; print; told = "" }' "$@"
+}
+
 # NAME STATUS ERROR OUTPUT INPUT [ARGUMENT..]: runs the program on this text, and expects this of it.
 try() {
     local name=$1 wanted=$2 error=$3 output=$4 input=$5
     shift 5
     printf '%b' "$input" | "$gipmc" "$@" > "$work/out" 2> "$work/err"
     status=$?
-    [ "$status" = "$wanted" ] && [ "$(cat "$work/err")" = "$error" ] && [ "$(cat "$work/out")" = "$output" ]
+    [ "$status" = "$wanted" ] && [ "$(cat "$work/err")" = "$error" ] && [ "$(answers "$work/out")" = "$output" ]
     told "$name" $?
 }
 
@@ -116,7 +122,7 @@ status=$?
 told "a trace by simulation that is not a shortest one" $?
 "$gipmc" --engine sim --shortest wide.aag > out 2> err
 status=$?
-[ "$status" = 10 ] && [ ! -s err ] && [ "$(wc -l < out)" = 6 ] && [ "$("$gipmc" --replay out wide.aag)" = "s VERIFIED" ]
+[ "$status" = 10 ] && [ ! -s err ] && [ "$(answers out | wc -l)" = 6 ] && [ "$("$gipmc" --replay out wide.aag)" = "s VERIFIED" ]
 told "a shortest trace in place of one by simulation" $?
 "$gipmc" --engine sim --shortest --limit 0 wide.aag > out 2> err
 status=$?
@@ -291,7 +297,7 @@ printf '%b' "$two" > two.aag
 rm -f cert
 "$gipmc" --bad 0 --certificate cert two.aag > out 2> err
 status=$?
-[ "$status" = 20 ] && [ "$(cat out)" = "$safe" ] && [ ! -s err ] &&
+[ "$status" = 20 ] && [ "$(answers out)" = "$safe" ] && [ ! -s err ] &&
     [ "$("$gipmc" --certify cert --bad 0 two.aag)" = "s VERIFIED" ]
 told "a certificate that is written" $?
 [ "$("$gipmc" --certify cert two.aag 2> err)" = "s NOT VERIFIED" ]
@@ -299,7 +305,7 @@ told "a certificate of the first literal is none of both" $?
 rm -f circuit
 "$gipmc" --bad 0 --certificate circuit --aiger two.aag > out 2> err
 status=$?
-[ "$status" = 20 ] && [ "$(cat out)" = "$safe" ] && [ ! -s err ] && [ "$(head -c 4 circuit)" = "aag " ] &&
+[ "$status" = 20 ] && [ "$(answers out)" = "$safe" ] && [ ! -s err ] && [ "$(head -c 4 circuit)" = "aag " ] &&
     [ "$("$gipmc" --certify circuit --bad 0 two.aag)" = "s VERIFIED" ]
 told "a certificate that is written as a circuit" $?
 [ "$("$gipmc" --certify circuit two.aag 2> err)" = "s NOT VERIFIED" ]
@@ -326,7 +332,7 @@ if [ "$(id -u)" != 0 ]; then
 fi
 out=$(trap '' XFSZ; ulimit -f 0; exec "$gipmc" --bad 0 --certificate cert two.aag 2>&1)
 status=$?
-[ "$status" = 1 ] && [ "$out" = "$safe"$'\n'"cert: cannot be written: file too large" ] && [ ! -e cert ]
+[ "$status" = 1 ] && [ "$(answers <<< "$out")" = "$safe"$'\n'"cert: cannot be written: file too large" ] && [ ! -e cert ]
 told "a certificate that cannot be written, behind the answer" $?
 if [ -e /dev/full ]; then
     "$gipmc" --bad 0 --certificate cert two.aag > /dev/full 2> err
@@ -347,7 +353,7 @@ status=$?
 told "no certificate of a circuit that fails" $?
 "$gipmc" --engine bmc --depth 3 --bad 0 --certificate cert two.aag > out 2> err
 status=$?
-[ "$status" = 0 ] && [ "$(cat out)" = "$(open 3)" ] && [ ! -e cert ] && [ ! -s err ]
+[ "$status" = 0 ] && [ "$(answers out)" = "$(open 3)" ] && [ ! -e cert ] && [ ! -s err ]
 told "no certificate where the answer is open" $?
 try "no certificate of a literal that is not there" 1 \
     "two.aag: no bad literal 2, of 2" "" "" --bad 2 --certificate cert two.aag
@@ -394,7 +400,7 @@ told "no certificate where the time is over" $?
     tr -d '\0' > out
 }
 status=${PIPESTATUS[0]}
-[ "$status" = 1 ] && [ "$(cat out)" = "$safe" ] && [ "$(cat cert)" = precious ] &&
+[ "$status" = 1 ] && [ "$(answers out)" = "$safe" ] && [ "$(cat cert)" = precious ] &&
     [ "$(cat err)" = "cert: another file came there meanwhile (see $(ls cert.*.part))" ] &&
     [ "$("$gipmc" --certify "$(ls cert.*.part)" --bad 0 two.aag)" = "s VERIFIED" ]
 told "a file that came meanwhile stays" $?
@@ -408,31 +414,53 @@ told "a run that is killed leaves no file" $?
 printf '%b' 'aag 3 1 2 0 0 2\n2\n4 4\n6 2\n6\n4\n' > swapped.aag
 first=$(printf '1\nb0\n00\n1\n0\n.')
 timeout -s KILL 2 "$gipmc" "${endless[@]}" swapped.aag > out 2> err
-[ "$(cat out)" = "$first" ]
+[ "$(answers out)" = "$first" ]
 told "an answer is written when it is found" $?
 SECONDS=0
 "$gipmc" "${endless[@]}" --time 1 swapped.aag > out 2> err
 status=$?
-[ "$status" = 10 ] && [ "$SECONDS" -lt 20 ] && [ "$(head -n 6 out)" = "$first" ] && [ ! -s err ] &&
-    [ "$(sed 1,6d out | tr '\n' '#' | sed 's/u[0-9]*/u/')" = 'u#2#b1#.#' ]
+[ "$status" = 10 ] && [ "$SECONDS" -lt 20 ] && [ "$(answers out | head -n 6)" = "$first" ] && [ ! -s err ] &&
+    [ "$(answers out | sed 1,6d | tr '\n' '#' | sed 's/u[0-9]*/u/')" = 'u#2#b1#.#' ]
 told "an answer before the time is over" $?
 (ulimit -v 200000; exec "$gipmc" "${endless[@]}" swapped.aag) > out 2> err
 status=$?
-[ "$status" = 10 ] && [ "$(cat err)" = "memory: refused (b1 is left open)" ] && [ "$(head -n 6 out)" = "$first" ] &&
-    [ "$(sed 1,6d out | tr '\n' '#' | sed 's/u[0-9]*/u/')" = 'u#2#b1#.#' ]
+[ "$status" = 10 ] && [ "$(cat err)" = "memory: refused (b1 is left open)" ] && [ "$(answers out | head -n 6)" = "$first" ] &&
+    [ "$(answers out | sed 1,6d | tr '\n' '#' | sed 's/u[0-9]*/u/')" = 'u#2#b1#.#' ]
 told "an answer before memory is refused" $?
 "$gipmc" -t 0 swapped.aag > out 2> err
 status=$?
-[ "$status" = 0 ] && [ "$(cat out)" = "$(printf '2\nb0\n.\n2\nb1\n.')" ]
+[ "$status" = 0 ] && [ "$(answers out)" = "$(printf '2\nb0\n.\n2\nb1\n.')" ]
 told "no time" $?
 "$gipmc" "${endless[@]}" -v -t 6 kept.aag > out 2> err
 grep -q '^c b0: depth [0-9]*, [0-9]* clauses, [0-9]* conflicts; [0-9]*[.][0-9][0-9][0-9] s$' err
 told "progress in a file" $?
-"$gipmc" --engine bmc --depth 7 --verbose kept.aag > out 2> err
+
+# Lines that tell before an answer how far the search is: where it is no terminal, and also there by --verbose.
+deep=(--engine bmc --depth 7 kept.aag)
+# TEXT: whether it tells of greater and greater depths, the last one with the answer.
+rises() {
+    [ "$(answers <<< "$1")" = "$(open 7)" ] && [ "$(grep -c '^u' <<< "$1")" -gt 2 ] && sed -n 's/^u//p' <<< "$1" | sort -cn
+}
+"$gipmc" "${deep[@]}" > out 2> err
 status=$?
-[ "$status" = 0 ] && [ "$(grep -v '^u' out)" = "$(printf '2\nb0\n.')" ] && [ "$(tail -n 4 out | head -n 1)" = u7 ] &&
-    [ "$(grep -c '^u' out)" -gt 2 ] && sed -n 's/^u//p' out | sort -cn
-told "progress in the answer" $?
+[ "$status" = 0 ] && [ ! -s err ] && rises "$(cat out)" && rises "$("$gipmc" "${deep[@]}" | cat)" &&
+    rises "$("$gipmc" --verbose --quiet "${deep[@]}" 2> err)"
+told "how far the search is, in a file and in a pipe" $?
+[ "$("$gipmc" --quiet "${deep[@]}" 2> err)" = "$(open 7)" ]
+told "no word of how far the search is" $?
+if command -v script > path; then
+    # WORD..: what the program writes on a terminal.
+    on_terminal() { script -qec "$(printf '%q ' "$gipmc" "$@")" /dev/null < /dev/null | tr -d '\r'; }
+    [ "$(on_terminal "${deep[@]}")" = "$(open 7)" ] && rises "$(on_terminal --verbose "${deep[@]}")"
+    told "no word of how far the search is on a terminal" $?
+else
+    echo "left out: no word of how far the search is on a terminal (no script)"
+fi
+"$gipmc" --engine bmc twice.aag > out 2> err
+status=$?
+[ "$status" = 10 ] && [ "$(head -n 3 out)" = "$(printf 'u0\nu1\n1')" ] &&
+    [ "$("$gipmc" --engine bmc twice.aag | "$gipmc" --replay - twice.aag)" = "s VERIFIED" ]
+told "a witness behind lines that tell how far the search is" $?
 
 # Traces with names. The circuit has a vector of two inputs and one of two latches, which are given in opposite orders.
 cat > named.aag << 'END'
@@ -475,11 +503,11 @@ status=$?
 told "names of what fails and of what is safe" $?
 "$gipmc" --engine bmc --depth 3 --names --bad 0 three.aag > out 2> err
 status=$?
-[ "$status" = 0 ] && [ "$(cat out)" = "$(printf 'u3\n2\nb0\n.\nc b0 stays: open')" ]
+[ "$status" = 0 ] && [ "$(answers out)" = "$(printf 'u3\n2\nb0\n.\nc b0 stays: open')" ]
 told "a name of what is open" $?
 "$gipmc" --names kept.aag > out 2> err
 status=$?
-[ "$status" = 20 ] && [ "$(cat out)" = "$safe" ] && [ ! -s err ]
+[ "$status" = 20 ] && [ "$(answers out)" = "$safe" ] && [ ! -s err ]
 told "no names where nothing fails" $?
 rm -f wave
 "$gipmc" --engine bmc --vcd wave named.aag > out 2> err
@@ -547,7 +575,7 @@ try "a witness with carriage returns" 0 "" "s VERIFIED" "$held" --replay wit
 unheard='<stdout>: cannot be written: closed, or open the other way alone'
 "$gipmc" --bad 0 --certificate cert two.aag > out 2> err <&-
 status=$?
-[ "$status" = 20 ] && [ "$(cat out)" = "$safe" ] && [ "$("$gipmc" --certify cert --bad 0 two.aag)" = "s VERIFIED" ]
+[ "$status" = 20 ] && [ "$(answers out)" = "$safe" ] && [ "$("$gipmc" --certify cert --bad 0 two.aag)" = "s VERIFIED" ]
 told "no standard input, beside a circuit in a file" $?
 for words in "" "--certify - kept.aag" "--replay - kept.aag"; do
     # shellcheck disable=SC2086
@@ -565,7 +593,7 @@ for circuit in two.aag -; do
     rm -f cert
     "$gipmc" --bad 0 --stats --certificate cert "$circuit" < two.aag > out 2>&-
     status=$?
-    [ "$status" = 20 ] && [ "$(cat out)" = "$safe" ] && [ "$("$gipmc" --certify cert --bad 0 two.aag)" = "s VERIFIED" ]
+    [ "$status" = 20 ] && [ "$(answers out)" = "$safe" ] && [ "$("$gipmc" --certify cert --bad 0 two.aag)" = "s VERIFIED" ]
     told "no standard error, circuit $circuit" $?
 done
 rm -f cert
@@ -626,7 +654,7 @@ try "a certificate of a justice property" 20 "" "$is_live" "$fair" --certificate
 try "it certifies the property" 0 "" "s VERIFIED" "$fair" --certify counts --justice 0
 printf '%b' "$starves" | "$gipmc" --certify counts --justice 0 > out 2> err
 status=$?
-[ "$status" = 1 ] && [ "$(cat out)" = "s NOT VERIFIED" ]
+[ "$status" = 1 ] && [ "$(answers out)" = "s NOT VERIFIED" ]
 told "it certifies no other circuit" $?
 printf 'p cnf 2 0\n' > counts
 try "a count that is too small" 1 "counts: j0: the clauses allow one literal more to be met" "s NOT VERIFIED" \
@@ -846,9 +874,9 @@ while read -r name said depth text; do
     "$gipmc" --engine bmc --depth 64 row.aag > out 2> err
     status=$?
     if [ "$said" = safe ]; then
-        [ "$status" = 0 ] && [ "$(cat out)" = "$(open 64)" ]
+        [ "$status" = 0 ] && [ "$(answers out)" = "$(open 64)" ]
     else
-        [ "$status" = 10 ] && [ "$(wc -l < out)" = $((depth + 5)) ] &&
+        [ "$status" = 10 ] && [ "$(answers out | wc -l)" = $((depth + 5)) ] &&
             [ "$("$gipmc" --replay out row.aag)" = "s VERIFIED" ]
     fi
     told "$name $said $depth" $?
@@ -856,7 +884,7 @@ while read -r name said depth text; do
     "$gipmc" --certificate cert row.aag > out 2> err
     status=$?
     if [ "$said" = safe ]; then
-        [ "$status" = 20 ] && [ "$(cat out)" = "$safe" ] &&
+        [ "$status" = 20 ] && [ "$(answers out)" = "$safe" ] &&
             [ "$("$gipmc" --certify cert row.aag)" = "s VERIFIED" ]
     else
         [ "$status" = 10 ] && [ "$("$gipmc" --replay out row.aag)" = "s VERIFIED" ]
@@ -865,7 +893,7 @@ while read -r name said depth text; do
     if [ "$said" != safe ]; then
         "$gipmc" --shortest row.aag > out 2> err
         status=$?
-        [ "$status" = 10 ] && [ ! -s err ] && [ "$(wc -l < out)" = $((depth + 5)) ] &&
+        [ "$status" = 10 ] && [ ! -s err ] && [ "$(answers out | wc -l)" = $((depth + 5)) ] &&
             [ "$("$gipmc" --replay out row.aag)" = "s VERIFIED" ]
         told "$name $said $depth, the shortest" $?
     fi

@@ -40,16 +40,20 @@ pub const ABOUT: About<'static, Switch, Number, Text> = About {
     usage: &["gipmc [OPTION]... [FILE]"],
     summary: &[
         "Reads a circuit in the ascii or the binary form of AIGER 1.9 from FILE, or from standard input where none is \
-         named or its name is -, and searches for all bad literals at once. As soon as it knows, it writes what it found \
-         of each in turn: the lines `1`, `b` with the literal's place (from 0 on), a witness and `.`; or `0` in place of \
-         `1` where no bad state is reachable, and `2` where that is open. A line `u` with a number before a `2` says that \
-         no counterexample has so many transitions or fewer. Justice properties follow, with `j` in place of `b`: a witness \
-         is a lasso, and `0` says that on no run each literal of the property and each fairness constraint is true again \
-         and again. Where the circuit has neither bad literals nor justice properties, its outputs are taken for bad \
-         literals; where it has none of these, no answer is written.",
+         named or its name is -, and finds out whether its bad states can be reached. One search is about all bad literals; \
+         each answer is written as soon as it is known, in their order.",
+        "An answer is some lines: `1` where a bad state is reachable, `0` where none is, or `2` where that is open; `b` with \
+         the literal's place (from 0 on); behind a `1` a witness, the values of the latches at first, and those of the \
+         inputs at each moment; and `.`. A line `u N` before a `2` says that no counterexample has N transitions or fewer. \
+         Where standard output is no terminal, such lines also tell before an answer how far the search has come.",
+        "Justice properties follow, with `j` in place of `b`: a witness is a lasso, and `0` says that on no run each literal \
+         of the property and each fairness constraint is true again and again. Where the circuit has neither bad literals \
+         nor justice properties, its outputs are taken for bad literals; where it has no output either, no answer is \
+         written.",
     ],
     options: &OPTIONS,
-    note: "The value of a long option may also stand behind `=`: --depth=20.",
+    note: "The options --engine, --depth, --seed and --shortest, and --limit in a search, are about bad literals alone. The \
+           value of a long option may also stand behind `=`: --depth=20.",
     statuses: "Exit status: 10 unsafe, a bad state is reachable or a justice property fails; 20 safe, neither; 0 open, \
                verified, or help; 1 an error, or not verified; 2 arguments that have no meaning.",
 };
@@ -123,8 +127,9 @@ pub const OPTIONS: [Opt<Switch, Number, Text>; 18] = [
         kind: Kind::Text(Text::Replay, "WITNESS", "a file"),
         section: "Answers of other programs",
         help: "write `s VERIFIED` if each trace in the file WITNESS is a counterexample, or `s NOT VERIFIED`, and on \
-               standard error why. With --bad, only what WITNESS has of this literal counts, and it has to have some. A \
-               trace by write_cex -a of abc, which names none, stands for this literal, or for the first",
+               standard error why. With --bad or --justice, only what WITNESS has of this property counts, and it has to \
+               have some. A trace by write_cex -a of abc, which names none, stands for the bad literal that is asked for, or \
+               for the first",
     },
     Opt {
         long: "--certify",
@@ -152,7 +157,8 @@ pub const OPTIONS: [Opt<Switch, Number, Text>; 18] = [
         kind: Kind::Switch(Switch::Aiger),
         section: "Output",
         help: "write the certificate of --certificate as a circuit in the ascii form of AIGER: the same inputs and latches, \
-               and a bad literal that is true outside of the invariant too",
+               and a bad literal that is true outside of the invariant too. No k-induction searches then, unless --engine \
+               names it",
     },
     Opt {
         long: "--names",
@@ -184,22 +190,23 @@ pub const OPTIONS: [Opt<Switch, Number, Text>; 18] = [
         short: "-q",
         kind: Kind::Switch(Switch::Quiet),
         section: "Output",
-        help: "write no progress; without this it is written where standard error is a terminal",
+        help: "write no progress; without this it is written where standard error is a terminal, and lines `u N` where \
+               standard output is none",
     },
     Opt {
         long: "--verbose",
         short: "-v",
         kind: Kind::Switch(Switch::Verbose),
         section: "Output",
-        help: "write progress every five seconds, whatever standard error is, and also with -q; and on standard output, before \
-               the answer about a bad literal, lines `u` with a number as the search comes farther",
+        help: "write progress every five seconds, and lines `u N`, whatever standard error and standard output are, and also \
+               with -q",
     },
     Opt {
         long: "--stats",
         short: "",
         kind: Kind::Switch(Switch::Stats),
         section: "Output",
-        help: "write a summary on standard error for each property that was searched for (lines that begin with c): how far \
-               each engine that ran came, which one decided of a bad literal, and the time",
+        help: "write a summary on standard error, in lines that begin with c: of each property that was searched for how far \
+               each engine that ran came, what decided, and the time; and at the end the time and the most memory of all",
     },
 ];

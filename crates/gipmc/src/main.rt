@@ -25,6 +25,7 @@ mod justice;
 mod kinds;
 mod options;
 mod progress;
+mod settings;
 mod traces;
 
 use about::ABOUT;
@@ -32,15 +33,15 @@ use errors::Failure;
 use files::{bytes_of, new_file, write_out, write_whole};
 use gip_program::{NewFile, begin, explain, refuse, tell};
 use gipmc_answers::{
-    Answered, Lost, Outcome, Output, TaskError, Traces, answer, certificate_of, doubt_of,
-    witness_circuit_of, witness_doubt,
+    Answered, Outcome, Output, TaskError, answer, certificate_of, doubt_of, witness_circuit_of,
+    witness_doubt,
 };
-use gipmc_engines::{Bounds, Engine, Plan, Tries};
 use gipmc_justice::{JusticeError, both, lasso_doubt};
 use justice::{justice_failure, keep_of_justice, outcome_of_justice, search_justice};
 use kinds::{has_justice, is_of_bads};
 use options::{Options, Task};
 use progress::Teller;
+use settings::{output_of, plan_of};
 use std::fmt::Display;
 use std::io::Stdout;
 use std::process::ExitCode;
@@ -48,14 +49,6 @@ use traces::tell_traces;
 
 // The exit status where nothing is answered, or an answer is not verified.
 const REFUSED: u8 = 1;
-
-// How often simulation begins anew, and how many moments it has then.
-const ROUNDS: usize = 2;
-
-const MOMENTS: usize = 256;
-
-// The most transitions of bounded model checking alone.
-const DEPTH: usize = 100;
 
 fn main(rt: HostRuntime) -> ExitCode {
     let words = match begin(&rt) {
@@ -190,39 +183,6 @@ pub(crate) fn failure<'a>(
     }
 }
 
-// What the options say of a search.
-fn plan_of(options: &Options) -> Plan {
-    Plan {
-        engine: engine_of(options),
-        tries: Tries {
-            seed: options.seed,
-            rounds: ROUNDS,
-            moments: MOMENTS,
-        },
-        bounds: Bounds {
-            depth: depth_of(options),
-            limit: options.limit,
-            calls: usize::MAX,
-        },
-    }
-}
-
-// The engine. An invariant makes a certificate that is a circuit.
-fn engine_of(options: &Options) -> Engine {
-    match options.engine {
-        Engine::All if options.aiger => Engine::Invariants,
-        engine => engine,
-    }
-}
-
-// How far bounded model checking goes, where that is not said: alone it would not end on a safe circuit.
-fn depth_of(options: &Options) -> usize {
-    match options.engine {
-        Engine::Bounded => options.depth.unwrap_or(DEPTH),
-        _ => options.depth.unwrap_or(usize::MAX),
-    }
-}
-
 // Answers about a circuit: writes each answer when it is found, and then the files that are wanted.
 fn search_circuit<'a>(
     rt: &HostRuntime,
@@ -246,9 +206,7 @@ fn search_for<'a>(
 ) -> Result<Outcome, Failure<'a>>
     ensures { IfOk result (IsAnsweredAsked Global bytes.now options.now.bad options.now.justice) }
 {
-    let mut output = Output::new(rt.stdout(), lost(options));
-    output.traces = traces_asked(options);
-    output.progress = options.verbose;
+    let mut output = output_of(rt, options);
     let found = search(rt, options, bytes, &mut output)?;
     let kept = keep_found(rt, options, bytes, &found, certificate, wave);
     written(&output)?;
@@ -308,24 +266,6 @@ fn keep_of_bads<'a>(
     match answer.said.outcome {
         Outcome::Safe => write_certificate(rt, options, bytes, answer, file),
         _ => Ok(()),
-    }
-}
-
-// What becomes of the search where an answer cannot be written: it goes on for the files that are wanted.
-fn lost(options: &Options) -> Lost {
-    if options.certificate.is_some() || options.vcd.is_some() || options.witness.is_some() {
-        Lost::GoOn
-    } else {
-        Lost::Stop
-    }
-}
-
-// Which traces are written.
-fn traces_asked(options: &Options) -> Traces {
-    if options.shortest {
-        Traces::Shortest
-    } else {
-        Traces::Found
     }
 }
 
