@@ -422,6 +422,18 @@ status=$?
 [ "$status" = 10 ] && [ "$SECONDS" -lt 20 ] && [ "$(answers out | head -n 6)" = "$first" ] && [ ! -s err ] &&
     [ "$(answers out | sed 1,6d | tr '\n' '#' | sed 's/u[0-9]*/u/')" = 'u#2#b1#.#' ]
 told "an answer before the time is over" $?
+# A latch that keeps 0, and a chain of a million gates behind it. A round of simulation takes seconds of a processor.
+gates=1000000
+{
+    printf 'aig %s 4 1 0 %s 1\n10\n%s\n' $((gates + 5)) "$gates" $((2 * gates + 10))
+    head -c $((2 * gates)) /dev/zero | tr '\0' '\2'
+} > chain.aig
+used=$(TIMEFORMAT=%0U; { time "$gipmc" --engine sim --time 1 --stats --certificate cert chain.aig > out 2> err; } 2>&1)
+status=$?
+[ "$status" = 0 ] && [ "$(cat out)" = "$(printf '2\nb0\n.')" ] && [ ! -e cert ] && [ "$used" -lt 3 ] &&
+    ! grep '^c b' err | grep -qv '^c b0: \(round 1; \)\?[0-9]* moments of round [12]; '
+told "the time is over within a round of simulation" $?
+rm chain.aig
 (ulimit -v 200000; exec "$gipmc" "${endless[@]}" swapped.aag) > out 2> err
 status=$?
 [ "$status" = 10 ] && [ "$(cat err)" = "memory: refused (b1 is left open)" ] && [ "$(answers out | head -n 6)" = "$first" ] &&
@@ -432,7 +444,7 @@ status=$?
 [ "$status" = 0 ] && [ "$(answers out)" = "$(printf '2\nb0\n.\n2\nb1\n.')" ]
 told "no time" $?
 "$gipmc" "${endless[@]}" -v -t 6 kept.aag > out 2> err
-grep -q '^c b0: depth [0-9]*, [0-9]* clauses, [0-9]* conflicts; [0-9]*[.][0-9][0-9][0-9] s$' err
+grep -q '^c b0: depth [0-9]*, [0-9]* clauses kept, [0-9]* learned; [0-9]*[.][0-9][0-9][0-9] s$' err
 told "progress in a file" $?
 
 # Lines that tell before an answer how far the search is: where it is no terminal, and also there by --verbose.
@@ -837,19 +849,24 @@ told "help" $?
 ! grep -q '.\{81\}' out
 told "the help fits into 80 columns" $?
 
-# Summaries: a line for each bad literal, with the parts that ran.
-# NAME STATUS LINES [ARGUMENT..]: runs the program, and expects these lines on standard error, with `#` behind each.
+# Summaries: a line for each property, with the parts that ran, and one for the whole.
+# NAME STATUS LINES [ARGUMENT..]: runs the program, and expects these lines on standard error, with `#` behind each, before
+# the last one.
 summary() {
     local name=$1 wanted=$2 lines=$3
     shift 3
     "$gipmc" --stats "$@" > out 2> err
     status=$?
-    [ "$status" = "$wanted" ] && tr '\n' '#' < err | grep -qx "$lines"
+    [ "$status" = "$wanted" ] && tr '\n' '#' < err | grep -qx "$lines$whole"
     told "$name" $?
 }
-bmc='depth [0-9]*, [0-9]* clauses, [0-9]* conflicts; '
+solver='[0-9]* clauses kept, [0-9]* learned; '
+bmc="depth [0-9]*, $solver"
+steps="k [0-9]*, $solver"
 ic3='frame [0-9]*, [0-9]* calls, [0-9]* obligations, [0-9]*\.[0-9][0-9] literals in each of [0-9]* lemmas; '
-took='[0-9]*[.][0-9][0-9][0-9] s#'
+seconds='[0-9]*[.][0-9][0-9][0-9] s'
+took="$seconds#"
+whole="c $seconds, [0-9]* kB of memory at most#"
 printf '%b' "$kept" > kept.aag
 summary "a summary" 0 "c b0: $bmc$took" --engine bmc --depth 5 kept.aag
 summary "a summary of simulation" 0 "c b0: round [0-9]*; $took" --engine sim kept.aag
@@ -862,6 +879,11 @@ summary "a summary of IC3 without a lemma" 20 \
 summary "a summary of IC3" 20 "c b0: ${ic3}decided by ic3; $took" --engine ic3 "$top/tests/queue.aag"
 summary "a summary of two literals" 10 "c b0: $bmc${took}c b1: ${bmc}decided by bmc; $took" --engine bmc --depth 3 two.aag
 summary "a summary of the second literal" 10 "c b1: ${bmc}decided by bmc; $took" --engine bmc --bad 1 two.aag
+summary "a summary of induction" 20 "c b0: ${bmc}${steps}decided by induction; $took" --engine induction kept.aag
+printf '%b' "$fair" > fair.aag
+summary "a summary of a property that holds" 20 "c j0: [^#]*${took}c j0: decided by counting to [0-9]*#" fair.aag
+printf '%b' "$starves" > starves.aag
+summary "a summary of a lasso" 10 "c j0: [^#]*${took}c j0: decided by a lasso#" starves.aag
 printf '%b' "$kept" | "$gipmc" --quiet > out 2> err
 status=$?
 [ "$status" = 20 ] && [ ! -s err ]

@@ -10,6 +10,7 @@ use crate::files::write_whole;
 use crate::kinds::is_of_justice;
 use crate::options::Options;
 use crate::progress::Teller;
+use crate::traces::next_answer;
 use gip_program::NewFile;
 use gipmc_answers::{Outcome, Output};
 use gipmc_justice::{Answered, Found, JusticeError, answer, certificate_of};
@@ -50,8 +51,33 @@ pub fn search_justice<'a>(
     teller.go_on_with_justice();
     let bounds = Bounds::default();
     match answer(rt.alloc(), bytes, options.justice, bounds, teller, output) {
-        Ok(answer) => Ok(Some(answer)),
+        Ok(answer) => {
+            if options.stats {
+                tell_decided(rt, &answer);
+            }
+            Ok(Some(answer))
+        }
         Err(error) => Err(justice_failure(options.file, None, error)),
+    }
+}
+
+// Tells of each property that is decided what decided it.
+fn tell_decided(rt: &HostRuntime, answer: &Answered) {
+    let mut shown = answer.said.found.iter();
+    let mut rest = answer.said.text.as_slice();
+    while let Some((status, place, after)) = next_answer(rest, "j") {
+        match status {
+            [b'1'] => {
+                let _ = eprintln!(rt; "c j{place}: decided by a lasso");
+            }
+            [b'0'] => {
+                if let Some(found) = shown.next() {
+                    let _ = eprintln!(rt; "c j{place}: decided by counting to {}", found.k);
+                }
+            }
+            _ => {}
+        }
+        rest = after;
     }
 }
 

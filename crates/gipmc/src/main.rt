@@ -26,6 +26,7 @@ mod kinds;
 mod options;
 mod progress;
 mod settings;
+mod snapshot;
 mod traces;
 
 use about::ABOUT;
@@ -293,6 +294,7 @@ fn search<'a>(
     let mut teller = Teller::new(rt, options);
     let bads = search_bads(rt, options, bytes, &mut teller, output)?;
     let justice = search_justice(rt, options, bytes, &mut teller, output)?;
+    teller.sum_up();
     let outcome = both(outcome_of_bads(&bads), outcome_of_justice(&justice));
     Ok(Found {
         bads,

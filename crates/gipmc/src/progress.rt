@@ -1,5 +1,8 @@
 //! How far a search is, in lines on standard error.
 use crate::options::Options;
+use crate::snapshot::{
+    Decided, Framed, Held, Inductive, Peak, Seconds, Simulated, Snapshot, Unrolled,
+};
 use gipmc_answers::Listener;
 use gipmc_engines::{Engine, Watch};
 use gipmc_ic3::Statistics;
@@ -7,16 +10,13 @@ use giputils_stat::logger::IntervalLogger;
 use log::kv::Source;
 use log::span::Spans;
 use log::{Level, Log, Metadata, Record};
-use std::fmt::{self, Display};
+use std::fmt::Display;
 use std::io::IsTerminal;
 use std::ops::ControlFlow;
 use std::time::{Duration, Instant};
 
 // How many seconds it is at least from one line to the next.
 const INTERVAL_SECONDS: u64 = 5;
-
-// The decimals of an average.
-const PLACES: u32 = 2;
 
 /// Writes now and then how far a search is, where standard error is a terminal or that is asked for, and a summary of
 /// each, if that is wanted. It stops a search when the time is over.
@@ -36,131 +36,6 @@ pub struct Teller<'a> {
     // When the search about this property began, and how far it is.
     begun: Option<Instant>,
     snapshot: Snapshot,
-}
-
-// How far the search about a property is. A part that did not run says nothing.
-#[derive(Clone, Copy)]
-struct Snapshot {
-    letter: char,
-    place: usize,
-    simulated: Simulated,
-    unrolled: Unrolled,
-    framed: Framed,
-    decided: Decided,
-}
-
-impl Snapshot {
-    // Before the search.
-    fn new(letter: char, place: usize) -> Self {
-        Snapshot {
-            letter,
-            place,
-            simulated: Simulated(None),
-            unrolled: Unrolled(None),
-            framed: Framed(None),
-            decided: Decided(None),
-        }
-    }
-}
-
-impl Display for Snapshot {
-    fn fmt<W: fmt::Write>(&self, f: &mut fmt::Formatter<W>) -> fmt::Result {
-        write!(
-            f,
-            "{}{}: {}{}{}{}",
-            self.letter, self.place, self.simulated, self.unrolled, self.framed, self.decided
-        )
-    }
-}
-
-// Of simulation: the last round that found nothing.
-#[derive(Clone, Copy)]
-struct Simulated(Option<usize>);
-
-impl Display for Simulated {
-    fn fmt<W: fmt::Write>(&self, f: &mut fmt::Formatter<W>) -> fmt::Result {
-        match self.0 {
-            Some(round) => write!(f, "round {round}; "),
-            None => Ok(()),
-        }
-    }
-}
-
-// Of bounded model checking: the most transitions, and the clauses and the conflicts there.
-#[derive(Clone, Copy)]
-struct Unrolled(Option<(usize, usize, usize)>);
-
-impl Display for Unrolled {
-    fn fmt<W: fmt::Write>(&self, f: &mut fmt::Formatter<W>) -> fmt::Result {
-        match self.0 {
-            Some((depth, clauses, conflicts)) => {
-                write!(
-                    f,
-                    "depth {depth}, {clauses} clauses, {conflicts} conflicts; "
-                )
-            }
-            None => Ok(()),
-        }
-    }
-}
-
-// Of IC3: the last frame, and what was done.
-#[derive(Clone, Copy)]
-struct Framed(Option<(usize, Statistics)>);
-
-impl Display for Framed {
-    fn fmt<W: fmt::Write>(&self, f: &mut fmt::Formatter<W>) -> fmt::Result {
-        match &self.0 {
-            Some((frame, statistics)) => write!(
-                f,
-                "frame {frame}, {} calls, {} obligations{}; ",
-                statistics.calls,
-                statistics.obligations,
-                Lemmas(statistics)
-            ),
-            None => Ok(()),
-        }
-    }
-}
-
-// How many lemmas IC3 has learned, and how long they are, where there are some.
-#[derive(Clone, Copy)]
-struct Lemmas<'a>(&'a Statistics);
-
-impl Display for Lemmas<'_> {
-    fn fmt<W: fmt::Write>(&self, f: &mut fmt::Formatter<W>) -> fmt::Result {
-        let lengths = &self.0.lengths;
-        match lengths.mean(PLACES) {
-            Some(mean) => write!(f, ", {mean} literals in each of {} lemmas", lengths.count()),
-            None => Ok(()),
-        }
-    }
-}
-
-// The engine that decided, if one did.
-#[derive(Clone, Copy)]
-struct Decided(Option<Engine>);
-
-impl Display for Decided {
-    fn fmt<W: fmt::Write>(&self, f: &mut fmt::Formatter<W>) -> fmt::Result {
-        match self.0 {
-            Some(Engine::Simulation) => f.write_str("decided by sim; "),
-            Some(Engine::Bounded) => f.write_str("decided by bmc; "),
-            Some(Engine::Ic3) => f.write_str("decided by ic3; "),
-            Some(Engine::Induction) => f.write_str("decided by induction; "),
-            _ => Ok(()),
-        }
-    }
-}
-
-// A time in seconds, to a thousandth.
-#[derive(Clone, Copy)]
-struct Seconds(Duration);
-
-impl Display for Seconds {
-    fn fmt<W: fmt::Write>(&self, f: &mut fmt::Formatter<W>) -> fmt::Result {
-        write!(f, "{}.{:03} s", self.0.as_secs(), self.0.subsec_millis())
-    }
 }
 
 // Writes each record to standard error, as a line that begins with `c`.
@@ -208,6 +83,14 @@ impl<'a> Teller<'a> {
     /// Goes on with justice properties.
     pub fn go_on_with_justice(&mut self) {
         self.letter = 'j';
+    }
+
+    /// Writes how long all searches took, and how much memory, where summaries are wanted.
+    pub fn sum_up(&self) {
+        if self.stats {
+            let took = Seconds(self.since(self.started));
+            let _ = eprintln!(self.rt; "c {took}{}", Peak::now(self.rt));
+        }
     }
 
     // The time since then, or none where there is no clock.
@@ -271,17 +154,29 @@ impl Listener for Teller<'_> {
 
 impl Watch for Teller<'_> {
     fn note_round(&mut self, rounds: usize) -> ControlFlow<()> {
-        self.snapshot.simulated = Simulated(Some(rounds));
+        if rounds != self.snapshot.simulated.rounds {
+            self.snapshot.simulated = Simulated { rounds, moments: 0 };
+        }
+        self.tell()
+    }
+
+    fn note_moments(&mut self, moments: usize) -> ControlFlow<()> {
+        self.snapshot.simulated.moments = moments;
         self.tell()
     }
 
     fn note(&mut self, depth: usize, clauses: usize, learned: usize) -> ControlFlow<()> {
-        self.snapshot.unrolled = Unrolled(Some((depth, clauses, learned)));
+        self.snapshot.unrolled = Unrolled(Some((depth, Held { clauses, learned })));
         self.tell()
     }
 
     fn note_slice(&mut self, frame: usize, statistics: &Statistics) -> ControlFlow<()> {
         self.snapshot.framed = Framed(Some((frame, *statistics)));
+        self.tell()
+    }
+
+    fn note_step(&mut self, k: usize, clauses: usize, learned: usize) -> ControlFlow<()> {
+        self.snapshot.inductive = Inductive(Some((k, Held { clauses, learned })));
         self.tell()
     }
 }

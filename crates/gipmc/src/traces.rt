@@ -212,9 +212,9 @@ fn tell_named<'a>(
     Ok(())
 }
 
-// The status of the first answer of a text, the place of its property, which stands behind a letter, and the text behind
-// it.
-fn next_answer<'a>(text: &'a [u8], letter: &str) -> Option<(&'a [u8], usize, &'a [u8])>
+/// The status of the first answer of a text, the place of its property, which stands behind a letter, and the text behind
+/// it.
+pub fn next_answer<'a>(text: &'a [u8], letter: &str) -> Option<(&'a [u8], usize, &'a [u8])>
     ensures { IfSome result (λ answer. length answer.2.now < length text.now) }
 {
     let (status, rest) = split_line(behind_depths(text))?;

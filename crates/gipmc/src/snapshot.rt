@@ -1,0 +1,218 @@
+//! How far the search about a property is, as it is written in a line.
+
+use gipmc_engines::Engine;
+use gipmc_ic3::Statistics;
+use std::fmt::{self, Display};
+use std::fs;
+use std::time::Duration;
+
+// The decimals of an average.
+const PLACES: u32 = 2;
+
+/// How far the search about a property is. A part that did not run says nothing.
+#[derive(Clone, Copy)]
+pub struct Snapshot {
+    /// The letter of its kind.
+    pub letter: char,
+    /// Its place.
+    pub place: usize,
+    /// What simulation found nothing in.
+    pub simulated: Simulated,
+    /// How far bounded model checking is.
+    pub unrolled: Unrolled,
+    /// How far k-induction is.
+    pub inductive: Inductive,
+    /// How far IC3 is.
+    pub framed: Framed,
+    /// Which engine decided.
+    pub decided: Decided,
+}
+
+impl Snapshot {
+    /// Before the search.
+    pub fn new(letter: char, place: usize) -> Self {
+        Snapshot {
+            letter,
+            place,
+            simulated: Simulated {
+                rounds: 0,
+                moments: 0,
+            },
+            unrolled: Unrolled(None),
+            inductive: Inductive(None),
+            framed: Framed(None),
+            decided: Decided(None),
+        }
+    }
+}
+
+impl Display for Snapshot {
+    fn fmt<W: fmt::Write>(&self, f: &mut fmt::Formatter<W>) -> fmt::Result {
+        write!(
+            f,
+            "{}{}: {}{}{}{}{}",
+            self.letter,
+            self.place,
+            self.simulated,
+            self.unrolled,
+            self.inductive,
+            self.framed,
+            self.decided
+        )
+    }
+}
+
+/// Of simulation: how many rounds found nothing, and how many moments of the next one.
+#[derive(Clone, Copy)]
+pub struct Simulated {
+    pub rounds: usize,
+    pub moments: usize,
+}
+
+impl Display for Simulated {
+    fn fmt<W: fmt::Write>(&self, f: &mut fmt::Formatter<W>) -> fmt::Result {
+        if self.rounds > 0 {
+            write!(f, "round {}; ", self.rounds)?;
+        }
+        if self.moments > 0 {
+            write!(
+                f,
+                "{} moments of round {}; ",
+                self.moments,
+                self.rounds.saturating_add(1)
+            )?;
+        }
+        Ok(())
+    }
+}
+
+/// What a solver holds: clauses, and how many it has learned so far.
+#[derive(Clone, Copy)]
+pub struct Held {
+    pub clauses: usize,
+    pub learned: usize,
+}
+
+impl Display for Held {
+    fn fmt<W: fmt::Write>(&self, f: &mut fmt::Formatter<W>) -> fmt::Result {
+        write!(
+            f,
+            "{} clauses kept, {} learned; ",
+            self.clauses, self.learned
+        )
+    }
+}
+
+/// Of bounded model checking: how many transitions the traces have that come next, and what its solver holds.
+#[derive(Clone, Copy)]
+pub struct Unrolled(pub Option<(usize, Held)>);
+
+impl Display for Unrolled {
+    fn fmt<W: fmt::Write>(&self, f: &mut fmt::Formatter<W>) -> fmt::Result {
+        match self.0 {
+            Some((depth, held)) => write!(f, "depth {depth}, {held}"),
+            None => Ok(()),
+        }
+    }
+}
+
+/// Of k-induction: the k that is asked about next, and what its solver holds.
+#[derive(Clone, Copy)]
+pub struct Inductive(pub Option<(usize, Held)>);
+
+impl Display for Inductive {
+    fn fmt<W: fmt::Write>(&self, f: &mut fmt::Formatter<W>) -> fmt::Result {
+        match self.0 {
+            Some((k, held)) => write!(f, "k {k}, {held}"),
+            None => Ok(()),
+        }
+    }
+}
+
+/// Of IC3: the last frame, and what was done.
+#[derive(Clone, Copy)]
+pub struct Framed(pub Option<(usize, Statistics)>);
+
+impl Display for Framed {
+    fn fmt<W: fmt::Write>(&self, f: &mut fmt::Formatter<W>) -> fmt::Result {
+        match &self.0 {
+            Some((frame, statistics)) => write!(
+                f,
+                "frame {frame}, {} calls, {} obligations{}; ",
+                statistics.calls,
+                statistics.obligations,
+                Lemmas(statistics)
+            ),
+            None => Ok(()),
+        }
+    }
+}
+
+// How many lemmas IC3 has learned, and how long they are, where there are some.
+#[derive(Clone, Copy)]
+struct Lemmas<'a>(&'a Statistics);
+
+impl Display for Lemmas<'_> {
+    fn fmt<W: fmt::Write>(&self, f: &mut fmt::Formatter<W>) -> fmt::Result {
+        let lengths = &self.0.lengths;
+        match lengths.mean(PLACES) {
+            Some(mean) => write!(f, ", {mean} literals in each of {} lemmas", lengths.count()),
+            None => Ok(()),
+        }
+    }
+}
+
+/// The engine that decided, if one did.
+#[derive(Clone, Copy)]
+pub struct Decided(pub Option<Engine>);
+
+impl Display for Decided {
+    fn fmt<W: fmt::Write>(&self, f: &mut fmt::Formatter<W>) -> fmt::Result {
+        match self.0 {
+            Some(Engine::Simulation) => f.write_str("decided by sim; "),
+            Some(Engine::Bounded) => f.write_str("decided by bmc; "),
+            Some(Engine::Ic3) => f.write_str("decided by ic3; "),
+            Some(Engine::Induction) => f.write_str("decided by induction; "),
+            _ => Ok(()),
+        }
+    }
+}
+
+/// A time in seconds, to a thousandth.
+#[derive(Clone, Copy)]
+pub struct Seconds(pub Duration);
+
+impl Display for Seconds {
+    fn fmt<W: fmt::Write>(&self, f: &mut fmt::Formatter<W>) -> fmt::Result {
+        write!(f, "{}.{:03} s", self.0.as_secs(), self.0.subsec_millis())
+    }
+}
+
+/// The most memory that was used at a time, where it is known.
+#[derive(Clone, Copy)]
+pub struct Peak(Option<u64>);
+
+impl Display for Peak {
+    fn fmt<W: fmt::Write>(&self, f: &mut fmt::Formatter<W>) -> fmt::Result {
+        match self.0 {
+            Some(kilobytes) => write!(f, ", {kilobytes} kB of memory at most"),
+            None => Ok(()),
+        }
+    }
+}
+
+impl Peak {
+    /// What the system says of this process.
+    pub fn now(rt: &HostRuntime) -> Self {
+        match fs::read_to_string(rt, "/proc/self/status") {
+            Ok(status) => Peak(peak_in(&status)),
+            Err(_) => Peak(None),
+        }
+    }
+}
+
+// The number of kilobytes behind `VmHWM:` in the system's text on a process.
+fn peak_in(status: &str) -> Option<u64> {
+    let (_, rest) = status.split_once("VmHWM:")?;
+    rest.split_whitespace().next()?.parse().ok()
+}
