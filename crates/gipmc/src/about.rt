@@ -73,8 +73,9 @@ pub const OPTIONS: [Opt<Switch, Number, Text>; 18] = [
         kind: Kind::Number(Number::Justice, "I"),
         section: "Input",
         help: "only the justice property at place I. Then the clauses of --certificate and --certify are over the latches \
-               and, behind these, more that count how often its literals and the fairness constraints were met in turn. Of \
-               --bad and --justice the last one counts",
+               and further ones behind these: they count how often its literals and the fairness constraints were met in \
+               turn or, where a first line is `c no lasso`, save a state and tell what was met since. Of --bad and --justice \
+               the last one counts",
     },
     Opt {
         long: "--engine",
@@ -148,8 +149,9 @@ pub const OPTIONS: [Opt<Switch, Number, Text>; 18] = [
         short: "",
         kind: Kind::Text(Text::Certificate, "F", "a file"),
         section: "Output",
-        help: "write a certificate to the file F, which must not be there, if no bad state is reachable: clauses, which \
-               `--certify F` checks. A minus is refused, since standard output has the answer",
+        help: "write a certificate to the file F, which must not be there, if no bad state is reachable, or the one justice \
+               property that is asked about holds: clauses, which `--certify F` checks. The search may take longer then. A \
+               minus is refused, since standard output has the answer",
     },
     Opt {
         long: "--aiger",

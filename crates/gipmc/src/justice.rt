@@ -14,7 +14,8 @@ use crate::traces::next_answer;
 use gip_program::NewFile;
 use gipmc_answers::{Outcome, Output};
 use gipmc_justice::{Answered, Found, JusticeError, answer, certificate_of};
-use gipmc_liveness_engines::Bounds;
+use gipmc_liveness_engines::{Bounds, Means};
+use std::fmt::{self, Display};
 use std::io::Stdout;
 
 /// The failure of a task on the justice properties of the circuit in one input, and an answer in another.
@@ -61,6 +62,19 @@ pub fn search_justice<'a>(
     }
 }
 
+// What showed that a property holds.
+#[derive(Clone, Copy)]
+struct Shown(Means);
+
+impl Display for Shown {
+    fn fmt<W: fmt::Write>(&self, f: &mut fmt::Formatter<W>) -> fmt::Result {
+        match self.0 {
+            Means::Counting(k) => write!(f, "counting to {k}"),
+            Means::Saving => f.write_str("an invariant that excludes lassos"),
+        }
+    }
+}
+
 // Tells of each property that is decided what decided it.
 fn tell_decided(rt: &HostRuntime, answer: &Answered) {
     let mut shown = answer.said.found.iter();
@@ -72,7 +86,7 @@ fn tell_decided(rt: &HostRuntime, answer: &Answered) {
             }
             [b'0'] => {
                 if let Some(found) = shown.next() {
-                    let _ = eprintln!(rt; "c j{place}: decided by counting to {}", found.k);
+                    let _ = eprintln!(rt; "c j{place}: decided by {}", Shown(found.means));
                 }
             }
             _ => {}

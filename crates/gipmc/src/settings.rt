@@ -1,7 +1,7 @@
 //! What the options say of a search, and of where its answers are written.
 
 use crate::options::Options;
-use gipmc_answers::{Lost, Output, Traces};
+use gipmc_answers::{Certifying, Lost, Output, Traces};
 use gipmc_engines::{Bounds, Engine, Plan, Tries};
 use std::io::{IsTerminal, Stdout};
 
@@ -27,13 +27,15 @@ pub fn plan_of(options: &Options) -> Plan {
             limit: options.limit,
             calls: usize::MAX,
         },
+        // Without a certificate equal latches and gates are merged. Behind that, gates in lemmas gain nothing.
+        names_gates: certifying(options) == Certifying::Circuit,
     }
 }
 
 // The engine. An invariant makes a certificate that is a circuit.
 fn engine_of(options: &Options) -> Engine {
     match options.engine {
-        Engine::All if options.aiger => Engine::Invariants,
+        Engine::All if certifying(options) == Certifying::Circuit => Engine::Invariants,
         engine => engine,
     }
 }
@@ -51,7 +53,17 @@ pub fn output_of(rt: &HostRuntime, options: &Options) -> Output<Stdout> {
     let mut output = Output::new(rt.stdout(), lost(options));
     output.traces = traces_asked(options);
     output.progress = tells_depths(rt, options);
+    output.certifying = certifying(options);
     output
+}
+
+// What a certificate is to be made of, if one is wanted.
+fn certifying(options: &Options) -> Certifying {
+    match options.certificate {
+        Some(_) if options.aiger => Certifying::Circuit,
+        Some(_) => Certifying::Clauses,
+        None => Certifying::Nothing,
+    }
 }
 
 // What becomes of the search where an answer cannot be written: it goes on for the files that are wanted.
