@@ -671,6 +671,20 @@ told "it certifies no other circuit" $?
 printf 'p cnf 2 0\n' > counts
 try "a count that is too small" 1 "counts: j0: the clauses allow one literal more to be met" "s NOT VERIFIED" \
     "$fair" --certify counts --justice 0
+# A counter of three bits, which stays at 7. It counts on no run again and again.
+counter='aag 16 1 3 0 12 0 0 1\n2\n4 20\n6 26\n8 32\n1\n14\n10 4 6\n12 10 8\n14 2 13\n16 14 4\n18 15 5\n20 17 19\n22 16 6\n'
+counter+='24 17 7\n26 23 25\n28 22 8\n30 23 9\n32 29 31\n'
+rm -f counts
+try "a certificate of an invariant that excludes lassos" 20 "" "$is_live" "$counter" --certificate counts
+[ "$(head -n 1 counts)" = "c no lasso" ]
+told "a line tells that it excludes lassos" $?
+try "it certifies that the counter stays" 0 "" "s VERIFIED" "$counter" --certify counts --justice 0
+printf '%b' "$counter" > counter.aag
+sed -i 1d counts
+"$gipmc" --certify counts --justice 0 counter.aag > out 2> err
+status=$?
+[ "$status" = 1 ] && [ "$(cat out)" = "s NOT VERIFIED" ]
+told "without the line it is taken for a count" $?
 rm -f counts
 try "no certificate of several properties" 1 \
     "counts: not written, since '--justice' asks for the property that it is to be of" \
@@ -882,6 +896,8 @@ summary "a summary of the second literal" 10 "c b1: ${bmc}decided by bmc; $took"
 summary "a summary of induction" 20 "c b0: ${bmc}${steps}decided by induction; $took" --engine induction kept.aag
 printf '%b' "$fair" > fair.aag
 summary "a summary of a property that holds" 20 "c j0: [^#]*${took}c j0: decided by counting to [0-9]*#" fair.aag
+summary "a summary of an invariant that excludes lassos" 20 \
+    "c j0: [^#]*${took}c j0: decided by an invariant that excludes lassos#" counter.aag
 printf '%b' "$starves" > starves.aag
 summary "a summary of a lasso" 10 "c j0: [^#]*${took}c j0: decided by a lasso#" starves.aag
 printf '%b' "$kept" | "$gipmc" --quiet > out 2> err
