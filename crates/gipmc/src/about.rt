@@ -41,7 +41,7 @@ pub const ABOUT: About<'static, Switch, Number, Text> = About {
     summary: &[
         "Reads a circuit in the ascii or the binary form of AIGER 1.9 from FILE, or from standard input where none is \
          named or its name is -, and finds out whether its bad states can be reached. One search is about all bad literals; \
-         each answer is written as soon as it is known, in their order.",
+         each answer is written once it and those before it are known.",
         "An answer is some lines: `1` where a bad state is reachable, `0` where none is, or `2` where that is open; `b` with \
          the literal's place (from 0 on); behind a `1` a witness, the values of the latches at first, and those of the \
          inputs at each moment; and `.`. A line `u N` before a `2` says that no counterexample has N transitions or fewer. \
@@ -105,7 +105,7 @@ pub const OPTIONS: [Opt<Switch, Number, Text>; 18] = [
         short: "-t",
         kind: Kind::Number(Number::Time, "SECONDS"),
         section: "Search",
-        help: "give up after so many seconds: what is not known then is open. Each engine may do one step more",
+        help: "give up so many seconds after the start: what is not known then is open. Each engine may do one step more",
     },
     Opt {
         long: "--seed",
@@ -160,7 +160,7 @@ pub const OPTIONS: [Opt<Switch, Number, Text>; 18] = [
         section: "Output",
         help: "write the certificate of --certificate as a circuit in the ascii form of AIGER: the same inputs and latches, \
                and a bad literal that is true outside of the invariant too. No k-induction searches then, unless --engine \
-               names it",
+               names it; and there is no such certificate of a justice property",
     },
     Opt {
         long: "--names",

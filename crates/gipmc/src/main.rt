@@ -46,6 +46,7 @@ use settings::{output_of, plan_of};
 use std::fmt::Display;
 use std::io::Stdout;
 use std::process::ExitCode;
+use std::time::Instant;
 use traces::tell_traces;
 
 // The exit status where nothing is answered, or an answer is not verified.
@@ -67,20 +68,26 @@ fn main(rt: HostRuntime) -> ExitCode {
 
 // The status of a search in the circuit of the file that the options name, or of standard input.
 fn run_search(rt: &HostRuntime, options: &Options) -> ExitCode {
+    let started = Instant::now(rt).ok();
     match bytes_of(rt, options.file) {
-        Ok(bytes) => search_in(rt, options, &bytes),
+        Ok(bytes) => search_in(rt, options, started, &bytes),
         Err(error) => refuse(rt, &error),
     }
 }
 
-// The status of a search in the circuit that the bytes write.
-fn search_in(rt: &HostRuntime, options: &Options, bytes: &[u8]) -> ExitCode
+// The status of a search in the circuit that the bytes write, where the program started then.
+fn search_in(
+    rt: &HostRuntime,
+    options: &Options,
+    started: Option<Instant>,
+    bytes: &[u8],
+) -> ExitCode
     ensures safe { exit_status result ≡ 20 →
         IsAnsweredAsked Global bytes.now options.now.bad options.now.justice Safe }
     ensures fails { exit_status result ≡ 10 →
         IsAnsweredAsked Global bytes.now options.now.bad options.now.justice Fails }
 {
-    end_search(rt, search_circuit(rt, options, bytes))
+    end_search(rt, search_circuit(rt, options, started, bytes))
 }
 
 // The status of a replay of the witness in the file of this name, or in standard input.
@@ -188,19 +195,21 @@ pub(crate) fn failure<'a>(
 fn search_circuit<'a>(
     rt: &HostRuntime,
     options: &Options<'a>,
+    started: Option<Instant>,
     bytes: &[u8],
 ) -> Result<Outcome, Failure<'a>>
     ensures { IfOk result (IsAnsweredAsked Global bytes.now options.now.bad options.now.justice) }
 {
     let certificate = new_file(rt, options.certificate)?;
     let wave = new_file(rt, options.vcd)?;
-    search_for(rt, options, bytes, certificate, wave)
+    search_for(rt, options, started, bytes, certificate, wave)
 }
 
 // Answers about a circuit, and writes these files, if they are wanted, and others that the options ask for.
 fn search_for<'a>(
     rt: &HostRuntime,
     options: &Options<'a>,
+    started: Option<Instant>,
     bytes: &[u8],
     certificate: Option<NewFile<'a>>,
     wave: Option<NewFile<'a>>,
@@ -208,7 +217,7 @@ fn search_for<'a>(
     ensures { IfOk result (IsAnsweredAsked Global bytes.now options.now.bad options.now.justice) }
 {
     let mut output = output_of(rt, options);
-    let found = search(rt, options, bytes, &mut output)?;
+    let found = search(rt, options, started, bytes, &mut output)?;
     let kept = keep_found(rt, options, bytes, &found, certificate, wave);
     written(&output)?;
     kept?;
@@ -284,6 +293,7 @@ pub(crate) struct Found {
 fn search<'a>(
     rt: &HostRuntime,
     options: &Options<'a>,
+    started: Option<Instant>,
     bytes: &[u8],
     output: &mut Output<Stdout>,
 ) -> Result<Found, Failure<'a>>
@@ -291,7 +301,7 @@ fn search<'a>(
     ensures answers { IfOk result
         (λ f. IsAnsweredAsked Global bytes.now options.now.bad options.now.justice f.outcome) }
 {
-    let mut teller = Teller::new(rt, options);
+    let mut teller = Teller::new(rt, options, started);
     let bads = search_bads(rt, options, bytes, &mut teller, output)?;
     let justice = search_justice(rt, options, bytes, &mut teller, output)?;
     teller.sum_up();

@@ -25,7 +25,7 @@ pub struct Teller<'a> {
     rt: &'a HostRuntime,
     started: Option<Instant>,
     logger: IntervalLogger,
-    // How long all searches may take, if that is said.
+    // How long all may take, if that is said.
     time: Option<Duration>,
     // Whether lines are written while the search goes on.
     is_told: bool,
@@ -61,9 +61,8 @@ impl Log for Comments<'_> {
 }
 
 impl<'a> Teller<'a> {
-    /// Before the searches.
-    pub fn new(rt: &'a HostRuntime, options: &Options) -> Self {
-        let started = Instant::now(rt).ok();
+    /// Before the searches, of a program that started then.
+    pub fn new(rt: &'a HostRuntime, options: &Options, started: Option<Instant>) -> Self {
         Teller {
             rt,
             started,
@@ -85,7 +84,7 @@ impl<'a> Teller<'a> {
         self.letter = 'j';
     }
 
-    /// Writes how long all searches took, and how much memory, where summaries are wanted.
+    /// Writes how long all took, and how much memory, where summaries are wanted.
     pub fn sum_up(&self) {
         if self.stats {
             let took = Seconds(self.since(self.started));
