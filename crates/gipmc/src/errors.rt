@@ -75,6 +75,8 @@ pub enum Failure<'a> {
     Task(Option<&'a str>, TaskError),
     /// The task on justice properties was not done, for what this input has.
     Justice(Option<&'a str>, JusticeError),
+    /// No certificate was written to this file, since that of a justice property is no circuit.
+    NoCircuit(&'a str),
     /// No certificate was written to this file, since it would be one of several properties.
     SeveralProperties(Option<&'a str>),
     /// Memory was refused.
@@ -148,6 +150,10 @@ impl Display for Failure<'_> {
                 name.unwrap_or("<stdin>")
             ),
             Failure::Justice(name, error) => write!(f, "{}: {error}", name.unwrap_or("<stdin>")),
+            Failure::NoCircuit(name) => write!(
+                f,
+                "{name}: not written, since the certificate of a justice property is clauses, without '--aiger'"
+            ),
             Failure::SeveralProperties(name) => write!(
                 f,
                 "{}: not written, since '--justice' asks for the property that it is to be of",

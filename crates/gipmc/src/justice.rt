@@ -108,14 +108,19 @@ pub fn outcome_of_justice(justice: &Option<Answered>) -> Outcome
 /// Writes the certificate of a justice property that holds, if it is the only one that was asked about, to the file.
 ///
 /// # Errors
-/// [`Failure::SeveralProperties`] where several hold, and those of the certificate and of its file.
+/// [`Failure::NoCircuit`] where it is to be a circuit, [`Failure::SeveralProperties`] where several hold, and those of the
+/// certificate and of its file.
 pub fn keep_of_justice<'a>(
     rt: &HostRuntime,
+    options: &Options<'a>,
     answer: &Answered,
     file: NewFile<'a>,
 ) -> Result<(), Failure<'a>> {
     if answer.said.outcome != Outcome::Safe {
         return Ok(());
+    }
+    if options.aiger {
+        return Err(Failure::NoCircuit(file.name()));
     }
     match answer.said.found.as_slice() {
         [found] => write_certificate(rt, answer, found, file),

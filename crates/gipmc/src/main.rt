@@ -200,9 +200,20 @@ fn search_circuit<'a>(
 ) -> Result<Outcome, Failure<'a>>
     ensures { IfOk result (IsAnsweredAsked Global bytes.now options.now.bad options.now.justice) }
 {
-    let certificate = new_file(rt, options.certificate)?;
+    let certificate = certificate_file(rt, options)?;
     let wave = new_file(rt, options.vcd)?;
     search_for(rt, options, started, bytes, certificate, wave)
+}
+
+// The file of a certificate, if one is wanted.
+fn certificate_file<'a>(
+    rt: &HostRuntime,
+    options: &Options<'a>,
+) -> Result<Option<NewFile<'a>>, Failure<'a>> {
+    match options.certificate {
+        Some(name) if options.aiger && options.justice.is_some() => Err(Failure::NoCircuit(name)),
+        name => new_file(rt, name),
+    }
 }
 
 // Answers about a circuit, and writes these files, if they are wanted, and others that the options ask for.
@@ -258,7 +269,7 @@ fn keep_certificate<'a>(
         return keep_of_bads(rt, options, bytes, answer, file);
     }
     match &found.justice {
-        Some(answer) => keep_of_justice(rt, answer, file),
+        Some(answer) => keep_of_justice(rt, options, answer, file),
         None => Ok(()),
     }
 }
@@ -558,9 +569,20 @@ fn certify_bads<'a>(
     ensures { IfOk result (λ verified. IsTrue verified → Certifies Global bytes.now text.now options.now.bad) }
 {
     match doubt_of(rt.alloc(), bytes, text, options.bad, options.limit) {
-        Ok(None) => verified_text(rt, true),
+        Ok(None) => {
+            tell_left_out(rt, options, bytes);
+            verified_text(rt, true)
+        }
         Ok(Some(doubt)) => doubted(rt, name, &doubt),
         Err(error) => Err(failure(options.file, name, error)),
+    }
+}
+
+// Tells where a certificate of all bad literals says nothing of justice properties.
+fn tell_left_out(rt: &HostRuntime, options: &Options, bytes: &[u8]) {
+    if options.bad.is_none() && has_justice(bytes) {
+        let name = options.file.unwrap_or("<stdin>");
+        let _ = eprintln!(rt; "c {name}: its bad literals alone are certified");
     }
 }
 
