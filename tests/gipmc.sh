@@ -422,17 +422,21 @@ status=$?
 [ "$status" = 10 ] && [ "$SECONDS" -lt 20 ] && [ "$(answers out | head -n 6)" = "$first" ] && [ ! -s err ] &&
     [ "$(answers out | sed 1,6d | tr '\n' '#' | sed 's/u[0-9]*/u/')" = 'u#2#b1#.#' ]
 told "an answer before the time is over" $?
-# A latch that keeps 0, and a chain of a million gates behind it. A round of simulation takes seconds of a processor.
-gates=1000000
+# A latch that keeps 0, and a chain of two million gates behind it. A round of simulation takes many seconds of a processor.
+gates=2000000
 {
     printf 'aig %s 4 1 0 %s 1\n10\n%s\n' $((gates + 5)) "$gates" $((2 * gates + 10))
     head -c $((2 * gates)) /dev/zero | tr '\0' '\2'
 } > chain.aig
-used=$(TIMEFORMAT=%0U; { time "$gipmc" --engine sim --time 1 --stats --certificate cert chain.aig > out 2> err; } 2>&1)
+rm -f cert
+sim=(--engine sim --time 6 --verbose --stats --certificate cert)
+used=$(TIMEFORMAT=%0U; { time "$gipmc" "${sim[@]}" chain.aig > out 2> err; } 2>&1)
 status=$?
-[ "$status" = 0 ] && [ "$(cat out)" = "$(printf '2\nb0\n.')" ] && [ ! -e cert ] && [ "$used" -lt 3 ] &&
-    ! grep '^c b' err | grep -qv '^c b0: \(round 1; \)\?[0-9]* moments of round [12]; '
+within='^c b0: \(round 1; \)\?[0-9]* moments of round [12]; [0-9]*[.][0-9][0-9][0-9] s$'
+[ "$status" = 0 ] && [ "$(cat out)" = "$(printf '2\nb0\n.')" ] && [ ! -e cert ] && [ "$used" -lt 9 ]
 told "the time is over within a round of simulation" $?
+[ "$(grep -c "$within" err)" = 2 ] && [ "$(wc -l < err)" = 3 ]
+told "progress within a round of simulation" $?
 rm chain.aig
 (ulimit -v 200000; exec "$gipmc" "${endless[@]}" swapped.aag) > out 2> err
 status=$?
@@ -608,6 +612,24 @@ for circuit in two.aag -; do
     [ "$status" = 20 ] && [ "$(answers out)" = "$safe" ] && [ "$("$gipmc" --certify cert --bad 0 two.aag)" = "s VERIFIED" ]
     told "no standard error, circuit $circuit" $?
 done
+# The answer goes into no other file.
+"$gipmc" --engine bmc --witness closed- --vcd closed.vcd named.aag > out 2> err
+mkdir closed
+mv closed?* closed
+for option in --witness=closed- --vcd=closed.vcd; do
+    "$gipmc" --engine bmc "$option" named.aag >&- 2> err
+    status=$?
+    others=0
+    for file in closed?*; do cmp -s "$file" "closed/$file" || others=1; done
+    [ "$status" = 1 ] && [ "$(cat err)" = "$unheard" ] && [ "$others" = 0 ]
+    told "no standard output, beside ${option%=*}" $?
+    rm closed?*
+done
+"$gipmc" --bad 0 --aiger --certificate cert two.aag >&- 2> err
+status=$?
+[ "$status" = 1 ] && [ "$(cat err)" = "$unheard" ] && [ "$(head -c 4 cert)" = "aag " ] &&
+    [ "$("$gipmc" --certify cert --bad 0 two.aag)" = "s VERIFIED" ]
+told "no standard output, beside a certificate as a circuit" $?
 rm -f cert
 "$gipmc" --bad 0 --certificate cert two.aag <&- >&- 2>&-
 status=$?
@@ -691,6 +713,9 @@ try "no certificate of several properties" 1 \
     "$(printf '0\nj0\n.\n0\nj1\n.')" 'aag 1 0 1 0 0 0 0 2\n2 2\n1\n1\n2\n2\n' --certificate counts
 [ ! -e counts ]
 told "no file of such a certificate" $?
+no_circuit="counts: not written, since the certificate of a justice property is clauses, without '--aiger'"
+try "no circuit for a justice property that is asked for" 1 "$no_circuit" "" "$fair" --certificate counts --aiger --justice 0
+try "no circuit for the only justice property" 1 "$no_circuit" "$is_live" "$fair" --certificate counts --aiger
 
 # Lassos with names. A latch rises and stays up.
 printf '%b' 'aag 1 0 1 0 0 0 0 2\n2 1\n1\n1\n2\n0\nl0 top.up\nj0 stays up\nj1 never\n' > rises.aag
@@ -740,7 +765,10 @@ told "a file of a lasso" $?
 try "an empty input" 1 '<stdin>:1: no header `aag` or `aig`' "" ""
 live='aag 1 0 1 0 0 1 0 2 1\n2 2\n2\n1\n2\n3\n1\n2\n3\nl0 held\nj1 live\nb0 bad\n'
 printf '%b' "$live" > live.aag
-try "a certificate of bad literals beside justice properties" 0 "" "s VERIFIED" 'p cnf 1 1\n-1 0\n' --certify - live.aag
+try "a certificate of bad literals beside justice properties" 0 "c live.aag: its bad literals alone are certified" \
+    "s VERIFIED" 'p cnf 1 1\n-1 0\n' --certify - live.aag
+try "a certificate of one bad literal beside justice properties" 0 "" "s VERIFIED" 'p cnf 1 1\n-1 0\n' --certify - \
+    --bad 0 live.aag
 printf '%b' 'aag 1 0 1 0 0 1 0 1\n2 2 1\n2\n1\n3\nl0 held\nj0 live\nb0 bad\n' > live.aag
 "$gipmc" --engine bmc --names live.aag > out 2> err
 status=$?
