@@ -767,6 +767,11 @@ live='aag 1 0 1 0 0 1 0 2 1\n2 2\n2\n1\n2\n3\n1\n2\n3\nl0 held\nj1 live\nb0 bad\
 printf '%b' "$live" > live.aag
 try "a certificate of bad literals beside justice properties" 0 "c live.aag: its bad literals alone are certified" \
     "s VERIFIED" 'p cnf 1 1\n-1 0\n' --certify - live.aag
+rm -f cert
+"$gipmc" --certificate cert live.aag > out 2> err
+[ "$(cat err)" = "c live.aag: its bad literals alone are certified" ] && [ "$("$gipmc" --certify cert --bad 0 live.aag)" = "s VERIFIED" ]
+told "a certificate that is written of bad literals beside justice properties" $?
+rm -f cert
 try "a certificate of one bad literal beside justice properties" 0 "" "s VERIFIED" 'p cnf 1 1\n-1 0\n' --certify - \
     --bad 0 live.aag
 printf '%b' 'aag 1 0 1 0 0 1 0 1\n2 2 1\n2\n1\n3\nl0 held\nj0 live\nb0 bad\n' > live.aag

@@ -41,7 +41,7 @@ pub const ABOUT: About<'static, Switch, Number, Text> = About {
     summary: &[
         "Reads a circuit in the ascii or the binary form of AIGER 1.9 from FILE, or from standard input where none is \
          named or its name is -, and finds out whether its bad states can be reached. One search is about all bad literals; \
-         each answer is written once it and those before it are known.",
+         each answer is written once it and those before it are known, since lines `u N` are about the next one.",
         "An answer is some lines: `1` where a bad state is reachable, `0` where none is, or `2` where that is open; `b` with \
          the literal's place (from 0 on); behind a `1` a witness, the values of the latches at first, and those of the \
          inputs at each moment; and `.`. A line `u N` before a `2` says that no counterexample has N transitions or fewer. \
@@ -97,8 +97,8 @@ pub const OPTIONS: [Opt<Switch, Number, Text>; 18] = [
         short: "",
         kind: Kind::Number(Number::Limit, "N"),
         section: "Search",
-        help: "leave a question to a solver open after N conflicts, of bmc, induction, --shortest and --certify; without this \
-               there is no bound",
+        help: "leave a question to a solver open after N conflicts, of bmc, induction, --shortest and --certify (--conflicts \
+               of gipsat is about a whole search); without this there is no bound",
     },
     Opt {
         long: "--time",

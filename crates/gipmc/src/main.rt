@@ -406,7 +406,11 @@ fn write_certificate<'a>(
     requires circuit { IsCircuitIn bytes.now answer.now.netlist.circuit }
 {
     match certificate_text(rt, options, bytes, answer) {
-        Ok(text) => write_whole(file, &text),
+        Ok(text) => {
+            write_whole(file, &text)?;
+            tell_left_out(rt, options, bytes);
+            Ok(())
+        }
         Err(error) => Err(Failure::NoCertificate(Some(file.name()), error)),
     }
 }
