@@ -1,6 +1,9 @@
-//! Files that are read.
+//! Files that are named.
 use std::fs::File;
 use std::io::{self, ErrorKind};
+
+/// Why a minus names no file that is written.
+pub const NO_NAME: &str = "'-' names no file to write, since standard output has the answer";
 
 /// Opens a file to read it.
 ///

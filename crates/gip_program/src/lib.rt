@@ -1,22 +1,28 @@
 //! What the programs share: the words of a command line by a table of options, help that is laid out from the same
-//! table, how a program begins and ends, files that appear when they are whole, and the causes of errors of the system as
-//! they are told.
+//! table, how a program begins and ends, files that appear when they are whole, the causes of errors of the system as
+//! they are told, and what lines on progress need: a clock, when they are due, and how much memory was used.
 #![tactic(auto)]
 
 pub mod about;
 pub mod cause;
+pub mod clock;
+pub mod comments;
 pub mod endings;
 pub mod files;
 pub mod items;
+pub mod memory;
 pub mod new_file;
 pub mod options;
 pub mod streams;
 
 pub use about::About;
 pub use cause::Cause;
+pub use clock::{Clock, Seconds, every_interval};
+pub use comments::Comments;
 pub use endings::{begin, explain, refuse, tell};
-pub use files::open_file;
+pub use files::{NO_NAME, open_file};
 pub use items::{Fault, Info, Item, Items};
+pub use memory::Peak;
 pub use new_file::{Existing, FinishError, NewFile};
 pub use options::{Kind, Opt};
 pub use streams::hold_standard_streams;
