@@ -865,7 +865,7 @@ try "no engine" 2 "gipmc: '--engine' needs sim, bmc, ic3 or induction behind it 
 try "another engine" 2 "gipmc: '--engine' takes sim, bmc, ic3 or induction, not 'ic4' (try --help)" "" "" --engine ic4
 try "a time that is no number" 2 "gipmc: '--time' takes a number below 2^64, not 'x' (try --help)" "" "" -t x
 try "no time behind the option" 2 "gipmc: '--time' needs a number behind it (try --help)" "" "" -t
-try "a short option with = in it" 2 "gipmc: unknown option '-t=9' (try --help)" "" "" -t=9
+try "a short option with = in it" 2 "gipmc: '--time' takes a number below 2^64, not '=9' (try --help)" "" "" -t=9
 try "a depth that is no number" 2 "gipmc: '--depth' takes a number below 2^64, not 'x' (try --help)" "" "" --depth x
 try "two files" 2 "gipmc: one file too many, 'b' (try --help)" "" "" a b
 try "a word that is no text" 1 "arguments: not UTF-8 text" "" "" $'\377'

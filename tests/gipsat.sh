@@ -153,9 +153,10 @@ try_usage "'--proof' needs a file behind it" --proof
 try_usage "'--conflicts' takes a number below 2^64, not 'x'" --conflicts x
 try_usage "'--conflicts' takes a number below 2^64, not 'x'" --conflicts=x
 try_usage "'--time' takes a number below 2^64, not ''" --time=
-try_usage "unknown option '-t=9'" -t=9
-try_usage "a proof is written to a file, since standard output has the answer" --proof -
-try_usage "a proof is written to a file, since standard output has the answer" --proof=-
+try_usage "'--time' takes a number below 2^64, not '=9'" -t=9
+try_usage "'--check' takes no option '-t9'" --check -t9 a b
+try_usage "'-' names no file to write, since standard output has the answer" --proof -
+try_usage "'-' names no file to write, since standard output has the answer" --proof=-
 try_usage "unknown option '--stats=9'" --stats=9
 try_usage "unknown option '--=9'" --=9
 try_usage "'--conflicts' takes a number below 2^64, not '18446744073709551616'" --conflicts 18446744073709551616

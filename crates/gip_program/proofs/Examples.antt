@@ -23,8 +23,15 @@ joined : said (codes "--time=9" ∷ codes "--proof=p=q" ∷ [])
     ≡ Counted 2 9 (codes "--time=9") ∷ Given 3 (codes "p=q") (codes "--proof=p=q") ∷ []
 joined = refl
 
-refused-joined_short : said (codes "-t=9" ∷ codes "a" ∷ []) ≡ Misused (UnknownOption (codes "-t=9")) ∷ []
+-- or at once behind a short name
+joined_short : said (codes "-t9" ∷ codes "a" ∷ []) ≡ Counted 2 9 (codes "-t9") ∷ File (codes "a") ∷ []
+joined_short = refl
+
+refused-joined_short : said (codes "-t=9" ∷ codes "a" ∷ []) ≡ Misused (NoNumber (codes "--time") (codes "=9")) ∷ []
 refused-joined_short = refl
+
+refused-switches : said (codes "-qt" ∷ []) ≡ Misused (UnknownOption (codes "-qt")) ∷ []
+refused-switches = refl
 
 refused-joined_switch : said (codes "--quiet=9" ∷ []) ≡ Misused (UnknownOption (codes "--quiet=9")) ∷ []
 refused-joined_switch = refl

@@ -1,8 +1,9 @@
 -- What the words of a command line say, one after another.
-use Rattle.std.specs.Prelude.{ℕ, ◌==◌, ◌&&◌, ◌||◌, Bool, List, [], ◌∷◌, length, map, nat_lt, slice_index, if◌then◌else◌, codes, Option, Some, None, not, string_bytes}
-use Rattle.std.specs.List.{after_first, before_first, position_or_len}
+use Rattle.std.specs.Prelude.{ℕ, ◌==◌, ◌&&◌, ◌||◌, Bool, List, [], ◌∷◌, drop, length, map, nat_lt, slice_index, if◌then◌else◌, codes, Option, Some, None, not, string_bytes}
+use Rattle.std.specs.List.{after_first, before_first, position_or_len, starts_with}
 use Rattle.std.specs.Option.{option_map_or}
 use Rattle.std.specs.Str.{byte, bytes_eq}
+use lib.Dec.{eqb}
 use Rattle.giputils_text.specs.Numbers.{number_of}
 use Rattle.gip_program.specs.Options.{Entry, Takes, Switch, Number, Text, entry_of, named}
 use Rattle.gip_program.specs.declared.items.Fault.{Fault}
@@ -65,12 +66,28 @@ assigned_said (Some o) name value word =
 assigned_said None name value word = Misused (UnknownOption word)
 
 -- a long name, an equals sign and a value
-abbrev pub joined_said : {S : Type 0} → {N : Type 0} → {T : Type 0} → List (Entry S N T) → List ℕ → Said S N T
-joined_said table word =
+abbrev pub long_said : {S : Type 0} → {N : Type 0} → {T : Type 0} → List (Entry S N T) → List ℕ → Said S N T
+long_said table word =
     if nat_lt (position_or_len (λ b. b == byte "=") word) (length word)
     then assigned_said (named table (before_first (λ b. b == byte "=") word))
     (before_first (λ b. b == byte "=") word) (after_first (λ b. b == byte "=") word) word
     else Misused (UnknownOption word)
+
+-- what stands behind a short name, in a word that begins with it
+abbrev pub behind : List ℕ → List ℕ → Option (List ℕ)
+behind short word =
+    if length short == 0 then None
+    else if starts_with eqb word short then Some (drop (length short) word) else None
+
+-- a value behind the short name of the first option that has one with which the word begins
+abbrev pub short_said : {S : Type 0} → {N : Type 0} → {T : Type 0} → List (Entry S N T) → List ℕ → Said S N T → Said S N T
+short_said [] word otherwise = otherwise
+short_said (o ∷ table) word otherwise =
+    option_map_or (λ value. value_said o value word) (behind o.short word) (short_said table word otherwise)
+
+-- an option with its value in one word
+abbrev pub joined_said : {S : Type 0} → {N : Type 0} → {T : Type 0} → List (Entry S N T) → List ℕ → Said S N T
+joined_said table word = short_said table word (long_said table word)
 
 -- nothing is said behind what is told, and behind words that have no meaning
 abbrev pub before : {S : Type 0} → {N : Type 0} → {T : Type 0} → Said S N T → List (Said S N T) → List (Said S N T)

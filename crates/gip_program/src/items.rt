@@ -2,8 +2,8 @@
 ghost use Rattle.std.specs.Prelude.{◌≡◌, ◌∷◌, true, false, map, string_bytes};
 ghost use Rattle.giputils_text.specs.Numbers.{number_of};
 ghost use Rattle.std.specs.Option.{option_map};
-ghost use Rattle.gip_program.specs.Items.{Any, assigned_said, before, first_said, info_of, is_option, items_said, joined_said};
-ghost use Rattle.gip_program.specs.Items.{left_behind, left_said, option_said, said_of, told_said, value_said};
+ghost use Rattle.gip_program.specs.Items.{Any, assigned_said, before, behind, first_said, info_of, is_option, items_said, joined_said};
+ghost use Rattle.gip_program.specs.Items.{left_behind, left_said, long_said, option_said, said_of, told_said, value_said};
 ghost use Rattle.gip_program.specs.Options.{entry_of};
 
 use crate::options::{Kind, Opt, named};
@@ -61,7 +61,7 @@ impl Display for Fault<'_> {
 /// The items of a command line.
 ///
 /// A word that begins with a minus is an option, but for the minus alone, and other words are files; behind `--` all are.
-/// The value of an option is the next word, or stands behind its long name and `=`.
+/// The value of an option is the next word, or stands behind its long name and `=`, or at once behind its short name.
 #[derive(Clone, Copy)]
 pub struct Items<'t, 'a, S, N, T> {
     table: &'t [Opt<S, N, T>],
@@ -210,9 +210,33 @@ fn number_of(word: &str) -> Option<usize>
     }
 }
 
-// A long name, an equals sign and a value.
+// An option with its value in one word.
 fn joined<'a, S: Copy, N: Copy, T: Copy>(table: &[Opt<S, N, T>], word: &'a str) -> Item<'a, S, N, T>
     ensures { said_of result ≡ joined_said (map entry_of table.now) word.now }
+{
+    let mut left = table;
+    while let [option, rest @ ..] = left {
+        if let Some(value) = behind(option.short, word) {
+            return value_of(option, value, word);
+        }
+        left = rest;
+    }
+    long(table, word)
+}
+
+// What stands behind a short name, in a word that begins with it.
+fn behind<'a>(short: &str, word: &'a str) -> Option<&'a str>
+    ensures { option_map (λ value. value.now) result ≡ behind short.now word.now }
+{
+    if short.is_empty() {
+        return None;
+    }
+    word.strip_prefix(short)
+}
+
+// A long name, an equals sign and a value.
+fn long<'a, S: Copy, N: Copy, T: Copy>(table: &[Opt<S, N, T>], word: &'a str) -> Item<'a, S, N, T>
+    ensures { said_of result ≡ long_said (map entry_of table.now) word.now }
 {
     let Some((name, value)) = word.split_once('=') else {
         return Item::Fault(Fault::UnknownOption(word));

@@ -30,8 +30,11 @@ time : work_asked (codes "-t" ∷ codes "5" ∷ codes "--verbose" ∷ codes "--t
     ≡ Ok (Answer (record no_request { time = Some 9; verbose = true }))
 time = refl
 
--- a value is joined to a long name alone
-refused-joined_short : work_asked (codes "-t=9" ∷ []) ≡ Err (Words (UnknownOption (codes "-t=9")))
+joined_short : work_asked (codes "-t9" ∷ codes "a" ∷ []) ≡ Ok (Answer (record no_request { time = Some 9; file = Some (codes "a") }))
+joined_short = refl
+
+-- an equals sign behind a short name belongs to the value
+refused-joined_short : work_asked (codes "-t=9" ∷ []) ≡ Err (Words (NoNumber (codes "--time") (codes "=9")))
 refused-joined_short = refl
 
 certificate : work_asked (codes "--certificate" ∷ codes "c" ∷ codes "a" ∷ [])

@@ -72,7 +72,12 @@ joined = refl
 refused-joined_switch : work_asked (codes "--stats=1" ∷ []) ≡ Err (Words (UnknownOption (codes "--stats=1")))
 refused-joined_switch = refl
 
-refused-joined_short : work_asked (codes "-t=9" ∷ []) ≡ Err (Words (UnknownOption (codes "-t=9")))
+-- or all behind a short name
+joined_short : work_asked (codes "-n7" ∷ codes "-t9" ∷ codes "a" ∷ [])
+    ≡ Ok (Solve (record no_request { conflicts = 7; time = Some 9; file = Some (codes "a") }))
+joined_short = refl
+
+refused-joined_short : work_asked (codes "-t=9" ∷ []) ≡ Err (Words (NoNumber (codes "--time") (codes "=9")))
 refused-joined_short = refl
 
 refused-joined_nothing : work_asked (codes "--time=" ∷ []) ≡ Err (Words (NoNumber (codes "--time") []))
