@@ -181,7 +181,7 @@ try_usage "'--check' takes no option '--binary'" --check --binary a b
 try_usage "'--check' takes one file at most from standard input" --check - -
 try_usage "'--check' takes two files, FORMULA and PROOF" --lrat-from-drat a b
 try_usage "'--check' takes no option '--lrat'" --lrat-from-drat a --lrat b c
-try_usage "a proof is written to a file, since standard output has the answer" --lrat-from-drat - a b
+try_usage "'-' names no file to write, since standard output has the answer" --lrat-from-drat - a b
 
 # On a terminal it tells that it reads standard input, but for `-q`.
 # NAME ERROR [ARGUMENT..]: types a formula, and expects this on standard error.

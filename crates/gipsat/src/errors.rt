@@ -1,7 +1,7 @@
 //! Why nothing was answered, as it is told.
 use crate::about::Text;
 use crate::proof_file::ProofError;
-use gip_program::{Cause, Fault};
+use gip_program::{Cause, Fault, NO_NAME};
 use gipsat_dimacs::{Compression, Reason};
 use gipsat_drat::error::{OtherForm, Place, Refusal};
 use std::fmt::{self, Display};
@@ -45,9 +45,7 @@ impl Display for UsageError<'_> {
             UsageError::InputTwice => {
                 f.write_str("'--check' takes one file at most from standard input")
             }
-            UsageError::OutputTwice => f.write_str(
-                "a proof is written to a file, since standard output has the answer",
-            ),
+            UsageError::OutputTwice => f.write_str(NO_NAME),
         }
     }
 }

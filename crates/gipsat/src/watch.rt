@@ -2,26 +2,21 @@
 ghost use Rattle.std.specs.Prelude.{◌≡◌, ◌&&◌, false, not, IfOk};
 
 use crate::options::Options;
+use gip_program::{Clock, Comments, Peak, Seconds, every_interval};
 use gipsat_cnf::{Cnf, Literal};
 use gipsat_dimacs::Instance;
 use gipsat_solver::progress::{Progress, Report};
 use giputils_stat::logger::IntervalLogger;
 use giputils_stat::statistic::MovingAverage;
-use log::kv::Source;
-use log::span::Spans;
-use log::{Level, Log, Metadata, Record};
+use log::Level;
 use std::alloc::AllocError;
 use std::fmt::{self, Display};
-use std::fs;
 use std::io::{self, Read};
 use std::ops::ControlFlow;
-use std::time::{Duration, Instant};
+use std::time::Duration;
 
 // How many of the last clauses count for their average length.
 const LAST: usize = 1_000;
-
-// How many seconds it is at least from one line to the next.
-const INTERVAL_SECONDS: u64 = 5;
 
 // The decimals of an average.
 const PLACES: u32 = 2;
@@ -61,98 +56,6 @@ impl Display for Lengths<'_> {
     }
 }
 
-// A time in seconds, to a thousandth.
-#[derive(Clone, Copy)]
-struct Seconds(Duration);
-
-impl Display for Seconds {
-    fn fmt<W: fmt::Write>(&self, f: &mut fmt::Formatter<W>) -> fmt::Result {
-        write!(f, "{}.{:03} s", self.0.as_secs(), self.0.subsec_millis())
-    }
-}
-
-// The most memory that was used at a time, where it is known.
-#[derive(Clone, Copy)]
-struct Peak(Option<u64>);
-
-impl Display for Peak {
-    fn fmt<W: fmt::Write>(&self, f: &mut fmt::Formatter<W>) -> fmt::Result {
-        match self.0 {
-            Some(kilobytes) => write!(f, ", {kilobytes} kB of memory at most"),
-            None => Ok(()),
-        }
-    }
-}
-
-impl Peak {
-    // What the system says of this process.
-    fn now(rt: &HostRuntime) -> Self {
-        match fs::read_to_string(rt, "/proc/self/status") {
-            Ok(status) => Peak(peak_in(&status)),
-            Err(_) => Peak(None),
-        }
-    }
-}
-
-// The number of kilobytes behind `VmHWM:` in the system's text on a process.
-fn peak_in(status: &str) -> Option<u64> {
-    let (_, rest) = status.split_once("VmHWM:")?;
-    rest.split_whitespace().next()?.parse().ok()
-}
-
-// Writes each record to standard error, as a line that begins with `c`.
-#[derive(Clone, Copy)]
-struct Comments<'a> {
-    rt: &'a HostRuntime,
-}
-
-impl Log for Comments<'_> {
-    fn enabled(&self, _metadata: &Metadata<'_>) -> bool {
-        true
-    }
-
-    fn log<D: Display, K: Source, S: Spans>(&self, record: &Record<'_, D, K, S>) {
-        let _ = eprintln!(self.rt; "c {}", record.args());
-    }
-
-    fn flush(&self) {}
-
-    fn target(&self) -> &str {
-        ""
-    }
-}
-
-// The time since a beginning, or none where there is no clock.
-#[derive(Clone, Copy)]
-struct Clock<'a> {
-    rt: &'a HostRuntime,
-    started: Option<Instant>,
-}
-
-impl<'a> Clock<'a> {
-    fn start(rt: &'a HostRuntime) -> Self {
-        Clock {
-            rt,
-            started: Instant::now(rt).ok(),
-        }
-    }
-
-    fn now(&self) -> Duration {
-        match self.started {
-            Some(started) => started.elapsed(self.rt).unwrap_or(Duration::from_secs(0)),
-            None => Duration::from_secs(0),
-        }
-    }
-}
-
-// A logger that is first due an interval after the beginning.
-fn every_interval() -> IntervalLogger {
-    IntervalLogger::new(
-        Duration::from_secs(0),
-        Duration::from_secs(INTERVAL_SECONDS),
-    )
-}
-
 /// A reader that writes now and then how much was read.
 #[derive(Drop)]
 pub struct WatchedReader<'a, R: Read> {
@@ -188,7 +91,7 @@ impl<R: Read> Read for WatchedReader<'_, R> {
             let now = self.clock.now();
             let told = format_args!("{} bytes read", self.bytes);
             self.logger
-                .log(&Comments { rt: self.rt }, now, Level::Info, &told);
+                .log(&Comments::new(self.rt), now, Level::Info, &told);
         }
         Ok(read)
     }
@@ -270,7 +173,7 @@ impl Progress for Watch<'_> {
                 lengths: &self.lengths,
             };
             self.logger
-                .log(&Comments { rt: self.rt }, now, Level::Info, &snapshot);
+                .log(&Comments::new(self.rt), now, Level::Info, &snapshot);
         }
         ControlFlow::Continue(())
     }
