@@ -3,7 +3,7 @@ use Rattle.std.proofs.Common.{◌≡◌, ℕ, ◌+◌, ◌<◌, ◌≤◌, List,
 use Rattle.std.proofs.lemmas.List.{drop_all, drop_more}
 use Rattle.std.proofs.Common.{Bool, refl}
 use Rattle.std.specs.List.{list_any}
-use Rattle.std.specs.Prelude.{map, ◌||◌}
+use Rattle.std.specs.Prelude.{map}
 use Rattle.gipmc_aiger.specs.Lists.{Every}
 
 -- those that are left have it if the first of them has, and those behind it

@@ -13,7 +13,7 @@ use Rattle.gipmc_answers.specs.Witnesses.{Replays, names_place}
 use Rattle.gipmc_answers.proofs.Depths.{depths-read_over}
 use Rattle.gipmc_answers.specs.declared.known.Known.{Known}
 use Rattle.gipmc_answers.specs.declared.known.Known.TheVariants as known
-use Rattle.gipmc_answers.specs.declared.answers.Outcome.TheVariants.{Fails, Safe}
+use Rattle.gipmc_answers.specs.declared.answers.Outcome.TheVariants.{Fails}
 
 -- two numbers that pass the test are equal
 pub same_of_test : (m n : ℕ) → (m == n) ≡ true → m ≡ n
