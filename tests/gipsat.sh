@@ -544,7 +544,7 @@ told "no standard input, where the formula comes from there" $?
 told "no standard input, where the proof comes from there" $?
 : > "$work/out"
 for formula in "$kept" -; do
-    for format in --quiet --binary; do
+    for format in --quiet --binary --lrat; do
         rm -f "$work/closed"
         "$gipsat" "$format" --proof "$work/closed" "$formula" < "$kept" >&- 2> "$work/err"
         [ "$?" = 1 ] && [ "$(cat "$work/err")" = "$unheard" ] &&
@@ -563,6 +563,13 @@ rm -f "$work/closed"
 [ "$?" = 1 ] && [ "$("$gipsat" --check "$kept" "$work/closed")" = "s VERIFIED" ]
 told "no standard stream" $?
 cp "$work/closed" "$work/held"
+"$gipsat" --lrat-from-drat "$work/hinted" "$kept" "$work/closed" > "$work/out" 2> "$work/err"
+cp "$work/hinted" "$work/hints"
+rm "$work/hinted"
+"$gipsat" --lrat-from-drat "$work/hinted" "$kept" "$work/closed" >&- 2> "$work/err"
+[ "$?" = 1 ] && [ "$(cat "$work/err")" = "$unheard" ] && { [ ! -e "$work/hinted" ] || cmp -s "$work/hinted" "$work/hints"; }
+told "no standard output, beside a proof that is given hints" $?
+rm -f "$work/hinted"
 for words in "--check $kept $work/closed" "$kept" --help --version; do
     # shellcheck disable=SC2086
     "$gipsat" $words >&- 2> "$work/err"
@@ -754,7 +761,7 @@ for search in err easy_err; do
         failed=$((failed + 1))
     fi
 done
-[ "$(grep -c "$progress" "$work/told_err")" -ge 2 ]
+[ "$(grep -c "$progress" "$work/told_err")" -ge 3 ]
 told "a line every five seconds, with -v and -q" $?
 if [ "$(cat "$work/slow")" = "$(printf 's SATISFIABLE\nv 1 0')" ] && grep -q '^c 14 bytes read$' "$work/slow_err" &&
     grep -q '^c 1 variables, 1 clauses read in [0-9]*\.[0-9]\{3\} s$' "$work/slow_err"; then
@@ -766,11 +773,13 @@ else
 fi
 
 # Where no conflict is met the search pauses as well: where reading takes less than the time, it ends half a second late
-# at most on an idle machine, and two seconds on one that is busy.
+# at most. On a machine that is busy one of three runs may.
 TIMEFORMAT=%U
 reading=$( { time timeout 60 "$gipsat" -q -n --conflicts 0 "$work/easy" > "$work/out" 2> "$work/err"; } 2>&1)
-spent=$( { time timeout 60 "$gipsat" -q -n --time 2 "$work/easy" > "$work/out" 2> "$work/err"; } 2>&1)
-awk "BEGIN { exit !($spent < ($reading < 2 ? 4 : $reading + 2)) }"
+for _ in 1 2 3; do
+    spent=$( { time timeout 60 "$gipsat" -q -n --time 2 "$work/easy" > "$work/out" 2> "$work/err"; } 2>&1)
+    awk "BEGIN { exit !($spent < ($reading < 2 ? 2.6 : $reading + 0.6)) }" && break
+done
 told "a time limit where no conflict is met (2 s, $spent s of the processor, $reading s to read)" $?
 
 # Memory that is refused, while the clauses are read and where a variable has the greatest number.
