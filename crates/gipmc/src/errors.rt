@@ -1,5 +1,5 @@
 //! Why nothing is answered, as it is told.
-use gip_program::{Cause, Fault, FinishError};
+use gip_program::{Cause, Fault, FinishError, NO_NAME};
 use gipmc_aiger::{AigerError, Place, Reason};
 use gipmc_answers::TaskError;
 use gipmc_justice::JusticeError;
@@ -43,9 +43,7 @@ impl Display for UsageError<'_> {
             }
             UsageError::NoLimit(word) => write!(f, "'{word}' does not go with '--replay'"),
             UsageError::InputTwice => f.write_str("one file at most is read from standard input"),
-            UsageError::OutputTwice => f.write_str(
-                "'-' names no file to write, since standard output has the answer",
-            ),
+            UsageError::OutputTwice => f.write_str(NO_NAME),
         }
     }
 }

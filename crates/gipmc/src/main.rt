@@ -32,7 +32,7 @@ mod traces;
 use about::ABOUT;
 use errors::Failure;
 use files::{bytes_of, new_file, write_out, write_whole};
-use gip_program::{NewFile, begin, explain, refuse, tell};
+use gip_program::{Clock, NewFile, begin, explain, refuse, tell};
 use gipmc_answers::{
     Answered, Outcome, Output, TaskError, answer, certificate_of, doubt_of, witness_circuit_of,
     witness_doubt,
@@ -46,7 +46,6 @@ use settings::{output_of, plan_of};
 use std::fmt::Display;
 use std::io::Stdout;
 use std::process::ExitCode;
-use std::time::Instant;
 use traces::tell_traces;
 
 // The exit status where nothing is answered, or an answer is not verified.
@@ -68,26 +67,21 @@ fn main(rt: HostRuntime) -> ExitCode {
 
 // The status of a search in the circuit of the file that the options name, or of standard input.
 fn run_search(rt: &HostRuntime, options: &Options) -> ExitCode {
-    let started = Instant::now(rt).ok();
+    let clock = Clock::start(rt);
     match bytes_of(rt, options.file) {
-        Ok(bytes) => search_in(rt, options, started, &bytes),
+        Ok(bytes) => search_in(rt, options, clock, &bytes),
         Err(error) => refuse(rt, &error),
     }
 }
 
-// The status of a search in the circuit that the bytes write, where the program started then.
-fn search_in(
-    rt: &HostRuntime,
-    options: &Options,
-    started: Option<Instant>,
-    bytes: &[u8],
-) -> ExitCode
+// The status of a search in the circuit that the bytes write, of a program that began as the clock did.
+fn search_in(rt: &HostRuntime, options: &Options, clock: Clock, bytes: &[u8]) -> ExitCode
     ensures safe { exit_status result ≡ 20 →
         IsAnsweredAsked Global bytes.now options.now.bad options.now.justice Safe }
     ensures fails { exit_status result ≡ 10 →
         IsAnsweredAsked Global bytes.now options.now.bad options.now.justice Fails }
 {
-    end_search(rt, search_circuit(rt, options, started, bytes))
+    end_search(rt, search_circuit(rt, options, clock, bytes))
 }
 
 // The status of a replay of the witness in the file of this name, or in standard input.
@@ -195,14 +189,14 @@ pub(crate) fn failure<'a>(
 fn search_circuit<'a>(
     rt: &HostRuntime,
     options: &Options<'a>,
-    started: Option<Instant>,
+    clock: Clock,
     bytes: &[u8],
 ) -> Result<Outcome, Failure<'a>>
     ensures { IfOk result (IsAnsweredAsked Global bytes.now options.now.bad options.now.justice) }
 {
     let certificate = certificate_file(rt, options)?;
     let wave = new_file(rt, options.vcd)?;
-    search_for(rt, options, started, bytes, certificate, wave)
+    search_for(rt, options, clock, bytes, certificate, wave)
 }
 
 // The file of a certificate, if one is wanted.
@@ -220,7 +214,7 @@ fn certificate_file<'a>(
 fn search_for<'a>(
     rt: &HostRuntime,
     options: &Options<'a>,
-    started: Option<Instant>,
+    clock: Clock,
     bytes: &[u8],
     certificate: Option<NewFile<'a>>,
     wave: Option<NewFile<'a>>,
@@ -228,7 +222,7 @@ fn search_for<'a>(
     ensures { IfOk result (IsAnsweredAsked Global bytes.now options.now.bad options.now.justice) }
 {
     let mut output = output_of(rt, options);
-    let found = search(rt, options, started, bytes, &mut output)?;
+    let found = search(rt, options, clock, bytes, &mut output)?;
     let kept = keep_found(rt, options, bytes, &found, certificate, wave);
     written(&output)?;
     kept?;
@@ -304,7 +298,7 @@ pub(crate) struct Found {
 fn search<'a>(
     rt: &HostRuntime,
     options: &Options<'a>,
-    started: Option<Instant>,
+    clock: Clock,
     bytes: &[u8],
     output: &mut Output<Stdout>,
 ) -> Result<Found, Failure<'a>>
@@ -312,7 +306,7 @@ fn search<'a>(
     ensures answers { IfOk result
         (λ f. IsAnsweredAsked Global bytes.now options.now.bad options.now.justice f.outcome) }
 {
-    let mut teller = Teller::new(rt, options, started);
+    let mut teller = Teller::new(rt, options, clock);
     let bads = search_bads(rt, options, bytes, &mut teller, output)?;
     let justice = search_justice(rt, options, bytes, &mut teller, output)?;
     teller.sum_up();

@@ -1,29 +1,23 @@
 //! How far a search is, in lines on standard error.
 use crate::options::Options;
-use crate::snapshot::{
-    Decided, Framed, Held, Inductive, Peak, Seconds, Simulated, Snapshot, Unrolled,
-};
+use crate::snapshot::{Decided, Framed, Held, Inductive, Simulated, Snapshot, Unrolled};
+use gip_program::{Clock, Comments, Peak, Seconds, every_interval};
 use gipmc_answers::Listener;
 use gipmc_engines::{Engine, Watch};
 use gipmc_ic3::Statistics;
 use giputils_stat::logger::IntervalLogger;
-use log::kv::Source;
-use log::span::Spans;
-use log::{Level, Log, Metadata, Record};
-use std::fmt::Display;
+use log::Level;
 use std::io::IsTerminal;
 use std::ops::ControlFlow;
-use std::time::{Duration, Instant};
-
-// How many seconds it is at least from one line to the next.
-const INTERVAL_SECONDS: u64 = 5;
+use std::time::Duration;
 
 /// Writes now and then how far a search is, where standard error is a terminal or that is asked for, and a summary of
 /// each, if that is wanted. It stops a search when the time is over.
 #[derive(Drop)]
 pub struct Teller<'a> {
     rt: &'a HostRuntime,
-    started: Option<Instant>,
+    // It began as the program did.
+    clock: Clock<'a>,
     logger: IntervalLogger,
     // How long all may take, if that is said.
     time: Option<Duration>,
@@ -33,48 +27,23 @@ pub struct Teller<'a> {
     stats: bool,
     // The letter of what is searched for: `b` for bad literals, `j` for justice properties.
     letter: char,
-    // When the search about this property began, and how far it is.
-    begun: Option<Instant>,
+    // It began with the search about this property. How far that is.
+    begun: Clock<'a>,
     snapshot: Snapshot,
 }
 
-// Writes each record to standard error, as a line that begins with `c`.
-#[derive(Clone, Copy)]
-struct Comments<'a> {
-    rt: &'a HostRuntime,
-}
-
-impl Log for Comments<'_> {
-    fn enabled(&self, _metadata: &Metadata<'_>) -> bool {
-        true
-    }
-
-    fn log<D: Display, K: Source, S: Spans>(&self, record: &Record<'_, D, K, S>) {
-        let _ = eprintln!(self.rt; "c {}", record.args());
-    }
-
-    fn flush(&self) {}
-
-    fn target(&self) -> &str {
-        ""
-    }
-}
-
 impl<'a> Teller<'a> {
-    /// Before the searches, of a program that started then.
-    pub fn new(rt: &'a HostRuntime, options: &Options, started: Option<Instant>) -> Self {
+    /// Before the searches, of a program that began as the clock did.
+    pub fn new(rt: &'a HostRuntime, options: &Options, clock: Clock<'a>) -> Self {
         Teller {
             rt,
-            started,
-            logger: IntervalLogger::new(
-                Duration::from_secs(0),
-                Duration::from_secs(INTERVAL_SECONDS),
-            ),
+            clock,
+            logger: every_interval(),
             time: options.time.map(Duration::from_secs),
             is_told: options.verbose || (!options.quiet && rt.stderr().is_terminal()),
             stats: options.stats,
             letter: 'b',
-            begun: started,
+            begun: clock,
             snapshot: Snapshot::new('b', 0),
         }
     }
@@ -87,16 +56,8 @@ impl<'a> Teller<'a> {
     /// Writes how long all took, and how much memory, where summaries are wanted.
     pub fn sum_up(&self) {
         if self.stats {
-            let took = Seconds(self.since(self.started));
+            let took = Seconds(self.clock.now());
             let _ = eprintln!(self.rt; "c {took}{}", Peak::now(self.rt));
-        }
-    }
-
-    // The time since then, or none where there is no clock.
-    fn since(&self, then: Option<Instant>) -> Duration {
-        match then {
-            Some(then) => then.elapsed(self.rt).unwrap_or(Duration::from_secs(0)),
-            None => Duration::from_secs(0),
         }
     }
 
@@ -110,12 +71,12 @@ impl<'a> Teller<'a> {
 
     // Writes how far it is, where that is due.
     fn tell(&mut self) -> ControlFlow<()> {
-        let now = self.since(self.started);
+        let now = self.clock.now();
         if self.is_told {
-            let took = Seconds(self.since(self.begun));
+            let took = Seconds(self.begun.now());
             let told = format_args!("{}{took}", self.snapshot);
             self.logger
-                .log(&Comments { rt: self.rt }, now, Level::Info, &told);
+                .log(&Comments::new(self.rt), now, Level::Info, &told);
         }
         self.go_on(now)
     }
@@ -123,9 +84,9 @@ impl<'a> Teller<'a> {
 
 impl Listener for Teller<'_> {
     fn begin(&mut self, place: usize) -> ControlFlow<()> {
-        self.begun = Instant::now(self.rt).ok();
+        self.begun = Clock::start(self.rt);
         self.snapshot = Snapshot::new(self.letter, place);
-        self.go_on(self.since(self.started))
+        self.go_on(self.clock.now())
     }
 
     fn note_engine(&mut self, engine: Engine) {
@@ -145,7 +106,7 @@ impl Listener for Teller<'_> {
             let _ = eprintln!(self.rt; "memory: refused ({letter}{place} is left open)");
         }
         if self.stats {
-            let took = Seconds(self.since(self.begun));
+            let took = Seconds(self.begun.now());
             let _ = eprintln!(self.rt; "c {}{took}", self.snapshot);
         }
     }

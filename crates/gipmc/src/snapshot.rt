@@ -3,8 +3,6 @@
 use gipmc_engines::Engine;
 use gipmc_ic3::Statistics;
 use std::fmt::{self, Display};
-use std::fs;
-use std::time::Duration;
 
 // The decimals of an average.
 const PLACES: u32 = 2;
@@ -176,43 +174,4 @@ impl Display for Decided {
             _ => Ok(()),
         }
     }
-}
-
-/// A time in seconds, to a thousandth.
-#[derive(Clone, Copy)]
-pub struct Seconds(pub Duration);
-
-impl Display for Seconds {
-    fn fmt<W: fmt::Write>(&self, f: &mut fmt::Formatter<W>) -> fmt::Result {
-        write!(f, "{}.{:03} s", self.0.as_secs(), self.0.subsec_millis())
-    }
-}
-
-/// The most memory that was used at a time, where it is known.
-#[derive(Clone, Copy)]
-pub struct Peak(Option<u64>);
-
-impl Display for Peak {
-    fn fmt<W: fmt::Write>(&self, f: &mut fmt::Formatter<W>) -> fmt::Result {
-        match self.0 {
-            Some(kilobytes) => write!(f, ", {kilobytes} kB of memory at most"),
-            None => Ok(()),
-        }
-    }
-}
-
-impl Peak {
-    /// What the system says of this process.
-    pub fn now(rt: &HostRuntime) -> Self {
-        match fs::read_to_string(rt, "/proc/self/status") {
-            Ok(status) => Peak(peak_in(&status)),
-            Err(_) => Peak(None),
-        }
-    }
-}
-
-// The number of kilobytes behind `VmHWM:` in the system's text on a process.
-fn peak_in(status: &str) -> Option<u64> {
-    let (_, rest) = status.split_once("VmHWM:")?;
-    rest.split_whitespace().next()?.parse().ok()
 }
