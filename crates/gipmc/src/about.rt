@@ -53,7 +53,7 @@ pub const ABOUT: About<'static, Switch, Number, Text> = About {
     ],
     options: &OPTIONS,
     note: "The options --engine, --depth, --seed and --shortest, and --limit in a search, are about bad literals alone. The \
-           value of a long option may also stand behind `=`: --depth=20.",
+           value of a long option may also stand behind `=`, and that of a short one right behind it: --depth=20, -t9.",
     statuses: "Exit status: 10 unsafe, a bad state is reachable or a justice property fails; 20 safe, neither; 0 open, \
                verified, or help; 1 an error, or not verified; 2 arguments that have no meaning.",
 };
