@@ -625,6 +625,7 @@ for option in --witness=closed- --vcd=closed.vcd; do
     told "no standard output, beside ${option%=*}" $?
     rm closed?*
 done
+rm -f cert
 "$gipmc" --bad 0 --aiger --certificate cert two.aag >&- 2> err
 status=$?
 [ "$status" = 1 ] && [ "$(cat err)" = "$unheard" ] && [ "$(head -c 4 cert)" = "aag " ] &&
