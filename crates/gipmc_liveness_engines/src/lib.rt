@@ -3,6 +3,7 @@
 
 mod hearing;
 pub mod rounds;
+mod shown;
 pub mod verdict;
 
 pub use rounds::{Bounds, decide_live};
