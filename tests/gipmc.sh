@@ -651,21 +651,22 @@ fair='aag 3 0 2 0 1 0 0 1\n2 3\n4 6 1\n1\n4\n6 4 3\n'
 starves='aag 3 0 2 0 1 0 0 1\n2 2\n4 6 1\n1\n4\n6 4 3\n'
 is_live=$(printf '0\nj0\n.')
 printf '1\nj0\n01\n\n.\n' > lasso
-no_lasso() {
-    printf '%s: witness 1, j0: no trace of the circuit that leads back to one of its moments, ' "$1"
-    printf 'with each literal and each fairness constraint true since'
-}
 try "a fair arbiter" 20 "" "$is_live" "$fair"
 try "an arbiter that lets a client starve" 10 "" "$(cat lasso)" "$starves"
 try "the lasso of it" 0 "" "s VERIFIED" "$starves" --replay lasso
-try "a loop that does not close" 1 "$(no_lasso lasso)" "s NOT VERIFIED" "$fair" --replay lasso
+try "a loop that does not close" 1 \
+    "lasso: witness 1, j0: behind the last moment the latches hold what they held at none before" "s NOT VERIFIED" \
+    "$fair" --replay lasso
 never='aag 1 0 1 0 0 0 0 1 1\n2 2\n1\n1\n2\n'
 try "fairness that no run meets" 20 "" "$is_live" "$never"
 printf '1\nj0\n0\n\n.\n' > lasso
-try "a lasso that forgets fairness" 1 "$(no_lasso lasso)" "s NOT VERIFIED" "$never" --replay lasso
+try "a lasso that forgets fairness" 1 \
+    "lasso: witness 1, j0: fairness constraint 0 is false from moment 0 on, where the loop begins" "s NOT VERIFIED" \
+    "$never" --replay lasso
 try "a constraint that ends every run" 20 "" "$is_live" 'aag 1 0 1 0 0 0 1 1\n2 1\n3\n1\n1\n'
 printf '1\nj0\n0\n\n\n.\n' > lasso
-try "a property that is met outside the loop" 1 "$(no_lasso lasso)" "s NOT VERIFIED" \
+try "a property that is met outside the loop" 1 \
+    "lasso: witness 1, j0: literal 0 is false from moment 1 on, where the loop begins" "s NOT VERIFIED" \
     'aag 1 0 1 0 0 0 0 1\n2 1\n1\n3\n' --replay lasso
 try "no bad literal beside a justice property" 1 "<stdin>: no bad literal" "" "$fair" --bad 0
 try "a justice property that is not there" 1 "<stdin>: no justice property 1, of 1" "" "$fair" --justice 1

@@ -13,9 +13,10 @@ use crate::error::JusticeError;
 use gipmc_aiger::{Liveness, read_invariant_for, write_invariant};
 use gipmc_answers::TaskError;
 use gipmc_circuits::certificate::Verdict;
-use gipmc_circuits::{Circuit, Netlist, certify};
+use gipmc_circuits::{Circuit, Netlist};
 use gipmc_liveness::{counting, to_safety};
 use gipmc_liveness_engines::Means;
+use gipmc_part::certify_all;
 use gipsat_cnf::Literal;
 use gipsat_solver::Solver;
 use giputils_text::{number, split_line};
@@ -144,8 +145,8 @@ fn shown_by<A: Allocator + Copy>(
         return Ok(Verdict::Unknown);
     };
     let clauses = clauses_in(alloc, &made.circuit, text)?;
-    let verdict = certify::<Solver<A>, _>(alloc, &made, bad, &clauses, limit)?;
-    Ok(verdict)
+    let verdicts = certify_all::<Solver<A>, A>(alloc, &made, &[bad], &clauses, limit)?;
+    Ok(verdicts[0])
 }
 
 // The longer circuit, and its literal, which is never true only if the circuit is live.

@@ -7,28 +7,63 @@ ghost use Rattle.gipmc_justice.specs.Witnesses.{AreLassosIn, FailsAt, IsRight, R
 use crate::answers::properties_in;
 use crate::error::JusticeError;
 use gipmc_aiger::{Claim, Liveness, read_lassos};
-use gipmc_circuits::{Circuit, Netlist, Trace};
+use gipmc_circuits::{Circuit, Netlist, Trace, TraceDoubt, trace_doubt};
 use gipmc_liveness::closed;
+use gipsat_cnf::Literal;
 use std::alloc::{AllocError, Allocator};
 use std::fmt::{self, Display};
 
-/// Which witness shows no failure of a property.
+/// Why a trace is no lasso of a justice property. Moments, literals and constraints are counted from 0.
+#[derive(Clone, Copy, Debug, PartialEq, Eq)]
+pub enum LassoReason {
+    /// It is no trace of the circuit.
+    Trace(TraceDoubt),
+    /// Its last moment leads back to none of its moments.
+    Open,
+    /// From the moment that stands first on, where the loop begins, this literal of the property is false.
+    Literal(usize, usize),
+    /// From the moment that stands first on, where the loop begins, this fairness constraint is false.
+    Fairness(usize, usize),
+}
+
+/// The reason, in words.
+impl Display for LassoReason {
+    fn fmt<W: fmt::Write>(&self, f: &mut fmt::Formatter<W>) -> fmt::Result {
+        match self {
+            LassoReason::Trace(doubt) => write!(f, "{doubt}"),
+            LassoReason::Open => {
+                f.write_str("behind the last moment the latches hold what they held at none before")
+            }
+            LassoReason::Literal(start, place) => write!(
+                f,
+                "literal {place} is false from moment {start} on, where the loop begins"
+            ),
+            LassoReason::Fairness(start, place) => write!(
+                f,
+                "fairness constraint {place} is false from moment {start} on, where the loop begins"
+            ),
+        }
+    }
+}
+
+/// Which witness shows no failure of a property, and why.
 #[derive(Clone, Copy, Debug, PartialEq, Eq)]
 pub struct LassoDoubt {
     /// Which of the witnesses of justice properties of the text it is, counted from 1.
     pub witness: usize,
     /// The place of the property.
     pub property: usize,
+    /// Why it is no lasso of it. Nothing is proved of this.
+    pub reason: LassoReason,
 }
 
-/// A line that says which witness, which property, and that it is no lasso of it.
+/// A line that says which witness, which property, and why it is no lasso of it.
 impl Display for LassoDoubt {
     fn fmt<W: fmt::Write>(&self, f: &mut fmt::Formatter<W>) -> fmt::Result {
         write!(
             f,
-            "witness {}, j{}: no trace of the circuit that leads back to one of its moments, with each literal and each \
-             fairness constraint true since",
-            self.witness, self.property
+            "witness {}, j{}: {}",
+            self.witness, self.property, self.reason
         )
     }
 }
@@ -154,8 +189,12 @@ fn first_doubt<A: Allocator + Copy>(
 {
     for place in 0..claims.len() {
         if let Some(property) = claim_doubt(alloc, netlist, liveness, &claims[place], asked)? {
-            let witness = place.saturating_add(1);
-            return Ok(Some(LassoDoubt { witness, property }));
+            let reason = reason_of(alloc, netlist, liveness, property, &claims[place].trace)?;
+            return Ok(Some(LassoDoubt {
+                witness: place.saturating_add(1),
+                property,
+                reason,
+            }));
         }
     }
     Ok(None)
@@ -259,4 +298,43 @@ fn fails_at<A: Allocator + Copy>(
         Some(_) => Ok(true),
         None => Ok(false),
     }
+}
+
+// Why the trace is no lasso of the property at a place, where it is none.
+fn reason_of<A: Allocator + Copy>(
+    alloc: A,
+    netlist: &Netlist<A>,
+    liveness: &Liveness<A>,
+    place: usize,
+    trace: &Trace<A>,
+) -> Result<LassoReason, AllocError> {
+    let always = Literal::new(0, false);
+    if let Some(doubt) = trace_doubt(alloc, netlist, always, trace)? {
+        return Ok(LassoReason::Trace(doubt));
+    }
+    let Some(start) = closed(alloc, netlist, &[], &[], trace)? else {
+        return Ok(LassoReason::Open);
+    };
+    if let Some(justice) = liveness.justice.get(place) {
+        if let Some(unmet) = unmet_in(alloc, netlist, justice, trace)? {
+            return Ok(LassoReason::Literal(start, unmet));
+        }
+    }
+    let unmet = unmet_in(alloc, netlist, &liveness.fairness, trace)?;
+    Ok(LassoReason::Fairness(start, unmet.unwrap_or(0)))
+}
+
+// The first of the literals that is true at no moment of the loop.
+fn unmet_in<A: Allocator + Copy>(
+    alloc: A,
+    netlist: &Netlist<A>,
+    literals: &[Literal],
+    trace: &Trace<A>,
+) -> Result<Option<usize>, AllocError> {
+    for (place, l) in literals.iter().enumerate() {
+        if closed(alloc, netlist, &[], &[*l], trace)?.is_none() {
+            return Ok(Some(place));
+        }
+    }
+    Ok(None)
 }
