@@ -3,7 +3,7 @@ ghost use Rattle.std.specs.Prelude.{◌≡◌, ◌∷◌, true, false, map, stri
 ghost use Rattle.giputils_text.specs.Numbers.{number_of};
 ghost use Rattle.std.specs.Option.{option_map};
 ghost use Rattle.gip_program.specs.Items.{Any, assigned_said, before, behind, first_said, info_of, is_option, items_said, joined_said};
-ghost use Rattle.gip_program.specs.Items.{left_behind, left_said, long_said, option_said, said_of, told_said, value_said};
+ghost use Rattle.gip_program.specs.Items.{left_behind, left_said, long_said, option_said, said_of, told_said, value_said, word_said};
 ghost use Rattle.gip_program.specs.Options.{entry_of};
 
 use crate::options::{Kind, Opt, named};
@@ -93,7 +93,15 @@ impl<'t, 'a, S: Copy, N: Copy, T: Copy> Items<'t, 'a, S, N, T> {
             return None;
         };
         self.words = rest;
-        let word = word.as_str();
+        self.word(word.as_str())
+    }
+
+    // What this word says. `None` where it says nothing, and no word is left behind it.
+    fn word(&mut self, word: &'a str) -> Option<Item<'a, S, N, T>>
+        requires any { self.old.files ≡ false }
+        ensures { first_said result (left_said self.new) ≡
+            word_said (map entry_of self.old.table.now) word.now (left_behind self.old) }
+    {
         if !is_option(word) {
             return Some(Item::File(word));
         }
