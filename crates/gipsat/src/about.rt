@@ -52,7 +52,8 @@ pub const ABOUT: About<'static, Switch, Number, Text> = About {
          are unsatisfiable.",
     ],
     options: &OPTIONS,
-    note: "The value of a long option may also stand behind `=`: --time=60.",
+    note: "The value of a long option may also stand behind `=`, and that of a short one right behind it: --time=60, \
+           -t60.",
     statuses: "Exit status: 10 satisfiable, 20 unsatisfiable, 0 unknown, verified, or help; 1 an error, or not verified; 2 \
                arguments that have no meaning.",
 };
