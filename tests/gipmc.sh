@@ -131,6 +131,43 @@ told "a trace that may not be a shortest one" $?
 try "a shortest trace of one moment" 10 "" "$(printf '1\nb0\n1\n\n.')" 'aag 1 0 1 0 0 1\n2 2 1\n2\n' --shortest
 try "a shortest trace where nothing fails" 20 "" "$safe" "$kept" --shortest
 
+# Two copies of a machine with N latches, whose next values are mixed; it is bad if they differ in the last latch.
+twins() {
+    awk -v n="$1" '
+    function random(k) { seed = (seed * 1103515245 + 12345) % 2147483648; return int(seed / 256) % k }
+    function and(a, b) { m++; gates[++count] = 2 * m " " a " " b; return 2 * m }
+    function not(a) { return a % 2 ? a - 1 : a + 1 }
+    function xor(a, b) { return and(not(and(a, b)), not(and(not(a), not(b)))) }
+    BEGIN {
+        seed = 1
+        for (i = 0; i < n; i++) for (j = 0; j < 4; j++) from[i, j] = random(n)
+        m = 2 + 2 * n
+        for (c = 0; c < 2; c++) for (i = 0; i < n; i++) {
+            l = 2 * (3 + c * n)
+            mixed = xor(and(l + 2 * from[i, 0], l + 2 * from[i, 1]), and(l + 2 * from[i, 2] + 1, l + 2 * from[i, 3]))
+            mixed = xor(l + 2 * i, mixed)
+            mixed = xor(mixed, and(i % 2 ? 2 : 4, l + 2 * ((i + 1) % n) + 1))
+            next_of[c * n + i] = l + 2 * i " " mixed
+        }
+        bad = xor(2 * (2 + n), 2 * (2 + 2 * n))
+        print "aag", m, 2, 2 * n, 0, count, 1 "\n2\n4"
+        for (i = 0; i < 2 * n; i++) print next_of[i]
+        print bad
+        for (i = 1; i <= count; i++) print gates[i]
+    }'
+}
+
+# They are merged, latch by latch, where no certificate is wanted; without that the search is open for long.
+twins 16 > twins.aag
+"$gipmc" --quiet -t 60 twins.aag > out 2> err
+status=$?
+[ "$status" = 20 ] && [ ! -s err ] && [ "$(cat out)" = "$safe" ]
+told "two copies of a machine, merged" $?
+"$gipmc" --quiet -t 1 --certificate twins.cert twins.aag > out 2> err
+status=$?
+[ "$status" = 0 ] && [ ! -e twins.cert ]
+told "two copies of a machine are not merged where a certificate is wanted" $?
+
 # Witnesses of other programs.
 witness() { printf '%b' "$1" > wit; }
 witness '1\nb0\n0\n1\n0\n.\n'
