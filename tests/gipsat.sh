@@ -55,7 +55,7 @@ try "no clause" 10 "" "$(printf 's SATISFIABLE\nv -1 -2 0')" 'p cnf 2 0\n'
 try "units that clash" 20 "" "s UNSATISFIABLE" "$clash"
 try "a clause of no literal" 20 "" "s UNSATISFIABLE" 'p cnf 1 1\n0\n'
 try "no conflict is allowed" 0 "" "s UNKNOWN" "$clash" --conflicts 0
-try "a value joined to a short name" 0 "" "s UNKNOWN" "$clash" -n0
+try "a value joined to a short name" 20 "" "s UNSATISFIABLE" "$clash" -t9
 try "lines with carriage returns, comments, a clause over two lines" 10 "" "$(printf 's SATISFIABLE\nv 1 2 0')" \
     'c one\r\np cnf 2 2\r\n1\r\nc two\r\n0 -1\t2 0\r\n'
 try "an empty input" 1 "$none" "" ""
@@ -144,8 +144,8 @@ try_usage() {
 }
 try_usage "unknown option '--other'" --other
 try_usage "unknown option '-x'" a -x
-try_usage "unknown option '-qn'" -qn
-try_usage "'--conflicts' takes a number below 2^64, not 'q'" -nq
+try_usage "unknown option '-nq'" -nq
+try_usage "'--time' takes a number below 2^64, not 'q'" -tq
 try_usage "one file too many, 'b'" a b
 try_usage "one file too many, 'b'" - b
 try_usage "one file too many, '-b'" a -- -b

@@ -73,8 +73,8 @@ refused-joined_switch : work_asked (codes "--stats=1" ∷ []) ≡ Err (Words (Un
 refused-joined_switch = refl
 
 -- or all behind a short name
-joined_short : work_asked (codes "-n7" ∷ codes "-t9" ∷ codes "a" ∷ [])
-    ≡ Ok (Solve (record no_request { conflicts = 7; time = Some 9; file = Some (codes "a") }))
+joined_short : work_asked (codes "-t9" ∷ codes "a" ∷ [])
+    ≡ Ok (Solve (record no_request { time = Some 9; file = Some (codes "a") }))
 joined_short = refl
 
 refused-joined_short : work_asked (codes "-t=9" ∷ []) ≡ Err (Words (NoNumber (codes "--time") (codes "=9")))
