@@ -5,9 +5,10 @@
     tools/verilog.py --list           tells the families: what each is, and its sizes
     tools/verilog.py --print NAME     prints the text of a circuit, as `lift-9-bug`
 
-No setting of gipmc is chosen on these circuits. The name of a file is that of the family, the sizes, and `right` or
-`bug`: `lift-9-bug.aig`. Of one text and one yosys the files are the same each time. A file that stands there already is
-left alone. What is said to be right is not known to be; only the answers of model checkers tell.
+Of the settings of gipmc only one was chosen with these circuits in view (docs/EXPERIMENTS.md, merges). The name of a
+file is that of the family, the sizes, and `right` or `bug`: `lift-9-bug.aig`. Of one text and one yosys the files are
+the same each time. A file that stands there already is left alone. What is said to be right is not known to be; only
+the answers of model checkers tell.
 
 The families of the kind `one` have one bad literal, those of `many` 10 to 200, and those of `cone` 10^5 to 10^6 gates,
 few of which matter to their one bad literal. They stand in tools/lib.
