@@ -63,7 +63,12 @@ const COUNTERS: &[(Counter, &[u32], &[u32], Said)] = &[
     (Counter::Stays, &[INPUT], &[IS_NOT_SEVEN], Said::Live),
     (Counter::Stays, &[], &[IS_NOT_SEVEN], Said::Fails),
     (Counter::Wraps, &[], &[COUNTS], Said::Fails),
-    (Counter::Wraps, &[INPUT], &[IS_NOT_SEVEN, IS_SEVEN], Said::Fails),
+    (
+        Counter::Wraps,
+        &[INPUT],
+        &[IS_NOT_SEVEN, IS_SEVEN],
+        Said::Fails,
+    ),
     (Counter::IsKeptFromSeven, &[], &[COUNTS], Said::Live),
 ];
 
