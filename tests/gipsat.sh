@@ -763,7 +763,8 @@ for search in err easy_err; do
         failed=$((failed + 1))
     fi
 done
-[ "$(grep -c "$progress" "$work/told_err")" -ge 3 ]
+# Four would be due; on a busy machine a pause may come late.
+[ "$(grep -c "$progress" "$work/told_err")" -ge 2 ]
 told "a line every five seconds, with -v and -q" $?
 if [ "$(cat "$work/slow")" = "$(printf 's SATISFIABLE\nv 1 0')" ] && grep -q '^c 14 bytes read$' "$work/slow_err" &&
     grep -q '^c 1 variables, 1 clauses read in [0-9]*\.[0-9]\{3\} s$' "$work/slow_err"; then
