@@ -862,6 +862,11 @@ great() {
 great 1048576 100000
 great 16777216 300000
 great 67108864 1000000
+printf 'aag 16777216 1 0 0 0 0 0 1\n33554432\n1\n33554432\n' > great.aag
+(ulimit -v 300000; exec "$gipmc" great.aag) > out 2> err
+status=$?
+[ "$status" = 10 ] && [ ! -s err ] && [ "$("$gipmc" --replay out great.aag)" = "s VERIFIED" ]
+told "a justice property of a great number, and little memory" $?
 printf 'aig 1048576 1048576 0 0 0 1\n2\n' > wide.aig
 (ulimit -v 800000; exec "$gipmc" wide.aig) > out 2> err
 status=$?
