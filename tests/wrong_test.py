@@ -1,22 +1,29 @@
 #!/usr/bin/env python3
-"""Tests tests/wrong.py in a repository of four small crates: what it tells of wrong bodies of each kind but those at a
-search's limit, and which changes make a crate's line not current; and tests/turn.py. The last line is 'N passed, M
-failed'."""
+"""Tests the scripts that try wrong bodies, without the prover, in small repositories: which are due after which change, with
+which commit a tree is compared, the lists of names, those drawn by chance, how a check is shared, and what is made of what the
+prover says. The last line is 'N passed, M failed'."""
 
 import argparse
+import contextlib
+import copy
+import os
 import pathlib
-import re
-import shutil
 import subprocess
 import sys
 import tempfile
 
-HERE = pathlib.Path(__file__).resolve().parent
+sys.dont_write_bytecode = True
+import due
+import wrong_bodies
+import wrong_checks
+import wrong_sums
+from wrong_judge import Said
 
 LOW = """\
 //! Multiples of a number.
 #![tactic(auto)]
 ghost use Rattle.std.specs.Prelude.{◌≡◌, ◌+◌};
+ghost use Rattle.low.specs.Numbers.{IsSmall};
 
 /// Twice the number.
 pub fn double(n: u8) -> u16
@@ -39,6 +46,30 @@ fn same(m: u16) -> u16
 {
     m
 }
+
+/// What counts.
+pub struct Counter {
+    pub count: u8,
+}
+
+impl Model for Counter {
+    ghost Value = { ℕ };
+
+    ghost view = { λ c. c.count };
+
+    ghost invariant = { λ c. IsSmall c.count };
+}
+
+impl Counter {
+    /// The count.
+    pub fn get(&self) -> u8
+        ensures { result ≡ self.now }
+    {
+        self.count
+    }
+}
+
+const STEP: u16 = 1;
 """
 
 HIGH = """\
@@ -46,7 +77,7 @@ HIGH = """\
 #![tactic(auto)]
 ghost use Rattle.std.specs.Prelude.{◌≡◌, ◌+◌};
 
-use low::quadruple;
+use low::{Counter, quadruple};
 
 /// Five times the number.
 pub fn quintuple(n: u8) -> u16
@@ -54,90 +85,28 @@ pub fn quintuple(n: u8) -> u16
 {
     quadruple(n) + u16::from(n)
 }
-"""
 
-ODD = """\
-//! Functions with faulty wrong bodies.
-#![tactic(auto)]
-ghost use Rattle.std.specs.Prelude.{◌≡◌, ◌+◌};
-
-/// The number itself.
-pub fn same(n: u8) -> u8
-    ensures { result ≡ n }
-{
-    let copy = n;
-    copy
-}
-
-/// The number after it.
-pub fn next(n: u8) -> u16
-    ensures { result ≡ n + 1 }
-{
-    u16::from(n) + 1
-}
-
-/// The number after it, proved by an answer that names the call.
-pub fn following(n: u8) -> u16
-    ensures { result ≡ n + 1 }
-{
-    let after = next(n);
-    after
-}
-
-/// The same, with another name.
-pub fn after(n: u8) -> u16
-    ensures { result ≡ n + 1 }
-{
-    let later = next(n);
-    later
-}
-
-/// The number itself, by a name.
-pub fn marked(n: u8) -> u8
-    ensures { result ≡ n }
-{
-    let mark = n;
-    mark
-}
-
-const STEP: u16 = 1;
-
-/// The number after it, by a constant.
-pub fn stepped(n: u8) -> u16
-    ensures { result ≡ n + 1 }
-{
-    u16::from(n) + STEP
-}
-
-/// The same.
-pub fn succeeding(n: u8) -> u16
-    ensures { result ≡ n + 1 }
-{
-    let after_it = next(n);
-    after_it
-}
-"""
-
-TOLD = """\
-//! Names of another crate.
-#![tactic(auto)]
-ghost use Rattle.std.specs.Prelude.{◌≡◌};
-
-/// The number itself.
-pub fn same(n: u8) -> u8
-    ensures { result ≡ n }
-{
-    n
+/// Five times the count.
+#[tactic(auto, using(crate::proofs::Kept::kept))]
+pub fn of_counter(counter: &Counter) -> u16 {
+    quintuple(counter.get())
 }
 """
 
 NUMBERS = """\
 -- Small numbers.
-use Rattle.std.specs.Prelude.{ℕ}
+use Rattle.std.specs.Prelude.{ℕ, ◌<◌}
 
--- the first of them
-abbrev pub first : ℕ
-first = 0
+-- the greatest of them
+abbrev pub greatest : ℕ
+greatest = 9
+
+abbrev pub IsSmall : ℕ → Type 0
+IsSmall n = n < greatest
+
+-- nothing uses it
+abbrev pub lonely : ℕ
+lonely = 3
 """
 
 FACTS = """\
@@ -146,56 +115,111 @@ use Rattle.std.specs.Prelude.{◌≡◌, ℕ, refl}
 
 pub itself : (n : ℕ) → n ≡ n
 itself n = refl
+
+pub again : (n : ℕ) → n ≡ n
+again n = refl
+"""
+
+KEPT = """\
+use Rattle.std.specs.Prelude.{ℕ}
+use Rattle.low.proofs.Facts.{again}
+
+pub kept : (n : ℕ) → n ≡ n
+kept n = again n
 """
 
 ANSWERS = """\
-use Rattle.odd.proofs.{}.Goals as goal
+use Rattle.low.proofs.quadruple.Goals as goal
+use Rattle.low.proofs.Facts.{itself}
 
 pub returns : goal.returns
-returns c = c.{}.ensures
+returns c = itself c.args.n
 """
 
 FILES = {
-    "crates.txt": "low:\nhigh: low told\nodd:\ntold: low\n",
-    "HANDLES": "Handles allowed: none.\n",
+    "crates.txt": "low:\nhigh: low\n",
+    "tests/wrong_judge.py": "# what judges\n",
     "crates/low/src/lib.rt": LOW,
-    "crates/high/src/lib.rt": HIGH,
     "crates/low/specs/Lib.antt": "pub mod Numbers\n",
     "crates/low/specs/Numbers.antt": NUMBERS,
-    "crates/low/proofs/Lib.antt": "pub mod Facts\nmod Own\n",
+    "crates/low/proofs/Lib.antt": "pub mod Facts\n",
     "crates/low/proofs/Facts.antt": FACTS,
-    "crates/low/proofs/Own.antt": FACTS,
-    "crates/told/src/lib.rt": TOLD,
-    "crates/told/proofs/Lib.antt": "pub use Rattle.low.proofs.Facts\n",
-    "crates/odd/src/lib.rt": ODD,
-    "crates/odd/proofs/following/Answers.antt": ANSWERS.format("following", "next-after"),
-    "crates/odd/proofs/after/Answers.antt": ANSWERS.format("after", "next-later"),
-    "crates/odd/proofs/succeeding/Answers.antt": ANSWERS.format("succeeding", "next-after_it"),
+    "crates/low/proofs/quadruple/Answers.antt": ANSWERS,
+    "crates/low/proofs/other/Counter/get/Answers.antt": "pub returns : goal.returns\nreturns c = c.count\n",
+    "crates/high/src/lib.rt": HIGH,
+    "crates/high/proofs/Lib.antt": "mod Kept\n",
+    "crates/high/proofs/Kept.antt": KEPT,
+    "crates/low/wrong/LIST": "a_step_is_two\ncount_is_one_more\ndouble_is_one_more\nquadruple_is_triple\n",
+    "crates/high/wrong/LIST": "of_nothing\nquintuple_is_quadruple\n",
 }
 
-# Wrong bodies: a line of their files before the texts, the old text, the new one, and how what is told of them begins.
+# Wrong bodies: the old text and the new one.
 BODIES = {
-    "low/must-fail/double_is_one_more": ("", "u16::from(n) + u16::from(n)", "u16::from(n) + u16::from(n) + 1", "refused (goal)"),
-    "low/wrong/quadruple_is_triple": ("", "twice + twice", "twice + u16::from(n)", "refused (goal)"),
-    "high/wrong/quintuple_is_quadruple": ("", "quadruple(n) + u16::from(n)", "quadruple(n)", "refused (goal)"),
-    "odd/wrong/proves": ("", "let copy = n;", "let copy = n + 0;", "NOT REFUSED"),
-    "odd/wrong/misses_a_name": ("", "let after = next(n);", "let after = u16::from(n) + 1;", "WRONG REASON (name, and not goal)"),
-    "odd/wrong/says_that_it_misses_a_name": (
-        "refused: name",
-        "let after_it = next(n);",
-        "let after_it = u16::from(n) + 1;",
-        "refused (name)",
+    "low/double_is_one_more": ("u16::from(n) + u16::from(n)", "u16::from(n) + u16::from(n) + 1"),
+    "low/quadruple_is_triple": ("twice + twice", "twice + u16::from(n)"),
+    "low/count_is_one_more": ("self.count", "self.count + 1"),
+    # It stands in no function.
+    "low/a_step_is_two": ("u16 = 1;", "u16 = 2;"),
+    "high/quintuple_is_quadruple": ("quadruple(n) + u16::from(n)", "quadruple(n)"),
+    "high/of_nothing": ("quintuple(counter.get())", "0"),
+}
+
+# Changes: what is changed, the file, the old and the new text, and what is due then.
+STEP = "a_step_is_two"
+LOW_ALL = {name.partition("/")[2] for name in BODIES if name.startswith("low/")}
+CHANGES = [
+    ("a body", "low/src/lib.rt", "    twice + twice", "    2 * twice", {"quadruple_is_triple", STEP}),
+    ("the body of what is called", "low/src/lib.rt", "    m\n", "    m + 0\n", {STEP}),
+    ("a contract that is called", "low/src/lib.rt", "ensures { result ≡ m }", "ensures same { result ≡ m }", {"quadruple_is_triple", STEP}),
+    ("a contract of a library", "low/src/lib.rt", "n + n + n + n }", "4 * n }", {"quadruple_is_triple", "quintuple_is_quadruple", STEP}),
+    ("a comment", "low/src/lib.rt", "Twice the number", "Two times the number", set()),
+    ("a comment of a specification", "low/specs/Numbers.antt", "-- the greatest", "-- the very greatest", set()),
+    ("the layout", "low/src/lib.rt", "let twice = same", "let twice =\n        same", set()),
+    ("a clause of a type", "low/src/lib.rt", "λ c. c.count }", "λ c. c.count + 1 }", {"count_is_one_more", "of_nothing", STEP}),
+    ("the head of an impl", "low/src/lib.rt", "impl Counter {", "impl<> Counter {", {"count_is_one_more", "of_nothing", STEP}),
+    ("the head of a file", "low/src/lib.rt", "#![tactic(auto)]", "#![tactic(auto, using(std::x))]", LOW_ALL),
+    ("a definition that is reached", "low/specs/Numbers.antt", "greatest = 9", "greatest = 8", {"count_is_one_more", "of_nothing", STEP}),
+    ("one that is not", "low/specs/Numbers.antt", "lonely = 3", "lonely = 4", {STEP}),
+    ("an answer", "low/proofs/quadruple/Answers.antt", "itself c.args.n", "itself c.n", {"quadruple_is_triple", STEP}),
+    ("an answer of a type of another module", "low/proofs/other/Counter/get/Answers.antt", "c.count", "c.n", {"count_is_one_more", STEP}),
+    ("a lemma that an answer imports", "low/proofs/Facts.antt", "itself n = refl", "itself m = refl", {"quadruple_is_triple", STEP}),
+    ("a lemma that an attribute leads to", "low/proofs/Facts.antt", "again n = refl", "again m = refl", {"of_nothing", STEP}),
+    ("what is imported", "high/src/lib.rt", "use low::{Counter, quadruple}", "use low::{Counter, triple as quadruple}", {"quintuple_is_quadruple"}),
+    ("a wrong body", "high/wrong/of_nothing.edit", "new: 0", "new: 1", {"of_nothing"}),
+    ("why it is no goal", "high/wrong/of_nothing.edit", "file:", "why: none\nfile:", set()),
+    ("for which reason", "high/wrong/of_nothing.edit", "file:", "refused: limit\nfile:", {"of_nothing"}),
+    ("a text that does not stand there", "high/wrong/of_nothing.edit", "old: quintuple", "old: quint", {"of_nothing"}),
+    ("what judges", "../tests/wrong_judge.py", "# what", "# who", {name.partition("/")[2] for name in BODIES}),
+]
+
+# What the prover says of functions, with what is made of it: the reason for which `f` is refused.
+SAID = {
+    "a goal does not hold": (
+        "note: src/lib.rt:3:1: it is not proved that the clause holds (`returns`); it may be false\n"
+        "fn c::f: no proof: expected answers in ./proofs/f/Answers.antt; `search` did not prove `returns`\nonly=1 proved=0",
+        "goal",
     ),
-    "odd/wrong/turns_for_ever": ("refused: form", "let mark = n;", "let mark = n; while mark > 200 {}", "refused (form)"),
-    "odd/wrong/fits_no_answer": ("refused: type", "    later", "    later.min(3)", "refused (type)"),
-    "odd/wrong/shows_more_than_it_says": ("refused: limit", "let mark = n;", "let mark = 0;", "refused (goal)"),
-    # It stands in one function with `proves`, so it is tried in one check with `turns_for_ever`, and then each by itself.
-    "odd/wrong/will_not_compile": ("", "    copy", "    copy.of()", "WRONG REASON (other, and not goal): it does not compile"),
-    # It stands in no function, so it is tried by itself.
-    "odd/wrong/a_step_is_two": ("", "u16 = 1;", "u16 = 2;", "refused (goal)"),
-    "odd/wrong/says_nothing_that_is_known": ("refusd: goal", "= next(n);", "= 0;", "WRONG REASON (other, and not goal): it has a line"),
-    "told/wrong/same_is_none": ("", "    n", "    0", "refused (goal)"),
-    "odd/wrong/stands_twice": ("", "= next(n);", "= 0;", "WRONG REASON (other, and not goal): an 'old:' text does not stand once"),
+    "a search gave up": (
+        "note: src/lib.rt:3:1: it is not proved that the clause holds (`returns`); `search` gave up at one of its limits\n"
+        "fn c::f: no proof: expected answers in ./proofs/f/Answers.antt; `search` did not prove `returns`\nonly=1 proved=0",
+        "limit",
+    ),
+    "an answer does not follow": (
+        "proofs/f/Answers.antt:7:2: error: `returns`: `omega`: the goal does not follow from what it read\nfn c::f: not proved\nonly=1 proved=0",
+        "goal",
+    ),
+    "an answer names what is not there": (
+        "proofs/f/Answers.antt:7:2: error: `goal.x`: module `M` has no `x`\nfn c::f: not proved\nonly=1 proved=0",
+        "name",
+    ),
+    "an answer does not fit": (
+        "proofs/f/Answers.antt:7:2: error: `returns`: expected type A\nfn c::f: not proved\nonly=1 proved=0",
+        "type",
+    ),
+    "no clause was tried": ("fn c::f: no proof: a loop is not covered\nonly=1 proved=0", "form"),
+    "it is proved": ("fn c::f: proved\nonly=1 proved=1", "none"),
+    "it waits for another one": ("fn c::f: not proved\nfn c::g: not proved\nonly=2 proved=0", None),
+    "nothing is told of it": ("fn c::g: proved\nonly=1 proved=1", None),
 }
 
 
@@ -204,104 +228,218 @@ def write(path, text):
     path.write_text(text, encoding="utf-8")
 
 
-class Repository:
-    """The repository of the tests, in a folder."""
+def make(folder):
+    """A repository of two crates."""
+    for name, text in FILES.items():
+        write(folder / name, text)
+    for name, (old, new) in BODIES.items():
+        crate, _, stem = name.partition("/")
+        write(folder / "crates" / crate / "wrong" / f"{stem}.edit", f"file: src/lib.rt\nold: {old}\nnew: {new}\n")
 
-    def __init__(self, folder):
-        self.folder = folder
-        for name, text in FILES.items():
-            write(folder / name, text)
-        for name, (first, old, new, _) in BODIES.items():
-            write(folder / "crates" / f"{name}.edit", f"{first}\nfile: src/lib.rt\nold: {old}\nnew: {new}\n")
-        # A line that a crate had before.
-        write(folder / "tests/wrong.txt", "low 0\n")
-        for script in ("wrong.py", "turn.py"):
-            shutil.copy(HERE / script, folder / "tests")
-        subprocess.run(["git", "init", "--quiet"], cwd=folder, check=True)
 
-    def run(self, *words, script="wrong.py"):
-        """What a script says, and its status."""
-        ran = subprocess.run([self.folder / "tests" / script, *words], stdout=subprocess.PIPE, stderr=subprocess.STDOUT, text=True)
-        return ran.stdout, ran.returncode
+def every(folder):
+    return [body for crate in wrong_bodies.libraries(folder) for body in wrong_bodies.bodies_of(crate, folder)]
 
-    def turn(self):
-        """The last line of the turn of the first crate, and its status."""
-        said, status = self.run(40 * "0", script="turn.py")
-        return said.splitlines()[-1], status
 
-    def lines(self):
-        """The crates that have a line."""
-        return [line.split()[0] for line in (self.folder / "tests/wrong.txt").read_text(encoding="utf-8").splitlines()]
-
-    def stale(self):
-        """The crates whose lines are not current."""
-        return re.findall(r"^(\w+): its wrong bodies were not tried", self.run("--current")[0], re.MULTILINE)
-
-    def stale_with(self, file, old, new):
-        """The same, where a text of a file is another one."""
-        return self.with_text(file, old, new, self.stale)
-
-    def with_text(self, file, old, new, action):
-        """What an action answers while a text of a file is another one."""
-        path = self.folder / "crates" / file
-        text = path.read_text(encoding="utf-8")
-        if text.count(old) != 1:
-            raise ValueError(f"{old} does not stand once in {file}")
-        path.write_text(text.replace(old, new), encoding="utf-8")
-        answer = action()
+def with_text(path, old, new, action):
+    """What an action answers while a text of a file is another one."""
+    text = path.read_text(encoding="utf-8")
+    if text.count(old) != 1:
+        raise ValueError(f"{old} does not stand once in {path}")
+    path.write_text(text.replace(old, new), encoding="utf-8")
+    try:
+        return action()
+    finally:
         path.write_text(text, encoding="utf-8")
-        return answer
 
 
-def cases(repository):
-    """Each case: what is tested, what was found, and what is wanted."""
-    right = ("low/wrong/quadruple_is_triple.edit", "twice + u16::from(n)", "twice + twice")
-    said, status = repository.with_text(*right, repository.run)
-    yield "it fails where not all were refused", status, 1
-    yield "a crate loses its line where one is not refused", repository.lines(), ["high", "told"]
-    yield "and is not current then", repository.stale(), ["low", "odd"]
-    of_low, status = repository.run("low")
-    yield "those of one crate are tried again", (of_low.splitlines()[-1], status), ("2 passed, 0 failed", 0)
-    verdicts = dict(re.findall(r"^(\w+/\w+): (.*)", said + of_low, re.MULTILINE))
-    for name, (*_, wanted) in BODIES.items():
-        crate, _, body = name.split("/")
-        found = verdicts.get(f"{crate}/{body}", said)
-        yield f"{body} is told", found[: len(wanted)], wanted
-    yield "a crate with a faulty one has no line", repository.stale(), ["odd"]
-    body = ("low/src/lib.rt", "    twice + twice", "    2 * twice")
-    yield "a body of a library is no matter to those above", repository.stale_with(*body), ["low", "odd"]
-    clause = ("low/src/lib.rt", "ensures { result ≡ n + n }", "ensures twice { result ≡ n + n }")
-    yield "a clause of a library is", repository.stale_with(*clause), ["low", "high", "odd", "told"]
-    private = ("low/src/lib.rt", "ensures { result ≡ m }", "ensures same { result ≡ m }")
-    yield "one of a private function is not", repository.stale_with(*private), ["low", "odd"]
-    comment = ("low/src/lib.rt", "Twice the number", "Two times the number")
-    yield "nor is a comment", repository.stale_with(*comment), ["low", "odd"]
-    word = ("low/specs/Numbers.antt", "first = 0", "first = 1")
-    yield "a definition of it is", repository.stale_with(*word), ["low", "high", "odd", "told"]
-    lemma = ("low/proofs/Facts.antt", "itself n = refl", "itself m = refl")
-    yield "and a public lemma", repository.stale_with(*lemma), ["low", "high", "odd", "told"]
-    own = ("low/proofs/Own.antt", "itself n = refl", "itself m = refl")
-    yield "a lemma of its own is not", repository.stale_with(*own), ["low", "odd"]
-    names = ("told/proofs/Lib.antt", "Facts", "Facts as Low")
-    yield "the names that a library hands on are", repository.stale_with(*names), ["high", "odd", "told"]
-    wrong = ("low/wrong/quadruple_is_triple.edit", "+ u16", "+ 1 + u16")
-    yield "a wrong body is a matter of its crate", repository.stale_with(*wrong), ["low", "odd"]
-    line = ("../crates.txt", "low:\n", "low: log\n")
-    yield "a line of crates.txt is a matter of all above", repository.stale_with(*line), ["low", "high", "odd", "told"]
-    yield "the turn tries those of a crate", repository.turn(), ("2 passed, 0 failed", 0)
-    yield "and fails where one is not refused", repository.with_text(*right, repository.turn), ("1 passed, 1 failed", 1)
+def sums(folder):
+    """Which wrong bodies are due after each change."""
+    make(folder / "base")
+    make(folder / "tree")
+    stems_due = lambda: {body.stem for body in wrong_sums.due(every(folder / "tree"), wrong_sums.Tree(folder / "tree"), base)}
+    base = wrong_sums.Tree(folder / "base")
+    yield "nothing is due where nothing changed", stems_due(), set()
+    for what, file, old, new, wanted in CHANGES:
+        yield f"due after a change of {what}", with_text(folder / "tree/crates" / file, old, new, stems_due), wanted
+    write(folder / "tree/crates/high/wrong/another.edit", "file: src/lib.rt\nold: quadruple(n) + u16::from(n)\nnew: 5\n")
+    yield "one that is new is due", stems_due(), {"another"}
+    write(folder / "base/README.md", "The kit is `kit-9`; any with its logic, `0a1b`, should do.\n")
+    for version, wanted in (("kit-9 logic 0a1b", False), ("kit-8 logic 0a1b", False), ("kit-9 logic 2c", True), ("", True)):
+        yield f"due are all by another kit: {version}", wrong_sums.is_of_another_kit(folder / "base", version), wanted
+    (folder / "base/tests/wrong_judge.py").unlink()
+    base = wrong_sums.Tree(folder / "base")
+    yield "all are due where the base has none that judges", len(stems_due()), len(BODIES) + 1
+
+
+def bases(folder):
+    """With which commit a tree is compared."""
+    base = lambda: wrong_sums.base_of(folder)[0]
+    git = lambda *words: subprocess.run(["git", "-C", folder, *words], check=True, stdout=subprocess.PIPE, text=True).stdout.strip()
+
+    def commit(name):
+        git("-c", "user.name=A", "-c", "user.email=a@b", "commit", "--quiet", "--allow-empty", "-m", name)
+        return git("rev-parse", "HEAD")
+
+    folder.mkdir()
+    yield "there is no base without a history", base(), None
+    git("init", "--quiet", "--initial-branch=main")
+    yield "nor without a commit", base(), None
+    commits = [commit(str(number)) for number in range(wrong_sums.BACK)]
+    yield "nor on the main branch where it is short", base(), None
+    commits.append(commit("one more"))
+    yield "on the main branch it stands some commits back", base(), commits[0]
+    git("checkout", "--quiet", "-b", "work")
+    yield "also on a branch that has no commit of its own", base(), commits[0]
+    commit("work")
+    yield "on a branch it is where that left the main branch", base(), commits[-1]
+    git("update-ref", "refs/remotes/origin/main", commits[-3])
+    yield "the branch of the origin comes first", base(), commits[-3]
+    git("checkout", "--quiet", "main")
+    yield "what was not pushed is on a branch, too", base(), commits[-3]
+    (folder / "below").mkdir()
+    yield "a folder below is no repository", wrong_sums.base_of(folder / "below")[0], None
+    write(folder / "file", "text\n")
+    git("add", "file")
+    with wrong_sums.files_of(folder, commit("a file")) as files:
+        yield "the files of a commit", (files / "file").read_text(encoding="utf-8"), "text\n"
+
+
+def lists(folder):
+    """The lists of names."""
+    make(folder / "base")
+    make(folder / "tree")
+    tree, names = folder / "tree", folder / "tree/crates/high/wrong/LIST"
+    count = lambda: len(wrong_bodies.faults_of_list("high", tree))
+    gone = lambda: wrong_bodies.vanished(tree, folder / "base")
+    yield "a list that is right", (count(), gone()), (0, [])
+    yield "a name that the list has not", with_text(names, "of_nothing\n", "", count), 1
+    yield "a name that is not there", with_text(names, "of_nothing\n", "of_all\nof_nothing\n", count), 1
+    yield "a reason for one that is there", with_text(names, "of_nothing\n", "of_nothing: it went\n", count), 2
+    yield "names out of order", with_text(names, "of_nothing\nquintuple_is_quadruple\n", "quintuple_is_quadruple\nof_nothing\n", count), 1
+
+    def written():
+        wrong_bodies.write_lists(tree)
+        return names.read_text(encoding="utf-8")
+
+    yield "names are added to a list", with_text(names, "of_nothing\n", "a_name: it went\n", written), "a_name: it went\nof_nothing\nquintuple_is_quadruple\n"
+    (tree / "crates/high/wrong/of_nothing.edit").unlink()
+    yield "one that is not there any more, and the list names it", (count(), gone()), (1, ["high/of_nothing"])
+    text = names.read_text(encoding="utf-8")
+    names.write_text(text.replace("of_nothing\n", ""), encoding="utf-8")
+    yield "one that is gone, and the list says nothing", (count(), gone()), (0, ["high/of_nothing"])
+    names.write_text(text.replace("of_nothing\n", "of_nothing: it is a trial now\n"), encoding="utf-8")
+    yield "one that is gone, and the list says why", (count(), gone()), (0, [])
+    names.write_text(text.replace("of_nothing\n", ""), encoding="utf-8")
+    write(tree / "crates/low/wrong/of_nothing.edit", "file: src/lib.rt\nold: self.count\nnew: 0\n")
+    yield "one that another crate took over", gone(), []
+    yield "is in the list of that", ("of_nothing" in written(), wrong_bodies.faults_of_list("low", tree)), (False, [])
+
+
+def draws(folder):
+    """Those that are drawn, and what is told of all."""
+    make(folder)
+    body = next(body for body in every(folder) if body.stem == "of_nothing")
+    bodies = [copy.copy(body) for _ in range(200)]
+    for number, each in enumerate(bodies):
+        each.name, each.wanted = f"high/{number}", "limit"
+    names = [tuple(each.name for each in due.drawn(bodies)) for _ in range(4)]
+    yield "twelve are drawn", [len(set(each)) for each in names], 4 * [12]
+    yield "by chance", len(set(names)) > 1, True
+    yield "all of fewer", len(due.drawn(bodies[:5])), 5
+    body = bodies[0]
+
+    def told(found):
+        with open(os.devnull, "w", encoding="utf-8") as nobody, contextlib.redirect_stdout(nobody):
+            return wrong_checks.report({body: (found, "")})
+
+    yield "one at a limit has to say why", told("limit"), (0, 1)
+    yield "one that shows more than it says, too", told("goal"), (0, 1)
+    body.why = "no clause computes it"
+    yield "one that says why", told("limit"), (1, 0)
+    yield "one that shows more than it says", told("goal"), (1, 0)
+    yield "one that shows less", told("name"), (0, 1)
+    yield "one that is proved", told("none"), (0, 1)
+    body.wanted, body.why = "type", ""
+    yield "one that does not fit has no need to", told("type"), (1, 0)
+    yield "counts", wrong_checks.counted(["goal", "limit", "goal", "none"]), "2 by a goal, 0 by type, 1 by limit, 0 by form, 0 by name"
+
+
+def judged(_):
+    """What is made of what the prover says."""
+    for name, (text, wanted) in SAID.items():
+        found = Said(text).reason_of({"f"})
+        yield name, found and found[0], wanted
+    yield "a function that is not known", Said("rattle: error: `c` has no function `a::f`: help").misnamed(), {"a::f": set()}
+    several = "rattle: error: several functions are named `f`: help: write one of `c::A::f`, `c::b::B::f`"
+    yield "a name of several functions", Said(several).misnamed(), {"f": {"A::f", "b::B::f"}}
+    yield "what does not compile", Said("error[E0425]: no such name").reached, False
+
+
+class Checked(wrong_checks.Crate):
+    """A crate whose checks are answered by what a test says of each function."""
+
+    def __init__(self, bodies, room, told):
+        super().__init__("low", bodies, [], None, room)
+        self.told, self.tried = told, []
+
+    def check(self, texts, only):
+        self.tried.append(sorted(only))
+        return self.told(texts, only)
+
+
+def shared(folder):
+    """How wrong bodies are shared out among checks."""
+    make(folder)
+    wrong_checks.ROOT = folder
+    refused = "note: src/lib.rt:3:1: it is not proved that the clause holds (`returns`); it may be false\nfn low::{}: no proof; `search` did not prove `returns`\n"
+
+    def run(told):
+        bodies = [body for body in wrong_bodies.bodies_of("low", folder) if body.stem != STEP]
+        crate = Checked(bodies, folder, told)
+        wrong_checks.Trial([crate], 1, tells=False).run()
+        return {body.stem: crate.outcomes[body][0] for body in bodies}, crate.tried
+
+    said = lambda names: Said("".join(refused.format(name) for name in names) + "only=1 proved=0")
+    all_three = ["Counter::get", "double", "quadruple"]
+    every_goal = dict.fromkeys(["count_is_one_more", "double_is_one_more", "quadruple_is_triple"], "goal")
+    yield "different functions are one check", run(lambda _, only: said(only)), (every_goal, [all_three])
+    breaks = lambda texts, only: said(only) if "self.count + 1" not in str(texts) else Said("error[E1]: no")
+    found, tried = run(breaks)
+    yield "one that does not compile is told apart", (found, len(tried)), (every_goal | {"count_is_one_more": "other"}, 3)
+    waits = lambda _, only: said(only) if only == ["quadruple"] else said(set(only) - {"quadruple"})
+    found, tried = run(waits)
+    yield "one that waits is tried by itself", (found, tried[1:]), (every_goal, [["quadruple"]])
+    other = lambda _, only: Said("rattle: error: `low` has no function `double`: help") if "double" in only else said(only or ["double"])
+    found, tried = run(other)
+    yield "a function of another name is asked of the crate", (found, [] in tried), (every_goal, True)
+
+    def elsewhere(_, only):
+        if "Counter::get" in only:
+            return Said("rattle: error: `low` has no function `Counter::get`: help")
+        if "get" in only:
+            return Said("rattle: error: several functions are named `get`: help: write one of `low::a::Counter::get`, `low::Other::get`")
+        return said(only)
+
+    found, tried = run(elsewhere)
+    yield "or by the name that the prover tells", (found, tried[-1]), (every_goal, ["a::Counter::get", "double", "quadruple"])
+    silent = lambda _, only: Said("fn low::other: proved\nonly=1 proved=1")
+    yield "what is not judged is not refused", run(silent)[0], dict.fromkeys(every_goal, "other")
+    late = lambda _, only: None if "double" in only else said(only)
+    yield "nor is what comes to no end", run(late)[0], every_goal | {"double_is_one_more": "none"}
 
 
 def main():
     argparse.ArgumentParser(description=__doc__, formatter_class=argparse.RawDescriptionHelpFormatter).parse_args()
     passed = failed = 0
-    with tempfile.TemporaryDirectory(prefix="giputils-wrong-test-") as folder:
-        for name, found, wanted in cases(Repository(pathlib.Path(folder))):
-            if found == wanted:
-                passed += 1
-            else:
-                failed += 1
-                print(f"{name}: found {found!r}, and not {wanted!r}")
+    for cases in (sums, bases, lists, draws, judged, shared):
+        with tempfile.TemporaryDirectory(prefix="giputils-wrong-test-") as folder:
+            for name, found, wanted in cases(pathlib.Path(folder, "it")):
+                if found == wanted:
+                    passed += 1
+                else:
+                    failed += 1
+                    print(f"FAILED: {name}: found {found!r}, and not {wanted!r}")
     print(f"{passed} passed, {failed} failed")
     return 1 if failed else 0
 
