@@ -1,14 +1,14 @@
 -- What the public clauses of the gathered crates speak of: every file of their specs/ but those that only a crate's own
--- functions speak of (Places and Spelt of the bits, Stands, Table and Tree of the heap).
-pub use Rattle.giputils_base.specs.Allocator
-pub use Rattle.giputils_base.specs.AllocatorRun
-pub use Rattle.giputils_base.specs.Gvec
-pub use Rattle.giputils_base.specs.Hash
-pub use Rattle.giputils_base.specs.Lends
-pub use Rattle.giputils_base.specs.LendsHashed
-pub use Rattle.giputils_base.specs.LendsValue
-pub use Rattle.giputils_base.specs.Others
-pub use Rattle.giputils_base.specs.Room
+-- functions speak of (Places and Spelt of the bits, Stands of the heap).
+pub use Rattle.giputils_index.specs.Allocator
+pub use Rattle.giputils_index.specs.AllocatorRun
+pub use Rattle.giputils_vec.specs.Gvec
+pub use Rattle.giputils_hash.specs.Hash
+pub use Rattle.giputils_vec.specs.Lends
+pub use Rattle.giputils_hash.specs.LendsHashed
+pub use Rattle.giputils_index.specs.LendsValue
+pub use Rattle.giputils_vec.specs.Others
+pub use Rattle.giputils_index.specs.Room
 pub use Rattle.giputils_bits.specs.Bits
 pub use Rattle.giputils_bits.specs.Error
 pub use Rattle.giputils_bits.specs.Extended
@@ -18,17 +18,20 @@ pub use Rattle.giputils_bits.specs.Ones
 pub use Rattle.giputils_bits.specs.Ordered
 pub use Rattle.giputils_bits.specs.Tables
 pub use Rattle.giputils_bits.specs.Text
-pub use Rattle.giputils_heap.specs.Bounded
-pub use Rattle.giputils_heap.specs.Bounds
-pub use Rattle.giputils_heap.specs.Calls
-pub use Rattle.giputils_heap.specs.Comparers
-pub use Rattle.giputils_heap.specs.Counted
-pub use Rattle.giputils_heap.specs.Falls
-pub use Rattle.giputils_heap.specs.InOrder
-pub use Rattle.giputils_heap.specs.Keys
+pub use Rattle.giputils_bits_run.specs.BitRun
+pub use Rattle.giputils_bounded.specs.Bounded
+pub use Rattle.giputils_bounded.specs.Bounds
+pub use Rattle.giputils_bounded.specs.Calls
+pub use Rattle.giputils_bounded.specs.Comparers
+pub use Rattle.giputils_bounded.specs.Counted
+pub use Rattle.giputils_bounded.specs.Falls
+pub use Rattle.giputils_bounded.specs.InOrder
+pub use Rattle.giputils_bounded.specs.Keys
 pub use Rattle.giputils_heap.specs.Laws
 pub use Rattle.giputils_heap.specs.Record
-pub use Rattle.giputils_heap.specs.Relations
+pub use Rattle.giputils_bounded.specs.Relations
+pub use Rattle.giputils_bounded.specs.Table
+pub use Rattle.giputils_bounded.specs.Tree
 pub use Rattle.giputils_stat.specs.Buffer
 pub use Rattle.giputils_stat.specs.Decimals
 pub use Rattle.giputils_stat.specs.Due

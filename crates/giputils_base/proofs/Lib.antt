@@ -1,12 +1,8 @@
-pub mod AsciiDigits
-mod Examples
-mod IndexMaps
-mod LastValues
-pub mod LiveValues
-pub mod MapWrites
-pub mod Members
-mod Renaming
-pub mod Runs
-pub mod Renumbering
-pub mod Slots
-pub mod Vectors
+-- The lemmas of the containers below that callers may cite.
+pub use Rattle.giputils_hash.proofs.MapWrites
+pub use Rattle.giputils_hash.proofs.Members
+pub use Rattle.giputils_index.proofs.LiveValues
+pub use Rattle.giputils_index.proofs.Renumbering
+pub use Rattle.giputils_index.proofs.Runs
+pub use Rattle.giputils_index.proofs.Slots
+pub use Rattle.giputils_vec.proofs.Vectors

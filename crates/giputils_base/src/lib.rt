@@ -1,9 +1,9 @@
-//! The small containers on which the others stand: option numbers, a vector with several index types, hashed wrappers,
-//! a shared value and an allocator of indexes.
+//! A shared value, and the small containers of the crates below: option numbers, a vector with several index types,
+//! hashed wrappers and an allocator of indexes.
 #![tactic(auto)]
 
-pub mod allocator;
 pub mod grc;
-pub mod gvec;
-pub mod hash;
-pub mod others;
+
+pub use giputils_hash::hash;
+pub use giputils_index::allocator;
+pub use giputils_vec::{gvec, others};

@@ -2,13 +2,13 @@
 use Rattle.std.proofs.Common.{◌≡◌, ℕ, zero, suc, ◌+◌, ◌*◌, ◌≤◌, Bool, true, false, ◌&&◌, not, cond, ltb, leb, List, [], ◌∷◌, length, take, Some, arith}
 use Rattle.std.specs.Prelude.{slice_get}
 use Rattle.std.proofs.lemmas.Bool.{and_parts, leb-true}
-use Rattle.giputils_heap.specs.Keys.{is_held, AreDistinct, AreBelow, key_limit}
-use Rattle.giputils_heap.specs.Bounds.{floor_log2}
+use Rattle.giputils_bounded.specs.Keys.{is_held, AreDistinct, AreBelow, key_limit}
+use Rattle.giputils_bounded.specs.Bounds.{floor_log2}
 use Rattle.giputils_heap.specs.Record.{Entry, comparison_bound, most_comparisons, held_after, held_from, keeps_counts_from}
 use Rattle.giputils_heap.specs.declared.run.HeapCall.{HeapCall}
 use Rattle.giputils_heap.specs.declared.run.HeapCall.TheVariants.{Push, Pop, Up, Down, Update, Rebuild, Clear, Len, IsEmpty}
-use Rattle.giputils_heap.proofs.KeySets.{length-le_limit}
-use Rattle.giputils_heap.proofs.Levels.{floor_log2-below}
+use Rattle.giputils_bounded.proofs.KeySets.{length-le_limit}
+use Rattle.giputils_bounded.proofs.Levels.{floor_log2-below}
 
 -- a bound that is owed in one case, and nothing in the other
 within_either : (b : Bool) (m most : ℕ) → m ≤ most → cond b m 0 ≤ most

@@ -8,13 +8,12 @@ use Rattle.std.specs.List.{list_all}
 use Rattle.std.proofs.lemmas.Bool.{cases_Bool, false≢true, eqb-true, eq-eqb}
 use Rattle.std.proofs.lemmas.Bool.Decides.{nat_tests}
 use Rattle.std.proofs.lemmas.List.{get_or-set_other, get_or-set_same}
-use Rattle.giputils_heap.specs.Keys.{same_key}
-use Rattle.giputils_heap.specs.Relations.{AgreesExcept, HasRisen, HasFallen, HasNoTies}
-use Rattle.giputils_heap.specs.Comparers.{reverse_of, rank_of, by_number, by_rank}
-use Rattle.giputils_heap.specs.Laws.{IsTotalPreorder}
-use Rattle.giputils_heap.proofs.BoolsAndLists.{list_all-filter}
-use Rattle.giputils_heap.proofs.Greatest.{HasNoTies-everywhere}
-use Rattle.giputils_heap.proofs.Preorders.{list_all-always}
+use Rattle.giputils_bounded.specs.Keys.{same_key}
+use Rattle.giputils_bounded.specs.Relations.{AgreesExcept, HasRisen, HasFallen, HasNoTies, IsTotalPreorder}
+use Rattle.giputils_bounded.specs.Comparers.{reverse_of, rank_of, by_number, by_rank}
+use Rattle.giputils_bounded.proofs.BoolsAndLists.{list_all-filter}
+use Rattle.giputils_bounded.proofs.Greatest.{HasNoTies-everywhere}
+use Rattle.giputils_bounded.proofs.Preorders.{list_all-always}
 
 -- a pair of a rank and a number is at least another still where its rank rises, or where the other's falls
 at_least_risen : (q q' n r m : ℕ) → q ≤ q' → (not (ltb r q || (eqb q r && leb m n)) || (ltb r q' || (eqb q' r && leb m n))) ≡ true

@@ -11,16 +11,15 @@ use Rattle.std.specs.Ordering.{is_ge, is_gt, is_le, nat_cmp, ordering_reverse, o
 use Rattle.std.specs.declared.cmp.Ordering.TheVariants.{Less, Equal, Greater}
 use Rattle.std.proofs.lemmas.Bool.{and_parts, cases_Bool, cases_lt, false≢true, eqb-true, not-true, or_cases}
 use Rattle.std.proofs.lemmas.Cmp.{upto, nat_cmp_total, on_total, then_total}
-use Rattle.giputils_heap.specs.Comparers.{by_ord, compared, reverse_of}
-use Rattle.giputils_heap.specs.Keys.{same_key, is_held}
-use Rattle.giputils_heap.specs.Laws.{IsTotalPreorder}
-use Rattle.giputils_heap.specs.InOrder.{IsInOrder, KeepsOrder, KeepsOrderWith, RepairsChanged, RepairsRisen, RepairsFallen, TakesGreatest}
-use Rattle.giputils_heap.specs.Relations.{IsLawful, IsGreatest, AgreesExcept, CanRepair, HasRisen, HasFallen}
-use Rattle.giputils_heap.proofs.BoolsAndLists.{implied_from, list_all-filter}
+use Rattle.giputils_bounded.specs.Comparers.{by_ord, compared, reverse_of}
+use Rattle.giputils_bounded.specs.Keys.{same_key, is_held}
+use Rattle.giputils_bounded.specs.InOrder.{IsInOrder, KeepsOrder, KeepsOrderWith, RepairsChanged, RepairsRisen, RepairsFallen, TakesGreatest}
+use Rattle.giputils_bounded.specs.Relations.{IsLawful, IsGreatest, AgreesExcept, CanRepair, HasRisen, HasFallen, IsTotalPreorder}
+use Rattle.giputils_bounded.proofs.BoolsAndLists.{implied_from, list_all-filter}
 use Rattle.giputils_heap.proofs.ComparerOrders.{apart_from, IsTotalPreorder-reverse_of}
-use Rattle.giputils_heap.proofs.KeySets.{pass_at_held}
+use Rattle.giputils_bounded.proofs.KeySets.{pass_at_held}
 use Rattle.giputils_heap.proofs.Lent.{kept-lent, pushed-lent, greatest-lent, CanRepair-lent, repaired-lent, renewed-lent, risen-lent, fallen-lent}
-use Rattle.giputils_heap.proofs.Preorders.{list_all-always, IsLawful-everywhere}
+use Rattle.giputils_bounded.proofs.Preorders.{list_all-always, IsLawful-everywhere}
 
 -- at least is not less, and less the other way round is greater
 ge_turned : (r : Ordering) → is_ge r ≡ not (is_gt (ordering_reverse r))

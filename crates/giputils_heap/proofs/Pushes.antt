@@ -4,10 +4,10 @@ use Rattle.std.specs.List.Sorted.{IsPermutation}
 use Rattle.std.proofs.lemmas.Bool.{cases_Bool}
 use Rattle.std.proofs.lemmas.List.Sorted.{length_permutation}
 use Rattle.std.proofs.lemmas.Map.Steps.{list_any_congr}
-use Rattle.giputils_heap.specs.Calls.{Pushes, PushesOrUpdates}
-use Rattle.giputils_heap.specs.Keys.{same_key, is_held, IsHeld, IsAbsent, AreDistinct, HoldAlike}
-use Rattle.giputils_heap.proofs.HoldAlike.{HoldAlike-IsPermutation, AreDistinct-cons}
-use Rattle.giputils_heap.proofs.KeySets.{same_key-equiv, AreDistinct-IsPermutation}
+use Rattle.giputils_bounded.specs.Calls.{Pushes, PushesOrUpdates}
+use Rattle.giputils_bounded.specs.Keys.{same_key, is_held, IsHeld, IsAbsent, AreDistinct, HoldAlike}
+use Rattle.giputils_bounded.proofs.HoldAlike.{HoldAlike-IsPermutation, AreDistinct-cons}
+use Rattle.giputils_bounded.proofs.KeySets.{same_key-equiv, AreDistinct-IsPermutation}
 
 module _ {T : Type 0} (number : T → ℕ) where
   -- a held key adds none

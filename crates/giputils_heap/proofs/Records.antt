@@ -11,18 +11,19 @@ use Rattle.std.proofs.lemmas.Bool.{and_parts, and_from, cases_Bool, false≢true
 use Rattle.std.proofs.lemmas.Map.Steps.{list_any_congr}
 use Rattle.std.proofs.Math.Bool.{and-false}
 use Rattle.std.proofs.lemmas.List.Elements.{All-head, All-tail}
-use Rattle.giputils_heap.specs.Keys.{same_key, is_held, AreDistinct, AreBelow, HoldAlike, without, key_limit}
-use Rattle.giputils_heap.specs.Relations.{is_lawful, IsLawful, agree_on, is_greatest}
+use Rattle.giputils_bounded.specs.Keys.{same_key, is_held, AreDistinct, AreBelow, HoldAlike, without, key_limit}
+use Rattle.giputils_bounded.specs.Relations.{is_lawful, IsLawful, agree_on, is_greatest, IsTotalPreorder}
 use Rattle.giputils_heap.specs.Record.{Entry, Progress, start, start_if_empty, start_anew, is_nil, agrees_with_last, compared_keys, may_compare, held_after, after_call, may_answer, may_reply, progress_from, answers_from, held_from, held_before, Answers, is_steady_at, IsSteady}
-use Rattle.giputils_heap.specs.Laws.{IsTotalPreorder, Compares, PopUntilNone, is_descending, ListsDownward}
+use Rattle.giputils_bounded.specs.Falls.{is_descending}
+use Rattle.giputils_heap.specs.Laws.{Compares, PopUntilNone, ListsDownward}
 use Rattle.giputils_heap.specs.declared.run.HeapCall.{HeapCall}
 use Rattle.giputils_heap.specs.declared.run.HeapCall.TheVariants.{Push, Pop, Rebuild, Clear}
 use Rattle.giputils_heap.specs.declared.run.HeapReply.{HeapReply}
 use Rattle.giputils_heap.specs.declared.run.HeapReply.TheVariants.{Done, Popped}
-use Rattle.giputils_heap.proofs.BoolsAndLists.{or-and_not}
-use Rattle.giputils_heap.proofs.KeySets.{is_held-head, same_key-equiv, AreDistinct-nil, pass_at_held}
-use Rattle.giputils_heap.proofs.HoldAlike.{AreDistinct-cons, AreDistinct-filter, HoldsWithin-without, is_held-without, IsLawful-fewer}
-use Rattle.giputils_heap.proofs.Preorders.{agree_on-refl, IsLawful-everywhere}
+use Rattle.giputils_bounded.proofs.BoolsAndLists.{or-and_not}
+use Rattle.giputils_bounded.proofs.KeySets.{is_held-head, same_key-equiv, AreDistinct-nil, pass_at_held}
+use Rattle.giputils_bounded.proofs.HoldAlike.{AreDistinct-cons, AreDistinct-filter, HoldsWithin-without, is_held-without, IsLawful-fewer}
+use Rattle.giputils_bounded.proofs.Preorders.{agree_on-refl, IsLawful-everywhere}
 use Rattle.giputils_heap.proofs.Steady.{agrees_with_last-same}
 
 module _ {T C : Type 0} (at_least : C → T → T → Bool) where

@@ -10,20 +10,20 @@ use Rattle.std.specs.List.Sorted.{IsPermutation}
 use Rattle.std.proofs.lemmas.Bool.{and_parts, and_from, or_cases, cases_Bool, false≢true, lt-ltb}
 use Rattle.std.proofs.lemmas.List.Sorted.{IsPermutation-sym}
 use Rattle.std.proofs.lemmas.Map.Keys.{IsDistinct-tail}
-use Rattle.giputils_heap.specs.Keys.{same_key, is_held, AreDistinct, HoldAlike, HoldsWithin, without, key_limit}
-use Rattle.giputils_heap.specs.Relations.{is_lawful, IsLawful, agree_on, AgreeOn, agrees_except, AgreesExcept, is_greatest, IsGreatest}
-use Rattle.giputils_heap.specs.InOrder.{IsInOrder, KeepsOrder, RepairsChanged, RepairsRisen, RepairsFallen}
-use Rattle.giputils_heap.proofs.OrderLaws.{IsInOrder-empty, IsInOrder-agree}
-use Rattle.giputils_heap.specs.Bounds.{floor_log2}
+use Rattle.giputils_bounded.specs.Keys.{same_key, is_held, AreDistinct, HoldAlike, HoldsWithin, without, key_limit}
+use Rattle.giputils_bounded.specs.Relations.{is_lawful, IsLawful, agree_on, AgreeOn, agrees_except, AgreesExcept, is_greatest, IsGreatest}
+use Rattle.giputils_bounded.specs.InOrder.{IsInOrder, KeepsOrder, RepairsChanged, RepairsRisen, RepairsFallen}
+use Rattle.giputils_bounded.proofs.OrderLaws.{IsInOrder-empty, IsInOrder-agree}
+use Rattle.giputils_bounded.specs.Bounds.{floor_log2}
 use Rattle.giputils_heap.specs.Record.{Progress, start_if_empty, agrees_with_last, is_nil, is_steady_at, after_call, may_answer, comparison_bound}
 use Rattle.giputils_heap.specs.declared.run.HeapCall.{HeapCall}
 use Rattle.giputils_heap.specs.declared.run.HeapCall.TheVariants.{Push, Pop, Up, Down, Update, Rebuild, Clear}
 use Rattle.giputils_heap.specs.declared.run.HeapReply.TheVariants.{Done, Popped}
 use Rattle.giputils_heap.specs.Stands.{Stands, IsInOrderByLast, IsInOrderSince}
-use Rattle.giputils_heap.proofs.BoolsAndLists.{implied_from}
-use Rattle.giputils_heap.proofs.KeySets.{is_held-head, AreDistinct-nil, AreDistinct-IsPermutation}
-use Rattle.giputils_heap.proofs.Preorders.{agree_on-refl}
-use Rattle.giputils_heap.proofs.HoldAlike.{nil_from_alike, is_nil-HoldAlike, length-HoldAlike, HoldAlike-cons, HoldAlike-IsPermutation, HoldAlike-taken, AreDistinct-cons, AreDistinct-filter, HoldsWithin-alike, HoldsWithin-cons, HoldAlike-without, list_all-fewer, all_pairs-fewer, IsLawful-fewer, IsGreatest-HoldAlike}
+use Rattle.giputils_bounded.proofs.BoolsAndLists.{implied_from}
+use Rattle.giputils_bounded.proofs.KeySets.{is_held-head, AreDistinct-nil, AreDistinct-IsPermutation}
+use Rattle.giputils_bounded.proofs.Preorders.{agree_on-refl}
+use Rattle.giputils_bounded.proofs.HoldAlike.{nil_from_alike, length-HoldAlike, HoldAlike-cons, HoldAlike-IsPermutation, HoldAlike-taken, AreDistinct-cons, AreDistinct-filter, HoldsWithin-alike, HoldsWithin-cons, HoldAlike-without, list_all-fewer, all_pairs-fewer, IsLawful-fewer, IsGreatest-HoldAlike}
 
 -- where a key would be popped and none is, there is none
 nil_from_no_some : {T : Type 0} (keys : List T) → (0 < length keys → IsSome {T = T} None) → keys ≡ []
@@ -35,6 +35,13 @@ pub is_nil-iff : {T : Type 0} (b : Bool) (keys : List T) → ((b ≡ true) ↔ (
 is_nil-iff true keys tests = sym (ap is_nil (tests.0 refl))
 is_nil-iff false [] tests = tests.1 refl
 is_nil-iff false (k ∷ keys) tests = refl
+
+-- keys that hold like each other are none together
+is_nil-HoldAlike : {T : Type 0} (number : T → ℕ) (xs ys : List T) → HoldAlike number xs ys → is_nil xs ≡ is_nil ys
+is_nil-HoldAlike number [] [] alike = refl
+is_nil-HoldAlike number [] (y ∷ ys) alike = absurd (false≢true (alike y ∙ is_held-head number y ys))
+is_nil-HoldAlike number (x ∷ xs) [] alike = absurd (false≢true (sym (alike x) ∙ is_held-head number x xs))
+is_nil-HoldAlike number (x ∷ xs) (y ∷ ys) alike = refl
 
 module _ {T C : Type 0} (number : T → ℕ) (one_value : (x y : T) → number x ≡ number y → x ≡ y) (at_least : C → T → T → Bool) where
   ordered_once_empty : (held : List T) (steady : Bool) (last : Option C) (keys : List T) → HoldAlike number keys held

@@ -1,21 +1,12 @@
 -- Laws of records, which callers of a run may cite.
-use Rattle.std.specs.Prelude.{◌≡◌, ℕ, Bool, true, ◌&&◌, ◌||◌, List, [], ◌∷◌, ◌++◌, length, map, slice_get, IsTrue, Option, Some, None}
+use Rattle.std.specs.Prelude.{◌≡◌, ℕ, Bool, List, [], ◌∷◌, ◌++◌, length, map, slice_get, IsTrue, Option, Some, None}
 use Rattle.std.specs.List.{All, AllZip}
-use Rattle.giputils_heap.specs.Keys.{AreDistinct, HoldAlike}
+use Rattle.giputils_bounded.specs.Keys.{AreDistinct, HoldAlike}
+use Rattle.giputils_bounded.specs.Falls.{is_descending}
+use Rattle.giputils_bounded.specs.Relations.{IsTotalPreorder}
 use Rattle.giputils_heap.specs.Record.{Entry, Answers, AnswersAt, KeepsCounts, KeepsCountAt, IsSteady, held_before}
 use Rattle.giputils_heap.specs.declared.run.HeapCall.TheVariants.{Pop}
 use Rattle.giputils_heap.specs.declared.run.HeapReply.TheVariants.{Popped}
-
--- R orders all keys, ties allowed: it is total and transitive
-pub record IsTotalPreorder {T : Type 0} (R : T → T → Bool) : Type 0 where
-  pub total : (x y : T) → IsTrue (R x y || R y x)
-  pub transitive : (x y z : T) → IsTrue (R x y) → IsTrue (R y z) → IsTrue (R x z)
-
--- whether each key is at least the next
-abbrev pub is_descending : {T : Type 0} → (T → T → Bool) → List T → Bool
-is_descending R [] = true
-is_descending R (x ∷ []) = true
-is_descending R (x ∷ y ∷ keys) = R x y && is_descending R (y ∷ keys)
 
 -- a comparer's relation is R
 abbrev pub Compares : {T C : Type 0} → (C → T → T → Bool) → (T → T → Bool) → C → Type 0

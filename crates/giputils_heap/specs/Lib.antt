@@ -1,15 +1,15 @@
--- What the contracts of the heap speak of. Table, Tree and Stands are the heap's own.
-pub mod Bounded
-pub mod Bounds
-pub mod Calls
-pub mod Comparers
-pub mod Counted
-pub mod Falls
-pub mod InOrder
-pub mod Keys
+-- What the contracts of the heap speak of. Stands, Table and Tree are the heap's own.
 pub mod Laws
 pub mod Record
-pub mod Relations
 pub mod Stands
-pub mod Table
-pub mod Tree
+pub use Rattle.giputils_bounded.specs.Bounded
+pub use Rattle.giputils_bounded.specs.Bounds
+pub use Rattle.giputils_bounded.specs.Calls
+pub use Rattle.giputils_bounded.specs.Comparers
+pub use Rattle.giputils_bounded.specs.Counted
+pub use Rattle.giputils_bounded.specs.Falls
+pub use Rattle.giputils_bounded.specs.InOrder
+pub use Rattle.giputils_bounded.specs.Keys
+pub use Rattle.giputils_bounded.specs.Relations
+pub use Rattle.giputils_bounded.specs.Table
+pub use Rattle.giputils_bounded.specs.Tree

@@ -1,13 +1,13 @@
 //! Lists of calls of one heap.
 ghost use Rattle.std.specs.Prelude.{◌≡◌, ◌+◌, ◌^◌, ◌≤◌, IsTrue, IsFalse, IfOk, OnErr, length, ⊤};
 ghost use Rattle.giputils_heap.specs.Record.{Progress, may_compare, comparison_bound, may_answer, after_call, record_of, Answers, KeepsCounts, KeepsSteps, CanCount};
-ghost use Rattle.giputils_heap.specs.Bounds.{count_limit};
+ghost use Rattle.giputils_bounded.specs.Bounds.{count_limit};
 ghost use Rattle.giputils_heap.specs.Laws.{AnswersAtEachStep, KeepsCountsAtEachStep, PopsListDownward, OneOrderIsSteady};
 ghost use Rattle.giputils_heap.specs.Stands.{Stands};
 
-use crate::counting::Counting;
 use crate::heap::BinaryHeap;
-use crate::key::{BinaryHeapCmp, HeapKey};
+use giputils_bounded::counting::Counting;
+use giputils_bounded::key::{BinaryHeapCmp, HeapKey};
 use std::alloc::{AllocError, Allocator};
 
 /// A call of a heap.

@@ -1,3 +1,4 @@
+mod AsciiDigits
 mod Examples
 mod GroupLemmas
 pub mod NumberLemmas

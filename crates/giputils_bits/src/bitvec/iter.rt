@@ -3,7 +3,7 @@
 // How it is proved: an own iterator by `YieldsFirst (λ rest. rest)`, `YieldsLast` and `item_count`
 // lets chains of callers close (`eq`, `rev`, `count`, `all`). If it keeps a count, state that in
 // the invariant (`s.left ≡ length (live_slots s.index s.slots.now)`), so that `len`, `size_hint`
-// and `next` close (giputils_base `src/allocator/live.rt`).
+// and `next` close (giputils_index `src/allocator/live.rt`).
 // How it is proved: a sum over an own iterator has the invariant `l.count + length l.bit-iterator <
 // 2 ^ 32`, beside the printed `can_next` and `is_finite`.
 

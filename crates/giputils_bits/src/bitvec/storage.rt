@@ -8,7 +8,7 @@ ghost use Rattle.std.specs.Int.{bit_not, w64};
 ghost use Rattle.giputils_bits.specs.Places.{common_digits, Overlays, Rewrites};
 
 use super::words::{WordOp, conjoin_words, join_words, negate_words, overlay_words};
-use giputils_base::gvec::Gvec;
+use giputils_vec::gvec::Gvec;
 use std::alloc::{AllocError, Allocator};
 use std::marker::Model;
 use std::slice;

@@ -1,6 +1,6 @@
 use Rattle.std.proofs.Common.{◌≤◌, arith}
 use Rattle.std.proofs.lemmas.List.Elements.{All-get_or}
-use Rattle.giputils_heap.specs.Bounds.{count_limit}
+use Rattle.giputils_bounded.specs.Bounds.{count_limit}
 use Rattle.giputils_heap.proofs.Runs.{HasRun-start, HasRun-more, HasRun-answers, HasRun-counts, HasRun-kept, KeepsSteps-refl, next_is_old}
 use Rattle.giputils_heap.proofs.run.heap_run.Goals as goal
 

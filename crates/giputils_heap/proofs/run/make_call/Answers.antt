@@ -1,7 +1,7 @@
 use Rattle.std.proofs.Common.{◌∙◌, rules}
 use Rattle.std.specs.Cmp.{bool_eq_equiv}
 use Rattle.std.proofs.lemmas.Bool.{eq-eqb}
-use Rattle.giputils_heap.specs.Bounds.{up_bound, down_bound, update_bound}
+use Rattle.giputils_bounded.specs.Bounds.{up_bound, down_bound, update_bound}
 use Rattle.giputils_heap.proofs.Steps.{stands_where_push_fails, stands_pushed, stands_after_pop, may_pop_so, stands_at_up, stands_at_down, stands_updated, stands_rebuilt, stands_cleared, stands_unchanged, length_of_held, is_nil_of_held, is_nil-iff, push_within, pop_within, rebuild_within, key_within}
 use Rattle.giputils_heap.proofs.run.make_call.Goals as goal
 

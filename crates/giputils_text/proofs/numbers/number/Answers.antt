@@ -4,7 +4,7 @@ use Rattle.std.proofs.lemmas.Int.Digits.{digits_value_more}
 use Rattle.std.proofs.lemmas.Str.Parse.{digits_value-take-le}
 use Rattle.std.specs.Char.{digit_value}
 use Rattle.std.specs.Str.Parse.{digits_value}
-use Rattle.giputils_base.proofs.AsciiDigits.{all_ascii_digits-other, all_ascii_digits-more, digit_value-ascii}
+use Rattle.giputils_text.proofs.AsciiDigits.{all_ascii_digits-other, all_ascii_digits-more, digit_value-ascii}
 use Rattle.giputils_text.proofs.NumberLemmas.{number_up_to-other, number_up_to-large, number_up_to-small}
 use Rattle.giputils_text.proofs.numbers.number.Goals as goal
 

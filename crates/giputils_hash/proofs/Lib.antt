@@ -1,0 +1,4 @@
+mod Examples
+mod LastValues
+pub mod MapWrites
+pub mod Members

@@ -1,0 +1,4 @@
+//! A hashed set and a hashed map.
+#![tactic(auto)]
+
+pub mod hash;

@@ -1,0 +1,5 @@
+pub mod Allocator
+pub mod AllocatorRun
+pub mod LendsValue
+pub mod Room
+pub use Rattle.giputils_hash.specs.Hash

@@ -1,0 +1,4 @@
+//! An allocator of indexes.
+#![tactic(auto)]
+
+pub mod allocator;

@@ -1,0 +1,3 @@
+pub mod Gvec
+pub mod Lends
+pub mod Others
