@@ -9,13 +9,13 @@ use Rattle.gipsat_cnf.specs.declared.answers.Guess.{Guess}
 use Rattle.gipsat_cnf.specs.declared.answers.Guess.TheVariants as guess
 
 -- Sat comes with a model, Unsat with a core; at Unknown, P holds
-abbrev pub IsRightOr : {A : Type 0} → Formula → List Lit → Type 0 → AnswerUnder A → Type 0
+abbrev pub IsRightOr : Formula → List Lit → Type 0 → AnswerUnder → Type 0
 IsRightOr formula assumed P (under.Sat model) = IsModelUnder formula assumed model.items
 IsRightOr formula assumed P (under.Unsat core) = IsCore formula assumed core.items
 IsRightOr formula assumed P under.Unknown = P
 
 -- Unsat comes with a core; at Unknown, P holds; Sat promises nothing
-abbrev pub IsRightGuessOr : {A : Type 0} → Formula → List Lit → Type 0 → Guess A → Type 0
+abbrev pub IsRightGuessOr : Formula → List Lit → Type 0 → Guess → Type 0
 IsRightGuessOr formula assumed P guess.Sat = ⊤
 IsRightGuessOr formula assumed P (guess.Unsat core) = IsCore formula assumed core.items
 IsRightGuessOr formula assumed P guess.Unknown = P

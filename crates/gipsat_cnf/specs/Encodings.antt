@@ -1,7 +1,7 @@
 -- What clauses say that encode a problem: what they add to a formula, and how many of some literals they make true.
 --
 -- How it is proved: building a formula. Let each private function ensure the meaning of its clauses for an assignment,
--- in both directions (`Adds`). Functions that add one to three clauses close (giputils_uses `proofs/Unrolling`,
+-- in both directions (`Adds`). Functions that add one to three clauses close (gipsat_uses `proofs/Unrolling`,
 -- `Followed`). A state as a function of its places, `state_of (λ i. a (from + i)) n`, needs no arithmetic.
 use Rattle.std.specs.Prelude.{◌≡◌, ◌↔◌, ℕ, ◌<◌, List, [], ◌∷◌, ◌++◌, map, slice_get, Some, IsTrue}
 use Rattle.gipsat_cnf.specs.Formulas.{Assignment, Clause, Formula, Has, is_true, satisfies}

@@ -1,12 +1,11 @@
 //! What is asked of a solver, and what it answers.
 use crate::literal::Literal;
-use std::alloc::{Allocator, Global};
 
 /// What is found out about a formula.
 #[derive(Drop)]
-pub enum Answer<A: Allocator = Global> {
+pub enum Answer {
     /// A value for each variable, by which the formula is satisfied; a variable past the end is false.
-    Sat(Vec<bool, A>),
+    Sat(Vec<bool>),
     /// No assignment satisfies the formula.
     Unsat,
     /// It has learned as many clauses as the limit allows.
@@ -15,27 +14,27 @@ pub enum Answer<A: Allocator = Global> {
 
 /// What is found out about a formula under assumptions.
 #[derive(Drop)]
-pub enum AnswerUnder<A: Allocator = Global> {
+pub enum AnswerUnder {
     /// A value for each variable, by which the formula is satisfied and each assumption is true; a variable past the
     /// end is false.
-    Sat(Vec<bool, A>),
+    Sat(Vec<bool>),
     /// Some of the assumptions: no assignment satisfies the formula and makes all of them true. Where it is empty, none
     /// satisfies the formula.
-    Unsat(Vec<Literal, A>),
+    Unsat(Vec<Literal>),
     /// It has learned as many clauses as the limit allows, or its budget is spent.
     Unknown,
 }
 
 /// What is found out about a formula under assumptions where the formula is not read at the end.
 #[derive(Drop)]
-pub enum Guess<A: Allocator = Global> {
+pub enum Guess {
     /// No conflict was met, and no variable waits to be decided:
     /// [`SatSolver::value`](crate::solver::SatSolver::value) tells the values. Nothing is promised of them; nothing is
     /// known to be wrong with them.
     Sat,
     /// Some of the assumptions: no assignment satisfies the formula and makes all of them true. Where it is empty, none
     /// satisfies the formula.
-    Unsat(Vec<Literal, A>),
+    Unsat(Vec<Literal>),
     /// It has given up, after it learned at most as many clauses as the limit allows.
     Unknown,
 }

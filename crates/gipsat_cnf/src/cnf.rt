@@ -6,7 +6,7 @@ ghost use Rattle.gipsat_cnf.specs.Models.{assignment_in};
 
 use crate::literal::Literal;
 use crate::values::satisfies_clause;
-use std::alloc::{AllocError, Allocator, Global};
+use std::alloc::{AllocError, Global};
 use std::marker::Model;
 
 /// Where a clause lies among the literals of its formula: from `start` on, before `end`.
@@ -53,15 +53,25 @@ fn stays_at(stays: &[bool], place: usize) -> bool
 }
 
 /// A formula: a list of clauses, each of which has to be satisfied. Contracts see the list.
-#[derive(Drop)]
-pub struct Cnf<A: Allocator = Global> {
-    literals: Vec<Literal, A>,
-    spans: Vec<Span, A>,
+pub struct Cnf {
+    literals: Vec<Literal>,
+    spans: Vec<Span>,
     // Each variable is below.
     variables: usize,
 }
 
-impl<A: Allocator> Model for Cnf<A> {
+// One call in its owners' proofs, in place of one for each field.
+impl Drop for Cnf {
+    fn drop(self) {
+        let Cnf {
+            literals,
+            spans,
+            variables: _,
+        } = self;
+    }
+}
+
+impl Model for Cnf {
     ghost use Rattle.gipsat_cnf.specs.Formulas.{Formula};
     ghost use Rattle.gipsat_cnf.specs.Layout.{clauses_of, IsLaidOut};
 
@@ -72,9 +82,9 @@ impl<A: Allocator> Model for Cnf<A> {
     ghost invariant = { λ cnf. IsLaidOut cnf.variables cnf.literals.items cnf.spans.items };
 }
 
-impl<A: Allocator + Copy> Cnf<A> {
+impl Cnf {
     /// The formula without clauses. It takes no memory.
-    pub fn new(alloc: A) -> Self
+    pub fn new(alloc: Global) -> Self
         ensures { result ≡ [] }
     {
         Cnf {
@@ -178,7 +188,7 @@ impl<A: Allocator + Copy> Cnf<A> {
     }
 
     // The formula without clauses, with memory for the clauses of this one that stay.
-    fn with_room_for(&self, alloc: A, stays: &[bool]) -> Result<Self, AllocError>
+    fn with_room_for(&self, alloc: Global, stays: &[bool]) -> Result<Self, AllocError>
         ensures { IfOk result (λ cnf. cnf ≡ []) }
     {
         let mut clauses: usize = 0;
@@ -204,7 +214,7 @@ impl<A: Allocator + Copy> Cnf<A> {
     ///
     /// # Errors
     /// `AllocError` where memory is refused.
-    pub fn kept(&self, alloc: A, stays: &[bool]) -> Result<Self, AllocError>
+    pub fn kept(&self, alloc: Global, stays: &[bool]) -> Result<Self, AllocError>
         ensures { IfOk result (λ kept. kept ≡ retained stays.now self.now) }
     {
         let mut kept = self.with_room_for(alloc, stays)?;

@@ -7,10 +7,10 @@ ghost use Rattle.gipsat_cnf.specs.Numbers.{number};
 use crate::cnf::{Cnf, variables_with};
 use crate::literal::Literal;
 use crate::values::makes_true;
-use std::alloc::{AllocError, Allocator};
+use std::alloc::{AllocError, Global};
 
 // Counts on: the values are the binary digits of a number, the lowest first. False where it was the greatest.
-fn advance<A: Allocator>(values: &mut Vec<bool, A>) -> bool
+fn advance(values: &mut Vec<bool>) -> bool
     ensures len { length values.new.items ≡ length values.old.items }
     ensures next { OnTrue result (number values.new.items ≡ number values.old.items + 1) }
     ensures last { OnFalse result (2 ^ length values.old.items ≤ number values.old.items + 1) }
@@ -26,7 +26,7 @@ fn advance<A: Allocator>(values: &mut Vec<bool, A>) -> bool
 }
 
 // Whether the values satisfy the formula and make the assumptions true.
-fn is_model<A: Allocator + Copy>(formula: &Cnf<A>, values: &[bool], assumptions: &[Literal]) -> bool
+fn is_model(formula: &Cnf, values: &[bool], assumptions: &[Literal]) -> bool
     ensures yes { OnTrue result (IsModelUnder formula.now assumptions.now values.now) }
     ensures no { OnFalse result (¬ (IsModelUnder formula.now assumptions.now values.now)) }
 {
@@ -37,7 +37,7 @@ fn is_model<A: Allocator + Copy>(formula: &Cnf<A>, values: &[bool], assumptions:
 }
 
 // So many values, all of them false.
-fn all_false<A: Allocator + Copy>(alloc: A, len: usize) -> Result<Vec<bool, A>, AllocError>
+fn all_false(alloc: Global, len: usize) -> Result<Vec<bool>, AllocError>
     ensures { IfOk result (λ values. values.items ≡ replicate len false) }
 {
     let mut values = Vec::new(alloc);
@@ -50,11 +50,11 @@ fn all_false<A: Allocator + Copy>(alloc: A, len: usize) -> Result<Vec<bool, A>, 
 ///
 /// # Errors
 /// `AllocError` where memory is refused.
-pub fn find_model<A: Allocator + Copy>(
-    alloc: A,
-    formula: &Cnf<A>,
+pub fn find_model(
+    alloc: Global,
+    formula: &Cnf,
     assumptions: &[Literal],
-) -> Result<Option<Vec<bool, A>>, AllocError>
+) -> Result<Option<Vec<bool>>, AllocError>
     ensures model { IfOk result (λ found. IfSome found (λ m. IsModelUnder formula.now assumptions.now m.items)) }
     ensures none { IfOk result (λ found. IfNone found (¬ (IsSatisfiableUnder formula.now assumptions.now))) }
 {

@@ -5,7 +5,7 @@ ghost use Rattle.gipsat_cnf.specs.Formulas.{Formula};
 
 use crate::cnf::Cnf;
 use crate::literal::Literal;
-use std::alloc::{AllocError, Allocator};
+use std::alloc::AllocError;
 
 /// What takes clauses, one after another, and holds the formula of all of them.
 pub trait ClauseSink {
@@ -21,7 +21,7 @@ pub trait ClauseSink {
         ensures refused { OnErr result (formula self.new ≡ formula self.old) };
 }
 
-impl<A: Allocator + Copy> ClauseSink for Cnf<A> {
+impl ClauseSink for Cnf {
     ghost formula = { λ cnf. cnf };
 
     fn add_clause(&mut self, clause: &[Literal]) -> Result<(), AllocError> {

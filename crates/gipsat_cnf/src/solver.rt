@@ -9,12 +9,12 @@ ghost use Rattle.gipsat_cnf.specs.Simplifying.{SaysSame};
 use crate::answers::{AnswerUnder, Budget, Effort, Guess};
 use crate::literal::Literal;
 use crate::sink::ClauseSink;
-use std::alloc::{AllocError, Allocator};
+use std::alloc::{AllocError, Global};
 
 /// An incremental solver: clauses may be added between two questions, and what was learned is kept.
-pub trait SatSolver<A: Allocator>: ClauseSink {
+pub trait SatSolver: ClauseSink {
     /// A solver for the formula of no clause.
-    fn new(alloc: A) -> Self
+    fn new(alloc: Global) -> Self
         ensures { Self.formula result ≡ [] };
 
     /// Finds out whether anything satisfies the formula and makes each assumption true, and gives up once its budget is
@@ -26,7 +26,7 @@ pub trait SatSolver<A: Allocator>: ClauseSink {
         &mut self,
         assumptions: &[Literal],
         budget: Budget,
-    ) -> Result<AnswerUnder<A>, AllocError>
+    ) -> Result<AnswerUnder, AllocError>
         ensures right { IfOk result (IsRightOr (Self.formula self.old) assumptions.now ⊤) }
         ensures formula { Self.formula self.new ≡ Self.formula self.old };
 
@@ -40,7 +40,7 @@ pub trait SatSolver<A: Allocator>: ClauseSink {
         domain: &[u32],
         assumptions: &[Literal],
         limit: usize,
-    ) -> Result<Guess<A>, AllocError>
+    ) -> Result<Guess, AllocError>
         ensures right { IfOk result (IsRightGuessOr (Self.formula self.old) assumptions.now ⊤) }
         ensures formula { Self.formula self.new ≡ Self.formula self.old };
 
@@ -52,7 +52,7 @@ pub trait SatSolver<A: Allocator>: ClauseSink {
     ///
     /// # Errors
     /// `AllocError` where memory is refused. The formula stays as it was.
-    fn find_model(&mut self) -> Result<Option<Vec<bool, A>>, AllocError>
+    fn find_model(&mut self) -> Result<Option<Vec<bool>>, AllocError>
         ensures model { IfOk result (λ found. IfSome found (λ model. IsModel (Self.formula self.old) model.items)) }
         ensures none { IfOk result (λ found. IfNone found (¬ (IsSatisfiable (Self.formula self.old)))) }
         ensures formula { Self.formula self.new ≡ Self.formula self.old };

@@ -1,21 +1,32 @@
 //! The clauses that clauses were resolved from. Nothing rests on what it says.
-use std::alloc::{AllocError, Allocator, Global};
+use std::alloc::{AllocError, Global};
 
 // The chain of each derivation, which is the ids of the clauses that it used, in order. They are kept only on request.
-#[derive(Drop)]
-pub(crate) struct Chains<A: Allocator = Global> {
+pub(crate) struct Chains {
     // All chains, one behind the other. That of the clause that is being derived comes last.
-    ids: Vec<usize, A>,
+    ids: Vec<usize>,
     // Where the chain of each working clause ends, from one clause on.
-    ends: Vec<usize, A>,
+    ends: Vec<usize>,
     // The id of that clause.
     first: usize,
     are_kept: bool,
 }
 
-impl<A: Allocator + Copy> Chains<A> {
+// One call in its owners' proofs, in place of one for each field.
+impl Drop for Chains {
+    fn drop(self) {
+        let Chains {
+            ids,
+            ends,
+            first: _,
+            are_kept: _,
+        } = self;
+    }
+}
+
+impl Chains {
     // No chain, and none is asked for. It takes no memory.
-    pub(crate) fn new(alloc: A) -> Self {
+    pub(crate) fn new(alloc: Global) -> Self {
         Chains {
             ids: Vec::new(alloc),
             ends: Vec::new(alloc),

@@ -3,7 +3,7 @@ ghost use Rattle.std.specs.Prelude.{◌≡◌, true, false, replicate, slice_ind
 ghost use Rattle.gipsat_cnf.specs.Lists.{retained};
 ghost use Rattle.gipsat_kernel.specs.Kernel.{OriginalStay};
 
-use std::alloc::{AllocError, Allocator};
+use std::alloc::{AllocError, Global};
 
 // The flag at a place; a value past the end.
 #[inline]
@@ -17,7 +17,7 @@ pub(crate) fn flag_at(flags: &[bool], place: usize, past: bool) -> bool
 }
 
 // So many flags, all of them set.
-pub(crate) fn all_set<A: Allocator + Copy>(alloc: A, len: usize) -> Result<Vec<bool, A>, AllocError>
+pub(crate) fn all_set(alloc: Global, len: usize) -> Result<Vec<bool>, AllocError>
     ensures { IfOk result (λ flags. flags.items ≡ replicate len true) }
 {
     let mut flags = Vec::new(alloc);
@@ -38,11 +38,11 @@ pub(crate) fn keep_original(original: &[bool], stays: &mut [bool])
 }
 
 // A copy of the flags of the clauses that stay.
-pub(crate) fn flags_kept<A: Allocator + Copy>(
-    alloc: A,
+pub(crate) fn flags_kept(
+    alloc: Global,
     flags: &[bool],
     stays: &[bool],
-) -> Result<Vec<bool, A>, AllocError>
+) -> Result<Vec<bool>, AllocError>
     ensures { IfOk result (λ kept. kept.items ≡ retained stays.now flags.now) }
 {
     let mut kept = Vec::new(alloc);

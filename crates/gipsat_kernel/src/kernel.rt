@@ -13,7 +13,7 @@ use crate::marks::Marks;
 use gipsat_cnf::enumerate::find_model;
 use gipsat_cnf::values::{makes_true, satisfies_clause};
 use gipsat_cnf::{ClauseSink, Cnf, Literal, Span};
-use std::alloc::{AllocError, Allocator, Global};
+use std::alloc::{AllocError, Global};
 use std::marker::Model;
 
 /// A formula, and working clauses each of which follows from it. Contracts see the formula alone.
@@ -21,19 +21,31 @@ use std::marker::Model;
 /// The clauses of the formula are working clauses, and a derivation adds others: [`Kernel::begin`] with a clause,
 /// [`Kernel::resolve`] any number of times, and [`Kernel::conclude`]. It cannot go wrong: whatever the clauses and the
 /// pivots are, the clause that it concludes follows from the formula. A working clause is named by its place, its id.
-#[derive(Drop)]
-pub struct Kernel<A: Allocator = Global> {
-    clauses: Cnf<A>,
+pub struct Kernel {
+    clauses: Cnf,
     // Whether the clause at a place is one of the formula.
-    original: Vec<bool, A>,
+    original: Vec<bool>,
     // The literals of the clause that is being derived.
-    marks: Marks<A>,
+    marks: Marks,
     // Whether a clause is being derived.
     is_open: bool,
-    chains: Chains<A>,
+    chains: Chains,
 }
 
-impl<A: Allocator> Model for Kernel<A> {
+// One call in its owners' proofs, in place of one for each field.
+impl Drop for Kernel {
+    fn drop(self) {
+        let Kernel {
+            clauses,
+            original,
+            marks,
+            is_open: _,
+            chains,
+        } = self;
+    }
+}
+
+impl Model for Kernel {
     ghost use Rattle.gipsat_cnf.specs.Formulas.{Formula};
     ghost use Rattle.gipsat_kernel.specs.Kernel.{IsKernel, original_among};
 
@@ -44,9 +56,9 @@ impl<A: Allocator> Model for Kernel<A> {
     ghost invariant = { λ k. IsKernel k.original.items k.clauses k.marks k.is_open };
 }
 
-impl<A: Allocator + Copy> Kernel<A> {
+impl Kernel {
     /// The formula without clauses. It takes no memory.
-    pub fn new(alloc: A) -> Self
+    pub fn new(alloc: Global) -> Self
         ensures { result ≡ [] }
     {
         Kernel {
@@ -62,7 +74,7 @@ impl<A: Allocator + Copy> Kernel<A> {
     ///
     /// # Errors
     /// `AllocError` where memory is refused. The formula is lost then.
-    pub fn over(alloc: A, formula: Cnf<A>) -> Result<Self, AllocError>
+    pub fn over(alloc: Global, formula: Cnf) -> Result<Self, AllocError>
         ensures { IfOk result (λ k. k ≡ formula) }
     {
         let original = all_set(alloc, formula.len())?;
@@ -262,7 +274,7 @@ impl<A: Allocator + Copy> Kernel<A> {
     ///
     /// # Errors
     /// `AllocError` where memory is refused. Only flags change then.
-    pub fn collect(&mut self, alloc: A, stays: &mut [bool]) -> Result<(), AllocError>
+    pub fn collect(&mut self, alloc: Global, stays: &mut [bool]) -> Result<(), AllocError>
         ensures { self.new ≡ self.old }
     {
         keep_original(&self.original, stays);
@@ -314,10 +326,10 @@ impl<A: Allocator + Copy> Kernel<A> {
     /// `AllocError` where memory is refused.
     pub fn core(
         &mut self,
-        alloc: A,
+        alloc: Global,
         id: usize,
         assumptions: &[Literal],
-    ) -> Result<Option<Vec<Literal, A>>, AllocError>
+    ) -> Result<Option<Vec<Literal>>, AllocError>
         ensures formula { self.new ≡ self.old }
         ensures core { IfOk result (λ found. IfSome found (λ core. IsCore self.old assumptions.now core.items)) }
     {
@@ -376,9 +388,9 @@ impl<A: Allocator + Copy> Kernel<A> {
     /// `AllocError` where memory is refused.
     pub fn find_model(
         &self,
-        alloc: A,
+        alloc: Global,
         assumptions: &[Literal],
-    ) -> Result<Option<Vec<bool, A>>, AllocError>
+    ) -> Result<Option<Vec<bool>>, AllocError>
         ensures model { IfOk result (λ found. IfSome found (λ m. IsModelUnder self.now assumptions.now m.items)) }
         ensures none { IfOk result (λ found. IfNone found (¬ (IsSatisfiableUnder self.now assumptions.now))) }
     {
@@ -387,10 +399,7 @@ impl<A: Allocator + Copy> Kernel<A> {
 }
 
 // The negations of a clause's literals.
-fn negations<A: Allocator + Copy>(
-    alloc: A,
-    clause: &[Literal],
-) -> Result<Vec<Literal, A>, AllocError>
+fn negations(alloc: Global, clause: &[Literal]) -> Result<Vec<Literal>, AllocError>
     ensures { IfOk result (λ negations. negations.items ≡ map negated clause.now) }
 {
     let mut negations = Vec::new(alloc);
@@ -400,7 +409,7 @@ fn negations<A: Allocator + Copy>(
     Ok(negations)
 }
 
-impl<A: Allocator + Copy> ClauseSink for Kernel<A> {
+impl ClauseSink for Kernel {
     ghost formula = { λ k. k };
 
     fn add_clause(&mut self, clause: &[Literal]) -> Result<(), AllocError> {

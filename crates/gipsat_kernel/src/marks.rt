@@ -6,17 +6,23 @@ ghost use Rattle.gipsat_cnf.specs.Literals.{code};
 ghost use Rattle.gipsat_kernel.specs.Marks.{AreListed, AreMarked, AreMarkedBut, Grows, IsTaken, KeepsMarksBut, MarksSame, NoneMarked, TakesMarked, is_marked};
 
 use gipsat_cnf::{Cnf, Literal};
-use std::alloc::{AllocError, Allocator, Global};
+use std::alloc::{AllocError, Global};
 use std::marker::Model;
 
 // A flag for each code, and the literals that were marked since all flags were false, in order.
-#[derive(Drop)]
-pub(crate) struct Marks<A: Allocator = Global> {
-    flags: Vec<bool, A>,
-    listed: Vec<Literal, A>,
+pub(crate) struct Marks {
+    flags: Vec<bool>,
+    listed: Vec<Literal>,
 }
 
-impl<A: Allocator> Model for Marks<A> {
+// One call in its owners' proofs, in place of one for each field.
+impl Drop for Marks {
+    fn drop(self) {
+        let Marks { flags, listed } = self;
+    }
+}
+
+impl Model for Marks {
     ghost use Rattle.std.specs.Prelude.{List, Bool};
     ghost use Rattle.gipsat_kernel.specs.Marks.{AreListed};
 
@@ -29,7 +35,7 @@ impl<A: Allocator> Model for Marks<A> {
 
 // Whether a literal's flag is set. A literal without a flag is not marked.
 #[inline]
-fn has<A: Allocator>(flags: &Vec<bool, A>, l: Literal) -> bool
+fn has(flags: &Vec<bool>, l: Literal) -> bool
     ensures { result ≡ is_marked flags.now.items l }
 {
     match flags.get(l.code()) {
@@ -40,7 +46,7 @@ fn has<A: Allocator>(flags: &Vec<bool, A>, l: Literal) -> bool
 
 // Sets a literal's flag to a value. Nothing changes if it has none.
 #[inline]
-fn put<A: Allocator>(flags: &mut Vec<bool, A>, l: Literal, mark: bool)
+fn put(flags: &mut Vec<bool>, l: Literal, mark: bool)
     ensures { flags.new.items ≡ set flags.old.items (code l) mark }
 {
     let code = l.code();
@@ -51,7 +57,7 @@ fn put<A: Allocator>(flags: &mut Vec<bool, A>, l: Literal, mark: bool)
 }
 
 // Makes a flag for each code below a number. No literal more is marked.
-fn cover<A: Allocator + Copy>(flags: &mut Vec<bool, A>, codes: usize) -> Result<(), AllocError>
+fn cover(flags: &mut Vec<bool>, codes: usize) -> Result<(), AllocError>
     ensures same { MarksSame flags.old.items flags.new.items }
     ensures room { OnOk result (codes ≤ length flags.new.items) }
 {
@@ -63,7 +69,7 @@ fn cover<A: Allocator + Copy>(flags: &mut Vec<bool, A>, codes: usize) -> Result<
 }
 
 // Takes the marks of the listed literals away.
-fn unmark<A: Allocator>(listed: &[Literal], flags: &mut Vec<bool, A>)
+fn unmark(listed: &[Literal], flags: &mut Vec<bool>)
     requires { AreListed flags.old.items listed.now }
     ensures { NoneMarked flags.new.items }
 {
@@ -74,7 +80,7 @@ fn unmark<A: Allocator>(listed: &[Literal], flags: &mut Vec<bool, A>)
 
 // Moves the marked literals to the front of the list, each once and in order, and takes their marks away. How many
 // there are.
-fn gather<A: Allocator>(listed: &mut Vec<Literal, A>, flags: &mut Vec<bool, A>) -> usize
+fn gather(listed: &mut Vec<Literal>, flags: &mut Vec<bool>) -> usize
     requires { AreListed flags.old.items listed.old.items }
     ensures small { result ≤ length listed.new.items }
     ensures taken { IsTaken flags.old.items flags.new.items (take result listed.new.items) }
@@ -93,7 +99,7 @@ fn gather<A: Allocator>(listed: &mut Vec<Literal, A>, flags: &mut Vec<bool, A>) 
 }
 
 // Marks literals that have flags, where none is marked.
-fn mark_known<A: Allocator>(literals: &[Literal], flags: &mut Vec<bool, A>)
+fn mark_known(literals: &[Literal], flags: &mut Vec<bool>)
     requires { NoneMarked flags.old.items }
     ensures { AreListed flags.new.items literals.now }
 {
@@ -103,7 +109,7 @@ fn mark_known<A: Allocator>(literals: &[Literal], flags: &mut Vec<bool, A>)
 }
 
 // Whether each literal of the clause is marked.
-fn are_marked<A: Allocator>(clause: &[Literal], flags: &Vec<bool, A>) -> bool
+fn are_marked(clause: &[Literal], flags: &Vec<bool>) -> bool
     ensures { OnTrue result (AreMarked clause.now flags.now.items) }
 {
     for l in clause {
@@ -115,7 +121,7 @@ fn are_marked<A: Allocator>(clause: &[Literal], flags: &Vec<bool, A>) -> bool
 }
 
 // Whether each literal of the clause is one of others, where none is marked before and after.
-fn is_part<A: Allocator>(clause: &[Literal], others: &[Literal], flags: &mut Vec<bool, A>) -> bool
+fn is_part(clause: &[Literal], others: &[Literal], flags: &mut Vec<bool>) -> bool
     requires { NoneMarked flags.old.items }
     ensures none { NoneMarked flags.new.items }
     ensures part { OnTrue result (AreHadBy others.now clause.now) }
@@ -126,9 +132,9 @@ fn is_part<A: Allocator>(clause: &[Literal], others: &[Literal], flags: &mut Vec
     all
 }
 
-impl<A: Allocator + Copy> Marks<A> {
+impl Marks {
     // No literal is marked, and none has a flag. It takes no memory.
-    pub(crate) fn new(alloc: A) -> Self {
+    pub(crate) fn new(alloc: Global) -> Self {
         Marks {
             flags: Vec::new(alloc),
             listed: Vec::new(alloc),
@@ -220,7 +226,7 @@ impl<A: Allocator + Copy> Marks<A> {
 
     // Adds the clause of the marked literals to a list, with no memory but that of the list. No literal is marked
     // afterwards.
-    pub(crate) fn take_into(&mut self, clauses: &mut Cnf<A>) -> Result<(), AllocError>
+    pub(crate) fn take_into(&mut self, clauses: &mut Cnf) -> Result<(), AllocError>
         ensures taken { OnOk result (TakesMarked self.old clauses.old clauses.new) }
         ensures refused { OnErr result (clauses.new ≡ clauses.old) }
     {

@@ -9,7 +9,7 @@ ghost use Rattle.gipsat_kernel.specs.Rat.{AreResolved, HasResolvent, IsOfResolve
 use crate::flags::{all_set, flag_at};
 use crate::marks::Marks;
 use gipsat_cnf::{ClauseSink, Cnf, Literal, Span};
-use std::alloc::{AllocError, Allocator, Global};
+use std::alloc::{AllocError, Global};
 use std::marker::Model;
 
 /// A formula that changes by steps, each of which keeps satisfiability: where something satisfies the formula before
@@ -18,18 +18,29 @@ use std::marker::Model;
 /// A clause is added if it was derived, by [`RatKernel::begin`], [`RatKernel::resolve`] and [`RatKernel::conclude`], or
 /// if it is RAT; and any clause may be deleted. So where the empty clause is one of the formula, nothing satisfies the
 /// formula of any earlier time. A clause is named by its place, its id.
-#[derive(Drop)]
-pub struct RatKernel<A: Allocator = Global> {
-    clauses: Cnf<A>,
+pub struct RatKernel {
+    clauses: Cnf,
     // Whether the clause at a place is one of the formula, as it is until it is deleted.
-    held: Vec<bool, A>,
+    held: Vec<bool>,
     // The literals of the clause that is being derived.
-    marks: Marks<A>,
+    marks: Marks,
     // Whether a clause is being derived.
     is_open: bool,
 }
 
-impl<A: Allocator> Model for RatKernel<A> {
+// One call in its owners' proofs, in place of one for each field.
+impl Drop for RatKernel {
+    fn drop(self) {
+        let RatKernel {
+            clauses,
+            held,
+            marks,
+            is_open: _,
+        } = self;
+    }
+}
+
+impl Model for RatKernel {
     ghost use Rattle.gipsat_cnf.specs.Formulas.{Formula};
     ghost use Rattle.gipsat_kernel.specs.Kernel.{original_among};
     ghost use Rattle.gipsat_kernel.specs.Rat.{IsRatKernel};
@@ -41,9 +52,9 @@ impl<A: Allocator> Model for RatKernel<A> {
     ghost invariant = { λ k. IsRatKernel k.held.items k.clauses k.marks k.is_open };
 }
 
-impl<A: Allocator + Copy> RatKernel<A> {
+impl RatKernel {
     /// The formula without clauses. It takes no memory.
-    pub fn new(alloc: A) -> Self
+    pub fn new(alloc: Global) -> Self
         ensures { result ≡ [] }
     {
         RatKernel {
@@ -58,7 +69,7 @@ impl<A: Allocator + Copy> RatKernel<A> {
     ///
     /// # Errors
     /// `AllocError` where memory is refused. The formula is lost then.
-    pub fn over(alloc: A, formula: Cnf<A>) -> Result<Self, AllocError>
+    pub fn over(alloc: Global, formula: Cnf) -> Result<Self, AllocError>
         ensures { IfOk result (λ k. k ≡ formula) }
     {
         let held = all_set(alloc, formula.len())?;
@@ -278,7 +289,7 @@ impl<A: Allocator + Copy> RatKernel<A> {
     ///
     /// # Errors
     /// `AllocError` where memory is refused. The clauses keep their ids then.
-    pub fn collect(&mut self, alloc: A) -> Result<(), AllocError>
+    pub fn collect(&mut self, alloc: Global) -> Result<(), AllocError>
         ensures { self.new ≡ self.old }
     {
         self.is_open = false;
@@ -326,8 +337,8 @@ fn is_of_resolvent(part: &[Literal], clause: &[Literal], other: &[Literal], but:
 
 // Whether the clause with this id is one of the formula, and has only literals of the clause, or of another one's but
 // one.
-fn is_resolvent<A: Allocator + Copy>(
-    clauses: &Cnf<A>,
+fn is_resolvent(
+    clauses: &Cnf,
     held: &[bool],
     id: usize,
     clause: &[Literal],
@@ -344,8 +355,8 @@ fn is_resolvent<A: Allocator + Copy>(
 }
 
 // Whether each clause of the formula with the pivot's negation has a resolvent with the clause in the formula.
-fn are_resolved<A: Allocator + Copy>(
-    clauses: &Cnf<A>,
+fn are_resolved(
+    clauses: &Cnf,
     held: &[bool],
     opposite: Literal,
     clause: &[Literal],
@@ -371,7 +382,7 @@ fn are_resolved<A: Allocator + Copy>(
     true
 }
 
-impl<A: Allocator + Copy> ClauseSink for RatKernel<A> {
+impl ClauseSink for RatKernel {
     ghost formula = { λ k. k };
 
     fn add_clause(&mut self, clause: &[Literal]) -> Result<(), AllocError> {

@@ -4,27 +4,39 @@ use crate::domain::Domain;
 use crate::scores::ByScore;
 use crate::trail::Trail;
 use gipsat_cnf::Literal;
-use giputils_heap::BoundedHeap;
-use std::alloc::{AllocError, Allocator, Global};
+use giputils_bounded::BoundedHeap;
+use std::alloc::{AllocError, Global};
 
 // Once a bump would add as much, all scores are scaled down.
 const GREATEST_INCREMENT: f64 = 1e100;
 
 // The decision queue: variables in a heap by their scores (VSIDS).
-#[derive(Drop)]
-pub(crate) struct Activity<A: Allocator = Global> {
-    queue: BoundedHeap<u32, A>,
-    scores: Vec<f64, A>,
+pub(crate) struct Activity {
+    queue: BoundedHeap<u32>,
+    scores: Vec<f64>,
     // What a bump adds. It grows, so that recent bumps count more.
     increment: f64,
-    domain: Domain<A>,
+    domain: Domain,
     // For each variable whether it is taken out: it is not queued then, and passed over if it is queued already.
-    is_out: Vec<bool, A>,
+    is_out: Vec<bool>,
 }
 
-impl<A: Allocator + Copy> Activity<A> {
+// One call in its owners' proofs, in place of one for each field.
+impl Drop for Activity {
+    fn drop(self) {
+        let Activity {
+            queue,
+            scores,
+            increment: _,
+            domain,
+            is_out,
+        } = self;
+    }
+}
+
+impl Activity {
     // No variable.
-    pub(crate) fn new(alloc: A) -> Result<Self, AllocError> {
+    pub(crate) fn new(alloc: Global) -> Result<Self, AllocError> {
         Ok(Activity {
             queue: BoundedHeap::with_bound(alloc, 0)?,
             scores: Vec::new(alloc),
@@ -161,7 +173,7 @@ impl<A: Allocator + Copy> Activity<A> {
     }
 
     // A variable of greatest score that has no value and is not taken out. Those before it leave the queue.
-    pub(crate) fn next(&mut self, trail: &Trail<A>) -> Option<u32> {
+    pub(crate) fn next(&mut self, trail: &Trail) -> Option<u32> {
         for _ in 0..self.queue.len() {
             let variable = self.queue.peek()?;
             if trail.has_no_value(variable) && !self.is_out(variable) {

@@ -7,15 +7,11 @@ use crate::settings::SETTINGS;
 use crate::state::State;
 use crate::trail::Trail;
 use gipsat_kernel::Kernel;
-use std::alloc::{AllocError, Allocator};
+use std::alloc::AllocError;
 
 // Bumps the variables of the literals that came into the clause at hand, the marked ones from a place on, but for those
 // of the root. How many are of the conflict level.
-fn note_marked<A: Allocator + Copy>(
-    kernel: &Kernel<A>,
-    state: &mut State<A>,
-    from: usize,
-) -> usize {
+fn note_marked(kernel: &Kernel, state: &mut State, from: usize) -> usize {
     let level = state.trail.level();
     let mut count = 0usize;
     let marked = kernel.marked();
@@ -33,7 +29,7 @@ fn note_marked<A: Allocator + Copy>(
 }
 
 // A conflict was resolved with a clause: bumps it, if it was learned, and counts its glue anew unless that is low.
-fn note_use<A: Allocator + Copy>(kernel: &Kernel<A>, state: &mut State<A>, id: u32) {
+fn note_use(kernel: &Kernel, state: &mut State, id: u32) {
     let Some(rating) = state.clauses.rating(id as usize) else {
         return;
     };
@@ -49,9 +45,9 @@ fn note_use<A: Allocator + Copy>(kernel: &Kernel<A>, state: &mut State<A>, id: u
 
 // Resolves the clause at hand with the reason of the literal at a place of the trail, if it has that literal's negation.
 // How many of its literals are of the conflict level then, where `pending` were before.
-fn resolve_back<A: Allocator + Copy>(
-    kernel: &mut Kernel<A>,
-    state: &mut State<A>,
+fn resolve_back(
+    kernel: &mut Kernel,
+    state: &mut State,
     place: usize,
     pending: usize,
 ) -> Result<usize, AllocError>
@@ -70,9 +66,9 @@ fn resolve_back<A: Allocator + Copy>(
 }
 
 // Resolves literals of the conflict level with their reasons, the latest first, until one is left: the first UIP.
-fn resolve_to_first_uip<A: Allocator + Copy>(
-    kernel: &mut Kernel<A>,
-    state: &mut State<A>,
+fn resolve_to_first_uip(
+    kernel: &mut Kernel,
+    state: &mut State,
     pending: usize,
 ) -> Result<(), AllocError>
     ensures { kernel.new ≡ kernel.old }
@@ -89,9 +85,9 @@ fn resolve_to_first_uip<A: Allocator + Copy>(
 
 // Bumps the variables in the reasons of the literals of the clause at hand in the stable mode, but for the first marked
 // ones, which are so many.
-fn bump_reason_sides<A: Allocator + Copy>(
-    kernel: &Kernel<A>,
-    state: &mut State<A>,
+fn bump_reason_sides(
+    kernel: &Kernel,
+    state: &mut State,
     analyzed: usize,
 ) -> Result<(), AllocError> {
     if !state.restart_policy.modes.is_stable() {
@@ -106,9 +102,9 @@ fn bump_reason_sides<A: Allocator + Copy>(
 
 // Derives the clause of a conflict above the root: resolves the falsified clause to the first UIP, minimizes it, and
 // leaves out what is false at the root.
-fn analyze_above_root<A: Allocator + Copy>(
-    kernel: &mut Kernel<A>,
-    state: &mut State<A>,
+fn analyze_above_root(
+    kernel: &mut Kernel,
+    state: &mut State,
     conflict: u32,
 ) -> Result<Option<usize>, AllocError>
     ensures { kernel.new ≡ kernel.old }
@@ -125,9 +121,9 @@ fn analyze_above_root<A: Allocator + Copy>(
 }
 
 // Derives the clause of a conflict: the id of the learned clause. At the root it is the empty clause.
-pub(crate) fn analyze<A: Allocator + Copy>(
-    kernel: &mut Kernel<A>,
-    state: &mut State<A>,
+pub(crate) fn analyze(
+    kernel: &mut Kernel,
+    state: &mut State,
     conflict: u32,
 ) -> Result<Option<usize>, AllocError>
     ensures { kernel.new ≡ kernel.old }
@@ -143,9 +139,9 @@ pub(crate) fn analyze<A: Allocator + Copy>(
 
 // Derives the clause that shows why an assumption fails whose negation is at a place of the trail: that negation, and
 // negations of decisions from which it follows. None where it is a decision.
-pub(crate) fn analyze_final<A: Allocator + Copy>(
-    kernel: &mut Kernel<A>,
-    trail: &Trail<A>,
+pub(crate) fn analyze_final(
+    kernel: &mut Kernel,
+    trail: &Trail,
     place: usize,
 ) -> Result<Option<usize>, AllocError>
     ensures { kernel.new ≡ kernel.old }

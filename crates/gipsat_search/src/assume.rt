@@ -6,7 +6,7 @@ use crate::clauses::Status;
 use crate::state::State;
 use gipsat_cnf::Literal;
 use gipsat_kernel::Kernel;
-use std::alloc::{AllocError, Allocator};
+use std::alloc::AllocError;
 
 // What comes next of the assumptions: all are true, one is to be decided, or one is false.
 pub(crate) enum Assumed {
@@ -16,10 +16,7 @@ pub(crate) enum Assumed {
 }
 
 // The first assumption that is not true.
-pub(crate) fn next_assumption<A: Allocator + Copy>(
-    state: &mut State<A>,
-    assumptions: &[Literal],
-) -> Assumed {
+pub(crate) fn next_assumption(state: &mut State, assumptions: &[Literal]) -> Assumed {
     for place in state.assumed..assumptions.len() {
         let Some(l) = assumptions.get(place).copied() else {
             return Assumed::All;
@@ -37,9 +34,9 @@ pub(crate) fn next_assumption<A: Allocator + Copy>(
 }
 
 // The clause that shows why an assumption fails: its id. None where its negation is assumed. It is not watched.
-pub(crate) fn clause_of_failed<A: Allocator + Copy>(
-    kernel: &mut Kernel<A>,
-    state: &mut State<A>,
+pub(crate) fn clause_of_failed(
+    kernel: &mut Kernel,
+    state: &mut State,
     failed: Literal,
 ) -> Result<Option<usize>, AllocError>
     ensures { kernel.new ≡ kernel.old }

@@ -7,14 +7,10 @@ use crate::state::State;
 use crate::trail::{Trail, short};
 use gipsat_cnf::Literal;
 use gipsat_kernel::Kernel;
-use std::alloc::{AllocError, Allocator};
+use std::alloc::AllocError;
 
 // The first place of a clause but one whose literal is not false.
-fn non_false_but<A: Allocator + Copy>(
-    trail: &Trail<A>,
-    clause: &[Literal],
-    but: usize,
-) -> Option<usize> {
+fn non_false_but(trail: &Trail, clause: &[Literal], but: usize) -> Option<usize> {
     for (place, l) in clause.iter().enumerate() {
         if place != but && !trail.is_false(*l) {
             return Some(place);
@@ -24,7 +20,7 @@ fn non_false_but<A: Allocator + Copy>(
 }
 
 // Whether a clause has a literal and its negation: every assignment satisfies it.
-fn is_tautology<A: Allocator + Copy>(met: &mut Stamps<A>, clause: &[Literal]) -> bool {
+fn is_tautology(met: &mut Stamps, clause: &[Literal]) -> bool {
     met.clear();
     for l in clause {
         if met.has(l.negated().code()) {
@@ -37,11 +33,7 @@ fn is_tautology<A: Allocator + Copy>(met: &mut Stamps<A>, clause: &[Literal]) ->
 
 // Watches two literals of a clause that are not false, as far as there are any, and assigns the one of a unit. Whether
 // it is falsified.
-fn attach<A: Allocator + Copy>(
-    kernel: &Kernel<A>,
-    state: &mut State<A>,
-    id: usize,
-) -> Result<bool, AllocError> {
+fn attach(kernel: &Kernel, state: &mut State, id: usize) -> Result<bool, AllocError> {
     let clause = kernel.clause(id).unwrap_or(&[]);
     let Some(span) = kernel.span(id) else {
         return Ok(false);
@@ -60,8 +52,8 @@ fn attach<A: Allocator + Copy>(
 }
 
 // Assigns the literal at a place of a clause, unless it is true.
-fn assign<A: Allocator + Copy>(
-    trail: &mut Trail<A>,
+fn assign(
+    trail: &mut Trail,
     clause: &[Literal],
     place: usize,
     id: usize,
@@ -74,11 +66,7 @@ fn assign<A: Allocator + Copy>(
 
 // Makes an entry for the next clause, and finds its status if it has none: it is deleted if every assignment satisfies
 // it, and if it is not original, it was learned.
-fn push_next<A: Allocator + Copy>(
-    kernel: &Kernel<A>,
-    state: &mut State<A>,
-    id: usize,
-) -> Result<(), AllocError> {
+fn push_next(kernel: &Kernel, state: &mut State, id: usize) -> Result<(), AllocError> {
     let clause = kernel.clause(id).unwrap_or(&[]);
     if is_tautology(&mut state.met, clause) {
         state.clauses.push_unwatched(Status::Deleted)
@@ -90,10 +78,7 @@ fn push_next<A: Allocator + Copy>(
 }
 
 // Watches the clauses again that wait for it. The id of a falsified clause, if one is met.
-fn attach_waiting<A: Allocator + Copy>(
-    kernel: &Kernel<A>,
-    state: &mut State<A>,
-) -> Result<Option<u32>, AllocError> {
+fn attach_waiting(kernel: &Kernel, state: &mut State) -> Result<Option<u32>, AllocError> {
     for _ in 0..usize::MAX {
         let Some(id) = state.clauses.next_waiting() else {
             return Ok(None);
@@ -107,9 +92,9 @@ fn attach_waiting<A: Allocator + Copy>(
 }
 
 // Assigns the literals of the unit clauses from an id on. The id of one whose literal is false, if there is one.
-fn assign_units<A: Allocator + Copy>(
-    kernel: &Kernel<A>,
-    trail: &mut Trail<A>,
+fn assign_units(
+    kernel: &Kernel,
+    trail: &mut Trail,
     from: usize,
 ) -> Result<Option<u32>, AllocError> {
     for id in from..kernel.len() {
@@ -127,10 +112,7 @@ fn assign_units<A: Allocator + Copy>(
 
 // Watches the clauses that are not watched yet, the units first, so that these are the reasons of their literals. The id
 // of a falsified clause, if one is met: it is met again next time.
-pub(crate) fn attach_new<A: Allocator + Copy>(
-    kernel: &Kernel<A>,
-    state: &mut State<A>,
-) -> Result<Option<u32>, AllocError> {
+pub(crate) fn attach_new(kernel: &Kernel, state: &mut State) -> Result<Option<u32>, AllocError> {
     if let Some(conflict) = attach_waiting(kernel, state)? {
         return Ok(Some(conflict));
     }

@@ -2,14 +2,9 @@
 
 use crate::activity::Activity;
 use crate::trail::Trail;
-use std::alloc::Allocator;
 
 // Backtracks to a level. Unassigned variables are queued again.
-pub(crate) fn backtrack<A: Allocator + Copy>(
-    trail: &mut Trail<A>,
-    activity: &mut Activity<A>,
-    level: usize,
-) {
+pub(crate) fn backtrack(trail: &mut Trail, activity: &mut Activity, level: usize) {
     if level >= trail.level() {
         return;
     }

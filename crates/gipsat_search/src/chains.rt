@@ -4,7 +4,7 @@ use crate::stamps::Stamps;
 use crate::trail::Trail;
 use gipsat_cnf::Literal;
 use gipsat_kernel::Kernel;
-use std::alloc::{AllocError, Allocator, Global};
+use std::alloc::{AllocError, Global};
 
 // A literal on the chain at hand: its place in the trail, and how many literals of its reason were looked at.
 #[derive(Clone, Copy)]
@@ -23,22 +23,34 @@ enum Finding {
 
 // The chains that lead from the literals of a clause back to others of its literals. A literal is removable if each
 // other literal of its reason is false at the root, of the clause, or removable. Each literal is looked at once.
-#[derive(Drop)]
-pub(crate) struct Chains<A: Allocator = Global> {
+pub(crate) struct Chains {
     // The chain at hand.
-    links: Vec<Link, A>,
+    links: Vec<Link>,
     // The places of removable literals, each behind those that its reason needs.
-    removable: Vec<usize, A>,
+    removable: Vec<usize>,
     // The variables that were looked at, and those of them that are removable.
-    visited: Stamps<A>,
-    follows: Stamps<A>,
+    visited: Stamps,
+    follows: Stamps,
     // The decision levels of the clause. No chain leads back to it from another level.
-    levels: Stamps<A>,
+    levels: Stamps,
 }
 
-impl<A: Allocator + Copy> Chains<A> {
+// One call in its owners' proofs, in place of one for each field.
+impl Drop for Chains {
+    fn drop(self) {
+        let Chains {
+            links,
+            removable,
+            visited,
+            follows,
+            levels,
+        } = self;
+    }
+}
+
+impl Chains {
     // Of no clause. It takes no memory.
-    pub(crate) fn new(alloc: A) -> Self {
+    pub(crate) fn new(alloc: Global) -> Self {
         Chains {
             links: Vec::new(alloc),
             removable: Vec::new(alloc),
@@ -63,11 +75,7 @@ impl<A: Allocator + Copy> Chains<A> {
 
     // Finds the removable literals among the marked ones, but for those of the conflict level, and among those that
     // these need.
-    pub(crate) fn follow(
-        &mut self,
-        kernel: &Kernel<A>,
-        trail: &Trail<A>,
-    ) -> Result<(), AllocError> {
+    pub(crate) fn follow(&mut self, kernel: &Kernel, trail: &Trail) -> Result<(), AllocError> {
         self.begin(kernel, trail);
         for l in kernel.marked() {
             let level = trail.level_of(*l);
@@ -81,7 +89,7 @@ impl<A: Allocator + Copy> Chains<A> {
     }
 
     // Nothing is known of the marked clause but its levels.
-    fn begin(&mut self, kernel: &Kernel<A>, trail: &Trail<A>) {
+    fn begin(&mut self, kernel: &Kernel, trail: &Trail) {
         self.removable.clear();
         self.visited.clear();
         self.follows.clear();
@@ -94,7 +102,7 @@ impl<A: Allocator + Copy> Chains<A> {
     }
 
     // The place of a literal that was not looked at yet; it counts as looked at from now on.
-    fn unvisited(&mut self, trail: &Trail<A>, l: Literal) -> Option<usize> {
+    fn unvisited(&mut self, trail: &Trail, l: Literal) -> Option<usize> {
         if self.visited.add(l.variable() as usize) {
             Some(trail.place_of(l))
         } else {
@@ -105,8 +113,8 @@ impl<A: Allocator + Copy> Chains<A> {
     // Follows the chains that begin at a place.
     fn follow_from(
         &mut self,
-        kernel: &Kernel<A>,
-        trail: &Trail<A>,
+        kernel: &Kernel,
+        trail: &Trail,
         place: usize,
     ) -> Result<(), AllocError> {
         self.links.clear();
@@ -131,7 +139,7 @@ impl<A: Allocator + Copy> Chains<A> {
     }
 
     // The literal at a place is removable.
-    fn remove(&mut self, trail: &Trail<A>, place: usize) -> Result<(), AllocError> {
+    fn remove(&mut self, trail: &Trail, place: usize) -> Result<(), AllocError> {
         if let Some(step) = trail.steps.get(place) {
             self.follows.add(step.literal.variable() as usize);
         }
@@ -140,12 +148,12 @@ impl<A: Allocator + Copy> Chains<A> {
     }
 
     // Whether a literal is false at the root, or follows.
-    fn is_settled(&self, trail: &Trail<A>, l: Literal) -> bool {
+    fn is_settled(&self, trail: &Trail, l: Literal) -> bool {
         trail.level_of(l) == 0 || self.follows.has(l.variable() as usize)
     }
 
     // Finds out what a link waits for.
-    fn look_at(&mut self, kernel: &Kernel<A>, trail: &Trail<A>, link: Link) -> Finding {
+    fn look_at(&mut self, kernel: &Kernel, trail: &Trail, link: Link) -> Finding {
         let Some(step) = trail.steps.get(link.place) else {
             return Finding::Fails;
         };
@@ -172,7 +180,7 @@ impl<A: Allocator + Copy> Chains<A> {
     }
 
     // A literal does not follow, nor do those before it on the chain, up to one of the clause.
-    fn fail(&mut self, kernel: &Kernel<A>, trail: &Trail<A>, place: usize) {
+    fn fail(&mut self, kernel: &Kernel, trail: &Trail, place: usize) {
         let mut failed = place;
         for _ in 0..self.links.len() {
             if is_marked(kernel, trail, failed) {
@@ -186,7 +194,7 @@ impl<A: Allocator + Copy> Chains<A> {
 }
 
 // Whether the negation of the literal at a place is marked.
-fn is_marked<A: Allocator + Copy>(kernel: &Kernel<A>, trail: &Trail<A>, place: usize) -> bool {
+fn is_marked(kernel: &Kernel, trail: &Trail, place: usize) -> bool {
     match trail.steps.get(place) {
         Some(step) => kernel.is_marked(step.literal.negated()),
         None => false,

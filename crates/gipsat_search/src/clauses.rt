@@ -3,7 +3,7 @@
 use crate::settings::SETTINGS;
 use crate::trail::short;
 use gipsat_cnf::{Literal, Span};
-use std::alloc::{AllocError, Allocator, Global};
+use std::alloc::{AllocError, Global};
 
 // Where a clause lies among the literals of all clauses, and which two places of them are watched.
 #[derive(Clone, Copy)]
@@ -73,14 +73,25 @@ impl Rating {
 }
 
 // What is known of the working clauses, by their ids.
-#[derive(Drop)]
-pub(crate) struct Clauses<A: Allocator = Global> {
-    entries: Vec<Entry, A>,
-    ratings: Vec<Rating, A>,
+pub(crate) struct Clauses {
+    entries: Vec<Entry>,
+    ratings: Vec<Rating>,
     // Clauses that are to be watched again.
-    waiting: Vec<u32, A>,
+    waiting: Vec<u32>,
     // What a bump adds to a clause's activity. It grows, so that recent bumps count more.
     increment: f32,
+}
+
+// One call in its owners' proofs, in place of one for each field.
+impl Drop for Clauses {
+    fn drop(self) {
+        let Clauses {
+            entries,
+            ratings,
+            waiting,
+            increment: _,
+        } = self;
+    }
 }
 
 // Once a bump would add as much, all activities are scaled down.
@@ -100,9 +111,9 @@ fn in_byte(glue: u32) -> u8 {
     u8::try_from(glue).unwrap_or(u8::MAX)
 }
 
-impl<A: Allocator + Copy> Clauses<A> {
+impl Clauses {
     // Of no clause. It takes no memory.
-    pub(crate) fn new(alloc: A) -> Self {
+    pub(crate) fn new(alloc: Global) -> Self {
         Clauses {
             entries: Vec::new(alloc),
             ratings: Vec::new(alloc),

@@ -6,16 +6,12 @@ use crate::settings::SETTINGS;
 use crate::state::State;
 use crate::units::learn_units;
 use gipsat_kernel::Kernel;
-use std::alloc::{AllocError, Allocator};
+use std::alloc::{AllocError, Global};
 
 // Whether a collection drops a clause: it is no clause of the formula and no unit, and was deleted or is satisfied at
 // the root. The latter only where each root literal has its unit clause: a clause that is the reason of one without it
 // would be lost to the search.
-pub(crate) fn is_deleted<A: Allocator + Copy>(
-    kernel: &Kernel<A>,
-    state: &State<A>,
-    id: usize,
-) -> bool {
+pub(crate) fn is_deleted(kernel: &Kernel, state: &State, id: usize) -> bool {
     let clause = kernel.clause(id).unwrap_or(&[]);
     if kernel.is_original(id) || clause.len() < 2 {
         return false;
@@ -25,17 +21,13 @@ pub(crate) fn is_deleted<A: Allocator + Copy>(
 }
 
 // Whether enough clauses were deleted since the last collection.
-pub(crate) fn wants_collection<A: Allocator + Copy>(kernel: &Kernel<A>, state: &State<A>) -> bool {
+pub(crate) fn wants_collection(kernel: &Kernel, state: &State) -> bool {
     let deleted = state.stats.deleted.saturating_sub(state.collected);
     deleted > kernel.len() as u64 / SETTINGS.collection_share
 }
 
 // For each clause whether it stays.
-fn staying<A: Allocator + Copy>(
-    alloc: A,
-    kernel: &Kernel<A>,
-    state: &State<A>,
-) -> Result<Vec<bool, A>, AllocError> {
+fn staying(alloc: Global, kernel: &Kernel, state: &State) -> Result<Vec<bool>, AllocError> {
     let mut stays = Vec::with_capacity(alloc, kernel.len())?;
     for id in 0..kernel.len() {
         stays.push(!is_deleted(kernel, state, id))?;
@@ -53,7 +45,7 @@ fn count_set(flags: &[bool], first: usize) -> usize {
 }
 
 // Forgets what it knows of clauses that went, by a flag for each, and lets all others be watched anew.
-fn forget<A: Allocator + Copy>(state: &mut State<A>, stays: &[bool], moved: &[u32]) {
+fn forget(state: &mut State, stays: &[bool], moved: &[u32]) {
     state.eliminated.renumber(moved);
     state.clauses.retain(stays);
     state.watches.clear();
@@ -63,7 +55,7 @@ fn forget<A: Allocator + Copy>(state: &mut State<A>, stays: &[bool], moved: &[u3
 }
 
 // Forgets what is true at the root, since no clause is watched.
-fn forget_root<A: Allocator + Copy>(state: &mut State<A>) {
+fn forget_root(state: &mut State) {
     state.trail.clear();
     state.activity.put_all_back();
     state.units = 0;
@@ -72,17 +64,17 @@ fn forget_root<A: Allocator + Copy>(state: &mut State<A>) {
 }
 
 // Frees the memory of all watches, and lets all clauses be watched anew.
-pub(crate) fn free_watches<A: Allocator + Copy>(alloc: A, state: &mut State<A>) {
+pub(crate) fn free_watches(alloc: Global, state: &mut State) {
     state.clauses.detach_all();
     state.watches.free(alloc);
     forget_root(state);
 }
 
 // Drops the deleted clauses.
-pub(crate) fn collect<A: Allocator + Copy>(
-    alloc: A,
-    kernel: &mut Kernel<A>,
-    state: &mut State<A>,
+pub(crate) fn collect(
+    alloc: Global,
+    kernel: &mut Kernel,
+    state: &mut State,
 ) -> Result<(), AllocError>
     ensures { kernel.new ≡ kernel.old }
 {

@@ -3,11 +3,10 @@
 use crate::state::State;
 use gipsat_cnf::Literal;
 use gipsat_kernel::Kernel;
-use std::alloc::Allocator;
 
 // The literal of a variable that is decided: with the phase of the longest trail in the stable mode, else with the saved
 // one. None if the variable has a value.
-fn literal_of<A: Allocator + Copy>(state: &State<A>, variable: u32) -> Option<Literal> {
+fn literal_of(state: &State, variable: u32) -> Option<Literal> {
     if !state.trail.has_no_value(variable) || variable >= 1 << 31 {
         return None;
     }
@@ -21,7 +20,7 @@ fn literal_of<A: Allocator + Copy>(state: &State<A>, variable: u32) -> Option<Li
 }
 
 // The most active variable without a value, with its phase. None if none waits.
-fn most_active<A: Allocator + Copy>(state: &mut State<A>) -> Option<Literal> {
+fn most_active(state: &mut State) -> Option<Literal> {
     for _ in 0..state.activity.waiting() {
         let variable = state.activity.pick()?;
         if state.activity.is_out(variable) {
@@ -37,10 +36,7 @@ fn most_active<A: Allocator + Copy>(state: &mut State<A>) -> Option<Literal> {
 
 // The literal to decide: the most active one. Where none waits, that of the last one of the eliminated variables, unless
 // only a domain is decided.
-pub(crate) fn literal_to_decide<A: Allocator + Copy>(
-    kernel: &Kernel<A>,
-    state: &mut State<A>,
-) -> Option<Literal> {
+pub(crate) fn literal_to_decide(kernel: &Kernel, state: &mut State) -> Option<Literal> {
     let l = most_active(state);
     if l.is_some() {
         state.eliminated.rewind();

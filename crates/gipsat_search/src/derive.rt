@@ -4,7 +4,7 @@ ghost use Rattle.std.specs.Prelude.{◌≡◌};
 use crate::trail::Trail;
 use gipsat_cnf::Literal;
 use gipsat_kernel::Kernel;
-use std::alloc::{AllocError, Allocator};
+use std::alloc::AllocError;
 
 // Two clauses by their ids, of which the first has a literal, and the second its negation.
 #[derive(Clone, Copy)]
@@ -17,9 +17,9 @@ pub(crate) struct Resolution {
 // Resolves the clause at hand with the reason of the literal at a place of the trail, if it has that literal's negation.
 // Whether it has.
 #[inline]
-pub(crate) fn resolve_at<A: Allocator + Copy>(
-    kernel: &mut Kernel<A>,
-    trail: &Trail<A>,
+pub(crate) fn resolve_at(
+    kernel: &mut Kernel,
+    trail: &Trail,
     place: usize,
 ) -> Result<bool, AllocError>
     ensures { kernel.new ≡ kernel.old }
@@ -32,9 +32,9 @@ pub(crate) fn resolve_at<A: Allocator + Copy>(
 
 // Resolves the literals of the clause at hand with their reasons, the latest first, which are at places from `start` on
 // and before `end`.
-pub(crate) fn resolve_between<A: Allocator + Copy>(
-    kernel: &mut Kernel<A>,
-    trail: &Trail<A>,
+pub(crate) fn resolve_between(
+    kernel: &mut Kernel,
+    trail: &Trail,
     start: usize,
     end: usize,
 ) -> Result<(), AllocError>
@@ -47,10 +47,7 @@ pub(crate) fn resolve_between<A: Allocator + Copy>(
 }
 
 // Resolves the literals of the clause at hand that are false at the root with their reasons, which are unit clauses.
-pub(crate) fn drop_root<A: Allocator + Copy>(
-    kernel: &mut Kernel<A>,
-    trail: &Trail<A>,
-) -> Result<(), AllocError>
+pub(crate) fn drop_root(kernel: &mut Kernel, trail: &Trail) -> Result<(), AllocError>
     ensures { kernel.new ≡ kernel.old }
 {
     for index in 0..kernel.marked().len() {
@@ -65,7 +62,7 @@ pub(crate) fn drop_root<A: Allocator + Copy>(
 }
 
 // How many literals the clause at hand has.
-pub(crate) fn marked_len<A: Allocator + Copy>(kernel: &Kernel<A>) -> usize {
+pub(crate) fn marked_len(kernel: &Kernel) -> usize {
     let mut len = 0usize;
     for l in kernel.marked() {
         len = len.saturating_add(usize::from(kernel.is_marked(*l)));
@@ -74,9 +71,9 @@ pub(crate) fn marked_len<A: Allocator + Copy>(kernel: &Kernel<A>) -> usize {
 }
 
 // Derives the resolvent of two clauses, without the literals that are false at the root.
-fn derive_resolvent<A: Allocator + Copy>(
-    kernel: &mut Kernel<A>,
-    trail: &Trail<A>,
+fn derive_resolvent(
+    kernel: &mut Kernel,
+    trail: &Trail,
     resolution: Resolution,
 ) -> Result<(), AllocError>
     ensures { kernel.new ≡ kernel.old }
@@ -89,9 +86,9 @@ fn derive_resolvent<A: Allocator + Copy>(
 }
 
 // Derives the resolvents of these pairs of clauses.
-pub(crate) fn derive_resolvents<A: Allocator + Copy>(
-    kernel: &mut Kernel<A>,
-    trail: &Trail<A>,
+pub(crate) fn derive_resolvents(
+    kernel: &mut Kernel,
+    trail: &Trail,
     resolutions: &[Resolution],
 ) -> Result<(), AllocError>
     ensures { kernel.new ≡ kernel.old }

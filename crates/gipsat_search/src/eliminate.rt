@@ -10,19 +10,29 @@ use crate::state::State;
 use crate::subsume::{Subsumption, find_subsumed};
 use gipsat_cnf::Literal;
 use gipsat_kernel::Kernel;
-use std::alloc::{AllocError, Allocator, Global};
+use std::alloc::{AllocError, Global};
 
 // The clauses of a variable, by its sign, and the resolvents that stand for them.
-#[derive(Drop)]
-struct Replacement<A: Allocator = Global> {
-    positive: Vec<u32, A>,
-    negative: Vec<u32, A>,
-    resolutions: Vec<Resolution, A>,
+struct Replacement {
+    positive: Vec<u32>,
+    negative: Vec<u32>,
+    resolutions: Vec<Resolution>,
 }
 
-impl<A: Allocator + Copy> Replacement<A> {
+// One call in its owners' proofs, in place of one for each field.
+impl Drop for Replacement {
+    fn drop(self) {
+        let Replacement {
+            positive,
+            negative,
+            resolutions,
+        } = self;
+    }
+}
+
+impl Replacement {
     // Of no clause.
-    fn new(alloc: A) -> Self {
+    fn new(alloc: Global) -> Self {
         Replacement {
             positive: Vec::new(alloc),
             negative: Vec::new(alloc),
@@ -33,12 +43,12 @@ impl<A: Allocator + Copy> Replacement<A> {
 
 // Finds what to put in the place of the clauses of a variable, whose positive literal is `l`. False where it would be
 // too much.
-fn find_replacement<A: Allocator + Copy>(
-    kernel: &Kernel<A>,
-    state: &State<A>,
-    elimination: &mut Elimination<A>,
+fn find_replacement(
+    kernel: &Kernel,
+    state: &State,
+    elimination: &mut Elimination,
     l: Literal,
-    found: &mut Replacement<A>,
+    found: &mut Replacement,
 ) -> Result<bool, AllocError> {
     let count = elimination.occurrences.count(l);
     let negated = elimination.occurrences.count(l.negated());
@@ -58,10 +68,10 @@ fn find_replacement<A: Allocator + Copy>(
 }
 
 // Derives resolvents, which take part from now on.
-fn add_resolvents<A: Allocator + Copy>(
-    kernel: &mut Kernel<A>,
-    state: &mut State<A>,
-    elimination: &mut Elimination<A>,
+fn add_resolvents(
+    kernel: &mut Kernel,
+    state: &mut State,
+    elimination: &mut Elimination,
     resolutions: &[Resolution],
 ) -> Result<(), AllocError>
     ensures { kernel.new ≡ kernel.old }
@@ -74,11 +84,11 @@ fn add_resolvents<A: Allocator + Copy>(
 }
 
 // Drops the clauses that follow from one that waits, and strengthens others by it, until none waits.
-fn subsume_all<A: Allocator + Copy>(
-    alloc: A,
-    kernel: &mut Kernel<A>,
-    state: &mut State<A>,
-    elimination: &mut Elimination<A>,
+fn subsume_all(
+    alloc: Global,
+    kernel: &mut Kernel,
+    state: &mut State,
+    elimination: &mut Elimination,
 ) -> Result<(), AllocError>
     ensures { kernel.new ≡ kernel.old }
 {
@@ -96,12 +106,12 @@ fn subsume_all<A: Allocator + Copy>(
 }
 
 // Drops the clauses that follow from a clause, and strengthens others by it. Nothing is found yet.
-fn subsume_by<A: Allocator + Copy>(
-    kernel: &mut Kernel<A>,
-    state: &mut State<A>,
-    elimination: &mut Elimination<A>,
+fn subsume_by(
+    kernel: &mut Kernel,
+    state: &mut State,
+    elimination: &mut Elimination,
     id: u32,
-    found: &mut Subsumption<A>,
+    found: &mut Subsumption,
 ) -> Result<(), AllocError>
     ensures { kernel.new ≡ kernel.old }
 {
@@ -125,12 +135,12 @@ fn subsume_by<A: Allocator + Copy>(
 }
 
 // Puts resolvents in the place of the clauses of a variable, unless they are too many or too long. Nothing is found yet.
-fn eliminate_variable<A: Allocator + Copy>(
-    kernel: &mut Kernel<A>,
-    state: &mut State<A>,
-    elimination: &mut Elimination<A>,
+fn eliminate_variable(
+    kernel: &mut Kernel,
+    state: &mut State,
+    elimination: &mut Elimination,
     l: Literal,
-    found: &mut Replacement<A>,
+    found: &mut Replacement,
 ) -> Result<(), AllocError>
     ensures { kernel.new ≡ kernel.old }
 {
@@ -150,11 +160,11 @@ fn eliminate_variable<A: Allocator + Copy>(
 }
 
 // Eliminates variables one after another, those of the fewest clauses first, until none is left or the steps are spent.
-fn eliminate_each<A: Allocator + Copy>(
-    alloc: A,
-    kernel: &mut Kernel<A>,
-    state: &mut State<A>,
-    elimination: &mut Elimination<A>,
+fn eliminate_each(
+    alloc: Global,
+    kernel: &mut Kernel,
+    state: &mut State,
+    elimination: &mut Elimination,
 ) -> Result<(), AllocError>
     ensures { kernel.new ≡ kernel.old }
 {
@@ -185,11 +195,11 @@ fn positive(variable: u32) -> Option<Literal> {
 }
 
 // Asks each clause which others follow from it, for half of the steps at most, and then eliminates variables.
-fn subsume_and_eliminate<A: Allocator + Copy>(
-    alloc: A,
-    kernel: &mut Kernel<A>,
-    state: &mut State<A>,
-    elimination: &mut Elimination<A>,
+fn subsume_and_eliminate(
+    alloc: Global,
+    kernel: &mut Kernel,
+    state: &mut State,
+    elimination: &mut Elimination,
 ) -> Result<(), AllocError>
     ensures { kernel.new ≡ kernel.old }
 {
@@ -202,7 +212,7 @@ fn subsume_and_eliminate<A: Allocator + Copy>(
 }
 
 // Whether a clause has an eliminated variable.
-fn has_eliminated<A: Allocator + Copy>(state: &State<A>, clause: &[Literal]) -> bool {
+fn has_eliminated(state: &State, clause: &[Literal]) -> bool {
     for l in clause {
         if state.eliminated.has(l.variable()) {
             return true;
@@ -212,7 +222,7 @@ fn has_eliminated<A: Allocator + Copy>(state: &State<A>, clause: &[Literal]) -> 
 }
 
 // Deletes the learned clauses that have an eliminated variable.
-fn delete_learned<A: Allocator + Copy>(kernel: &Kernel<A>, state: &mut State<A>) {
+fn delete_learned(kernel: &Kernel, state: &mut State) {
     for id in 0..kernel.len() {
         let clause = kernel.clause(id).unwrap_or(&[]);
         if state.clauses.rating(id).is_some() && has_eliminated(state, clause) {
@@ -222,11 +232,11 @@ fn delete_learned<A: Allocator + Copy>(kernel: &Kernel<A>, state: &mut State<A>)
 }
 
 // Eliminates variables but for the frozen ones, in so many steps. No clause takes part in the elimination yet.
-fn eliminate_but<A: Allocator + Copy>(
-    alloc: A,
-    kernel: &mut Kernel<A>,
-    state: &mut State<A>,
-    elimination: &mut Elimination<A>,
+fn eliminate_but(
+    alloc: Global,
+    kernel: &mut Kernel,
+    state: &mut State,
+    elimination: &mut Elimination,
     frozen: &[u32],
     steps: u64,
 ) -> Result<(), AllocError>
@@ -245,10 +255,10 @@ fn eliminate_but<A: Allocator + Copy>(
 }
 
 // Propagates what has to be true, eliminates variables but for the frozen ones, and lets all clauses be watched anew.
-pub(crate) fn eliminate<A: Allocator + Copy>(
-    alloc: A,
-    kernel: &mut Kernel<A>,
-    state: &mut State<A>,
+pub(crate) fn eliminate(
+    alloc: Global,
+    kernel: &mut Kernel,
+    state: &mut State,
     frozen: &[u32],
     steps: u64,
 ) -> Result<(), AllocError>

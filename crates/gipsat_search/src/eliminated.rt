@@ -5,7 +5,7 @@ use crate::clauses::{Clauses, Status};
 use crate::trail::{Trail, short};
 use gipsat_cnf::Literal;
 use gipsat_kernel::Kernel;
-use std::alloc::{AllocError, Allocator, Global};
+use std::alloc::{AllocError, Global};
 use std::mem;
 
 // An eliminated variable, and where the clauses that were taken out with it are listed.
@@ -20,21 +20,33 @@ struct Record {
 }
 
 // The eliminated variables, in the order in which they were eliminated.
-#[derive(Drop)]
-pub(crate) struct Eliminated<A: Allocator = Global> {
-    records: Vec<Record, A>,
-    places: Vec<u32, A>,
+pub(crate) struct Eliminated {
+    records: Vec<Record>,
+    places: Vec<u32>,
     // For each variable the place behind that of its record; 0 where it is not eliminated.
-    homes: Vec<usize, A>,
+    homes: Vec<usize>,
     // The places of the records of variables that are to be restored.
-    wanted: Vec<usize, A>,
+    wanted: Vec<usize>,
     // How many records were not asked yet for a value.
     left: usize,
 }
 
-impl<A: Allocator + Copy> Eliminated<A> {
+// One call in its owners' proofs, in place of one for each field.
+impl Drop for Eliminated {
+    fn drop(self) {
+        let Eliminated {
+            records,
+            places,
+            homes,
+            wanted,
+            left: _,
+        } = self;
+    }
+}
+
+impl Eliminated {
     // No variable.
-    pub(crate) fn new(alloc: A) -> Self {
+    pub(crate) fn new(alloc: Global) -> Self {
         Eliminated {
             records: Vec::new(alloc),
             places: Vec::new(alloc),
@@ -82,7 +94,7 @@ impl<A: Allocator + Copy> Eliminated<A> {
     }
 
     // Forgets the variables that are not eliminated any more.
-    pub(crate) fn tidy(&mut self, alloc: A) -> Result<(), AllocError> {
+    pub(crate) fn tidy(&mut self, alloc: Global) -> Result<(), AllocError> {
         let records = mem::replace(&mut self.records, Vec::new(alloc));
         let places = mem::replace(&mut self.places, Vec::new(alloc));
         self.push_all(&records, &places)
@@ -122,9 +134,9 @@ impl<A: Allocator + Copy> Eliminated<A> {
     // on.
     pub(crate) fn restore(
         &mut self,
-        kernel: &Kernel<A>,
-        clauses: &mut Clauses<A>,
-        activity: &mut Activity<A>,
+        kernel: &Kernel,
+        clauses: &mut Clauses,
+        activity: &mut Activity,
         literals: &[Literal],
         domain: &[u32],
     ) -> Result<(), AllocError> {
@@ -144,9 +156,9 @@ impl<A: Allocator + Copy> Eliminated<A> {
     // Restores the variables that are to be restored, and those that their clauses have.
     fn restore_wanted(
         &mut self,
-        kernel: &Kernel<A>,
-        clauses: &mut Clauses<A>,
-        activity: &mut Activity<A>,
+        kernel: &Kernel,
+        clauses: &mut Clauses,
+        activity: &mut Activity,
     ) -> Result<(), AllocError> {
         for _ in 0..usize::MAX {
             let Some(index) = self.wanted.pop() else {
@@ -171,8 +183,8 @@ impl<A: Allocator + Copy> Eliminated<A> {
     // Has the listed clauses watched again, and their other variables restored.
     fn restore_clauses(
         &mut self,
-        kernel: &Kernel<A>,
-        clauses: &mut Clauses<A>,
+        kernel: &Kernel,
+        clauses: &mut Clauses,
         start: usize,
         end: usize,
     ) -> Result<(), AllocError> {
@@ -190,8 +202,8 @@ impl<A: Allocator + Copy> Eliminated<A> {
     }
 
     // For each clause its new place where those that stay move together. Of no clause, if no variable is eliminated.
-    pub(crate) fn moved(&self, alloc: A, stays: &[bool]) -> Result<Vec<u32, A>, AllocError> {
-        let mut moved: Vec<u32, A> = Vec::new(alloc);
+    pub(crate) fn moved(&self, alloc: Global, stays: &[bool]) -> Result<Vec<u32>, AllocError> {
+        let mut moved: Vec<u32> = Vec::new(alloc);
         if self.is_empty() {
             return Ok(moved);
         }
@@ -219,7 +231,7 @@ impl<A: Allocator + Copy> Eliminated<A> {
     }
 
     // The next eliminated variable without a value, with the sign that its clauses ask for. None where none is left.
-    pub(crate) fn next(&mut self, kernel: &Kernel<A>, trail: &Trail<A>) -> Option<Literal> {
+    pub(crate) fn next(&mut self, kernel: &Kernel, trail: &Trail) -> Option<Literal> {
         let Some((index, l)) = self.last_left(kernel, trail) else {
             self.left = 0;
             return None;
@@ -229,7 +241,7 @@ impl<A: Allocator + Copy> Eliminated<A> {
     }
 
     // The last one without a value of those that are left, with its place and the sign that its clauses ask for.
-    fn last_left(&self, kernel: &Kernel<A>, trail: &Trail<A>) -> Option<(usize, Literal)> {
+    fn last_left(&self, kernel: &Kernel, trail: &Trail) -> Option<(usize, Literal)> {
         for index in (0..self.left).rev() {
             let Record {
                 literal,
@@ -254,8 +266,8 @@ impl<A: Allocator + Copy> Eliminated<A> {
     // Whether one of the listed clauses has a literal, and no true one.
     fn needs_true(
         &self,
-        kernel: &Kernel<A>,
-        trail: &Trail<A>,
+        kernel: &Kernel,
+        trail: &Trail,
         literal: Literal,
         start: usize,
         end: usize,
@@ -273,7 +285,7 @@ impl<A: Allocator + Copy> Eliminated<A> {
 }
 
 // Whether a clause has a literal, and no true one.
-fn asks_for<A: Allocator + Copy>(trail: &Trail<A>, clause: &[Literal], literal: Literal) -> bool {
+fn asks_for(trail: &Trail, clause: &[Literal], literal: Literal) -> bool {
     let mut has = false;
     for l in clause {
         if trail.is_true(*l) {

@@ -10,24 +10,36 @@ use crate::subsume::Marks;
 use crate::trail::{Trail, short};
 use gipsat_cnf::Literal;
 use gipsat_kernel::Kernel;
-use std::alloc::{AllocError, Allocator, Global};
+use std::alloc::{AllocError, Global};
 
 // An elimination: the clauses that take part, and the queue of those that may subsume others.
-#[derive(Drop)]
-pub(crate) struct Elimination<A: Allocator = Global> {
-    pub occurrences: Occurrences<A>,
-    pub marks: Marks<A>,
+pub(crate) struct Elimination {
+    pub occurrences: Occurrences,
+    pub marks: Marks,
     // Clauses that were not asked yet which others follow from them.
-    pub waiting: Vec<u32, A>,
+    pub waiting: Vec<u32>,
     // How many working clauses were looked at.
     known: usize,
     // How many steps are left.
     pub steps: u64,
 }
 
-impl<A: Allocator + Copy> Elimination<A> {
+// One call in its owners' proofs, in place of one for each field.
+impl Drop for Elimination {
+    fn drop(self) {
+        let Elimination {
+            occurrences,
+            marks,
+            waiting,
+            known: _,
+            steps: _,
+        } = self;
+    }
+}
+
+impl Elimination {
     // Of no clause yet and so many variables, with no steps.
-    pub(crate) fn new(alloc: A, variables: usize) -> Result<Self, AllocError> {
+    pub(crate) fn new(alloc: Global, variables: usize) -> Result<Self, AllocError> {
         let marks = Marks::new(alloc, variables)?;
         Ok(Elimination {
             occurrences: Occurrences::new(alloc, variables)?,
@@ -46,9 +58,9 @@ impl<A: Allocator + Copy> Elimination<A> {
     // Lets the clauses take part that have come since.
     pub(crate) fn connect_new(
         &mut self,
-        kernel: &Kernel<A>,
-        trail: &Trail<A>,
-        clauses: &Clauses<A>,
+        kernel: &Kernel,
+        trail: &Trail,
+        clauses: &Clauses,
     ) -> Result<(), AllocError> {
         for id in self.known..kernel.len() {
             let clause = kernel.clause(id).unwrap_or(&[]);
@@ -61,12 +73,7 @@ impl<A: Allocator + Copy> Elimination<A> {
     }
 
     // Lets a clause take part, unless it has a literal twice. The variables of such a clause stay, and those of a unit.
-    fn connect(
-        &mut self,
-        trail: &Trail<A>,
-        clause: &[Literal],
-        id: usize,
-    ) -> Result<(), AllocError> {
+    fn connect(&mut self, trail: &Trail, clause: &[Literal], id: usize) -> Result<(), AllocError> {
         let has_twice = self.marks.has_twice(clause);
         if has_twice || clause.len() == 1 {
             self.freeze(clause);
@@ -88,27 +95,27 @@ impl<A: Allocator + Copy> Elimination<A> {
     }
 
     // Lists the clauses that have a literal, where none is listed yet.
-    pub(crate) fn list(&mut self, l: Literal, clauses: &mut Vec<u32, A>) -> Result<(), AllocError> {
+    pub(crate) fn list(&mut self, l: Literal, clauses: &mut Vec<u32>) -> Result<(), AllocError> {
         let len = self.occurrences.of(l).len();
         self.spend(len);
         self.occurrences.list(l, clauses)
     }
 
     // A clause takes no part any more.
-    fn disconnect(&mut self, kernel: &Kernel<A>, trail: &Trail<A>, id: u32) {
+    fn disconnect(&mut self, kernel: &Kernel, trail: &Trail, id: u32) {
         let clause = kernel.clause(id as usize).unwrap_or(&[]);
         self.spend(clause.len().saturating_mul(SETTINGS.occurrence_steps));
         self.occurrences.disconnect(trail, clause, id);
     }
 
     // Takes a clause out that was eliminated.
-    pub(crate) fn take_out(&mut self, kernel: &Kernel<A>, state: &mut State<A>, id: u32) {
+    pub(crate) fn take_out(&mut self, kernel: &Kernel, state: &mut State, id: u32) {
         state.clauses.set_status(id as usize, Status::Eliminated);
         self.disconnect(kernel, &state.trail, id);
     }
 
     // Deletes a clause that takes part.
-    pub(crate) fn delete(&mut self, kernel: &Kernel<A>, state: &mut State<A>, id: u32) {
+    pub(crate) fn delete(&mut self, kernel: &Kernel, state: &mut State, id: u32) {
         delete(kernel, state, id as usize);
         self.disconnect(kernel, &state.trail, id);
     }
@@ -117,12 +124,12 @@ impl<A: Allocator + Copy> Elimination<A> {
     // long.
     pub(crate) fn list_resolutions(
         &mut self,
-        kernel: &Kernel<A>,
-        trail: &Trail<A>,
+        kernel: &Kernel,
+        trail: &Trail,
         firsts: &[u32],
         seconds: &[u32],
         literal: Literal,
-        resolutions: &mut Vec<Resolution, A>,
+        resolutions: &mut Vec<Resolution>,
     ) -> Result<bool, AllocError> {
         for first in firsts {
             let clause = kernel.clause(*first as usize).unwrap_or(&[]);
@@ -149,13 +156,13 @@ impl<A: Allocator + Copy> Elimination<A> {
     // Lists the resolvents of the marked clause. Whether they are not too many, and none is too long.
     fn resolutions_with(
         &mut self,
-        kernel: &Kernel<A>,
-        trail: &Trail<A>,
+        kernel: &Kernel,
+        trail: &Trail,
         first: u32,
         seconds: &[u32],
         literal: Literal,
         most: usize,
-        resolutions: &mut Vec<Resolution, A>,
+        resolutions: &mut Vec<Resolution>,
     ) -> Result<bool, AllocError> {
         let size = self.occurrences.outline(first).size;
         for second in seconds {
@@ -179,7 +186,7 @@ impl<A: Allocator + Copy> Elimination<A> {
     }
 
     // How many literals but one of a clause are not marked. None where the negation of one of them is.
-    fn literals_more(&self, trail: &Trail<A>, clause: &[Literal], but: Literal) -> Option<usize> {
+    fn literals_more(&self, trail: &Trail, clause: &[Literal], but: Literal) -> Option<usize> {
         let mut more = 0usize;
         for l in clause {
             if l.code() == but.code() || !trail.is_unset(*l) {

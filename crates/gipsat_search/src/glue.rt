@@ -3,18 +3,18 @@
 use crate::stamps::Stamps;
 use crate::trail::Trail;
 use gipsat_cnf::Literal;
-use std::alloc::{AllocError, Allocator, Global};
+use std::alloc::{AllocError, Global};
 
 // Counts decision levels.
 #[derive(Drop)]
-pub(crate) struct Glue<A: Allocator = Global> {
+pub(crate) struct Glue {
     // The levels of the clause at hand.
-    levels: Stamps<A>,
+    levels: Stamps,
 }
 
-impl<A: Allocator + Copy> Glue<A> {
+impl Glue {
     // No clause was counted. It takes no memory.
-    pub(crate) fn new(alloc: A) -> Self {
+    pub(crate) fn new(alloc: Global) -> Self {
         Glue {
             levels: Stamps::new(alloc),
         }
@@ -26,7 +26,7 @@ impl<A: Allocator + Copy> Glue<A> {
     }
 
     // The glue of a clause whose literals have all been assigned.
-    pub(crate) fn of(&mut self, trail: &Trail<A>, clause: &[Literal]) -> u32 {
+    pub(crate) fn of(&mut self, trail: &Trail, clause: &[Literal]) -> u32 {
         self.levels.clear();
         let mut glue = 0u32;
         for l in clause {

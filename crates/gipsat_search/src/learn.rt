@@ -9,10 +9,10 @@ use crate::trail::{Trail, short};
 use crate::watches::Watch;
 use gipsat_cnf::Literal;
 use gipsat_kernel::Kernel;
-use std::alloc::{AllocError, Allocator};
+use std::alloc::AllocError;
 
 // The place of a literal of the highest level of a clause, but one place.
-fn highest_but<A: Allocator + Copy>(trail: &Trail<A>, clause: &[Literal], but: usize) -> usize {
+fn highest_but(trail: &Trail, clause: &[Literal], but: usize) -> usize {
     let mut highest = usize::from(but == 0);
     let mut level = 0;
     for (place, l) in clause.iter().enumerate() {
@@ -26,7 +26,7 @@ fn highest_but<A: Allocator + Copy>(trail: &Trail<A>, clause: &[Literal], but: u
 }
 
 // The highest level of a clause's literals.
-fn highest_level<A: Allocator + Copy>(trail: &Trail<A>, clause: &[Literal]) -> usize {
+fn highest_level(trail: &Trail, clause: &[Literal]) -> usize {
     let mut level = 0;
     for l in clause {
         level = level.max(trail.level_of(*l));
@@ -35,9 +35,9 @@ fn highest_level<A: Allocator + Copy>(trail: &Trail<A>, clause: &[Literal]) -> u
 }
 
 // Watches the next clause by the literals at two places of it, of which each blocks the other.
-pub(crate) fn watch_next<A: Allocator + Copy>(
-    kernel: &Kernel<A>,
-    state: &mut State<A>,
+pub(crate) fn watch_next(
+    kernel: &Kernel,
+    state: &mut State,
     id: usize,
     first: usize,
     second: usize,
@@ -56,8 +56,8 @@ pub(crate) fn watch_next<A: Allocator + Copy>(
 }
 
 // Adds the two watches of a clause, if both literals are there.
-pub(crate) fn watch<A: Allocator + Copy>(
-    state: &mut State<A>,
+pub(crate) fn watch(
+    state: &mut State,
     clause: &[Literal],
     id: usize,
     first: usize,
@@ -75,7 +75,7 @@ pub(crate) fn watch<A: Allocator + Copy>(
 }
 
 // Notes a learned clause before the backjump: its glue.
-fn note_learned<A: Allocator + Copy>(state: &mut State<A>, clause: &[Literal]) -> u32 {
+fn note_learned(state: &mut State, clause: &[Literal]) -> u32 {
     let glue = state.glue.of(&state.trail, clause);
     state.restart_policy.add(glue);
     if state.restart_policy.modes.is_stable() {
@@ -85,11 +85,7 @@ fn note_learned<A: Allocator + Copy>(state: &mut State<A>, clause: &[Literal]) -
 }
 
 // Backjumps to where a learned clause is asserting, watches it, and assigns its asserted literal.
-fn assert_learned<A: Allocator + Copy>(
-    kernel: &Kernel<A>,
-    state: &mut State<A>,
-    id: usize,
-) -> Result<(), AllocError> {
+fn assert_learned(kernel: &Kernel, state: &mut State, id: usize) -> Result<(), AllocError> {
     let clause = kernel.clause(id).unwrap_or(&[]);
     let first = highest_but(&state.trail, clause, clause.len());
     let second = highest_but(&state.trail, clause, first);
@@ -107,7 +103,7 @@ fn assert_learned<A: Allocator + Copy>(
 }
 
 // A conflict was met: later bumps count more.
-fn count_conflict<A: Allocator + Copy>(state: &mut State<A>) {
+fn count_conflict(state: &mut State) {
     state.stats.conflicts = state.stats.conflicts.saturating_add(1);
     state.activity.decay(state.restart_policy.modes.growth());
     state.clauses.decay();
@@ -115,10 +111,7 @@ fn count_conflict<A: Allocator + Copy>(state: &mut State<A>) {
 
 // The id of a derived clause that is empty, where a clause is. From one of the formula it is derived, so that each proof
 // ends with a derived one.
-fn derive_empty<A: Allocator + Copy>(
-    kernel: &mut Kernel<A>,
-    id: usize,
-) -> Result<Option<usize>, AllocError>
+fn derive_empty(kernel: &mut Kernel, id: usize) -> Result<Option<usize>, AllocError>
     ensures { kernel.new ≡ kernel.old }
 {
     let last = kernel.len().saturating_sub(1);
@@ -133,9 +126,9 @@ fn derive_empty<A: Allocator + Copy>(
 }
 
 // Learns from a conflict. The id of the learned clause where it is empty.
-pub(crate) fn learn<A: Allocator + Copy>(
-    kernel: &mut Kernel<A>,
-    state: &mut State<A>,
+pub(crate) fn learn(
+    kernel: &mut Kernel,
+    state: &mut State,
     conflict: u32,
 ) -> Result<Option<usize>, AllocError>
     ensures { kernel.new ≡ kernel.old }

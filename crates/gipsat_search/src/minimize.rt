@@ -5,14 +5,14 @@ use crate::chains::Chains;
 use crate::derive::resolve_at;
 use crate::trail::Trail;
 use gipsat_kernel::Kernel;
-use std::alloc::{AllocError, Allocator};
+use std::alloc::AllocError;
 
 // Minimizes the clause at hand: resolves the literals below the conflict level away that follow from the others, and
 // those which come in by that.
-pub(crate) fn minimize<A: Allocator + Copy>(
-    kernel: &mut Kernel<A>,
-    trail: &Trail<A>,
-    chains: &mut Chains<A>,
+pub(crate) fn minimize(
+    kernel: &mut Kernel,
+    trail: &Trail,
+    chains: &mut Chains,
 ) -> Result<(), AllocError>
     ensures { kernel.new ≡ kernel.old }
 {

@@ -2,8 +2,8 @@
 
 use crate::trail::{Trail, short};
 use gipsat_cnf::Literal;
-use giputils_heap::{BoundedHeap, ByRank};
-use std::alloc::{AllocError, Allocator, Global};
+use giputils_bounded::{BoundedHeap, ByRank};
+use std::alloc::{AllocError, Global};
 
 // How many literals a clause has that are not false, and a digit for each of their variables, by its number modulo 64.
 // The size 0 is that of a clause which takes no part.
@@ -23,7 +23,7 @@ impl Outline {
     }
 
     // Of a clause.
-    fn of<A: Allocator + Copy>(trail: &Trail<A>, clause: &[Literal]) -> Self {
+    fn of(trail: &Trail, clause: &[Literal]) -> Self {
         let mut size = 0usize;
         let mut signature = 0;
         for l in clause {
@@ -43,22 +43,35 @@ impl Outline {
 
 // For each literal the clauses that have it, and the queue of the variables that may be eliminated, those of the fewest
 // clauses first.
-#[derive(Drop)]
-pub(crate) struct Occurrences<A: Allocator = Global> {
+pub(crate) struct Occurrences {
     // Also those that were taken out since.
-    lists: Vec<Vec<u32, A>, A>,
+    lists: Vec<Vec<u32>>,
     // For each literal how many clauses have it.
-    counts: Vec<usize, A>,
-    outlines: Vec<Outline, A>,
-    candidates: BoundedHeap<u32, A>,
-    ranks: Vec<u32, A>,
+    counts: Vec<usize>,
+    outlines: Vec<Outline>,
+    candidates: BoundedHeap<u32>,
+    ranks: Vec<u32>,
     // For each variable whether it may not be eliminated.
-    is_frozen: Vec<bool, A>,
+    is_frozen: Vec<bool>,
 }
 
-impl<A: Allocator + Copy> Occurrences<A> {
+// One call in its owners' proofs, in place of one for each field.
+impl Drop for Occurrences {
+    fn drop(self) {
+        let Occurrences {
+            lists,
+            counts,
+            outlines,
+            candidates,
+            ranks,
+            is_frozen,
+        } = self;
+    }
+}
+
+impl Occurrences {
     // No clause, and so many variables.
-    pub(crate) fn new(alloc: A, variables: usize) -> Result<Self, AllocError> {
+    pub(crate) fn new(alloc: Global, variables: usize) -> Result<Self, AllocError> {
         let bound = u32::try_from(variables).unwrap_or(u32::MAX);
         let mut occurrences = Occurrences {
             candidates: BoundedHeap::with_bound(alloc, bound)?,
@@ -73,7 +86,7 @@ impl<A: Allocator + Copy> Occurrences<A> {
     }
 
     // Makes room for the literals of so many variables.
-    fn grow(&mut self, alloc: A, variables: usize) -> Result<(), AllocError> {
+    fn grow(&mut self, alloc: Global, variables: usize) -> Result<(), AllocError> {
         let codes = variables.saturating_mul(2);
         for _ in 0..codes {
             self.lists.push(Vec::new(alloc))?;
@@ -128,7 +141,7 @@ impl<A: Allocator + Copy> Occurrences<A> {
     // The clause at a place takes part from now on.
     pub(crate) fn connect(
         &mut self,
-        trail: &Trail<A>,
+        trail: &Trail,
         clause: &[Literal],
         place: usize,
     ) -> Result<(), AllocError> {
@@ -157,7 +170,7 @@ impl<A: Allocator + Copy> Occurrences<A> {
     }
 
     // The clause at a place takes no part any more.
-    pub(crate) fn disconnect(&mut self, trail: &Trail<A>, clause: &[Literal], place: u32) {
+    pub(crate) fn disconnect(&mut self, trail: &Trail, clause: &[Literal], place: u32) {
         if let Some(outline) = self.outlines.get_mut(place as usize) {
             *outline = Outline::none();
         }
@@ -196,7 +209,7 @@ impl<A: Allocator + Copy> Occurrences<A> {
     }
 
     // Lists the clauses that have a literal, where none is listed yet. Those that were taken out leave its own list.
-    pub(crate) fn list(&mut self, l: Literal, clauses: &mut Vec<u32, A>) -> Result<(), AllocError> {
+    pub(crate) fn list(&mut self, l: Literal, clauses: &mut Vec<u32>) -> Result<(), AllocError> {
         for place in self.of(l) {
             if self.has(*place) {
                 clauses.push(*place)?;

@@ -3,19 +3,18 @@
 use crate::settings::SETTINGS;
 use crate::trail::Trail;
 use crate::walk::Walk;
-use std::alloc::{AllocError, Allocator, Global};
+use std::alloc::{AllocError, Global};
 
 // Where the pseudo-random numbers begin.
 const SEED: u64 = 0x9e37_79b9_7f4a_7c15;
 
 // The values of the longest trails without a conflict.
-#[derive(Drop)]
-pub(crate) struct Phases<A: Allocator = Global> {
+pub(crate) struct Phases {
     // The values of the longest trail of this turn since the last reset, and its length.
-    target: Vec<Option<bool>, A>,
+    target: Vec<Option<bool>>,
     target_len: usize,
     // The values of the longest trail since these were last saved again, and its length.
-    best: Vec<Option<bool>, A>,
+    best: Vec<Option<bool>>,
     best_len: usize,
     // How often the saved phases were reset, and at how many conflicts they are next.
     resets: u64,
@@ -25,9 +24,25 @@ pub(crate) struct Phases<A: Allocator = Global> {
     propagations: u64,
 }
 
-impl<A: Allocator + Copy> Phases<A> {
+// One call in its owners' proofs, in place of one for each field.
+impl Drop for Phases {
+    fn drop(self) {
+        let Phases {
+            target,
+            target_len: _,
+            best,
+            best_len: _,
+            resets: _,
+            next: _,
+            random: _,
+            propagations: _,
+        } = self;
+    }
+}
+
+impl Phases {
     // Of no variable. It takes no memory.
-    pub(crate) fn new(alloc: A) -> Self {
+    pub(crate) fn new(alloc: Global) -> Self {
         Phases {
             target: Vec::new(alloc),
             target_len: 0,
@@ -58,7 +73,7 @@ impl<A: Allocator + Copy> Phases<A> {
     }
 
     // A conflict was met: the trail has none before its last level.
-    pub(crate) fn note_conflict(&mut self, trail: &Trail<A>) {
+    pub(crate) fn note_conflict(&mut self, trail: &Trail) {
         let len = trail.start_above(trail.level().saturating_sub(1));
         if len > self.target_len {
             self.target_len = len;
@@ -83,10 +98,10 @@ impl<A: Allocator + Copy> Phases<A> {
     // The phases that are to be saved in the place of those of a trail, if that is due after so many conflicts.
     pub(crate) fn reset(
         &mut self,
-        alloc: A,
-        trail: &Trail<A>,
+        alloc: Global,
+        trail: &Trail,
         conflicts: u64,
-    ) -> Result<Option<Vec<bool, A>>, AllocError> {
+    ) -> Result<Option<Vec<bool>>, AllocError> {
         if !self.reset_is_due(conflicts) {
             return Ok(None);
         }
@@ -105,7 +120,7 @@ impl<A: Allocator + Copy> Phases<A> {
     }
 
     // The walk that is due after a reset, after so many propagations: from these phases on, if they are the best ones.
-    pub(crate) fn walk(&mut self, alloc: A, phases: Vec<bool, A>, propagations: u64) -> Walk<A> {
+    pub(crate) fn walk(&mut self, alloc: Global, phases: Vec<bool>, propagations: u64) -> Walk {
         let propagated = propagations.saturating_sub(self.propagations);
         let steps = if self.resets % 2 == 0 {
             self.propagations = propagations;
@@ -143,7 +158,7 @@ impl<A: Allocator + Copy> Phases<A> {
 }
 
 // Copies the values of the first literals of a trail.
-fn copy<A: Allocator + Copy>(values: &mut Vec<Option<bool>, A>, trail: &Trail<A>, len: usize) {
+fn copy(values: &mut Vec<Option<bool>>, trail: &Trail, len: usize) {
     for step in trail.steps.iter().take(len) {
         if let Some(value) = values.get_mut(step.literal.variable() as usize) {
             *value = Some(step.literal.is_positive());

@@ -7,7 +7,7 @@ use crate::trail::Trail;
 use crate::watches::{Watch, Watches};
 use gipsat_cnf::Literal;
 use gipsat_kernel::Kernel;
-use std::alloc::{AllocError, Allocator};
+use std::alloc::{AllocError, Global};
 
 // What becomes of a watch: it stays, it goes, it stays for another blocker, or its clause is falsified.
 #[derive(Clone, Copy)]
@@ -21,9 +21,9 @@ enum Visit {
 // Assigns the last literal of a clause that is not false, or tells that it is false too. Above the root, a literal that
 // is not of the domain is passed over.
 #[inline]
-fn assign_last<A: Allocator + Copy>(
-    trail: &mut Trail<A>,
-    activity: &Activity<A>,
+fn assign_last(
+    trail: &mut Trail,
+    activity: &Activity,
     l: Literal,
     id: u32,
 ) -> Result<Visit, AllocError> {
@@ -39,8 +39,8 @@ fn assign_last<A: Allocator + Copy>(
 
 // The first place, from `start` on and before `end`, but one, whose literal is not false.
 #[inline]
-fn non_false_between<A: Allocator + Copy>(
-    trail: &Trail<A>,
+fn non_false_between(
+    trail: &Trail,
     literals: &[Literal],
     but: u32,
     start: u32,
@@ -58,8 +58,8 @@ fn non_false_between<A: Allocator + Copy>(
 // A place of a clause but its two watched ones, whose literal is not false: the first behind the place `from`, or else
 // the first before it.
 #[inline]
-fn replacement<A: Allocator + Copy>(
-    trail: &Trail<A>,
+fn replacement(
+    trail: &Trail,
     literals: &[Literal],
     entry: Entry,
     other: u32,
@@ -72,12 +72,12 @@ fn replacement<A: Allocator + Copy>(
 }
 
 // Looks at a clause of more than two literals, one of whose watched literals has become false.
-fn visit_clause<A: Allocator + Copy>(
+fn visit_clause(
     literals: &[Literal],
-    trail: &mut Trail<A>,
-    clauses: &mut Clauses<A>,
-    watches: &mut Watches<A>,
-    activity: &Activity<A>,
+    trail: &mut Trail,
+    clauses: &mut Clauses,
+    watches: &mut Watches,
+    activity: &Activity,
     watch: Watch,
     falsified: Literal,
 ) -> Result<Visit, AllocError> {
@@ -115,12 +115,12 @@ fn visit_clause<A: Allocator + Copy>(
 
 // Looks at a watch of a literal that has become false.
 #[inline]
-fn visit_watch<A: Allocator + Copy>(
+fn visit_watch(
     literals: &[Literal],
-    trail: &mut Trail<A>,
-    clauses: &mut Clauses<A>,
-    watches: &mut Watches<A>,
-    activity: &Activity<A>,
+    trail: &mut Trail,
+    clauses: &mut Clauses,
+    watches: &mut Watches,
+    activity: &Activity,
     watch: Watch,
     falsified: Literal,
 ) -> Result<Visit, AllocError> {
@@ -136,13 +136,13 @@ fn visit_watch<A: Allocator + Copy>(
 }
 
 // Looks at the clauses that watch a literal which has become false. The id of a falsified clause, if one is met.
-fn visit_watches<A: Allocator + Copy>(
-    alloc: A,
+fn visit_watches(
+    alloc: Global,
     literals: &[Literal],
-    trail: &mut Trail<A>,
-    clauses: &mut Clauses<A>,
-    watches: &mut Watches<A>,
-    activity: &Activity<A>,
+    trail: &mut Trail,
+    clauses: &mut Clauses,
+    watches: &mut Watches,
+    activity: &Activity,
     falsified: Literal,
 ) -> Result<Option<u32>, AllocError> {
     let mut list = watches.take(alloc, falsified);
@@ -178,10 +178,10 @@ fn visit_watches<A: Allocator + Copy>(
 }
 
 // Propagates all assigned literals. The id of a falsified clause, if one is met.
-pub(crate) fn propagate<A: Allocator + Copy>(
-    alloc: A,
-    kernel: &Kernel<A>,
-    state: &mut State<A>,
+pub(crate) fn propagate(
+    alloc: Global,
+    kernel: &Kernel,
+    state: &mut State,
 ) -> Result<Option<u32>, AllocError> {
     for _ in 0..usize::MAX {
         let Some(l) = state.trail.next() else {

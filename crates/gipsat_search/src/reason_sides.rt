@@ -5,19 +5,25 @@ use crate::stamps::Stamps;
 use crate::trail::Trail;
 use gipsat_cnf::Literal;
 use gipsat_kernel::Kernel;
-use std::alloc::{AllocError, Allocator, Global};
+use std::alloc::{AllocError, Global};
 
 // The variables in the reasons of a clause.
-#[derive(Drop)]
-pub(crate) struct ReasonSides<A: Allocator = Global> {
-    variables: Vec<u32, A>,
+pub(crate) struct ReasonSides {
+    variables: Vec<u32>,
     // These variables, and those that analysis has seen.
-    met: Stamps<A>,
+    met: Stamps,
 }
 
-impl<A: Allocator + Copy> ReasonSides<A> {
+// One call in its owners' proofs, in place of one for each field.
+impl Drop for ReasonSides {
+    fn drop(self) {
+        let ReasonSides { variables, met } = self;
+    }
+}
+
+impl ReasonSides {
     // Of no clause. It takes no memory.
-    pub(crate) fn new(alloc: A) -> Self {
+    pub(crate) fn new(alloc: Global) -> Self {
         ReasonSides {
             variables: Vec::new(alloc),
             met: Stamps::new(alloc),
@@ -38,8 +44,8 @@ impl<A: Allocator + Copy> ReasonSides<A> {
     // analysis has seen, which are so many. Where they are too many, none is collected.
     pub(crate) fn collect(
         &mut self,
-        kernel: &Kernel<A>,
-        trail: &Trail<A>,
+        kernel: &Kernel,
+        trail: &Trail,
         analyzed: usize,
     ) -> Result<(), AllocError> {
         self.variables.clear();
@@ -64,12 +70,7 @@ impl<A: Allocator + Copy> ReasonSides<A> {
     }
 
     // Collects the variables in the reason of a literal.
-    fn add_reason(
-        &mut self,
-        kernel: &Kernel<A>,
-        trail: &Trail<A>,
-        l: Literal,
-    ) -> Result<(), AllocError> {
+    fn add_reason(&mut self, kernel: &Kernel, trail: &Trail, l: Literal) -> Result<(), AllocError> {
         let Some(step) = trail.step_of(l) else {
             return Ok(());
         };

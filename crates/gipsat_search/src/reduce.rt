@@ -7,7 +7,7 @@ use crate::trail::short;
 use crate::watches::Watch;
 use gipsat_cnf::Literal;
 use gipsat_kernel::Kernel;
-use std::alloc::{AllocError, Allocator};
+use std::alloc::{AllocError, Global};
 use std::num::f32_to_bits_with_nan;
 
 // Whether a learned clause stays whatever it is worth: its glue is low, or it was used of late.
@@ -22,8 +22,8 @@ fn worth(rating: Rating) -> u64 {
 }
 
 // What a clause has to be worth to be among the best of those that may go, which stay.
-fn least_worth<A: Allocator + Copy>(alloc: A, clauses: &Clauses<A>) -> Result<u64, AllocError> {
-    let mut worths: Vec<u64, A> = Vec::new(alloc);
+fn least_worth(alloc: Global, clauses: &Clauses) -> Result<u64, AllocError> {
+    let mut worths: Vec<u64> = Vec::new(alloc);
     for id in 0..clauses.attached() {
         if let Some(rating) = clauses.rating(id) {
             if !is_safe(rating) {
@@ -40,12 +40,7 @@ fn least_worth<A: Allocator + Copy>(alloc: A, clauses: &Clauses<A>) -> Result<u6
 }
 
 // Whether a clause stays: it is not learned, or it is short, safe or worth enough.
-fn stays<A: Allocator + Copy>(
-    clauses: &Clauses<A>,
-    clause: &[Literal],
-    id: usize,
-    least: u64,
-) -> bool {
+fn stays(clauses: &Clauses, clause: &[Literal], id: usize, least: u64) -> bool {
     match clauses.rating(id) {
         Some(rating) => is_safe(rating) || worth(rating) >= least || clause.len() < 3,
         None => true,
@@ -53,9 +48,9 @@ fn stays<A: Allocator + Copy>(
 }
 
 // Watches a clause again at its places.
-fn watch_again<A: Allocator + Copy>(
-    kernel: &Kernel<A>,
-    state: &mut State<A>,
+fn watch_again(
+    kernel: &Kernel,
+    state: &mut State,
     id: usize,
     is_binary: bool,
 ) -> Result<(), AllocError> {
@@ -82,7 +77,7 @@ fn watch_again<A: Allocator + Copy>(
 }
 
 // Deletes a clause.
-pub(crate) fn delete<A: Allocator + Copy>(kernel: &Kernel<A>, state: &mut State<A>, id: usize) {
+pub(crate) fn delete(kernel: &Kernel, state: &mut State, id: usize) {
     state.clauses.delete(id);
     if !kernel.is_original(id) {
         state.stats.deleted = state.stats.deleted.saturating_add(1);
@@ -90,12 +85,7 @@ pub(crate) fn delete<A: Allocator + Copy>(kernel: &Kernel<A>, state: &mut State<
 }
 
 // Watches a clause again, or deletes it: if it is satisfied at the root, or learned and worth less.
-fn keep<A: Allocator + Copy>(
-    kernel: &Kernel<A>,
-    state: &mut State<A>,
-    id: usize,
-    least: u64,
-) -> Result<(), AllocError> {
+fn keep(kernel: &Kernel, state: &mut State, id: usize, least: u64) -> Result<(), AllocError> {
     if !state.clauses.is_watched(id) {
         return Ok(());
     }
@@ -112,11 +102,7 @@ fn keep<A: Allocator + Copy>(
 }
 
 // Deletes most of the learned clauses that were not used of late, once the policy says so.
-pub(crate) fn reduce<A: Allocator + Copy>(
-    alloc: A,
-    kernel: &Kernel<A>,
-    state: &mut State<A>,
-) -> Result<(), AllocError> {
+pub(crate) fn reduce(alloc: Global, kernel: &Kernel, state: &mut State) -> Result<(), AllocError> {
     if !state
         .restart_policy
         .reduce_is_due(kernel.len(), state.stats.conflicts)

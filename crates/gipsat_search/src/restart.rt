@@ -3,10 +3,10 @@
 use crate::backtrack::backtrack;
 use crate::state::State;
 use gipsat_kernel::Kernel;
-use std::alloc::{AllocError, Allocator};
+use std::alloc::{AllocError, Global};
 
 // Whether a turn of the other mode begins at the next restart, or phases are reset.
-fn begins_anew<A: Allocator + Copy>(state: &State<A>) -> bool {
+fn begins_anew(state: &State) -> bool {
     let modes = state.restart_policy.modes;
     modes.has_ended(state.stats.conflicts, state.stats.propagations)
         || modes.is_allowed() && state.phases.reset_is_due(state.stats.conflicts)
@@ -14,7 +14,7 @@ fn begins_anew<A: Allocator + Copy>(state: &State<A>) -> bool {
 
 // The level to which a restart backtracks: the root in a domain, and where a turn begins or phases are reset. Else the
 // first levels stay, as far as their decisions come before the next one.
-fn restart_level<A: Allocator + Copy>(state: &mut State<A>) -> usize {
+fn restart_level(state: &mut State) -> usize {
     if state.activity.is_limited() || begins_anew(state) {
         return 0;
     }
@@ -32,11 +32,7 @@ fn restart_level<A: Allocator + Copy>(state: &mut State<A>) -> usize {
 }
 
 // The search has restarted: begins the next turn and resets the saved phases, if that is due.
-fn note_restart<A: Allocator + Copy>(
-    alloc: A,
-    kernel: &Kernel<A>,
-    state: &mut State<A>,
-) -> Result<(), AllocError> {
+fn note_restart(alloc: Global, kernel: &Kernel, state: &mut State) -> Result<(), AllocError> {
     state.stats.restarts = state.stats.restarts.saturating_add(1);
     let conflicts = state.stats.conflicts;
     let propagations = state.stats.propagations;
@@ -55,11 +51,7 @@ fn note_restart<A: Allocator + Copy>(
 }
 
 // Restarts if the policy says so.
-pub(crate) fn restart<A: Allocator + Copy>(
-    alloc: A,
-    kernel: &Kernel<A>,
-    state: &mut State<A>,
-) -> Result<(), AllocError> {
+pub(crate) fn restart(alloc: Global, kernel: &Kernel, state: &mut State) -> Result<(), AllocError> {
     let literals = state.trail.steps.len();
     let propagations = state.stats.propagations;
     if !state.restart_policy.restart_is_due(propagations, literals) {

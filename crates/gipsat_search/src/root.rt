@@ -7,14 +7,14 @@ use crate::propagate::propagate;
 use crate::state::State;
 use crate::units::learn_units;
 use gipsat_kernel::Kernel;
-use std::alloc::{AllocError, Allocator};
+use std::alloc::{AllocError, Global};
 
 // Backtracks to the root, watches all clauses, and propagates. The id of a falsified clause, if one is met. If one was met
 // before, the root is propagated again, so that it is met again.
-fn propagate_root<A: Allocator + Copy>(
-    alloc: A,
-    kernel: &Kernel<A>,
-    state: &mut State<A>,
+fn propagate_root(
+    alloc: Global,
+    kernel: &Kernel,
+    state: &mut State,
 ) -> Result<Option<u32>, AllocError> {
     backtrack(&mut state.trail, &mut state.activity, 0);
     state.assumed = 0;
@@ -30,10 +30,10 @@ fn propagate_root<A: Allocator + Copy>(
 
 // Backtracks to the root, watches all clauses, and propagates; each root literal becomes a clause, also where a clause is
 // falsified, so that a collection derives none. Whether no clause is falsified; if one is, the next search meets it.
-pub(crate) fn settle_root<A: Allocator + Copy>(
-    alloc: A,
-    kernel: &mut Kernel<A>,
-    state: &mut State<A>,
+pub(crate) fn settle_root(
+    alloc: Global,
+    kernel: &mut Kernel,
+    state: &mut State,
 ) -> Result<bool, AllocError>
     ensures { kernel.new ≡ kernel.old }
 {

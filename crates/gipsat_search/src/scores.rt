@@ -2,7 +2,7 @@
 ghost use Rattle.std.specs.Prelude.{◌≡◌};
 ghost use Rattle.gipsat_search.specs.Scores.{by_score, score_of};
 
-use giputils_heap::BinaryHeapCmp;
+use giputils_bounded::BinaryHeapCmp;
 
 // Compares variables by their scores, and those of one score by their numbers. A variable past the table's end has the
 // score 0.

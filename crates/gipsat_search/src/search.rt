@@ -19,7 +19,7 @@ use crate::units::learn_units;
 use crate::vivify::vivify;
 use gipsat_cnf::Literal;
 use gipsat_kernel::Kernel;
-use std::alloc::{AllocError, Allocator, Global};
+use std::alloc::{AllocError, Global};
 
 /// What a call of a search is to find.
 #[derive(Clone, Copy)]
@@ -48,11 +48,11 @@ impl Query<'_> {
 
 /// How a turn of a search ends. Nothing is proved of it: who calls the search asks the kernel.
 #[derive(Drop)]
-pub enum Turn<A: Allocator = Global> {
+pub enum Turn {
     /// A clause was learned from a conflict. The search goes on with the next turn.
     Learned,
     /// A value for each variable, which the search takes for a model. If it is none, [`Search::reopen`] it.
-    Model(Vec<bool, A>),
+    Model(Vec<bool>),
     /// The id of a working clause whose literals are negations of assumptions. It is empty if nothing satisfies the
     /// formula.
     Core(usize),
@@ -66,22 +66,22 @@ pub enum Turn<A: Allocator = Global> {
 
 /// A search over the working clauses of a kernel. A search belongs to one kernel, from its first call on.
 #[derive(Drop)]
-pub struct Search<A: Allocator = Global> {
-    alloc: A,
+pub struct Search {
+    alloc: Global,
     // None before the first call, and after one that was refused memory.
-    state: Option<State<A>>,
+    state: Option<State>,
     stats: Stats,
 }
 
 // What a decision came to: a literal was decided, or the turn has ended.
 #[derive(Drop)]
-enum Choice<A: Allocator = Global> {
+enum Choice {
     Decided,
-    Ends(Turn<A>),
+    Ends(Turn),
 }
 
 // The values of all variables. One that has none is false.
-fn model_of<A: Allocator + Copy>(alloc: A, state: &State<A>) -> Result<Vec<bool, A>, AllocError> {
+fn model_of(alloc: Global, state: &State) -> Result<Vec<bool>, AllocError> {
     let variables = state.trail.variables();
     let mut model = Vec::with_capacity(alloc, variables)?;
     for variable in 0..variables {
@@ -91,11 +91,7 @@ fn model_of<A: Allocator + Copy>(alloc: A, state: &State<A>) -> Result<Vec<bool,
 }
 
 // Why an assumption fails.
-fn fail<A: Allocator + Copy>(
-    kernel: &mut Kernel<A>,
-    state: &mut State<A>,
-    l: Literal,
-) -> Result<Turn<A>, AllocError>
+fn fail(kernel: &mut Kernel, state: &mut State, l: Literal) -> Result<Turn, AllocError>
     ensures { kernel.new ≡ kernel.old }
 {
     Ok(match clause_of_failed(kernel, state, l)? {
@@ -105,12 +101,12 @@ fn fail<A: Allocator + Copy>(
 }
 
 // Decides a literal that is no assumption, if there is one.
-fn decide<A: Allocator + Copy>(
-    alloc: A,
-    kernel: &Kernel<A>,
-    state: &mut State<A>,
+fn decide(
+    alloc: Global,
+    kernel: &Kernel,
+    state: &mut State,
     query: Query<'_>,
-) -> Result<Choice<A>, AllocError> {
+) -> Result<Choice, AllocError> {
     if state.stats.propagations >= state.end {
         return Ok(Choice::Ends(Turn::Spent));
     }
@@ -126,12 +122,12 @@ fn decide<A: Allocator + Copy>(
 }
 
 // Decides an assumption that has no value, or else another literal, where nothing is left to propagate.
-fn choose<A: Allocator + Copy>(
-    alloc: A,
-    kernel: &mut Kernel<A>,
-    state: &mut State<A>,
+fn choose(
+    alloc: Global,
+    kernel: &mut Kernel,
+    state: &mut State,
     query: Query<'_>,
-) -> Result<Choice<A>, AllocError>
+) -> Result<Choice, AllocError>
     ensures { kernel.new ≡ kernel.old }
 {
     match next_assumption(state, query.assumptions) {
@@ -146,12 +142,12 @@ fn choose<A: Allocator + Copy>(
 }
 
 // Learns from a conflict, and reduces and restarts where that is due.
-fn learn_and_go_on<A: Allocator + Copy>(
-    alloc: A,
-    kernel: &mut Kernel<A>,
-    state: &mut State<A>,
+fn learn_and_go_on(
+    alloc: Global,
+    kernel: &mut Kernel,
+    state: &mut State,
     conflict: u32,
-) -> Result<Turn<A>, AllocError>
+) -> Result<Turn, AllocError>
     ensures { kernel.new ≡ kernel.old }
 {
     if let Some(empty) = learn(kernel, state, conflict)? {
@@ -163,12 +159,12 @@ fn learn_and_go_on<A: Allocator + Copy>(
 }
 
 // Decides and propagates until a conflict is met, or something is found.
-fn run<A: Allocator + Copy>(
-    alloc: A,
-    kernel: &mut Kernel<A>,
-    state: &mut State<A>,
+fn run(
+    alloc: Global,
+    kernel: &mut Kernel,
+    state: &mut State,
     query: Query<'_>,
-) -> Result<Turn<A>, AllocError>
+) -> Result<Turn, AllocError>
     ensures { kernel.new ≡ kernel.old }
 {
     if let Some(conflict) = state.open {
@@ -191,10 +187,10 @@ fn run<A: Allocator + Copy>(
 
 // Goes back to the root, with room for all variables. Eliminated variables that are assumed, in the domain or in a new
 // clause are restored.
-fn resume<A: Allocator + Copy>(
-    alloc: A,
-    kernel: &mut Kernel<A>,
-    state: &mut State<A>,
+fn resume(
+    alloc: Global,
+    kernel: &mut Kernel,
+    state: &mut State,
     query: Query<'_>,
 ) -> Result<(), AllocError>
     ensures { kernel.new ≡ kernel.old }
@@ -213,10 +209,10 @@ fn resume<A: Allocator + Copy>(
 }
 
 // Begins a call, with its budget, at the root.
-fn begin<A: Allocator + Copy>(
-    alloc: A,
-    kernel: &mut Kernel<A>,
-    state: &mut State<A>,
+fn begin(
+    alloc: Global,
+    kernel: &mut Kernel,
+    state: &mut State,
     query: Query<'_>,
 ) -> Result<(), AllocError>
     ensures { kernel.new ≡ kernel.old }
@@ -226,7 +222,7 @@ fn begin<A: Allocator + Copy>(
 }
 
 // The clause of the formula without a true literal. None if there is none.
-fn open_clause<A: Allocator + Copy>(kernel: &Kernel<A>, state: &State<A>) -> Option<usize> {
+fn open_clause(kernel: &Kernel, state: &State) -> Option<usize> {
     for id in 0..kernel.len() {
         let clause = kernel.clause(id).unwrap_or(&[]);
         if kernel.is_original(id) && !state.trail.has_true(clause) {
@@ -236,9 +232,9 @@ fn open_clause<A: Allocator + Copy>(kernel: &Kernel<A>, state: &State<A>) -> Opt
     None
 }
 
-impl<A: Allocator + Copy> Search<A> {
+impl Search {
     /// A search that knows no clause. It takes no memory yet.
-    pub fn new(alloc: A) -> Self {
+    pub fn new(alloc: Global) -> Self {
         Search {
             alloc,
             state: None,
@@ -282,7 +278,7 @@ impl<A: Allocator + Copy> Search<A> {
     ///
     /// # Errors
     /// `AllocError` where memory is refused. The search forgets what it knows of the clauses.
-    pub fn begin(&mut self, kernel: &mut Kernel<A>, query: Query<'_>) -> Result<(), AllocError>
+    pub fn begin(&mut self, kernel: &mut Kernel, query: Query<'_>) -> Result<(), AllocError>
         ensures { kernel.new ≡ kernel.old }
     {
         self.prepare()?;
@@ -298,7 +294,7 @@ impl<A: Allocator + Copy> Search<A> {
     ///
     /// # Errors
     /// `AllocError` where memory is refused. The search forgets what it knows of the clauses.
-    pub fn resume(&mut self, kernel: &mut Kernel<A>, query: Query<'_>) -> Result<(), AllocError>
+    pub fn resume(&mut self, kernel: &mut Kernel, query: Query<'_>) -> Result<(), AllocError>
         ensures { kernel.new ≡ kernel.old }
     {
         let Some(state) = &mut self.state else {
@@ -320,7 +316,7 @@ impl<A: Allocator + Copy> Search<A> {
     ///
     /// # Errors
     /// `AllocError` where memory is refused. The search forgets what it knows of the clauses.
-    pub fn turn(&mut self, kernel: &mut Kernel<A>, query: Query<'_>) -> Result<Turn<A>, AllocError>
+    pub fn turn(&mut self, kernel: &mut Kernel, query: Query<'_>) -> Result<Turn, AllocError>
         ensures { kernel.new ≡ kernel.old }
     {
         let Some(state) = &mut self.state else {
@@ -333,7 +329,7 @@ impl<A: Allocator + Copy> Search<A> {
 
     /// Lets the next turn begin with a clause of the formula that the last [`Turn::Model`] leaves open. False if there is
     /// none.
-    pub fn reopen(&mut self, kernel: &Kernel<A>) -> bool {
+    pub fn reopen(&mut self, kernel: &Kernel) -> bool {
         let Some(state) = &mut self.state else {
             return false;
         };
@@ -351,7 +347,7 @@ impl<A: Allocator + Copy> Search<A> {
     ///
     /// # Errors
     /// `AllocError` where memory is refused. The formula stays as it was.
-    pub fn simplify(&mut self, kernel: &mut Kernel<A>) -> Result<(), AllocError>
+    pub fn simplify(&mut self, kernel: &mut Kernel) -> Result<(), AllocError>
         ensures same { OnOk result (SaysSame kernel.old kernel.new) }
         ensures refused { OnErr result (kernel.new ≡ kernel.old) }
     {
@@ -370,7 +366,7 @@ impl<A: Allocator + Copy> Search<A> {
     /// `AllocError` where memory is refused. The search forgets what it knows of the clauses.
     pub fn eliminate(
         &mut self,
-        kernel: &mut Kernel<A>,
+        kernel: &mut Kernel,
         frozen: &[u32],
         steps: u64,
     ) -> Result<(), AllocError>
@@ -389,7 +385,7 @@ impl<A: Allocator + Copy> Search<A> {
     ///
     /// # Errors
     /// `AllocError` where memory is refused. The search forgets what it knows of the clauses.
-    pub fn vivify(&mut self, kernel: &mut Kernel<A>, propagations: u64) -> Result<(), AllocError>
+    pub fn vivify(&mut self, kernel: &mut Kernel, propagations: u64) -> Result<(), AllocError>
         ensures { kernel.new ≡ kernel.old }
     {
         self.begin(kernel, Query::all())?;
@@ -402,7 +398,7 @@ impl<A: Allocator + Copy> Search<A> {
     }
 
     /// Whether [`Search::collect`] drops the working clause with this id.
-    pub fn is_deleted(&self, kernel: &Kernel<A>, id: usize) -> bool {
+    pub fn is_deleted(&self, kernel: &Kernel, id: usize) -> bool {
         match &self.state {
             Some(state) => is_deleted(kernel, state, id),
             None => false,
@@ -410,7 +406,7 @@ impl<A: Allocator + Copy> Search<A> {
     }
 
     /// Whether many clauses were deleted since the last collection.
-    pub fn wants_collection(&self, kernel: &Kernel<A>) -> bool {
+    pub fn wants_collection(&self, kernel: &Kernel) -> bool {
         match &self.state {
             Some(state) => wants_collection(kernel, state),
             None => false,
@@ -421,7 +417,7 @@ impl<A: Allocator + Copy> Search<A> {
     ///
     /// # Errors
     /// `AllocError` where memory is refused. No clause is dropped then.
-    pub fn collect(&mut self, kernel: &mut Kernel<A>) -> Result<(), AllocError>
+    pub fn collect(&mut self, kernel: &mut Kernel) -> Result<(), AllocError>
         ensures { kernel.new ≡ kernel.old }
     {
         let Some(state) = &mut self.state else {

@@ -7,11 +7,11 @@ use crate::reduce::delete;
 use crate::root::settle_root;
 use crate::state::State;
 use gipsat_kernel::Kernel;
-use std::alloc::{AllocError, Allocator};
+use std::alloc::{AllocError, Global};
 
 // Deletes a clause of more than one literal that a root literal satisfies. Where it is one of the formula, the unit
 // clause of that literal stands for it.
-fn drop_satisfied<A: Allocator + Copy>(kernel: &mut Kernel<A>, state: &mut State<A>, id: usize)
+fn drop_satisfied(kernel: &mut Kernel, state: &mut State, id: usize)
     ensures { SaysSame kernel.old kernel.new }
 {
     let clause = kernel.clause(id).unwrap_or(&[]);
@@ -28,7 +28,7 @@ fn drop_satisfied<A: Allocator + Copy>(kernel: &mut Kernel<A>, state: &mut State
 }
 
 // Drops all clauses that a root literal satisfies.
-fn drop_all_satisfied<A: Allocator + Copy>(kernel: &mut Kernel<A>, state: &mut State<A>)
+fn drop_all_satisfied(kernel: &mut Kernel, state: &mut State)
     ensures { SaysSame kernel.old kernel.new }
 {
     for id in 0..kernel.len() {
@@ -38,10 +38,10 @@ fn drop_all_satisfied<A: Allocator + Copy>(kernel: &mut Kernel<A>, state: &mut S
 
 // Propagates what has to be true, makes it clauses of the formula, deletes the clauses that it satisfies, and frees the
 // watches. Where a clause is falsified, nothing is deleted.
-pub(crate) fn simplify<A: Allocator + Copy>(
-    alloc: A,
-    kernel: &mut Kernel<A>,
-    state: &mut State<A>,
+pub(crate) fn simplify(
+    alloc: Global,
+    kernel: &mut Kernel,
+    state: &mut State,
 ) -> Result<(), AllocError>
     ensures same { OnOk result (SaysSame kernel.old kernel.new) }
     ensures refused { OnErr result (kernel.new ≡ kernel.old) }

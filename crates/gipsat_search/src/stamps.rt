@@ -1,18 +1,18 @@
 //! Sets of numbers that are emptied at once.
 
-use std::alloc::{AllocError, Allocator, Global};
+use std::alloc::{AllocError, Global};
 
 // A set of numbers below a bound.
 #[derive(Drop)]
-pub(crate) struct Stamps<A: Allocator = Global> {
+pub(crate) struct Stamps {
     // A number is in the set if it has the present stamp.
-    stamps: Vec<u32, A>,
+    stamps: Vec<u32>,
     stamp: u32,
 }
 
-impl<A: Allocator + Copy> Stamps<A> {
+impl Stamps {
     // The empty set, below 0. It takes no memory.
-    pub(crate) fn new(alloc: A) -> Self {
+    pub(crate) fn new(alloc: Global) -> Self {
         Stamps {
             stamps: Vec::new(alloc),
             stamp: 1,

@@ -14,23 +14,22 @@ use crate::trail::Trail;
 use crate::watches::Watches;
 use gipsat_cnf::Literal;
 use gipsat_kernel::Kernel;
-use std::alloc::{AllocError, Allocator, Global};
+use std::alloc::{AllocError, Global};
 
 // What a search knows beside the clauses of its kernel.
-#[derive(Drop)]
-pub(crate) struct State<A: Allocator = Global> {
-    pub trail: Trail<A>,
-    pub clauses: Clauses<A>,
-    pub watches: Watches<A>,
-    pub activity: Activity<A>,
-    pub glue: Glue<A>,
-    pub chains: Chains<A>,
-    pub reason_sides: ReasonSides<A>,
+pub(crate) struct State {
+    pub trail: Trail,
+    pub clauses: Clauses,
+    pub watches: Watches,
+    pub activity: Activity,
+    pub glue: Glue,
+    pub chains: Chains,
+    pub reason_sides: ReasonSides,
     pub restart_policy: RestartPolicy,
-    pub phases: Phases<A>,
-    pub eliminated: Eliminated<A>,
+    pub phases: Phases,
+    pub eliminated: Eliminated,
     // The literals, by their codes, of the clause at hand.
-    pub met: Stamps<A>,
+    pub met: Stamps,
     // How many of the root literals are clauses.
     pub units: usize,
     // How many of the assumptions are true.
@@ -45,9 +44,35 @@ pub(crate) struct State<A: Allocator = Global> {
     pub stats: Stats,
 }
 
-impl<A: Allocator + Copy> State<A> {
+// One call in its owners' proofs, in place of one for each field.
+impl Drop for State {
+    fn drop(self) {
+        let State {
+            trail,
+            clauses,
+            watches,
+            activity,
+            glue,
+            chains,
+            reason_sides,
+            restart_policy: _,
+            phases,
+            eliminated,
+            met,
+            units: _,
+            assumed: _,
+            open: _,
+            end: _,
+            vivified: _,
+            collected: _,
+            stats: _,
+        } = self;
+    }
+}
+
+impl State {
     // Of no variable and no clause.
-    pub(crate) fn new(alloc: A, stats: Stats) -> Result<Self, AllocError> {
+    pub(crate) fn new(alloc: Global, stats: Stats) -> Result<Self, AllocError> {
         Ok(State {
             activity: Activity::new(alloc)?,
             trail: Trail::new(alloc),
@@ -73,7 +98,7 @@ impl<A: Allocator + Copy> State<A> {
     // Restores the eliminated ones among the variables of assumptions, of a domain and of new clauses.
     pub(crate) fn restore(
         &mut self,
-        kernel: &Kernel<A>,
+        kernel: &Kernel,
         assumptions: &[Literal],
         domain: &[u32],
     ) -> Result<(), AllocError> {
@@ -87,7 +112,7 @@ impl<A: Allocator + Copy> State<A> {
     }
 
     // Makes room for so many variables.
-    pub(crate) fn grow(&mut self, alloc: A, variables: usize) -> Result<(), AllocError> {
+    pub(crate) fn grow(&mut self, alloc: Global, variables: usize) -> Result<(), AllocError> {
         self.watches.grow(alloc, variables)?;
         self.trail.grow(variables)?;
         self.glue.grow(variables)?;

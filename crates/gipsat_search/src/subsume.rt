@@ -6,24 +6,24 @@ use crate::occurrences::Occurrences;
 use crate::trail::Trail;
 use gipsat_cnf::Literal;
 use gipsat_kernel::Kernel;
-use std::alloc::{AllocError, Allocator, Global};
+use std::alloc::{AllocError, Global};
 
 // A set of literals: a flag for each code.
 #[derive(Drop)]
-pub(crate) struct Marks<A: Allocator = Global> {
-    flags: Vec<bool, A>,
+pub(crate) struct Marks {
+    flags: Vec<bool>,
 }
 
-impl<A: Allocator + Copy> Marks<A> {
+impl Marks {
     // Nothing is marked, of the literals of so many variables.
-    pub(crate) fn new(alloc: A, variables: usize) -> Result<Self, AllocError> {
+    pub(crate) fn new(alloc: Global, variables: usize) -> Result<Self, AllocError> {
         let mut flags = Vec::new(alloc);
         flags.resize(variables.saturating_mul(2), false)?;
         Ok(Marks { flags })
     }
 
     // Marks the literals of a clause that are not false, or takes their marks away.
-    pub(crate) fn set(&mut self, trail: &Trail<A>, clause: &[Literal], is_marked: bool) {
+    pub(crate) fn set(&mut self, trail: &Trail, clause: &[Literal], is_marked: bool) {
         for l in clause {
             if trail.is_unset(*l) {
                 if let Some(flag) = self.flags.get_mut(l.code()) {
@@ -64,7 +64,7 @@ enum Relation {
 }
 
 // What the marked literals, which are so many, say of a clause.
-fn relation_to<A: Allocator + Copy>(marks: &Marks<A>, size: usize, clause: &[Literal]) -> Relation {
+fn relation_to(marks: &Marks, size: usize, clause: &[Literal]) -> Relation {
     let mut same = 0usize;
     let mut flips = 0usize;
     let mut flipped = None;
@@ -86,11 +86,7 @@ fn relation_to<A: Allocator + Copy>(marks: &Marks<A>, size: usize, clause: &[Lit
 }
 
 // The literal of a clause whose variable the fewest clauses have.
-fn rarest<A: Allocator + Copy>(
-    trail: &Trail<A>,
-    occurrences: &Occurrences<A>,
-    clause: &[Literal],
-) -> Option<Literal> {
+fn rarest(trail: &Trail, occurrences: &Occurrences, clause: &[Literal]) -> Option<Literal> {
     let mut rarest = None;
     let mut least = usize::MAX;
     for l in clause {
@@ -104,15 +100,24 @@ fn rarest<A: Allocator + Copy>(
 }
 
 // What a clause says of those that take part: which follow from it, and which follow without a literal.
-#[derive(Drop)]
-pub(crate) struct Subsumption<A: Allocator = Global> {
-    pub subsumed: Vec<u32, A>,
-    pub strengthened: Vec<Resolution, A>,
+pub(crate) struct Subsumption {
+    pub subsumed: Vec<u32>,
+    pub strengthened: Vec<Resolution>,
 }
 
-impl<A: Allocator + Copy> Subsumption<A> {
+// One call in its owners' proofs, in place of one for each field.
+impl Drop for Subsumption {
+    fn drop(self) {
+        let Subsumption {
+            subsumed,
+            strengthened,
+        } = self;
+    }
+}
+
+impl Subsumption {
     // Of no clause.
-    pub(crate) fn new(alloc: A) -> Self {
+    pub(crate) fn new(alloc: Global) -> Self {
         Subsumption {
             subsumed: Vec::new(alloc),
             strengthened: Vec::new(alloc),
@@ -121,14 +126,14 @@ impl<A: Allocator + Copy> Subsumption<A> {
 }
 
 // Finds what the clause at a place says of the others, within so many steps.
-pub(crate) fn find_subsumed<A: Allocator + Copy>(
-    kernel: &Kernel<A>,
-    trail: &Trail<A>,
-    occurrences: &Occurrences<A>,
-    marks: &mut Marks<A>,
+pub(crate) fn find_subsumed(
+    kernel: &Kernel,
+    trail: &Trail,
+    occurrences: &Occurrences,
+    marks: &mut Marks,
     steps: &mut u64,
     place: u32,
-    found: &mut Subsumption<A>,
+    found: &mut Subsumption,
 ) -> Result<(), AllocError> {
     if !occurrences.has(place) {
         return Ok(());
@@ -149,14 +154,14 @@ pub(crate) fn find_subsumed<A: Allocator + Copy>(
 }
 
 // Finds what the marked clause at a place says of the clauses that have a literal.
-fn look_through<A: Allocator + Copy>(
-    kernel: &Kernel<A>,
-    occurrences: &Occurrences<A>,
-    marks: &Marks<A>,
+fn look_through(
+    kernel: &Kernel,
+    occurrences: &Occurrences,
+    marks: &Marks,
     steps: &mut u64,
     place: u32,
     l: Literal,
-    found: &mut Subsumption<A>,
+    found: &mut Subsumption,
 ) -> Result<(), AllocError> {
     let outline = occurrences.outline(place);
     for other in occurrences.of(l) {

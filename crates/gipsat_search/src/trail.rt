@@ -1,7 +1,7 @@
 //! The trail: the true literals, in the order in which they were assigned.
 
 use gipsat_cnf::Literal;
-use std::alloc::{AllocError, Allocator, Global};
+use std::alloc::{AllocError, Global};
 
 // The reason of a decision. No clause has this id.
 pub(crate) const DECISION: u32 = u32::MAX;
@@ -34,24 +34,37 @@ pub(crate) struct VarData {
 }
 
 // The trail, with the values of all literals.
-#[derive(Drop)]
-pub(crate) struct Trail<A: Allocator = Global> {
+pub(crate) struct Trail {
     // By the codes of literals.
-    values: Vec<Value, A>,
+    values: Vec<Value>,
     // Where each variable was last assigned.
-    var_data: Vec<VarData, A>,
-    pub steps: Vec<Step, A>,
+    var_data: Vec<VarData>,
+    pub steps: Vec<Step>,
     // The saved phases.
-    pub phases: Vec<bool, A>,
+    pub phases: Vec<bool>,
     // At which place each decision level but the root begins.
-    pub level_starts: Vec<u32, A>,
+    pub level_starts: Vec<u32>,
     // How many literals have been propagated.
     pub propagated: usize,
 }
 
-impl<A: Allocator + Copy> Trail<A> {
+// One call in its owners' proofs, in place of one for each field.
+impl Drop for Trail {
+    fn drop(self) {
+        let Trail {
+            values,
+            var_data,
+            steps,
+            phases,
+            level_starts,
+            propagated: _,
+        } = self;
+    }
+}
+
+impl Trail {
     // No variable. It takes no memory.
-    pub(crate) fn new(alloc: A) -> Self {
+    pub(crate) fn new(alloc: Global) -> Self {
         Trail {
             values: Vec::new(alloc),
             var_data: Vec::new(alloc),
@@ -258,7 +271,7 @@ impl<A: Allocator + Copy> Trail<A> {
     }
 
     // Saves other phases, if they are as many as the variables.
-    pub(crate) fn set_phases(&mut self, phases: Vec<bool, A>) {
+    pub(crate) fn set_phases(&mut self, phases: Vec<bool>) {
         if phases.len() == self.phases.len() {
             self.phases = phases;
         }

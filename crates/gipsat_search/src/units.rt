@@ -7,12 +7,12 @@ use crate::state::State;
 use crate::trail::{Trail, short};
 use gipsat_cnf::Literal;
 use gipsat_kernel::Kernel;
-use std::alloc::{AllocError, Allocator};
+use std::alloc::AllocError;
 
 // Derives the unit clause of the literal at a place of the trail, at the root, from its reason.
-fn derive_unit<A: Allocator + Copy>(
-    kernel: &mut Kernel<A>,
-    trail: &Trail<A>,
+fn derive_unit(
+    kernel: &mut Kernel,
+    trail: &Trail,
     l: Literal,
     reason: u32,
 ) -> Result<Option<usize>, AllocError>
@@ -31,11 +31,7 @@ fn derive_unit<A: Allocator + Copy>(
 }
 
 // Derives a unit clause for the literal at a place of the trail, unless its reason is one. It is its reason then.
-fn learn_unit<A: Allocator + Copy>(
-    kernel: &mut Kernel<A>,
-    state: &mut State<A>,
-    place: usize,
-) -> Result<(), AllocError>
+fn learn_unit(kernel: &mut Kernel, state: &mut State, place: usize) -> Result<(), AllocError>
     ensures { kernel.new ≡ kernel.old }
 {
     let Some(step) = state.trail.steps.get(place).copied() else {
@@ -53,10 +49,7 @@ fn learn_unit<A: Allocator + Copy>(
 }
 
 // Derives a unit clause for each literal of the root that has none, if all clauses are attached.
-pub(crate) fn learn_units<A: Allocator + Copy>(
-    kernel: &mut Kernel<A>,
-    state: &mut State<A>,
-) -> Result<(), AllocError>
+pub(crate) fn learn_units(kernel: &mut Kernel, state: &mut State) -> Result<(), AllocError>
     ensures { kernel.new ≡ kernel.old }
 {
     if state.clauses.attached() != kernel.len() {

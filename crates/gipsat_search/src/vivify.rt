@@ -9,7 +9,7 @@ use crate::settings::SETTINGS;
 use crate::state::State;
 use gipsat_cnf::Literal;
 use gipsat_kernel::Kernel;
-use std::alloc::{AllocError, Allocator};
+use std::alloc::{AllocError, Global};
 
 // What is met where the literals of a clause become false one after another: a falsified clause, or a literal that is
 // true.
@@ -21,7 +21,7 @@ enum Obstacle {
 
 // Whether a clause is to be tried: it was learned, its glue is low, it has more than two literals, and no root literal
 // satisfies it.
-fn is_worthwhile<A: Allocator + Copy>(kernel: &Kernel<A>, state: &State<A>, id: usize) -> bool {
+fn is_worthwhile(kernel: &Kernel, state: &State, id: usize) -> bool {
     let clause = kernel.clause(id).unwrap_or(&[]);
     match state.clauses.rating(id) {
         Some(rating) => {
@@ -34,10 +34,10 @@ fn is_worthwhile<A: Allocator + Copy>(kernel: &Kernel<A>, state: &State<A>, id: 
 }
 
 // Makes one literal false, unless it is, and propagates.
-fn falsify<A: Allocator + Copy>(
-    alloc: A,
-    kernel: &Kernel<A>,
-    state: &mut State<A>,
+fn falsify(
+    alloc: Global,
+    kernel: &Kernel,
+    state: &mut State,
     l: Literal,
 ) -> Result<Option<Obstacle>, AllocError> {
     if state.trail.is_true(l) {
@@ -54,10 +54,10 @@ fn falsify<A: Allocator + Copy>(
 }
 
 // Makes the literals of a clause false, one after another. The obstacle, if one is met.
-fn falsify_each<A: Allocator + Copy>(
-    alloc: A,
-    kernel: &Kernel<A>,
-    state: &mut State<A>,
+fn falsify_each(
+    alloc: Global,
+    kernel: &Kernel,
+    state: &mut State,
     id: usize,
 ) -> Result<Option<Obstacle>, AllocError> {
     for l in kernel.clause(id).unwrap_or(&[]) {
@@ -70,7 +70,7 @@ fn falsify_each<A: Allocator + Copy>(
 }
 
 // From which clause the derivation begins that an obstacle gives, and the place of the trail before which it resolves.
-fn beginning<A: Allocator + Copy>(state: &State<A>, obstacle: Obstacle) -> (u32, usize) {
+fn beginning(state: &State, obstacle: Obstacle) -> (u32, usize) {
     match obstacle {
         Obstacle::Conflict(id) => (id, state.trail.steps.len()),
         Obstacle::IsTrue(l) => match state.trail.step_of(l) {
@@ -82,9 +82,9 @@ fn beginning<A: Allocator + Copy>(state: &State<A>, obstacle: Obstacle) -> (u32,
 
 // Derives the clause that an obstacle gives, of negations of decisions and of the literal that is true, if it is shorter
 // than `len`: its id.
-fn derive_shorter<A: Allocator + Copy>(
-    kernel: &mut Kernel<A>,
-    state: &State<A>,
+fn derive_shorter(
+    kernel: &mut Kernel,
+    state: &State,
     obstacle: Obstacle,
     len: usize,
 ) -> Result<Option<usize>, AllocError>
@@ -106,10 +106,10 @@ fn derive_shorter<A: Allocator + Copy>(
 }
 
 // Tries to shorten a clause. The shorter one is watched in its place.
-fn shorten<A: Allocator + Copy>(
-    alloc: A,
-    kernel: &mut Kernel<A>,
-    state: &mut State<A>,
+fn shorten(
+    alloc: Global,
+    kernel: &mut Kernel,
+    state: &mut State,
     id: usize,
 ) -> Result<(), AllocError>
     ensures { kernel.new ≡ kernel.old }
@@ -132,10 +132,10 @@ fn shorten<A: Allocator + Copy>(
 
 // Tries to shorten the clauses from an id on, the latest first, until so many literals were propagated in all, or a
 // conflict is met at the root.
-fn shorten_each<A: Allocator + Copy>(
-    alloc: A,
-    kernel: &mut Kernel<A>,
-    state: &mut State<A>,
+fn shorten_each(
+    alloc: Global,
+    kernel: &mut Kernel,
+    state: &mut State,
     from: usize,
     end: u64,
 ) -> Result<(), AllocError>
@@ -154,10 +154,10 @@ fn shorten_each<A: Allocator + Copy>(
 
 // Tries to shorten the clauses of low glue that were learned since the last call, the latest first, until about so many
 // literals were propagated. Statistics stay as they are, but for the number of deleted clauses.
-pub(crate) fn vivify<A: Allocator + Copy>(
-    alloc: A,
-    kernel: &mut Kernel<A>,
-    state: &mut State<A>,
+pub(crate) fn vivify(
+    alloc: Global,
+    kernel: &mut Kernel,
+    state: &mut State,
     propagations: u64,
 ) -> Result<(), AllocError>
     ensures { kernel.new ≡ kernel.old }

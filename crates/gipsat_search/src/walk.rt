@@ -5,7 +5,7 @@ use crate::settings::SETTINGS;
 use crate::trail::{Trail, short};
 use gipsat_cnf::Literal;
 use gipsat_kernel::Kernel;
-use std::alloc::{AllocError, Allocator, Global};
+use std::alloc::{AllocError, Global};
 use std::mem;
 
 // A clause, whose literals are those without a value.
@@ -22,30 +22,48 @@ struct Clause {
 }
 
 // A local search.
-#[derive(Drop)]
-pub(crate) struct Walk<A: Allocator = Global> {
+pub(crate) struct Walk {
     // The phases, by variables.
-    values: Vec<bool, A>,
-    clauses: Vec<Clause, A>,
-    literals: Vec<Literal, A>,
+    values: Vec<bool>,
+    clauses: Vec<Clause>,
+    literals: Vec<Literal>,
     // For each literal the clauses that have it.
-    occurrences: Vec<Vec<u32, A>, A>,
+    occurrences: Vec<Vec<u32>>,
     // For each variable how many clauses would be falsified if it were flipped.
-    breaks: Vec<u32, A>,
-    falsified: Vec<u32, A>,
+    breaks: Vec<u32>,
+    falsified: Vec<u32>,
     // The variables that were flipped since the fewest clauses were falsified, and how many these were.
-    flips: Vec<u32, A>,
+    flips: Vec<u32>,
     fewest: usize,
     // How likely a variable is flipped, by the number of clauses that it would falsify.
-    chances: Vec<f64, A>,
+    chances: Vec<f64>,
     random: u64,
     // How many clauses may still be looked at.
     steps: u64,
 }
 
-impl<A: Allocator + Copy> Walk<A> {
+// One call in its owners' proofs, in place of one for each field.
+impl Drop for Walk {
+    fn drop(self) {
+        let Walk {
+            values,
+            clauses,
+            literals,
+            occurrences,
+            breaks,
+            falsified,
+            flips,
+            fewest: _,
+            chances,
+            random: _,
+            steps: _,
+        } = self;
+    }
+}
+
+impl Walk {
     // Of no clause, from these phases on.
-    pub(crate) fn new(alloc: A, values: Vec<bool, A>, steps: u64, random: u64) -> Self {
+    pub(crate) fn new(alloc: Global, values: Vec<bool>, steps: u64, random: u64) -> Self {
         Walk {
             values,
             clauses: Vec::new(alloc),
@@ -64,11 +82,11 @@ impl<A: Allocator + Copy> Walk<A> {
     // Walks over the clauses that are watched for good: the best phases that were met.
     pub(crate) fn phases(
         &mut self,
-        alloc: A,
-        kernel: &Kernel<A>,
-        trail: &Trail<A>,
-        clauses: &Clauses<A>,
-    ) -> Result<Vec<bool, A>, AllocError> {
+        alloc: Global,
+        kernel: &Kernel,
+        trail: &Trail,
+        clauses: &Clauses,
+    ) -> Result<Vec<bool>, AllocError> {
         if self.steps > 0 {
             self.collect(alloc, kernel, trail, clauses)?;
             self.set_chances()?;
@@ -82,10 +100,10 @@ impl<A: Allocator + Copy> Walk<A> {
     // left.
     fn collect(
         &mut self,
-        alloc: A,
-        kernel: &Kernel<A>,
-        trail: &Trail<A>,
-        clauses: &Clauses<A>,
+        alloc: Global,
+        kernel: &Kernel,
+        trail: &Trail,
+        clauses: &Clauses,
     ) -> Result<(), AllocError> {
         for _ in 0..self.values.len() {
             self.occurrences.push(Vec::new(alloc))?;
@@ -106,7 +124,7 @@ impl<A: Allocator + Copy> Walk<A> {
     }
 
     // Adds a clause.
-    fn add(&mut self, trail: &Trail<A>, clause: &[Literal]) -> Result<(), AllocError> {
+    fn add(&mut self, trail: &Trail, clause: &[Literal]) -> Result<(), AllocError> {
         let index = self.clauses.len();
         let start = self.literals.len();
         let mut trues = 0u32;

@@ -1,7 +1,7 @@
 //! Watches: for each literal the clauses that are looked at when it becomes false.
 
 use gipsat_cnf::Literal;
-use std::alloc::{AllocError, Allocator, Global};
+use std::alloc::{AllocError, Global};
 use std::mem;
 
 // The digit by which a watch of a clause of two literals is told.
@@ -49,20 +49,20 @@ impl Watch {
 
 // For each literal the clauses that watch it.
 #[derive(Drop)]
-pub(crate) struct Watches<A: Allocator = Global> {
-    lists: Vec<Vec<Watch, A>, A>,
+pub(crate) struct Watches {
+    lists: Vec<Vec<Watch>>,
 }
 
-impl<A: Allocator + Copy> Watches<A> {
+impl Watches {
     // No literal. It takes no memory.
-    pub(crate) fn new(alloc: A) -> Self {
+    pub(crate) fn new(alloc: Global) -> Self {
         Watches {
             lists: Vec::new(alloc),
         }
     }
 
     // Makes room for the literals of so many variables.
-    pub(crate) fn grow(&mut self, alloc: A, variables: usize) -> Result<(), AllocError> {
+    pub(crate) fn grow(&mut self, alloc: Global, variables: usize) -> Result<(), AllocError> {
         for _ in self.lists.len()..variables.saturating_mul(2) {
             self.lists.push(Vec::new(alloc))?;
         }
@@ -80,7 +80,7 @@ impl<A: Allocator + Copy> Watches<A> {
 
     // Takes the watches of a literal out.
     #[inline]
-    pub(crate) fn take(&mut self, alloc: A, l: Literal) -> Vec<Watch, A> {
+    pub(crate) fn take(&mut self, alloc: Global, l: Literal) -> Vec<Watch> {
         match self.lists.get_mut(l.code()) {
             Some(list) => mem::replace(list, Vec::new(alloc)),
             None => Vec::new(alloc),
@@ -89,7 +89,7 @@ impl<A: Allocator + Copy> Watches<A> {
 
     // Puts the watches of a literal back.
     #[inline]
-    pub(crate) fn put(&mut self, l: Literal, watches: Vec<Watch, A>) {
+    pub(crate) fn put(&mut self, l: Literal, watches: Vec<Watch>) {
         if let Some(list) = self.lists.get_mut(l.code()) {
             *list = watches;
         }
@@ -103,7 +103,7 @@ impl<A: Allocator + Copy> Watches<A> {
     }
 
     // Takes all watches out, and frees their memory.
-    pub(crate) fn free(&mut self, alloc: A) {
+    pub(crate) fn free(&mut self, alloc: Global) {
         for list in self.lists.iter_mut() {
             *list = Vec::new(alloc);
         }

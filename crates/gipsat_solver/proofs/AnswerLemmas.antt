@@ -1,6 +1,7 @@
 -- What makes an answer right.
 use Rattle.std.proofs.Common.{◌≡◌, List, [], refl, subst}
-use Rattle.std.specs.Prelude.{slice_get, Option, Some, None, IfSome}
+use Rattle.std.specs.Prelude.{slice_get, Option, Some, IfSome}
+use Rattle.std.specs.declared.alloc.Global.{Global}
 use Rattle.std.specs.declared.vec.Vec.{Vec}
 use Rattle.gipsat_cnf.specs.Assumptions.{IsCore}
 use Rattle.gipsat_cnf.specs.Formulas.{Formula, IsSatisfiable}
@@ -17,7 +18,7 @@ unsatisfied-core f assumed core none is = λ (a, sat).
     (a, sat, makes_true-each a core (λ l has. let there = is.among l has in none_some l (subst (λ ls. slice_get ls there.0 ≡ Some l) none there.1)))
 
 -- the same of a search that ends with a core, where such an end is right
-pub unsatisfied-end : {A : Type 0} (f : Formula) (IsRight : End A → Type 0) (found : Option (End A)) (end : End A) (core : Vec Lit A)
+pub unsatisfied-end : (f : Formula) (IsRight : End → Type 0) (found : Option End) (end : End) (core : Vec Lit Global)
     → found ≡ Some end → end ≡ Core core → IfSome found IsRight → (IsRight (Core core) → IsCore f [] core.items)
     → ¬ (IsSatisfiable f)
 unsatisfied-end f IsRight found end core is_some is_core right is =

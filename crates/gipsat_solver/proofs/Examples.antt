@@ -22,5 +22,5 @@ at_most_one_refused : HasUpTo 1 (after 3) (after 5) → ⊥
 at_most_one_refused (more, most, is) = omega (arith, most, is)
 
 -- Unknown is right after as many clauses as the limit allows
-unknown : {A : Type 0} (answer : Answer A) → answer ≡ Unknown → IsRight (after 3) (after 5) 2 answer
+unknown : (answer : Answer) → answer ≡ Unknown → IsRight (after 3) (after 5) 2 answer
 unknown answer is = rw is refl

@@ -33,38 +33,38 @@ abbrev pub HasNoFewer : SolverState → SolverState → Type 0
 HasNoFewer old new = old.learned ≤ new.learned
 
 -- Sat comes with a model, Unsat only where there is none; at Unknown `limit` clauses were learned
-abbrev pub IsRight : {A : Type 0} → SolverState → SolverState → ℕ → Answer A → Type 0
+abbrev pub IsRight : SolverState → SolverState → ℕ → Answer → Type 0
 IsRight old new limit (Sat model) = IsModel old.formula model.items
 IsRight old new limit Unsat = ¬ (IsSatisfiable old.formula)
 IsRight old new limit Unknown = HasMore limit old new
 
 -- it is right, and not Unknown
-abbrev pub IsDecided : {A : Type 0} → Formula → Answer A → Type 0
+abbrev pub IsDecided : Formula → Answer → Type 0
 IsDecided formula (Sat model) = IsModel formula model.items
 IsDecided formula Unsat = ¬ (IsSatisfiable formula)
 IsDecided formula Unknown = ⊥
 
 -- Sat comes with a model that makes the assumptions true, Unsat with a core; at Unknown, `limit` clauses were learned
-abbrev pub IsRightUnder : {A : Type 0} → List Lit → SolverState → SolverState → ℕ → AnswerUnder A → Type 0
+abbrev pub IsRightUnder : List Lit → SolverState → SolverState → ℕ → AnswerUnder → Type 0
 IsRightUnder assumed old new limit answer = IsRightOr old.formula assumed (HasMore limit old new) answer
 
 -- the same, but at Unknown at most `limit` clauses were learned
-abbrev pub IsRightLimited : {A : Type 0} → List Lit → SolverState → SolverState → ℕ → AnswerUnder A → Type 0
+abbrev pub IsRightLimited : List Lit → SolverState → SolverState → ℕ → AnswerUnder → Type 0
 IsRightLimited assumed old new limit answer = IsRightOr old.formula assumed (HasUpTo limit old new) answer
 
 -- Unsat comes with a core; at Unknown, at most `limit` clauses were learned; Sat promises nothing
-abbrev pub IsRightGuess : {A : Type 0} → List Lit → SolverState → SolverState → ℕ → Guess A → Type 0
+abbrev pub IsRightGuess : List Lit → SolverState → SolverState → ℕ → Guess → Type 0
 IsRightGuess assumed old new limit answer = IsRightGuessOr old.formula assumed (HasUpTo limit old new) answer
 
 -- a model is one, and a core too; it guesses only if it was to, and spends only a budget that there is
-abbrev pub IsRightEnd : {A : Type 0} → Formula → Query → End A → Type 0
+abbrev pub IsRightEnd : Formula → Query → End → Type 0
 IsRightEnd formula query (end.Model model) = IsModelUnder formula query.assumptions.now model.items
 IsRightEnd formula query (end.Core core) = IsCore formula query.assumptions.now core.items
 IsRightEnd formula query end.Guessed = IsTrue query.is_guess
 IsRightEnd formula query end.Spent = query.propagations < 2 ^ 64 - 1
 
 -- if the search has ended, its end is right
-abbrev pub IsRightStep : {A : Type 0} → Formula → Query → Step A → Type 0
+abbrev pub IsRightStep : Formula → Query → Step → Type 0
 IsRightStep formula query step.Learned = ⊤
 IsRightStep formula query step.Reopened = ⊤
 IsRightStep formula query (step.Ended end) = IsRightEnd formula query end

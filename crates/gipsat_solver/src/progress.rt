@@ -8,18 +8,18 @@ use crate::solver::Solver;
 use gipsat_cnf::Answer;
 use gipsat_search::Query;
 use gipsat_search::settings::SETTINGS;
-use std::alloc::{AllocError, Allocator};
+use std::alloc::AllocError;
 
 /// Finds out whether anything satisfies the solver's formula, as [`Solver::solve`] does, and tells `progress` now and
 /// then how far it is. None where `progress` stopped the search.
 ///
 /// # Errors
 /// Those of [`Solver::solve`].
-pub fn solve_in_slices<A: Allocator + Copy, P: Progress>(
-    solver: &mut Solver<A>,
+pub fn solve_in_slices<P: Progress>(
+    solver: &mut Solver,
     limit: usize,
     progress: &mut P,
-) -> Result<Option<Answer<A>>, AllocError>
+) -> Result<Option<Answer>, AllocError>
     ensures right { IfOk result (λ found. IfSome found (IsRight solver.old solver.new limit)) }
     ensures stopped { IfOk result (λ found. IfNone found (IsTrue (P.wants_stop progress.new))) }
     ensures formula { solver.new.formula ≡ solver.old.formula }
@@ -38,11 +38,11 @@ pub fn solve_in_slices<A: Allocator + Copy, P: Progress>(
 const PAUSES: u64 = 16;
 
 // The search, without its end. Between two pauses it goes on where it was.
-fn solve_on<A: Allocator + Copy, P: Progress>(
-    solver: &mut Solver<A>,
+fn solve_on<P: Progress>(
+    solver: &mut Solver,
     limit: usize,
     progress: &mut P,
-) -> Result<Option<Answer<A>>, AllocError>
+) -> Result<Option<Answer>, AllocError>
     ensures right { IfOk result (λ found. IfSome found (IsRight solver.old solver.new limit)) }
     ensures stopped { IfOk result (λ found. IfNone found (IsTrue (P.wants_stop progress.new))) }
     ensures formula { solver.new.formula ≡ solver.old.formula }
@@ -71,12 +71,12 @@ fn solve_on<A: Allocator + Copy, P: Progress>(
 }
 
 // Solves up to the next pause of a slice. None where no answer was found so far.
-fn solve_to_pause<A: Allocator + Copy, P: Progress>(
-    solver: &mut Solver<A>,
+fn solve_to_pause<P: Progress>(
+    solver: &mut Solver,
     limit: usize,
     slice: Slice,
     progress: &mut P,
-) -> Result<Option<Answer<A>>, AllocError>
+) -> Result<Option<Answer>, AllocError>
     ensures some { IfOk result (λ found. IfSome found (IsDecided solver.old.formula)) }
     ensures most { OnOk result (HasUpTo limit solver.old solver.new) }
     ensures refused { OnErr result (HasNoFewer solver.old solver.new) }
@@ -110,7 +110,7 @@ struct Slice {
 
 impl Slice {
     // The first one, which begins now.
-    fn first<A: Allocator + Copy>(solver: &Solver<A>) -> Self {
+    fn first(solver: &Solver) -> Self {
         Slice {
             learned: solver.learned(),
             propagations: solver.stats().propagations,
@@ -121,7 +121,7 @@ impl Slice {
     }
 
     // The next one, which begins now. It is longer where this one has learned nothing.
-    fn next<A: Allocator + Copy>(self, solver: &Solver<A>) -> Self {
+    fn next(self, solver: &Solver) -> Self {
         let factor = 1 + u64::from(self.clauses(solver) == 0);
         Slice {
             budget: self.budget.saturating_mul(factor),
@@ -131,17 +131,17 @@ impl Slice {
     }
 
     // How many clauses it has learned.
-    fn clauses<A: Allocator + Copy>(self, solver: &Solver<A>) -> usize {
+    fn clauses(self, solver: &Solver) -> usize {
         solver.learned().saturating_sub(self.learned)
     }
 
     // How many clauses it may learn yet.
-    fn clauses_left<A: Allocator + Copy>(self, solver: &Solver<A>) -> usize {
+    fn clauses_left(self, solver: &Solver) -> usize {
         SETTINGS.slice_clauses.saturating_sub(self.clauses(solver))
     }
 
     // How many literals it has propagated.
-    fn work<A: Allocator + Copy>(self, solver: &Solver<A>) -> u64 {
+    fn work(self, solver: &Solver) -> u64 {
         solver
             .stats()
             .propagations
@@ -149,14 +149,14 @@ impl Slice {
     }
 
     // Whether it has learned or propagated enough.
-    fn is_over<A: Allocator + Copy>(self, solver: &Solver<A>) -> bool {
+    fn is_over(self, solver: &Solver) -> bool {
         self.clauses_left(solver) == 0 || self.work(solver) >= self.budget
     }
 }
 
 // The next slice where this one is over, and this one else. Between two slices variables are eliminated, after the first
 // one alone, and the clauses shortened that the last one learned, unless that is not wanted.
-fn end_slice<A: Allocator + Copy>(solver: &mut Solver<A>, slice: Slice) -> Result<Slice, AllocError>
+fn end_slice(solver: &mut Solver, slice: Slice) -> Result<Slice, AllocError>
     ensures { solver.new ≡ solver.old }
 {
     if !slice.is_over(solver) {
@@ -170,7 +170,7 @@ fn end_slice<A: Allocator + Copy>(solver: &mut Solver<A>, slice: Slice) -> Resul
 }
 
 // Eliminates variables if the slice was the first, and shortens the clauses that it learned, as far as that is wanted.
-fn inprocess<A: Allocator + Copy>(solver: &mut Solver<A>, slice: Slice) -> Result<(), AllocError>
+fn inprocess(solver: &mut Solver, slice: Slice) -> Result<(), AllocError>
     ensures { solver.new ≡ solver.old }
 {
     let wanted = solver.inprocessing();

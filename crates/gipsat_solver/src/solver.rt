@@ -12,7 +12,7 @@ use crate::turns::{Step, end_of_lost, solve_one_conflict};
 use gipsat_cnf::{Answer, AnswerUnder, Budget, ClauseSink, Cnf, Effort, Guess, Literal, SatSolver};
 use gipsat_kernel::Kernel;
 use gipsat_search::{Query, Search, Stats};
-use std::alloc::{AllocError, Allocator, Global};
+use std::alloc::{AllocError, Global};
 use std::marker::Model;
 
 /// What a search in slices does between them.
@@ -40,11 +40,10 @@ impl Inprocessing {
 /// A formula to which clauses may be added, and what was learned of it.
 ///
 /// It is seen as its formula, and how many clauses were learned from conflicts.
-#[derive(Drop)]
-pub struct Solver<A: Allocator = Global> {
-    alloc: A,
-    kernel: Kernel<A>,
-    search: Search<A>,
+pub struct Solver {
+    alloc: Global,
+    kernel: Kernel,
+    search: Search,
     // How many clauses were learned from conflicts.
     learned: usize,
     // How many working clauses need not be told any more.
@@ -55,7 +54,22 @@ pub struct Solver<A: Allocator = Global> {
     inprocessing: Inprocessing,
 }
 
-impl<A: Allocator> Model for Solver<A> {
+// One call in its owners' proofs, in place of one for each field.
+impl Drop for Solver {
+    fn drop(self) {
+        let Solver {
+            alloc: _,
+            kernel,
+            search,
+            learned: _,
+            told: _,
+            lost: _,
+            inprocessing: _,
+        } = self;
+    }
+}
+
+impl Model for Solver {
     ghost use Rattle.gipsat_solver.specs.Answers.{SolverState};
 
     ghost Value = { SolverState };
@@ -64,7 +78,7 @@ impl<A: Allocator> Model for Solver<A> {
 }
 
 // Tells a working clause that was derived.
-fn tell<A: Allocator + Copy, P: Progress>(kernel: &Kernel<A>, id: usize, progress: &mut P)
+fn tell<P: Progress>(kernel: &Kernel, id: usize, progress: &mut P)
     ensures { IsTrue (P.wants_stop progress.old) → IsTrue (P.wants_stop progress.new) }
 {
     if let Some(clause) = kernel.clause(id) {
@@ -72,9 +86,9 @@ fn tell<A: Allocator + Copy, P: Progress>(kernel: &Kernel<A>, id: usize, progres
     }
 }
 
-impl<A: Allocator + Copy> Solver<A> {
+impl Solver {
     /// The formula of no clause, which everything satisfies. It takes no memory yet.
-    pub fn new(alloc: A) -> Self
+    pub fn new(alloc: Global) -> Self
         ensures formula { result.formula ≡ [] }
         ensures learned { result.learned ≡ 0 }
     {
@@ -93,7 +107,7 @@ impl<A: Allocator + Copy> Solver<A> {
     ///
     /// # Errors
     /// `AllocError` where memory is refused. The formula is lost then.
-    pub fn over(alloc: A, formula: Cnf<A>) -> Result<Self, AllocError>
+    pub fn over(alloc: Global, formula: Cnf) -> Result<Self, AllocError>
         ensures formula { IfOk result (λ solver. solver.formula ≡ formula) }
         ensures learned { IfOk result (λ solver. solver.learned ≡ 0) }
     {
@@ -151,7 +165,7 @@ impl<A: Allocator + Copy> Solver<A> {
     ///
     /// # Errors
     /// `AllocError` where memory is refused. The formula stays as it was; some clauses may have been learned.
-    pub fn solve(&mut self, limit: usize) -> Result<Answer<A>, AllocError>
+    pub fn solve(&mut self, limit: usize) -> Result<Answer, AllocError>
         ensures right { IfOk result (IsRight self.old self.new limit) }
         ensures formula { self.new.formula ≡ self.old.formula }
         ensures learned { OnOk result (HasUpTo limit self.old self.new) }
@@ -177,7 +191,7 @@ impl<A: Allocator + Copy> Solver<A> {
         &mut self,
         assumptions: &[Literal],
         limit: usize,
-    ) -> Result<AnswerUnder<A>, AllocError>
+    ) -> Result<AnswerUnder, AllocError>
         ensures right { IfOk result (IsRightUnder assumptions.now self.old self.new limit) }
         ensures formula { self.new.formula ≡ self.old.formula }
         ensures learned { OnOk result (HasUpTo limit self.old self.new) }
@@ -209,7 +223,7 @@ impl<A: Allocator + Copy> Solver<A> {
         &mut self,
         assumptions: &[Literal],
         budget: Budget,
-    ) -> Result<AnswerUnder<A>, AllocError>
+    ) -> Result<AnswerUnder, AllocError>
         ensures right { IfOk result (IsRightLimited assumptions.now self.old self.new budget.clauses) }
         ensures formula { self.new.formula ≡ self.old.formula }
         ensures learned { OnOk result (HasUpTo budget.clauses self.old self.new) }
@@ -242,7 +256,7 @@ impl<A: Allocator + Copy> Solver<A> {
         &mut self,
         assumptions: &[Literal],
         limit: usize,
-    ) -> Result<Guess<A>, AllocError>
+    ) -> Result<Guess, AllocError>
         ensures right { IfOk result (IsRightGuess assumptions.now self.old self.new limit) }
         ensures formula { self.new.formula ≡ self.old.formula }
         ensures learned { OnOk result (HasUpTo limit self.old self.new) }
@@ -265,7 +279,7 @@ impl<A: Allocator + Copy> Solver<A> {
         domain: &[u32],
         assumptions: &[Literal],
         limit: usize,
-    ) -> Result<Guess<A>, AllocError>
+    ) -> Result<Guess, AllocError>
         ensures right { IfOk result (IsRightGuess assumptions.now self.old self.new limit) }
         ensures formula { self.new.formula ≡ self.old.formula }
         ensures learned { OnOk result (HasUpTo limit self.old self.new) }
@@ -280,7 +294,7 @@ impl<A: Allocator + Copy> Solver<A> {
         assumptions: &'q [Literal],
         limit: usize,
         domain: Option<&'q [u32]>,
-    ) -> Result<Guess<A>, AllocError>
+    ) -> Result<Guess, AllocError>
         ensures right { IfOk result (IsRightGuess assumptions.now self.old self.new limit) }
         ensures formula { self.new.formula ≡ self.old.formula }
         ensures learned { OnOk result (HasUpTo limit self.old self.new) }
@@ -312,7 +326,7 @@ impl<A: Allocator + Copy> Solver<A> {
     ///
     /// # Errors
     /// `AllocError` where memory is refused. The formula stays as it was; some clauses may have been learned.
-    pub fn find_model(&mut self) -> Result<Option<Vec<bool, A>>, AllocError>
+    pub fn find_model(&mut self) -> Result<Option<Vec<bool>>, AllocError>
         ensures model { IfOk result (λ found. IfSome found (λ model. IsModel self.old.formula model.items)) }
         ensures none { IfOk result (λ found. IfNone found (¬ (IsSatisfiable self.old.formula))) }
         ensures formula { self.new.formula ≡ self.old.formula }
@@ -331,7 +345,7 @@ impl<A: Allocator + Copy> Solver<A> {
         query: &Query<'_>,
         limit: usize,
         progress: &mut P,
-    ) -> Result<Option<End<A>>, AllocError>
+    ) -> Result<Option<End>, AllocError>
         ensures formula { self.new.formula ≡ self.old.formula }
         ensures right { IfOk result (λ end. IfSome end (IsRightEnd self.old.formula query.now)) }
         ensures limit { IfOk result (λ end. IfNone end (HasMore limit self.old self.new)) }
@@ -350,7 +364,7 @@ impl<A: Allocator + Copy> Solver<A> {
         limit: usize,
         has_begun: bool,
         progress: &mut P,
-    ) -> Result<Option<End<A>>, AllocError>
+    ) -> Result<Option<End>, AllocError>
         ensures formula { self.new.formula ≡ self.old.formula }
         ensures right { IfOk result (λ end. IfSome end (IsRightEnd self.old.formula query.now)) }
         ensures limit { IfOk result (λ end. IfNone end (HasMore limit self.old self.new)) }
@@ -371,7 +385,7 @@ impl<A: Allocator + Copy> Solver<A> {
         query: &Query<'_>,
         limit: usize,
         progress: &mut P,
-    ) -> Result<Option<End<A>>, AllocError>
+    ) -> Result<Option<End>, AllocError>
         ensures formula { self.new.formula ≡ self.old.formula }
         ensures right { IfOk result (λ end. IfSome end (IsRightEnd self.old.formula query.now)) }
         ensures limit { IfOk result (λ end. IfNone end (HasMore limit self.old self.new)) }
@@ -536,8 +550,8 @@ impl<A: Allocator + Copy> Solver<A> {
     }
 
     /// Drops the clauses of the formula that a literal satisfies which has to be true, as far as that is found without
-    /// a decision, and frees their memory if there is room for those that stay. Each such literal becomes a clause of the formula, so that the same
-    /// assignments satisfy it as before. The deleted clauses go too.
+    /// a decision, and frees their memory if there is room for those that stay. Each such literal becomes a clause of
+    /// the formula, so that the same assignments satisfy it as before. The deleted clauses go too.
     ///
     /// So a clause that was added with the negation of a variable is gone for good once the negation was added alone,
     /// and this was called; a clause of one literal, and the tables of the variable stay. It takes time and memory as
@@ -558,7 +572,7 @@ impl<A: Allocator + Copy> Solver<A> {
     }
 }
 
-impl<A: Allocator + Copy> ClauseSink for Solver<A> {
+impl ClauseSink for Solver {
     ghost formula = { λ solver. solver.formula };
 
     fn add_clause(&mut self, clause: &[Literal]) -> Result<(), AllocError> {
@@ -566,8 +580,8 @@ impl<A: Allocator + Copy> ClauseSink for Solver<A> {
     }
 }
 
-impl<A: Allocator + Copy> SatSolver<A> for Solver<A> {
-    fn new(alloc: A) -> Self {
+impl SatSolver for Solver {
+    fn new(alloc: Global) -> Self {
         Solver::new(alloc)
     }
 
@@ -575,7 +589,7 @@ impl<A: Allocator + Copy> SatSolver<A> for Solver<A> {
         &mut self,
         assumptions: &[Literal],
         budget: Budget,
-    ) -> Result<AnswerUnder<A>, AllocError> {
+    ) -> Result<AnswerUnder, AllocError> {
         Solver::solve_limited(self, assumptions, budget)
     }
 
@@ -584,7 +598,7 @@ impl<A: Allocator + Copy> SatSolver<A> for Solver<A> {
         domain: &[u32],
         assumptions: &[Literal],
         limit: usize,
-    ) -> Result<Guess<A>, AllocError> {
+    ) -> Result<Guess, AllocError> {
         Solver::guess_within(self, domain, assumptions, limit)
     }
 
@@ -592,7 +606,7 @@ impl<A: Allocator + Copy> SatSolver<A> for Solver<A> {
         Solver::value(self, variable)
     }
 
-    fn find_model(&mut self) -> Result<Option<Vec<bool, A>>, AllocError> {
+    fn find_model(&mut self) -> Result<Option<Vec<bool>>, AllocError> {
         Solver::find_model(self)
     }
 

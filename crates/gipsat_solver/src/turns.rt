@@ -6,31 +6,31 @@ use crate::answers::End;
 use gipsat_cnf::Literal;
 use gipsat_kernel::Kernel;
 use gipsat_search::{Query, Search, Turn};
-use std::alloc::{AllocError, Allocator};
+use std::alloc::{AllocError, Global};
 
 // How often a search may take values for a model that are none before it learns a clause.
 const WRONG_MODELS: usize = 100;
 
 // How far a search is after a turn.
 #[derive(Drop)]
-pub(crate) enum Step<A: Allocator> {
+pub(crate) enum Step {
     // It has learned a clause.
     Learned,
     // It goes on with a clause that it had left open.
     Reopened,
     // It has ended.
-    Ended(End<A>),
+    Ended(End),
     // What it told is wrong, or it gave up unasked.
     Lost,
 }
 
 // Goes on until a clause was learned, or the search ends.
-pub(crate) fn solve_one_conflict<A: Allocator + Copy>(
-    alloc: A,
-    kernel: &mut Kernel<A>,
-    search: &mut Search<A>,
+pub(crate) fn solve_one_conflict(
+    alloc: Global,
+    kernel: &mut Kernel,
+    search: &mut Search,
     query: &Query<'_>,
-) -> Result<Step<A>, AllocError>
+) -> Result<Step, AllocError>
     ensures formula { kernel.new ≡ kernel.old }
     ensures right { IfOk result (IsRightStep kernel.old query.now) }
 {
@@ -44,12 +44,12 @@ pub(crate) fn solve_one_conflict<A: Allocator + Copy>(
 }
 
 // Takes one turn. What it tells is believed only if the kernel says so.
-fn take_turn<A: Allocator + Copy>(
-    alloc: A,
-    kernel: &mut Kernel<A>,
-    search: &mut Search<A>,
+fn take_turn(
+    alloc: Global,
+    kernel: &mut Kernel,
+    search: &mut Search,
     query: &Query<'_>,
-) -> Result<Step<A>, AllocError>
+) -> Result<Step, AllocError>
     ensures formula { kernel.new ≡ kernel.old }
     ensures right { IfOk result (IsRightStep kernel.old query.now) }
 {
@@ -65,12 +65,7 @@ fn take_turn<A: Allocator + Copy>(
 }
 
 // Ends with values that are a model. Else the search goes on with a clause that they leave open.
-fn step_of_model<A: Allocator + Copy>(
-    kernel: &Kernel<A>,
-    search: &mut Search<A>,
-    query: &Query<'_>,
-    values: Vec<bool, A>,
-) -> Step<A>
+fn step_of_model(kernel: &Kernel, search: &mut Search, query: &Query<'_>, values: Vec<bool>) -> Step
     ensures { IsRightStep kernel.now query.now result }
 {
     if kernel.is_model(&values, query.assumptions) {
@@ -84,12 +79,12 @@ fn step_of_model<A: Allocator + Copy>(
 }
 
 // Ends with the negations of a working clause's literals, if each of them is assumed.
-fn step_of_core<A: Allocator + Copy>(
-    alloc: A,
-    kernel: &mut Kernel<A>,
+fn step_of_core(
+    alloc: Global,
+    kernel: &mut Kernel,
     query: &Query<'_>,
     id: usize,
-) -> Result<Step<A>, AllocError>
+) -> Result<Step, AllocError>
     ensures formula { kernel.new ≡ kernel.old }
     ensures right { IfOk result (IsRightStep kernel.old query.now) }
 {
@@ -100,12 +95,12 @@ fn step_of_core<A: Allocator + Copy>(
 }
 
 // Ends with the core of a literal and its negation, if both are assumed.
-fn step_of_contradiction<A: Allocator + Copy>(
-    alloc: A,
-    kernel: &Kernel<A>,
+fn step_of_contradiction(
+    alloc: Global,
+    kernel: &Kernel,
     query: &Query<'_>,
     l: Literal,
-) -> Result<Step<A>, AllocError>
+) -> Result<Step, AllocError>
     ensures { IfOk result (IsRightStep kernel.now query.now) }
 {
     let (a, b) = (l, l.negated());
@@ -118,11 +113,11 @@ fn step_of_contradiction<A: Allocator + Copy>(
 }
 
 // How a search ends that told something wrong: its budget counts as spent, if it has one. Else all values are tried.
-pub(crate) fn end_of_lost<A: Allocator + Copy>(
-    alloc: A,
-    kernel: &Kernel<A>,
+pub(crate) fn end_of_lost(
+    alloc: Global,
+    kernel: &Kernel,
     query: &Query<'_>,
-) -> Result<End<A>, AllocError>
+) -> Result<End, AllocError>
     ensures { IfOk result (IsRightEnd kernel.now query.now) }
 {
     if query.propagations < u64::MAX {
@@ -132,11 +127,7 @@ pub(crate) fn end_of_lost<A: Allocator + Copy>(
 }
 
 // A model that makes the assumptions true, or all of these as a core, by trying all values.
-fn try_all<A: Allocator + Copy>(
-    alloc: A,
-    kernel: &Kernel<A>,
-    query: &Query<'_>,
-) -> Result<End<A>, AllocError>
+fn try_all(alloc: Global, kernel: &Kernel, query: &Query<'_>) -> Result<End, AllocError>
     ensures { IfOk result (IsRightEnd kernel.now query.now) }
 {
     if let Some(model) = kernel.find_model(alloc, query.assumptions)? {

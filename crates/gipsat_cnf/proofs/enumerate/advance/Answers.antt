@@ -5,14 +5,14 @@ use Rattle.gipsat_cnf.proofs.Counting.{number-set_false, number-set_true, twice_
 use Rattle.gipsat_cnf.proofs.enumerate.advance.Goals as goal
 
 pub returns-then-not-index-clause-next : goal.returns-then-not-index-clause-next
-returns-then-not-index-clause-next g c =
+returns-then-not-index-clause-next c =
     let values = c.loop-place.values.items in
     let within : c.loop-place.place < length c.loop-place.values.items = grind (arith, common_steps) in
     let off : get_or c.loop-place.values.items c.loop-place.place false ≡ false = grind (arith, common_steps) in
     omega (arith, number-set_true values c.loop-place.place within off, c.loop-place.invariant.carried)
 
 pub loop-place-preserved : goal.loop-place-preserved
-loop-place-preserved g c =
+loop-place-preserved c =
     let values = c.loop-place.values.items in
     let on : get_or c.loop-place.values.items c.loop-place.place false ≡ true = grind (arith, common_steps) in
     record {

@@ -8,7 +8,7 @@ use Rattle.gipsat_cnf.proofs.Counting.{AreAllBelow-more, NoneBelow-all, NoneBelo
 use Rattle.gipsat_cnf.proofs.enumerate.find_model.Goals as goal
 
 pub loop-values-init : goal.loop-values-init
-loop-values-init g c =
+loop-values-init c =
     let n = c.variables_with.result in
     let len : length c.in_ok-values.values.items ≡ c.variables_with.result = ap length c.in_ok-values.ensures ∙ length-replicate n _ in
     record {
@@ -20,7 +20,7 @@ loop-values-init g c =
     }
 
 pub returns-then-not-advance-clause-none : goal.returns-then-not-advance-clause-none
-returns-then-not-advance-clause-none g c =
+returns-then-not-advance-clause-none c =
     let values = c.loop-values.values.items in
     let not_it : ¬ (IsModelUnder c.args.formula.now c.args.assumptions.now c.loop-values.values.items) =
     subst (λ vs. ¬ (IsModelUnder c.args.formula.now c.args.assumptions.now vs)) c.deref.ensures.value c.if-is_model.ensures.no
@@ -32,13 +32,13 @@ returns-then-not-advance-clause-none g c =
     (NoneBelow-next c.args.formula.now c.args.assumptions.now (length values) values (number values + 1) refl refl not_it c.loop-values.invariant.none)
 
 pub loop-values-smaller : goal.loop-values-smaller
-loop-values-smaller g c =
+loop-values-smaller c =
     let len : length c.advance.new.values.items ≡ length c.loop-values.values.items = c.if-not-advance.ensures.len in
     let next : number c.advance.new.values.items ≡ number c.loop-values.values.items + 1 = c.if-not-advance.ensures.next in
     distance-less c.loop-values.values.items c.advance.new.values.items len next
 
 pub loop-values-preserved : goal.loop-values-preserved
-loop-values-preserved g c =
+loop-values-preserved c =
     let values = c.loop-values.values.items in
     let len : length c.advance.new.values.items ≡ length c.loop-values.values.items = c.if-not-advance.ensures.len in
     let next : number c.advance.new.values.items ≡ number c.loop-values.values.items + 1 = c.if-not-advance.ensures.next in

@@ -5,11 +5,11 @@ use Rattle.gipsat_cnf.specs.Numbers.{NoneBelow, number}
 use Rattle.gipsat_cnf.proofs.enumerate.find_model.Given as goal
 
 abbrev pub invariant-loop-values : goal.invariant-loop-values
-invariant-loop-values g l = record {
+invariant-loop-values l = record {
   below : AreAllBelow (length l.values.items) l.formula;
   assumed : AreBelow (length l.values.items) l.assumptions;
   none : NoneBelow l.formula l.assumptions (length l.values.items) (number l.values.items);
 }
 
 abbrev pub decreases-loop-values : goal.decreases-loop-values
-decreases-loop-values g l = 2 ^ length l.values.items - number l.values.items
+decreases-loop-values l = 2 ^ length l.values.items - number l.values.items

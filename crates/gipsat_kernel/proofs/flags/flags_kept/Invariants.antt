@@ -3,4 +3,4 @@ use Rattle.gipsat_cnf.specs.Lists.{retained}
 use Rattle.gipsat_kernel.proofs.flags.flags_kept.Given as goal
 
 abbrev pub invariant-loop-place : goal.invariant-loop-place
-invariant-loop-place g l = l.kept.items ≡ retained l.stays (take l.place l.flags)
+invariant-loop-place l = l.kept.items ≡ retained l.stays (take l.place l.flags)

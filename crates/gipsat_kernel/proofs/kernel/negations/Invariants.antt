@@ -3,4 +3,4 @@ use Rattle.gipsat_cnf.specs.Literals.{negated}
 use Rattle.gipsat_kernel.proofs.kernel.negations.Given as goal
 
 abbrev pub invariant-loop-l : goal.invariant-loop-l
-invariant-loop-l g l = l.negations.items ≡ map negated (take l.l-index l.clause)
+invariant-loop-l l = l.negations.items ≡ map negated (take l.l-index l.clause)

@@ -3,6 +3,6 @@ use Rattle.gipsat_kernel.proofs.Verdicts.{OnTrue-then}
 use Rattle.gipsat_kernel.proofs.marks.is_part.Goals as goal
 
 pub returns-clause-part : goal.returns-clause-part
-returns-clause-part g c =
+returns-clause-part c =
     OnTrue-then c.are_marked-all.result
     (λ marked. AreHadBy-marked c.args.others.now c.args.clause.now c.mark_known.new.flags.items c.mark_known.ensures marked) c.are_marked-all.ensures

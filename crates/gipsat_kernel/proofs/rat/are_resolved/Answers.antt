@@ -6,7 +6,7 @@ use Rattle.gipsat_kernel.proofs.RatLemmas.{AreResolved-next}
 use Rattle.gipsat_kernel.proofs.rat.are_resolved.Goals as goal
 
 pub loop-place-preserved : goal.loop-place-preserved
-loop-place-preserved g c =
+loop-place-preserved c =
     AreResolved-next c.args.held.now c.args.clauses.now c.args.opposite c.args.clause.now c.loop-place.place
     (λ d flagged at has.
     subst (λ e. HasResolvent (original_among c.args.held.now c.args.clauses.now) c.args.opposite c.args.clause.now e)

@@ -2,4 +2,4 @@ use Rattle.std.proofs.Common.{◌≡◌}
 use Rattle.gipsat_search.proofs.derive.drop_root.Given as goal
 
 abbrev pub invariant-loop-index : goal.invariant-loop-index
-invariant-loop-index g l = l.kernel ≡ l.fn.kernel
+invariant-loop-index l = l.kernel ≡ l.fn.kernel

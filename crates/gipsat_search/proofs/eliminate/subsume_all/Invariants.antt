@@ -2,4 +2,4 @@ use Rattle.std.proofs.Common.{◌≡◌}
 use Rattle.gipsat_search.proofs.eliminate.subsume_all.Given as goal
 
 abbrev pub invariant-loop : goal.invariant-loop
-invariant-loop g l = l.kernel ≡ l.fn.kernel
+invariant-loop l = l.kernel ≡ l.fn.kernel

@@ -3,4 +3,4 @@ use Rattle.gipsat_cnf.specs.Lists.{retained}
 use Rattle.gipsat_cnf.proofs.cnf.Cnf.kept.Given as goal
 
 abbrev pub invariant-loop-place : goal.invariant-loop-place
-invariant-loop-place g l = l.kept ≡ retained l.stays (take l.place l.self)
+invariant-loop-place l = l.kept ≡ retained l.stays (take l.place l.self)

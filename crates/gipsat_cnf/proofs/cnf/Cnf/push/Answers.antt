@@ -4,7 +4,7 @@ use Rattle.gipsat_cnf.proofs.LayoutLemmas.{clauses-append, IsLaidOut-push}
 use Rattle.gipsat_cnf.proofs.cnf.Cnf.push.Goals as goal
 
 pub invariant_of-self-2 : goal.invariant_of-self-2
-invariant_of-self-2 g c =
+invariant_of-self-2 c =
     let from : c.in-Some.span.start ≡ length c.self.inside.literals.items = grind (arith, common_steps) in
     let to : c.in-Some.span.end ≡ length c.self.inside.literals.items + length c.args.clause.now = grind (arith, common_steps) in
     let counted = c.variables_with-self-inside.ensures in
@@ -13,7 +13,7 @@ invariant_of-self-2 g c =
     from to counted.least (counted.small c.self.invariant.small) counted.below c.self.invariant)
 
 pub returns-clause-added : goal.returns-clause-added
-returns-clause-added g c =
+returns-clause-added c =
     let from : c.in-Some.span.start ≡ length c.self.inside.literals.items = grind (arith, common_steps) in
     let to : c.in-Some.span.end ≡ length c.self.inside.literals.items + length c.args.clause.now = grind (arith, common_steps) in
     rw (c.in_ok-extend_from_slice.ensures.items, c.push_reserved.ensures.items, c.reserve.ensures.items, ← c.self.view_is)

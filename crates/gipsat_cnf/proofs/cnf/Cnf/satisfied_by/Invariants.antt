@@ -5,5 +5,5 @@ use Rattle.gipsat_cnf.specs.Models.{assignment_in}
 use Rattle.gipsat_cnf.proofs.cnf.Cnf.satisfied_by.Given as goal
 
 abbrev pub invariant-loop-place : goal.invariant-loop-place
-invariant-loop-place g l =
+invariant-loop-place l =
     (k : ℕ) (c : Clause) → k < l.place → slice_get l.self k ≡ Some c → satisfies_clause (assignment_in l.values) c ≡ true

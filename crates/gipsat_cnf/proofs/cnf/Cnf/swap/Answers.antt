@@ -7,7 +7,7 @@ use Rattle.gipsat_cnf.proofs.Swaps.{IsLaidOut-swapped, KeepsBut-swapped, Reorder
 use Rattle.gipsat_cnf.proofs.cnf.Cnf.swap.Goals as goal
 
 pub invariant_of-self : goal.invariant_of-self
-invariant_of-self g c =
+invariant_of-self c =
     let spans = c.self.inside.spans.items in
     let inside : c.args.place < length c.self.inside.spans.items = grind (arith, common_steps) in
     let at = slice_get_read spans (length c.self.inside.spans.items) c.args.place c.index-span.result.now refl inside c.index-span.ensures in
@@ -17,7 +17,7 @@ invariant_of-self g c =
     len c.swap.ensures.by_index (omega (arith, own.0, own.1)) (omega (arith, own.0, own.1))
 
 pub returns-clause-literals : goal.returns-clause-literals
-returns-clause-literals g c =
+returns-clause-literals c =
     let spans = c.self.inside.spans.items in
     let inside : c.args.place < length c.self.inside.spans.items = grind (arith, common_steps) in
     let at = slice_get_read spans (length c.self.inside.spans.items) c.args.place c.index-span.result.now refl inside c.index-span.ensures in
@@ -29,7 +29,7 @@ returns-clause-literals g c =
     (omega arith) (omega (arith, own.0)) (omega arith) (omega (arith, own.0)))
 
 pub returns-clause-others : goal.returns-clause-others
-returns-clause-others g c =
+returns-clause-others c =
     let spans = c.self.inside.spans.items in
     let inside : c.args.place < length c.self.inside.spans.items = grind (arith, common_steps) in
     let at = slice_get_read spans (length c.self.inside.spans.items) c.args.place c.index-span.result.now refl inside c.index-span.ensures in

@@ -6,7 +6,7 @@ use Rattle.gipsat_kernel.proofs.Verdicts.{IsCore-negations}
 use Rattle.gipsat_kernel.proofs.kernel.Kernel.core.Goals as goal
 
 pub returns-clause-core : goal.returns-clause-core
-returns-clause-core g c =
+returns-clause-core c =
     let implied : Implies c.args.self.now c.clause.result.now =
     subst (λ f. Implies f c.clause.result.now) c.self.view_is (c.self.invariant.implied c.args.id c.clause.result.now c.clause.ensures)
     in

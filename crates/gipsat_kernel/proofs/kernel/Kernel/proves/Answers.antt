@@ -5,7 +5,7 @@ use Rattle.gipsat_kernel.proofs.Verdicts.{OnTrue-then}
 use Rattle.gipsat_kernel.proofs.kernel.Kernel.proves.Goals as goal
 
 pub returns-then-id-len-clause-follows : goal.returns-then-id-len-clause-follows
-returns-then-id-len-clause-follows g c =
+returns-then-id-len-clause-follows c =
     let implied : Implies c.args.self.now c.clause.result.now =
     subst (λ f. Implies f c.clause.result.now) c.self.view_is (c.self.invariant.implied c.args.id c.clause.result.now c.clause.ensures)
     in

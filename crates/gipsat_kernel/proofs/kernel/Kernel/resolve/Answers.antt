@@ -4,7 +4,7 @@ use Rattle.gipsat_kernel.proofs.Kernels.{IsKernel-resolved}
 use Rattle.gipsat_kernel.proofs.kernel.Kernel.resolve.Goals as goal
 
 pub invariant_of-self-2 : goal.invariant_of-self-2
-invariant_of-self-2 g c =
+invariant_of-self-2 c =
     IsKernel-resolved c.self.inside.original.items c.self.inside.clauses c.self.inside.marks c.remove.new.self c.add_but.new.self c.self.inside.is_open
     c.args.pivot c.args.id c.clause.result.now c.if-not-self.false c.clause.ensures
     (subst (λ l. KeepsMarksBut l c.self.inside.marks c.remove.new.self) c.negated-opposite.ensures c.remove.ensures)

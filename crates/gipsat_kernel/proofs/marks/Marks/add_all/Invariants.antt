@@ -5,4 +5,4 @@ use Rattle.gipsat_kernel.specs.Marks.{is_marked}
 use Rattle.gipsat_kernel.proofs.marks.Marks.add_all.Given as goal
 
 abbrev pub invariant-loop-l : goal.invariant-loop-l
-invariant-loop-l g l = (k : ℕ) (m : Lit) → k < l.l-index → slice_get l.clause k ≡ Some m → is_marked l.self m ≡ true
+invariant-loop-l l = (k : ℕ) (m : Lit) → k < l.l-index → slice_get l.clause k ≡ Some m → is_marked l.self m ≡ true

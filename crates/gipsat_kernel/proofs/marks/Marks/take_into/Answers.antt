@@ -4,10 +4,10 @@ use Rattle.gipsat_kernel.proofs.Marking.{AreListed-none, OnOk-takes}
 use Rattle.gipsat_kernel.proofs.marks.Marks.take_into.Goals as goal
 
 pub invariant_of-self : goal.invariant_of-self
-invariant_of-self g c = AreListed-none c.gather-count.new.flags.items _ c.gather-count.ensures.taken.clear
+invariant_of-self c = AreListed-none c.gather-count.new.flags.items _ c.gather-count.ensures.taken.clear
 
 pub returns-clause-taken : goal.returns-clause-taken
-returns-clause-taken g c =
+returns-clause-taken c =
     let n = c.gather-count.result in
     let all : AreListed c.args.self.now (take c.gather-count.result c.deref.result.now) =
     subst (λ flags. AreListed flags (take n c.deref.result.now)) c.self.view_is

@@ -7,7 +7,7 @@ use Rattle.gipsat_kernel.proofs.RatLemmas.{KeepsSatisfiable-rat}
 use Rattle.gipsat_kernel.proofs.rat.RatKernel.add_rat.Goals as goal
 
 pub returns : goal.returns
-returns g c =
+returns c =
     let fs = c.self.inside.held.items in
     let cs = c.self.inside.clauses in
     let clause = c.args.clause.now in

@@ -4,7 +4,7 @@ use Rattle.gipsat_kernel.proofs.RatLemmas.{IsRatKernel-tautology}
 use Rattle.gipsat_kernel.proofs.rat.RatKernel.begin_tautology.Goals as goal
 
 pub invariant_of-self-2 : goal.invariant_of-self-2
-invariant_of-self-2 g c =
+invariant_of-self-2 c =
     IsRatKernel-tautology c.self.inside.held.items c.self.inside.clauses c.add.new.self c.add-2.new.self c.args.l c.self.invariant.as_many
     c.in_ok-add.ensures.added c.in_ok-add-2.ensures.grows
     (subst (λ m. is_marked c.add-2.new.self m ≡ true) c.negated.ensures c.in_ok-add-2.ensures.added)

@@ -6,7 +6,7 @@ use Rattle.gipsat_kernel.proofs.RatLemmas.{Implies-taken-part, KeepsSatisfiable-
 use Rattle.gipsat_kernel.proofs.rat.RatKernel.conclude.Goals as goal
 
 pub returns : goal.returns
-returns g c =
+returns c =
     let fs = c.self.inside.held.items in
     let cs = c.self.inside.clauses in
     let formula = original_among fs cs in

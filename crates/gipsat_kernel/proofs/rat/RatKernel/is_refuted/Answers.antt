@@ -8,7 +8,7 @@ use Rattle.gipsat_kernel.proofs.Verdicts.{OnTrue-empty, refutes}
 use Rattle.gipsat_kernel.proofs.rat.RatKernel.is_refuted.Goals as goal
 
 pub returns-then-flag_at : goal.returns-then-flag_at
-returns-then-flag_at g c =
+returns-then-flag_at c =
     let flagged : slice_index_or c.self.inside.held.items c.args.id false ≡ true = grind (arith, common_steps) in
     OnTrue-empty c.is_empty.result c.clause.result.now c.is_empty.ensures
     (λ none. subst (λ f. ¬ (IsSatisfiable f)) c.self.view_is

@@ -6,9 +6,9 @@ use Rattle.gipsat_kernel.proofs.RatLemmas.{IsRatKernel-idle}
 use Rattle.gipsat_kernel.proofs.rat.RatKernel.over.Goals as goal
 
 pub invariant_of-result : goal.invariant_of-result
-invariant_of-result g c =
+invariant_of-result c =
     IsRatKernel-idle c.in_ok-held.held.items c.args.formula _ (ap length c.in_ok-held.ensures ∙ length-replicate c.len.result true ∙ c.len.ensures)
 
 pub returns : goal.returns
-returns g c =
+returns c =
     ap (λ fs. original_among fs c.args.formula) c.in_ok-held.ensures ∙ original_among-all c.args.formula c.len.result c.len.ensures

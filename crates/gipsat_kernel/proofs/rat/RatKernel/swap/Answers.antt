@@ -5,11 +5,11 @@ use Rattle.gipsat_kernel.proofs.RatLemmas.{IsRatKernel-swapped, KeepsSatisfiable
 use Rattle.gipsat_kernel.proofs.rat.RatKernel.swap.Goals as goal
 
 pub invariant_of-self : goal.invariant_of-self
-invariant_of-self g c =
+invariant_of-self c =
     IsRatKernel-swapped c.self.inside.held.items c.self.inside.clauses c.swap.new.self c.self.inside.marks c.self.inside.is_open
     c.swap.ensures.len c.swap.ensures.literals c.self.invariant
 
 pub returns : goal.returns
-returns g c =
+returns c =
     subst (λ old. KeepsSatisfiable old (original_among c.self.inside.held.items c.swap.new.self)) c.self.view_is
     (KeepsSatisfiable-swapped c.self.inside.held.items c.self.inside.clauses c.swap.new.self c.swap.ensures.literals)

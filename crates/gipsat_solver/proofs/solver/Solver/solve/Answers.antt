@@ -5,7 +5,7 @@ use Rattle.gipsat_solver.proofs.solver.Solver.solve.Goals as goal
 use Rattle.gipsat_solver.proofs.solver.Solver.solve.Goals.{in-Sat, in-Unsat, in-Unknown}
 
 pub returns-clause-right : goal.returns-clause-right
-returns-clause-right g c =
+returns-clause-right c =
     let old = c.args.self.now in
     let new = c.solve_under.new.self in
     elim c.match-branch-2.branch [
