@@ -10,14 +10,14 @@ use Rattle.gip_lines.specs.declared.scripts.lines.Line.{Line}
 use Rattle.gip_lines.specs.declared.scripts.lines.Line.TheVariants as line
 use Rattle.gip_lines.proofs.MatchingReplies.{number, matches}
 use Rattle.giputils_heap.specs.Record as run
-use Rattle.giputils_heap.specs.Comparers.{by_rank}
-use Rattle.giputils_heap.specs.Keys.{without}
-use Rattle.giputils_heap.specs.Relations.{agree_on}
+use Rattle.giputils_bounded.specs.Comparers.{by_rank}
+use Rattle.giputils_bounded.specs.Keys.{without}
+use Rattle.giputils_bounded.specs.Relations.{agree_on}
 use Rattle.giputils_heap.specs.declared.run.HeapCall.{HeapCall}
 use Rattle.giputils_heap.specs.declared.run.HeapCall.TheVariants as call
 use Rattle.giputils_heap.specs.declared.run.HeapReply.{HeapReply}
 use Rattle.giputils_heap.specs.declared.run.HeapStep.{HeapStep}
-use Rattle.giputils_heap.proofs.Preorders.{IsLawful-everywhere}
+use Rattle.giputils_bounded.proofs.Preorders.{IsLawful-everywhere}
 use Rattle.giputils_heap.proofs.ComparerOrders.{IsTotalPreorder-by_rank, AgreesExcept-by_rank}
 use Rattle.giputils_heap.proofs.Steady.{agrees_with_last-same}
 use Rattle.giputils_text.specs.Lines.{line_feed}

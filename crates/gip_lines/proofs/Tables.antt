@@ -7,7 +7,7 @@ use Rattle.std.proofs.Math.Numerals.{add-one, suc-eq-add-one}
 use Rattle.std.proofs.lemmas.List.{get_or-drop, length-drop}
 use Rattle.gip_lines.specs.Scripts.Steps.{Table, call_of, gives_ranks, step_of, steps_from, tables_from}
 use Rattle.std.proofs.lemmas.List.Elements.{All-nil, All-cons}
-use Rattle.giputils_heap.specs.Bounds.{count_limit}
+use Rattle.giputils_bounded.specs.Bounds.{count_limit}
 use Rattle.giputils_heap.specs.Record.{CanCount}
 use Rattle.gip_lines.specs.Scripts.Replies.{ranks_after}
 use Rattle.gip_lines.specs.declared.scripts.lines.Line.{Line}

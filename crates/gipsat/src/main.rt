@@ -6,41 +6,27 @@
 //! error.
 #![tactic(auto)]
 
-ghost use Rattle.std.specs.Prelude.{◌≡◌, ◌≢◌, ℕ, IfOk, IfErr, IfSome, OnOk, IsErrOf, Some};
-ghost use Rattle.std.specs.Io.KnownBytes.{IsAtEnd};
+ghost use Rattle.std.specs.Prelude.{◌≡◌, IfOk, IfSome, Some};
 ghost use Rattle.std.specs.Process.{exit_status};
 ghost use Rattle.gipsat_answers.specs.Assumed.{literals_in};
-ghost use Rattle.gipsat_drat.specs.Outcomes.{WritesOutcome};
-ghost use Rattle.gipsat_dimacs.specs.Inputs.{HasForm, OfProblem, WritesNone};
-ghost use Rattle.gipsat_dimacs.specs.declared.rule.HeaderRule.TheVariants.{Strict};
 ghost use Rattle.gipsat.specs.Statuses.{checking_status, solving_status};
 
-mod about;
-mod convert;
-mod errors;
-mod files;
 mod models;
-mod options;
-mod proof_file;
 mod questions;
 mod solve;
 mod watch;
 
-use about::{ABOUT, Text};
-use convert::convert_files;
-use errors::Failure;
-use files::{Output, Source};
 use gip_program::{begin, explain, refuse, tell};
 use gipsat_answers::{Enumerated, Solved, Verdict, read_literals};
 use gipsat_cnf::Literal;
-use gipsat_dimacs::{DimacsError, Reason};
-use gipsat_drat::error::{DratError, Notes, Outcome};
-use gipsat_drat::task::check_text_noting;
+use gipsat_command::{
+    ABOUT, Failure, Options, Output, Source, Task, Text, check_files, convert_proof,
+};
+use gipsat_dimacs::DimacsError;
+use gipsat_drat::Outcome;
 use models::{Wanted, enumerate};
-use options::{Options, Task};
 use questions::answer;
 use solve::{SolveError, solve};
-use std::io::{Read, Write};
 use std::process::ExitCode;
 use watch::WatchedReader;
 
@@ -81,24 +67,6 @@ fn end_check(rt: &HostRuntime, proof: Option<&str>, ended: Result<Outcome, Failu
     }
 }
 
-// Tells that a terminal is read.
-fn announce(rt: &HostRuntime, source: &Source) {
-    if source.is_terminal() {
-        let _ = eprintln!(rt; "c reading standard input");
-    }
-}
-
-// Tells how many deletions of the proof in this file were passed over.
-fn warn(rt: &HostRuntime, proof: Option<&str>, notes: Notes) {
-    if let Some(first) = notes.first {
-        let name = proof.unwrap_or("<stdin>");
-        let missing = notes.missing;
-        let _ = eprintln!(rt;
-            "c {name}: deletions of what is not there were passed over: {missing}, the first at {first}"
-        );
-    }
-}
-
 // Solves the formula of the file that the options name, or of standard input, and writes the answer to standard output.
 fn solve_file<'a>(rt: &HostRuntime, options: &Options<'a>) -> Result<Verdict, Failure<'a>> {
     let assumed = literals(rt, Text::Assume, options.assume)?;
@@ -106,7 +74,7 @@ fn solve_file<'a>(rt: &HostRuntime, options: &Options<'a>) -> Result<Verdict, Fa
     let mut source = Source::open(rt, options.file)?;
     let mut output = Output::new(rt);
     if !options.quiet {
-        announce(rt, &source);
+        source.announce(rt);
     }
     if source.has_questions()? {
         return answer_file(rt, options, source, output);
@@ -195,60 +163,4 @@ fn literals<'a>(
         Err(DimacsError::Line(_, reason)) => Err(Failure::Literals(option, reason)),
         Err(_) => Err(Failure::Memory),
     }
-}
-
-// Checks the proof in a file beside the formula in another. None is standard input.
-fn check_files<'a>(
-    rt: &HostRuntime,
-    formula: Option<&'a str>,
-    proof: Option<&'a str>,
-) -> Result<Outcome, Failure<'a>> {
-    let name = proof;
-    let mut formula = Source::open(rt, formula)?;
-    let mut proof = Source::open(rt, proof)?;
-    let mut output = Output::new(rt);
-    let mut notes = Notes::new();
-    announce(rt, &formula);
-    announce(rt, &proof);
-    match check(rt, &mut formula, &mut proof, &mut output, &mut notes) {
-        Ok(outcome) => {
-            warn(rt, name, notes);
-            Ok(outcome)
-        }
-        Err(error) => Err(formula.check_failure(&proof, &output, error)),
-    }
-}
-
-// Checks the proof in a file, and writes one with hints to another. None is standard input.
-fn convert_proof<'a>(
-    rt: &HostRuntime,
-    options: &Options<'a>,
-    proof: Option<&'a str>,
-    out: &'a str,
-) -> Result<Outcome, Failure<'a>> {
-    let mut source = Source::open(rt, proof)?;
-    let mut notes = Notes::new();
-    announce(rt, &source);
-    let outcome = convert_files(rt, options, &mut source, out, &mut notes)?;
-    warn(rt, proof, notes);
-    Ok(outcome)
-}
-
-// Checks as `check_text_noting` does.
-fn check<F: Read, P: Read, W: Write>(
-    rt: &HostRuntime,
-    formula: &mut F,
-    proof: &mut P,
-    writer: &mut W,
-    notes: &mut Notes,
-) -> Result<Outcome, DratError>
-    ensures read_to_end { OnOk result (IsAtEnd (F.remaining formula.new)) }
-    ensures has_form { OnOk result (HasForm Strict (F.remaining formula.old)) }
-    ensures written { IfOk result (λ outcome. OfProblem Strict (F.remaining formula.old) (λ problem.
-        WritesOutcome problem outcome (W.contents writer.old) (W.contents writer.new))) }
-    ensures line { (line : ℕ) (reason : Reason) → IsErrOf result (DratError.Formula (DimacsError.Line line reason)) →
-        WritesNone Strict (F.remaining formula.old) }
-    ensures unwritten { IfErr result (λ error. error ≢ DratError.Output → writer.new ≡ writer.old) }
-{
-    check_text_noting(rt.alloc(), formula, proof, writer, notes)
 }

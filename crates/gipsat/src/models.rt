@@ -8,15 +8,14 @@ ghost use Rattle.gipsat_answers.specs.Enumeration.{IsOpen, IsRightVerdict, Write
 ghost use Rattle.gipsat_dimacs.specs.Inputs.{HasForm, IsRefusedAt, OfProblem, WritesNone};
 ghost use Rattle.gipsat.specs.Models.{projection_of};
 
-use crate::about::Text;
-use crate::options::Options;
 use crate::solve::{SolveError, read_assuming};
 use crate::watch::{TimeLimit, Watch};
 use gipsat_answers::{Enumerated, Models, are_named, first_variables, write_models};
 use gipsat_cnf::{Cnf, Literal};
+use gipsat_command::{Options, Text};
 use gipsat_dimacs::{DimacsError, Instance, Reason};
 use gipsat_solver::progress::{Both, Progress};
-use std::alloc::{AllocError, Global};
+use std::alloc::AllocError;
 use std::io::{Read, Write};
 
 /// Which models are wanted.

@@ -3,10 +3,10 @@ ghost use Rattle.std.specs.Prelude.{is_some, IfOk, IsTrue, OnOk};
 ghost use Rattle.std.specs.Io.KnownBytes.{IsAtEnd};
 ghost use Rattle.gipsat_answers.specs.Questions.{AsksQuestions, IsRightOfAll, OfQuestions, WritesReplies};
 
-use crate::options::Options;
 use crate::solve::task_of;
 use crate::watch::{TimeLimit, Watch};
 use gipsat_answers::{Replies, answer_questions};
+use gipsat_command::Options;
 use gipsat_dimacs::DimacsError;
 use gipsat_solver::progress::Both;
 use std::io::{Read, Write};

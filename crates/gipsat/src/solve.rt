@@ -8,17 +8,17 @@ ghost use Rattle.gipsat_dimacs.specs.Inputs.{HasForm, IsRefusedAt, OfProblem, Wr
 ghost use Rattle.gipsat_dimacs.specs.declared.error.DimacsError.TheVariants as dimacs_error;
 ghost use Rattle.gipsat.specs.declared.solve.SolveError.TheVariants as solve_error;
 
-use crate::about::Text;
-use crate::options::Options;
-use crate::proof_file::{self, ProofError};
 use crate::watch::{TimeLimit, Watch};
 use gip_program::NewFile;
 use gipsat_answers::{Solved, Task, Verdict, are_named, assume, solve_instance};
 use gipsat_cnf::{Cnf, Literal};
+use gipsat_command::proof_file::{self, ProofError};
+use gipsat_command::{Options, Text};
 use gipsat_dimacs::{DimacsError, Instance, Reason, read_instance_by};
 use gipsat_drat_writer::{Fault, Form, Format, ProofWriter};
+use gipsat_solver::Inprocessing;
 use gipsat_solver::progress::{Both, Progress};
-use std::alloc::{AllocError, Global};
+use std::alloc::AllocError;
 use std::io::{Read, Write};
 
 /// Why a formula was not solved.
@@ -127,8 +127,16 @@ pub fn task_of(options: &Options) -> Task
 {
     Task {
         limit: options.conflicts,
-        inprocessing: options.inprocessing(),
+        inprocessing: inprocessing_of(options),
         witness: options.witness,
+    }
+}
+
+// What the search does at its pauses.
+fn inprocessing_of(options: &Options) -> Inprocessing {
+    Inprocessing {
+        eliminates: options.eliminate,
+        vivifies: options.vivify,
     }
 }
 

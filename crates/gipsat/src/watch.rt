@@ -1,9 +1,9 @@
 //! How far a run is, in lines on standard error, and when its time is over.
 ghost use Rattle.std.specs.Prelude.{◌≡◌, ◌&&◌, false, not, IfOk};
 
-use crate::options::Options;
 use gip_program::{Clock, Comments, Peak, Seconds, every_interval};
 use gipsat_cnf::{Cnf, Literal};
+use gipsat_command::Options;
 use gipsat_dimacs::Instance;
 use gipsat_solver::progress::{Progress, Report};
 use giputils_stat::logger::IntervalLogger;

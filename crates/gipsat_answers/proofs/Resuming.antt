@@ -7,7 +7,7 @@ use Rattle.gipsat_cnf.specs.declared.answers.Answer.TheVariants.{Sat, Unsat, Unk
 use Rattle.gipsat_solver.specs.Answers.{IsRight, SolverState}
 
 -- an answer that is right within what is left of a limit
-pub IsRight-later : {A : Type 0} (old mid new : SolverState) (left limit : ℕ) (answer : Answer A) → mid.formula ≡ old.formula
+pub IsRight-later : (old mid new : SolverState) (left limit : ℕ) (answer : Answer) → mid.formula ≡ old.formula
     → mid.learned + left ≡ old.learned + limit → IsRight mid new left answer → IsRight old new limit answer
 IsRight-later old mid new left limit (Sat model) same sum right = subst (λ f. IsModel f model.items) same right
 IsRight-later old mid new left limit Unsat same sum right = subst (λ f. ¬ (IsSatisfiable f)) same right

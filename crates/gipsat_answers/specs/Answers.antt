@@ -67,7 +67,7 @@ abbrev pub problem_of : ℕ → Formula → Problem
 problem_of variables formula = record { variables = variables; clauses = formula }
 
 -- the verdict and the text are right for each formula for which the answer is
-abbrev pub TellsRight : {A : Type 0} → Bool → ℕ → Answer A → Verdict → List ℕ → Type 0
+abbrev pub TellsRight : Bool → ℕ → Answer → Verdict → List ℕ → Type 0
 TellsRight witness variables answer verdict text =
     (old new : SolverState) (limit : ℕ) → old.learned ≡ 0 → IsRight old new limit answer
     → IsRightText witness (problem_of variables old.formula) limit new verdict text
@@ -79,10 +79,10 @@ WritesVerdict witness problem limit known verdict old new =
     (text : List ℕ) × IsRightText witness problem limit known verdict text × Appends old new text
 
 -- a writer that held the one holds the other after the text of a right answer, with values if they are wanted
-abbrev pub WritesAnswerWith : {A : Type 0} → Bool → Problem → ℕ → Solved A → Option (List ℕ) → Option (List ℕ) → Type 0
+abbrev pub WritesAnswerWith : Bool → Problem → ℕ → Solved → Option (List ℕ) → Option (List ℕ) → Type 0
 WritesAnswerWith witness problem limit solved old new =
     WritesVerdict witness problem limit solved.solver solved.verdict old new
 
 -- a writer that held the one holds the other after the text of a right answer
-abbrev pub WritesAnswer : {A : Type 0} → Problem → ℕ → Solved A → Option (List ℕ) → Option (List ℕ) → Type 0
+abbrev pub WritesAnswer : Problem → ℕ → Solved → Option (List ℕ) → Option (List ℕ) → Type 0
 WritesAnswer problem limit solved old new = WritesAnswerWith true problem limit solved old new

@@ -22,7 +22,7 @@ abbrev pub named : List ℕ → Formula → Formula
 named names formula = map (named_clause names) formula
 
 -- the formula of a solver, under the names that its variables have in the text
-abbrev pub formula_of : {A : Type 0} → Solved A → Formula
+abbrev pub formula_of : Solved → Formula
 formula_of solved = named solved.names.items solved.solver.formula
 
 -- each name is greater than those before it

@@ -8,7 +8,7 @@ ghost use Rattle.gipsat_answers.specs.Answers.{laid_out, values_text, verdict_st
 
 use gipsat_dimacs::DimacsError;
 use gipsat_solver::{Answer, Solver};
-use std::alloc::{AllocError, Allocator, Global};
+use std::alloc::{AllocError, Global};
 use std::io::Write;
 
 /// What was found out about a formula.
@@ -39,25 +39,25 @@ impl Verdict {
 
 /// What was found out about a formula, and by what.
 #[derive(Drop)]
-pub struct Solved<A: Allocator = Global> {
+pub struct Solved {
     /// What was found out.
     pub verdict: Verdict,
     /// The solver that was given the formula, with all that it has learned.
-    pub solver: Solver<A>,
+    pub solver: Solver,
     /// Which variable of the formula each of the solver's is. One past the end has the same number in both.
-    pub names: Vec<u32, A>,
+    pub names: Vec<u32>,
 }
 
 // The most bytes of a line.
 const WIDTH: usize = 78;
 
 // What an answer finds out, and its text, where there are so many variables, with their values if they are wanted.
-pub(crate) fn answer_text<A: Allocator + Copy>(
-    alloc: A,
+pub(crate) fn answer_text(
+    alloc: Global,
     witness: bool,
     variables: u32,
-    answer: &Answer<A>,
-) -> Result<(Verdict, Vec<u8, A>), AllocError>
+    answer: &Answer,
+) -> Result<(Verdict, Vec<u8>), AllocError>
     ensures right { IfOk result (λ made. TellsRight witness variables answer.now made.0 made.1.items) }
     ensures found { IfOk result (λ made. made.0 ≢ Verdict.Stopped) }
 {
@@ -73,7 +73,7 @@ pub(crate) fn answer_text<A: Allocator + Copy>(
 }
 
 // These bytes.
-pub(crate) fn bytes<A: Allocator>(alloc: A, text: &[u8]) -> Result<Vec<u8, A>, AllocError>
+pub(crate) fn bytes(alloc: Global, text: &[u8]) -> Result<Vec<u8>, AllocError>
     ensures { IfOk result (λ made. made.items ≡ text.now) }
 {
     let mut made = Vec::new(alloc);
@@ -82,12 +82,12 @@ pub(crate) fn bytes<A: Allocator>(alloc: A, text: &[u8]) -> Result<Vec<u8, A>, A
 }
 
 // The text of an answer by a model of so many variables, with their values if they are wanted.
-pub(crate) fn model_text<A: Allocator + Copy>(
-    alloc: A,
+pub(crate) fn model_text(
+    alloc: Global,
     witness: bool,
     variables: u32,
     model: &[bool],
-) -> Result<Vec<u8, A>, AllocError>
+) -> Result<Vec<u8>, AllocError>
     ensures { IfOk result (λ text. text.items ≡
         codes "s SATISFIABLE\n" ++ witness_text witness (assignment_in model.now) variables) }
 {
@@ -98,11 +98,7 @@ pub(crate) fn model_text<A: Allocator + Copy>(
 }
 
 // The text of an answer by a model of so many variables; those past its end are false.
-fn satisfiable_text<A: Allocator + Copy>(
-    alloc: A,
-    variables: u32,
-    model: &[bool],
-) -> Result<Vec<u8, A>, AllocError>
+fn satisfiable_text(alloc: Global, variables: u32, model: &[bool]) -> Result<Vec<u8>, AllocError>
     ensures { IfOk result (λ text. text.items ≡
         codes "s SATISFIABLE\n" ++ values_text (assignment_in model.now) variables) }
 {
@@ -130,11 +126,7 @@ pub(crate) fn value_in(model: &[bool], variable: usize) -> bool
 }
 
 // Writes the literal of a variable that has this value.
-fn write_value<A: Allocator>(
-    word: &mut Vec<u8, A>,
-    variable: u32,
-    value: bool,
-) -> Result<(), AllocError>
+fn write_value(word: &mut Vec<u8>, variable: u32, value: bool) -> Result<(), AllocError>
     requires empty { word.old.items ≡ [] }
     requires small { variable < 2 ^ 32 - 1 }
     ensures { OnOk result (word.new.items ≡ literal_word value variable) }
@@ -148,18 +140,14 @@ fn write_value<A: Allocator>(
 }
 
 // Writes a number.
-fn write_number<A: Allocator>(word: &mut Vec<u8, A>, number: u32) -> Result<(), AllocError>
+fn write_number(word: &mut Vec<u8>, number: u32) -> Result<(), AllocError>
     ensures { OnOk result (word.new.items ≡ word.old.items ++ decimal number) }
 {
     write!(word, "{number}").map_err(|_| AllocError)
 }
 
 // Writes a word into the line of which so many bytes stand, or into the next one. Answers how many stand then.
-fn write_word<A: Allocator>(
-    text: &mut Vec<u8, A>,
-    column: usize,
-    word: &[u8],
-) -> Result<usize, AllocError>
+fn write_word(text: &mut Vec<u8>, column: usize, word: &[u8]) -> Result<usize, AllocError>
     ensures { IfOk result (λ after. (words : List Word) →
         text.old.items ++ laid_out column (word.now ∷ words) ≡ text.new.items ++ laid_out after words) }
 {

@@ -5,17 +5,14 @@ ghost use Rattle.gipsat_answers.specs.Assumed.{assuming, first_variables, litera
 
 use gipsat_cnf::{Cnf, Literal};
 use gipsat_dimacs::{DimacsError, HeaderRule, Instance, read_instance_by};
-use std::alloc::{AllocError, Allocator};
+use std::alloc::{AllocError, Global};
 
 /// The literals of a text, as a clause has them; the 0 behind the last one may be left out.
 ///
 /// # Errors
 /// - [`DimacsError::Line`] where the text names anything else.
 /// - [`DimacsError::Memory`] where memory is refused.
-pub fn read_literals<A: Allocator + Copy>(
-    alloc: A,
-    text: &[u8],
-) -> Result<Vec<Literal, A>, DimacsError>
+pub fn read_literals(alloc: Global, text: &[u8]) -> Result<Vec<Literal>, DimacsError>
     ensures { IfOk result (λ literals. literals_in text.now ≡ Some literals.items) }
 {
     let bytes = clause_of(alloc, text)?;
@@ -25,7 +22,7 @@ pub fn read_literals<A: Allocator + Copy>(
 }
 
 // A text with a 0 behind it.
-fn clause_of<A: Allocator>(alloc: A, text: &[u8]) -> Result<Vec<u8, A>, AllocError>
+fn clause_of(alloc: Global, text: &[u8]) -> Result<Vec<u8>, AllocError>
     ensures { IfOk result (λ bytes. bytes.items ≡ text.now ++ codes " 0") }
 {
     let mut bytes = Vec::new(alloc);
@@ -35,10 +32,7 @@ fn clause_of<A: Allocator>(alloc: A, text: &[u8]) -> Result<Vec<u8, A>, AllocErr
 }
 
 // The literals of all clauses, in order.
-fn literals_of<A: Allocator + Copy>(
-    alloc: A,
-    clauses: &Cnf<A>,
-) -> Result<Vec<Literal, A>, AllocError>
+fn literals_of(alloc: Global, clauses: &Cnf) -> Result<Vec<Literal>, AllocError>
     ensures { IfOk result (λ literals. literals.items ≡ literals_of clauses.now) }
 {
     let mut literals = Vec::new(alloc);
@@ -57,10 +51,7 @@ pub fn are_named(variables: u32, literals: &[Literal]) -> bool {
 ///
 /// # Errors
 /// `AllocError` where memory is refused. Some clauses may have been added.
-pub fn assume<A: Allocator + Copy>(
-    instance: &mut Instance<Cnf<A>>,
-    literals: &[Literal],
-) -> Result<(), AllocError>
+pub fn assume(instance: &mut Instance<Cnf>, literals: &[Literal]) -> Result<(), AllocError>
     ensures { OnOk result (problem_of instance.new.variables instance.new.clauses ≡
         assuming literals.now (problem_of instance.old.variables instance.old.clauses)) }
 {
@@ -68,10 +59,7 @@ pub fn assume<A: Allocator + Copy>(
 }
 
 // Adds a clause of each literal alone.
-fn add_units<A: Allocator + Copy>(
-    clauses: &mut Cnf<A>,
-    literals: &[Literal],
-) -> Result<(), AllocError>
+fn add_units(clauses: &mut Cnf, literals: &[Literal]) -> Result<(), AllocError>
     ensures { OnOk result (clauses.new ≡ clauses.old ++ units literals.now) }
 {
     for l in literals {
@@ -84,10 +72,7 @@ fn add_units<A: Allocator + Copy>(
 ///
 /// # Errors
 /// `AllocError` where memory is refused, or there are more than 2^31 variables, which no text has.
-pub fn first_variables<A: Allocator>(
-    alloc: A,
-    variables: u32,
-) -> Result<Vec<Literal, A>, AllocError>
+pub fn first_variables(alloc: Global, variables: u32) -> Result<Vec<Literal>, AllocError>
     ensures { IfOk result (λ literals. literals.items ≡ first_variables variables) }
 {
     if variables > 1 << 31 {

@@ -10,7 +10,7 @@ use gipsat_cnf::{Answer, Cnf, Literal};
 use gipsat_dimacs::{DimacsError, Instance, Reason};
 use gipsat_solver::progress::{Progress, solve_in_slices};
 use gipsat_solver::{Inprocessing, Solver};
-use std::alloc::{AllocError, Allocator};
+use std::alloc::{AllocError, Global};
 use std::io::Write;
 
 /// Which models are wanted, and what is written of each.
@@ -44,9 +44,9 @@ pub struct Enumerated {
 /// - [`DimacsError::Output`] where a write fails.
 ///
 /// What was found before was written then.
-pub fn write_models<A: Allocator + Copy, W: Write, P: Progress>(
-    alloc: A,
-    instance: Instance<Cnf<A>>,
+pub fn write_models<W: Write, P: Progress>(
+    alloc: Global,
+    instance: Instance<Cnf>,
     writer: &mut W,
     wanted: Models<'_>,
     progress: &mut P,
@@ -72,9 +72,9 @@ pub fn write_models<A: Allocator + Copy, W: Write, P: Progress>(
 }
 
 // Writes models of a solver's formula, for so many variables. Answers whether there is one.
-fn write_by<A: Allocator + Copy, W: Write, P: Progress>(
-    alloc: A,
-    solver: &mut Solver<A>,
+fn write_by<W: Write, P: Progress>(
+    alloc: Global,
+    solver: &mut Solver,
     variables: u32,
     writer: &mut W,
     wanted: Models<'_>,
@@ -108,9 +108,9 @@ fn first_verdict(models: usize, last: Verdict) -> Verdict
 }
 
 // Looks for a model, writes what was found out, and adds the clause that excludes the model.
-fn write_next<A: Allocator + Copy, W: Write, P: Progress>(
-    alloc: A,
-    solver: &mut Solver<A>,
+fn write_next<W: Write, P: Progress>(
+    alloc: Global,
+    solver: &mut Solver,
     variables: u32,
     writer: &mut W,
     wanted: Models<'_>,
@@ -143,9 +143,9 @@ fn write_next<A: Allocator + Copy, W: Write, P: Progress>(
 }
 
 // Writes a model for so many variables, and adds the clause that excludes it.
-fn write_model<A: Allocator + Copy, W: Write>(
-    alloc: A,
-    solver: &mut Solver<A>,
+fn write_model<W: Write>(
+    alloc: Global,
+    solver: &mut Solver,
     variables: u32,
     writer: &mut W,
     wanted: Models<'_>,
@@ -166,11 +166,11 @@ fn write_model<A: Allocator + Copy, W: Write>(
 }
 
 // The clause that one of these literals' variables has another value than in a model.
-fn differing<A: Allocator>(
-    alloc: A,
+fn differing(
+    alloc: Global,
     model: &[bool],
     projection: &[Literal],
-) -> Result<Vec<Literal, A>, AllocError>
+) -> Result<Vec<Literal>, AllocError>
     ensures { IfOk result (λ clause. clause.items ≡ differing (assignment_in model.now) projection.now) }
 {
     let mut clause = Vec::new(alloc);

@@ -8,21 +8,18 @@ ghost use Rattle.gipsat_answers.specs.Names.{name_in, named, named_clause, AreNa
 
 use crate::answers::value_in;
 use gipsat_cnf::{Answer, Cnf, Literal};
-use std::alloc::{AllocError, Allocator, Global};
+use std::alloc::{AllocError, Global};
 
 // A formula over new variables.
 #[derive(Drop)]
-pub(crate) struct Renumbered<A: Allocator = Global> {
+pub(crate) struct Renumbered {
     // The name of each variable: its number before. A variable past the end has kept its number.
-    pub names: Vec<u32, A>,
-    pub clauses: Cnf<A>,
+    pub names: Vec<u32>,
+    pub clauses: Cnf,
 }
 
 // A formula over new variables, where more variables have numbers than there are literals; else as it is.
-pub(crate) fn renumber<A: Allocator + Copy>(
-    alloc: A,
-    clauses: Cnf<A>,
-) -> Result<Renumbered<A>, AllocError>
+pub(crate) fn renumber(alloc: Global, clauses: Cnf) -> Result<Renumbered, AllocError>
     ensures formula { IfOk result (λ made. named made.names.items made.clauses ≡ clauses) }
     ensures names { IfOk result (λ made. AreNamesOf made.clauses made.names.items) }
 {
@@ -39,10 +36,7 @@ pub(crate) fn renumber<A: Allocator + Copy>(
 }
 
 // The variables that the clauses have, each once and rising.
-fn variables_of<A: Allocator + Copy>(
-    alloc: A,
-    clauses: &Cnf<A>,
-) -> Result<Vec<u32, A>, AllocError> {
+fn variables_of(alloc: Global, clauses: &Cnf) -> Result<Vec<u32>, AllocError> {
     let literals = clauses.literals();
     let mut variables = Vec::with_capacity(alloc, literals.len())?;
     for l in literals {
@@ -54,11 +48,7 @@ fn variables_of<A: Allocator + Copy>(
 }
 
 // The formula whose variables have these names. None where the names are not rising, or one is missing.
-fn numbered_by<A: Allocator + Copy>(
-    alloc: A,
-    clauses: &Cnf<A>,
-    names: &[u32],
-) -> Result<Option<Cnf<A>>, AllocError>
+fn numbered_by(alloc: Global, clauses: &Cnf, names: &[u32]) -> Result<Option<Cnf>, AllocError>
     ensures formula { IfOk result (λ made. IfSome made (λ made. named names.now made ≡ clauses.now)) }
     ensures names { IfOk result (λ made. IfSome made (λ made. AreNamesOf made names.now)) }
 {
@@ -95,8 +85,8 @@ fn is_rising(numbers: &[u32]) -> bool
 }
 
 // Adds the literals of the clause that has this one under the names. False where a name is missing.
-fn number_clause<A: Allocator>(
-    made: &mut Vec<Literal, A>,
+fn number_clause(
+    made: &mut Vec<Literal>,
     names: &[u32],
     clause: &[Literal],
 ) -> Result<bool, AllocError>
@@ -126,11 +116,11 @@ fn number_of(names: &[u32], name: u32) -> Option<u32>
 }
 
 // The answer for the formula that has the names, by one for the formula of the numbers.
-pub(crate) fn answer_under<A: Allocator + Copy>(
-    alloc: A,
+pub(crate) fn answer_under(
+    alloc: Global,
     names: &[u32],
-    answer: Answer<A>,
-) -> Result<Answer<A>, AllocError>
+    answer: Answer,
+) -> Result<Answer, AllocError>
     requires rising { IsRising names.now }
     ensures { IfOk result (λ told. (old new : SolverState) (limit : ℕ) →
         AreNamesOf old.formula names.now → IsRight old new limit answer →
@@ -144,11 +134,7 @@ pub(crate) fn answer_under<A: Allocator + Copy>(
 }
 
 // The model of a formula that has the names, by one of the formula of the numbers.
-fn model_under<A: Allocator + Copy>(
-    alloc: A,
-    names: &[u32],
-    model: Vec<bool, A>,
-) -> Result<Vec<bool, A>, AllocError>
+fn model_under(alloc: Global, names: &[u32], model: Vec<bool>) -> Result<Vec<bool>, AllocError>
     requires rising { IsRising names.now }
     ensures { IfOk result (λ values. (f : Formula) →
         AreNamesOf f names.now → IsModel f model.items → IsModel (named names.now f) values.items) }
@@ -160,11 +146,7 @@ fn model_under<A: Allocator + Copy>(
 }
 
 // The value of each name, where `model` has those of the variables.
-fn values_under<A: Allocator + Copy>(
-    alloc: A,
-    names: &[u32],
-    model: &[bool],
-) -> Result<Vec<bool, A>, AllocError>
+fn values_under(alloc: Global, names: &[u32], model: &[bool]) -> Result<Vec<bool>, AllocError>
     requires rising { IsRising names.now }
     ensures { IfOk result (λ values. (v : ℕ) → v < length names.now →
         assignment_in values.items (name_in names.now v) ≡ assignment_in model.now v) }
@@ -188,7 +170,7 @@ fn end_of(numbers: &[u32]) -> usize
 }
 
 // So many values that are false.
-fn falses<A: Allocator>(alloc: A, len: usize) -> Result<Vec<bool, A>, AllocError>
+fn falses(alloc: Global, len: usize) -> Result<Vec<bool>, AllocError>
     ensures { IfOk result (λ values. vec_len values ≡ len) }
 {
     vec![in alloc; false; len]

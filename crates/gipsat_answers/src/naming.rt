@@ -5,18 +5,18 @@ ghost use Rattle.gipsat_solver.specs.Answers.{HasNoFewer, IsRight};
 use gipsat_cnf::{Answer, Literal};
 use gipsat_solver::Solver;
 use gipsat_solver::progress::{Progress, Report, solve_in_slices};
-use std::alloc::{AllocError, Allocator, Global};
+use std::alloc::{AllocError, Global};
 use std::ops::ControlFlow;
 
 // Searches as `solve_in_slices` does, and tells `progress` of clauses under the names of their variables, if there are
 // names.
-pub(crate) fn solve_named<A: Allocator + Copy, P: Progress>(
-    alloc: A,
-    solver: &mut Solver<A>,
+pub(crate) fn solve_named<P: Progress>(
+    alloc: Global,
+    solver: &mut Solver,
     names: &[u32],
     limit: usize,
     progress: &mut P,
-) -> Result<Option<Answer<A>>, AllocError>
+) -> Result<Option<Answer>, AllocError>
     ensures right { IfOk result (λ found. IfSome found (IsRight solver.old solver.new limit)) }
     ensures stopped { IfOk result (λ found. IfNone found (IsTrue (P.wants_stop progress.new))) }
     ensures formula { solver.new.formula ≡ solver.old.formula }
@@ -41,7 +41,7 @@ pub(crate) fn solve_named<A: Allocator + Copy, P: Progress>(
 }
 
 // How far a solver is.
-pub(crate) fn report_of<A: Allocator + Copy>(solver: &Solver<A>) -> Report {
+pub(crate) fn report_of(solver: &Solver) -> Report {
     Report {
         stats: solver.stats(),
         clauses: solver.len(),
@@ -49,13 +49,13 @@ pub(crate) fn report_of<A: Allocator + Copy>(solver: &Solver<A>) -> Report {
 }
 
 // Searches as `solve_in_slices` does, and tells `progress` of clauses under the names of their variables.
-fn search_named<A: Allocator + Copy, P: Progress>(
-    alloc: A,
-    solver: &mut Solver<A>,
+fn search_named<P: Progress>(
+    alloc: Global,
+    solver: &mut Solver,
     names: &[u32],
     limit: usize,
     progress: &mut P,
-) -> Result<Option<Answer<A>>, AllocError>
+) -> Result<Option<Answer>, AllocError>
     ensures right { IfOk result (λ found. IfSome found (IsRight solver.old solver.new limit)) }
     ensures formula { solver.new.formula ≡ solver.old.formula }
     ensures learned { HasNoFewer solver.old solver.new }
@@ -75,18 +75,18 @@ fn search_named<A: Allocator + Copy, P: Progress>(
 
 // Tells a listener what it is told, under the names of the variables.
 #[derive(Drop)]
-struct Naming<'a, P: Progress, A: Allocator = Global> {
+struct Naming<'a, P: Progress> {
     names: &'a [u32],
     progress: &'a mut P,
     // The last clause, under the names.
-    clause: Vec<Literal, A>,
+    clause: Vec<Literal>,
     // Whether memory for a clause was refused, so that it was not told.
     is_lost: bool,
 }
 
 // Puts a clause under names in place of another one.
-fn name_clause<A: Allocator>(
-    named: &mut Vec<Literal, A>,
+fn name_clause(
+    named: &mut Vec<Literal>,
     names: &[u32],
     clause: &[Literal],
 ) -> Result<(), AllocError> {
@@ -105,7 +105,7 @@ fn name_of(names: &[u32], l: Literal) -> Literal {
     }
 }
 
-impl<P: Progress, A: Allocator> Progress for Naming<'_, P, A> {
+impl<P: Progress> Progress for Naming<'_, P> {
     ghost wants_stop = { λ naming. P.wants_stop naming.progress.now || naming.is_lost };
 
     fn wants_chains(&self) -> bool {

@@ -21,7 +21,7 @@ use gipsat_dimacs::{DimacsError, HeaderRule, Reason, read_instance_by};
 use gipsat_solver::Solver;
 use gipsat_solver::progress::Progress;
 use giputils_text::split_line;
-use std::alloc::{AllocError, Allocator, Global};
+use std::alloc::{AllocError, Global};
 use std::io::{ErrorKind, Read, Write};
 
 /// What was answered to the questions of a text.
@@ -50,8 +50,8 @@ pub struct Replies {
 /// - [`DimacsError::Output`] where a write fails.
 ///
 /// The replies to the questions before that were written then.
-pub fn answer_questions<A: Allocator + Copy, R: Read, W: Write, P: Progress>(
-    alloc: A,
+pub fn answer_questions<R: Read, W: Write, P: Progress>(
+    alloc: Global,
     reader: &mut R,
     writer: &mut W,
     task: Task,
@@ -72,7 +72,7 @@ pub fn answer_questions<A: Allocator + Copy, R: Read, W: Write, P: Progress>(
 }
 
 // The bytes of a text.
-fn read_text<A: Allocator, R: Read>(alloc: A, reader: &mut R) -> Result<Vec<u8, A>, DimacsError>
+fn read_text<R: Read>(alloc: Global, reader: &mut R) -> Result<Vec<u8>, DimacsError>
     ensures read_to_end { OnOk result (IsAtEnd (R.remaining reader.new)) }
     ensures text { IfOk result (λ read. IfSome (R.remaining reader.old) (λ text. read.items ≡ text)) }
 {
@@ -85,9 +85,9 @@ fn read_text<A: Allocator, R: Read>(alloc: A, reader: &mut R) -> Result<Vec<u8, 
 }
 
 // Answers the questions of a text by a solver that has no clause.
-fn answer_text<A: Allocator + Copy, W: Write, P: Progress>(
-    alloc: A,
-    solver: &mut Solver<A>,
+fn answer_text<W: Write, P: Progress>(
+    alloc: Global,
+    solver: &mut Solver,
     text: &[u8],
     writer: &mut W,
     task: Task,
@@ -142,16 +142,16 @@ fn is_header(line: &[u8]) -> bool
 
 // Clauses that were read since the last question, and where.
 #[derive(Drop)]
-struct Begun<A: Allocator = Global> {
+struct Begun {
     // Their lines.
-    text: Vec<u8, A>,
+    text: Vec<u8>,
     // How many lines stand before them.
     lines_before: usize,
     // One more than the greatest variable so far.
     variables: u32,
 }
 
-impl<A: Allocator> Begun<A> {
+impl Begun {
     // Adds a line.
     fn push(&mut self, line: &[u8]) -> Result<(), AllocError>
         ensures { OnOk result (self.new.text.items ≡ self.old.text.items ++ line.now ++ codes "\n") }
@@ -163,9 +163,9 @@ impl<A: Allocator> Begun<A> {
 }
 
 // Answers the questions of a text, which stands behind a header and so many lines, by a solver that has no clause.
-fn answer_lines<A: Allocator + Copy, W: Write, P: Progress>(
-    alloc: A,
-    solver: &mut Solver<A>,
+fn answer_lines<W: Write, P: Progress>(
+    alloc: Global,
+    solver: &mut Solver,
     text: &[u8],
     lines_before: usize,
     writer: &mut W,
@@ -260,11 +260,7 @@ fn asks(line: &[u8]) -> bool
 }
 
 // Adds the clauses that have begun to the solver.
-fn add_begun<A: Allocator + Copy>(
-    alloc: A,
-    solver: &mut Solver<A>,
-    begun: &mut Begun<A>,
-) -> Result<(), DimacsError>
+fn add_begun(alloc: Global, solver: &mut Solver, begun: &mut Begun) -> Result<(), DimacsError>
     ensures added { OnOk result ((added : Formula) × (clauses_in begun.old.text.items ≡ Some added)
         × (solver.new.formula ≡ solver.old.formula ++ added)) }
     ensures text { OnOk result (begun.new.text.items ≡ []) }
@@ -290,10 +286,7 @@ fn behind(lines: usize, error: DimacsError) -> DimacsError {
 }
 
 // Adds clauses to the solver.
-fn add_clauses<A: Allocator + Copy>(
-    solver: &mut Solver<A>,
-    clauses: &Cnf<A>,
-) -> Result<(), AllocError>
+fn add_clauses(solver: &mut Solver, clauses: &Cnf) -> Result<(), AllocError>
     ensures formula { OnOk result (solver.new.formula ≡ solver.old.formula ++ clauses.now) }
     ensures learned { OnOk result (solver.new.learned ≡ solver.old.learned) }
 {
@@ -316,9 +309,9 @@ struct Asked<'a> {
 }
 
 // Answers a question, and writes the reply.
-fn reply_to<A: Allocator + Copy, W: Write, P: Progress>(
-    alloc: A,
-    solver: &mut Solver<A>,
+fn reply_to<W: Write, P: Progress>(
+    alloc: Global,
+    solver: &mut Solver,
     asked: Asked<'_>,
     writer: &mut W,
     task: Task,
@@ -357,14 +350,14 @@ fn at_line(line: usize, error: DimacsError) -> DimacsError {
 }
 
 // Whether these literals can all be true, and the text of this reply.
-fn reply<A: Allocator + Copy, P: Progress>(
-    alloc: A,
-    solver: &mut Solver<A>,
+fn reply<P: Progress>(
+    alloc: Global,
+    solver: &mut Solver,
     assumed: &[Literal],
     variables: u32,
     task: Task,
     progress: &mut P,
-) -> Result<(Verdict, Vec<u8, A>), AllocError>
+) -> Result<(Verdict, Vec<u8>), AllocError>
     ensures right { IfOk result (λ made. IsRightReply task.witness task.limit solver.new.learned true
         (record { formula = solver.old.formula; assumed = assumed.now }) made.0 made.1.items) }
     ensures stopped { IfOk result (λ made. made.0 ≡ Verdict.Stopped → IsTrue (P.wants_stop progress.new)) }
@@ -410,12 +403,12 @@ const FIRST: Budget = Budget {
 
 // Whether these literals can all be true. It tells `progress` how far it is: None where that stopped it. It gives up after
 // so many learned clauses.
-fn solve_assuming<A: Allocator + Copy, P: Progress>(
-    solver: &mut Solver<A>,
+fn solve_assuming<P: Progress>(
+    solver: &mut Solver,
     assumed: &[Literal],
     limit: usize,
     progress: &mut P,
-) -> Result<Option<AnswerUnder<A>>, AllocError>
+) -> Result<Option<AnswerUnder>, AllocError>
     ensures right { IfOk result (λ found. IfSome found
         (IsRightOr solver.old.formula assumed.now (limit ≤ solver.new.learned))) }
     ensures stopped { IfOk result (λ found. IfNone found (IsTrue (P.wants_stop progress.new))) }

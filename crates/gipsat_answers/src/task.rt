@@ -13,7 +13,7 @@ use gipsat_cnf::Cnf;
 use gipsat_dimacs::{DimacsError, Instance, Reason, read_instance};
 use gipsat_solver::progress::Progress;
 use gipsat_solver::{Inprocessing, Solver};
-use std::alloc::{AllocError, Allocator};
+use std::alloc::{AllocError, Global};
 use std::io::{Read, Write};
 
 /// How a formula is to be solved, and what is to be written.
@@ -39,13 +39,13 @@ pub struct Task {
 /// - [`DimacsError::Output`] where a write fails. What was written by then is open.
 ///
 /// At the first three nothing was written. How much of the input was read is open.
-pub fn solve_text<A: Allocator + Copy, R: Read, W: Write, P: Progress>(
-    alloc: A,
+pub fn solve_text<R: Read, W: Write, P: Progress>(
+    alloc: Global,
     reader: &mut R,
     writer: &mut W,
     limit: usize,
     progress: &mut P,
-) -> Result<Solved<A>, DimacsError>
+) -> Result<Solved, DimacsError>
     // Success means that all of a text of the form was read, and that a right answer and nothing else was written.
     ensures read_to_end { OnOk result (IsAtEnd (R.remaining reader.new)) }
     ensures has_form { OnOk result (HasForm Strict (R.remaining reader.old)) }
@@ -77,13 +77,13 @@ pub fn solve_text<A: Allocator + Copy, R: Read, W: Write, P: Progress>(
 /// - [`DimacsError::Output`] where a write fails. What was written by then is open.
 ///
 /// At the first nothing was written.
-pub fn solve_instance<A: Allocator + Copy, W: Write, P: Progress>(
-    alloc: A,
-    instance: Instance<Cnf<A>>,
+pub fn solve_instance<W: Write, P: Progress>(
+    alloc: Global,
+    instance: Instance<Cnf>,
     writer: &mut W,
     task: Task,
     progress: &mut P,
-) -> Result<Solved<A>, DimacsError>
+) -> Result<Solved, DimacsError>
     ensures written { IfOk result (λ solved. WritesAnswerWith task.witness
         (problem_of instance.variables instance.clauses) task.limit solved
         (W.contents writer.old) (W.contents writer.new)) }
@@ -116,9 +116,9 @@ pub fn solve_instance<A: Allocator + Copy, W: Write, P: Progress>(
 
 // Finds out whether anything satisfies the formula of a solver that is new, and writes the answer for so many variables.
 // The solver's variables have these names in the answer.
-fn write_answer<A: Allocator + Copy, W: Write, P: Progress>(
-    alloc: A,
-    solver: &mut Solver<A>,
+fn write_answer<W: Write, P: Progress>(
+    alloc: Global,
+    solver: &mut Solver,
     names: &[u32],
     variables: u32,
     writer: &mut W,
@@ -142,14 +142,14 @@ fn write_answer<A: Allocator + Copy, W: Write, P: Progress>(
 
 // What is found out about the formula of a solver that is new, with its text for so many variables. The solver's
 // variables have these names in the text.
-fn answer_named<A: Allocator + Copy, P: Progress>(
-    alloc: A,
-    solver: &mut Solver<A>,
+fn answer_named<P: Progress>(
+    alloc: Global,
+    solver: &mut Solver,
     names: &[u32],
     variables: u32,
     task: Task,
     progress: &mut P,
-) -> Result<(Verdict, Vec<u8, A>), AllocError>
+) -> Result<(Verdict, Vec<u8>), AllocError>
     requires names { AreNamesOf solver.old.formula names.now }
     requires new { solver.old.learned ≡ 0 }
     ensures right { IfOk result (λ made. IsRightText task.witness

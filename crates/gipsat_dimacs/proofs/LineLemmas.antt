@@ -26,15 +26,15 @@ at_place bytes i within =
     sym (take-append-drop i bytes) ∙ ap (λ rest. take i bytes ++ rest)
     (drop-cons bytes i 0 within ∙ ap (λ n. get_or bytes i 0 ∷ drop n bytes) next)
 
-module _ {S A : Type 0} (formula : S → Formula) (p q : Parser S A) where
+module _ {S : Type 0} (formula : S → Formula) (p q : Parser S) where
   -- nothing is said any more
   pub says_on-nothing : (xs ys : List ℕ) → SaysOn formula p xs q → SaysNothing formula q ys → SaysNothing formula p (xs ++ ys)
   says_on-nothing xs ys on none rest = ap (problem_from formula p) (append_assoc xs ys rest) ∙ on (ys ++ rest) ∙ none rest
 
-  pub says_on-append : (r : Parser S A) (xs ys : List ℕ) → SaysOn formula p xs q → SaysOn formula q ys r → SaysOn formula p (xs ++ ys) r
+  pub says_on-append : (r : Parser S) (xs ys : List ℕ) → SaysOn formula p xs q → SaysOn formula q ys r → SaysOn formula p (xs ++ ys) r
   says_on-append r xs ys on more rest = ap (problem_from formula p) (append_assoc xs ys rest) ∙ on (ys ++ rest) ∙ more rest
 
-module _ {S A : Type 0} (formula : S → Formula) (old : LineParser S A) (q : Parser S A) (line : ℕ) (bytes : List ℕ) (i byte : ℕ)
+module _ {S : Type 0} (formula : S → Formula) (old : LineParser S) (q : Parser S) (line : ℕ) (bytes : List ℕ) (i byte : ℕ)
     (within : i < length bytes)
     (is : byte ≡ get_or bytes i 0) (on : SaysOn formula old.parser (take i bytes) q)
     (number : line ≡ line_on old.line (take i bytes)) where
@@ -53,7 +53,7 @@ module _ {S A : Type 0} (formula : S → Formula) (old : LineParser S A) (q : Pa
   one_more = take_more bytes i 0 within ∙ ap (λ b. take i bytes ++ b ∷ []) (sym is)
 
   -- or read
-  pub says_on-more : (r : Parser S A) → SaysOn formula q (byte ∷ []) r → SaysOn formula old.parser (take (i + 1) bytes) r
+  pub says_on-more : (r : Parser S) → SaysOn formula q (byte ∷ []) r → SaysOn formula old.parser (take (i + 1) bytes) r
   says_on-more r more = rw one_more (says_on-append formula old.parser q r (take i bytes) (byte ∷ []) on more)
 
   pub line_on-more : line_after line byte ≡ line_on old.line (take (i + 1) bytes)

@@ -11,7 +11,7 @@ use Rattle.gipsat_dimacs.specs.declared.lines.LineParser.{LineParser}
 use Rattle.gipsat_dimacs.proofs.LineLemmas.{line_on-append, refused-none}
 
 -- where a reader that had a text has this rest, the parser has read what stood before it, and counted its lines
-abbrev pub HasRead : {S A : Type 0} → (S → Formula) → HeaderRule → Option (List ℕ) → Option (List ℕ) → LineParser S A → Type 0
+abbrev pub HasRead : {S : Type 0} → (S → Formula) → HeaderRule → Option (List ℕ) → Option (List ℕ) → LineParser S → Type 0
 HasRead formula rule None now p = ⊤
 HasRead formula rule (Some text) None p = ⊥
 HasRead formula rule (Some text) (Some rest) p =
@@ -29,15 +29,15 @@ pub refused-says_none : (rule : HeaderRule) (text : Option (List ℕ)) (line : �
 refused-says_none rule None line refused = tt
 refused-says_none rule (Some text) line refused = refused-none rule text line refused
 
-module _ {S A : Type 0} (formula : S → Formula) (rule : HeaderRule) where
+module _ {S : Type 0} (formula : S → Formula) (rule : HeaderRule) where
   -- at first
-  pub read_first : (text : Option (List ℕ)) (p : LineParser S A) → p.line ≡ 1
+  pub read_first : (text : Option (List ℕ)) (p : LineParser S) → p.line ≡ 1
       → ((text : List ℕ) → problem_from formula p.parser text ≡ problem_by rule text) → HasRead formula rule text text p
   read_first None p first all = tt
   read_first (Some text) p first all = ([], refl, first, λ more. sym (all more))
 
   -- some bytes on
-  pub read_more : (old now new : Option (List ℕ)) (p q : LineParser S A) (bytes : List ℕ) → HasRead formula rule old now p
+  pub read_more : (old now new : Option (List ℕ)) (p q : LineParser S) (bytes : List ℕ) → HasRead formula rule old now p
       → Consumes now new bytes
       → SaysOn formula p.parser bytes q.parser → q.line ≡ line_on p.line bytes → HasRead formula rule old new q
   read_more None now new p q bytes has taken on line = tt
@@ -51,7 +51,7 @@ module _ {S A : Type 0} (formula : S → Formula) (rule : HeaderRule) where
   )
 
   -- bytes that are refused
-  pub read_refused : (old now new : Option (List ℕ)) (p : LineParser S A) (bytes : List ℕ) (line : ℕ)
+  pub read_refused : (old now new : Option (List ℕ)) (p : LineParser S) (bytes : List ℕ) (line : ℕ)
       → HasRead formula rule old now p
       → Consumes now new bytes → IsStopped formula p bytes line → IfSome old (λ text. IsRefusedBy rule text line)
   read_refused None now new p bytes line has taken s = tt
@@ -68,7 +68,7 @@ module _ {S A : Type 0} (formula : S → Formula) (rule : HeaderRule) where
   )
 
   -- the end
-  pub read_all : (old now new : Option (List ℕ)) (p : LineParser S A) (problem : Option Problem) → HasRead formula rule old now p
+  pub read_all : (old now new : Option (List ℕ)) (p : LineParser S) (problem : Option Problem) → HasRead formula rule old now p
       → Consumes now new []
       → IsAtEnd new → problem_from formula p.parser [] ≡ problem → IfSome old (λ text. problem_by rule text ≡ problem)
   read_all None now new p problem has taken end e = tt
@@ -77,7 +77,7 @@ module _ {S A : Type 0} (formula : S → Formula) (rule : HeaderRule) where
   read_all (Some text) (Some now) (Some new) p problem (front, is, number, says) taken end e =
       ap (problem_by rule) (is ∙ ap (λ rest. front ++ rest) (taken ∙ end)) ∙ says [] ∙ e
 
-  pub read_all-refused : (old now new : Option (List ℕ)) (p : LineParser S A) (line : ℕ) → HasRead formula rule old now p
+  pub read_all-refused : (old now new : Option (List ℕ)) (p : LineParser S) (line : ℕ) → HasRead formula rule old now p
       → Consumes now new []
       → IsAtEnd new → (line ≡ p.line) × (problem_from formula p.parser [] ≡ None)
       → IfSome old (λ text. IsRefusedBy rule text line)

@@ -121,16 +121,16 @@ problem_here rule true stage before begun (words ∷ lines) = problem_at rule st
 problem_here rule false stage before begun (words ∷ lines) = problem_at rule stage before begun words lines
 
 -- the problem that a text writes, where the parser has read all but this rest
-abbrev pub problem_from : {S A : Type 0} → (S → Formula) → Parser S A → List ℕ → Option Problem
+abbrev pub problem_from : {S : Type 0} → (S → Formula) → Parser S → List ℕ → Option Problem
 problem_from formula p rest =
     problem_here p.rule p.in_comment p.stage (formula p.clauses) p.clause.items (word_lines (p.word.items ++ rest))
 
 -- the problem, where the word that was being read has ended
-abbrev pub problem_next : {S A : Type 0} → (S → Formula) → Parser S A → List Word → List (List Word) → Option Problem
+abbrev pub problem_next : {S : Type 0} → (S → Formula) → Parser S → List Word → List (List Word) → Option Problem
 problem_next formula p words lines = problem_at p.rule p.stage (formula p.clauses) p.clause.items words lines
 
 -- the same, where this is the stage
-abbrev pub problem_staged : {S A : Type 0} → (S → Formula) → Stage → Parser S A → List Word → List (List Word)
+abbrev pub problem_staged : {S : Type 0} → (S → Formula) → Stage → Parser S → List Word → List (List Word)
     → Option Problem
 problem_staged formula stage p words lines = problem_at p.rule stage (formula p.clauses) p.clause.items words lines
 
@@ -173,38 +173,38 @@ abbrev pub begins_end : ℕ → Word → Stage → Bool
 begins_end byte word stage = (byte == end_byte) && (length word == 0) && begins_line stage
 
 -- the word of a parser is such
-abbrev pub IsReading : {S A : Type 0} → Parser S A → Type 0
+abbrev pub IsReading : {S : Type 0} → Parser S → Type 0
 IsReading p = IsWord p.rule p.stage p.in_comment p.word.items
 
 -- whatever the rest of the text, it writes the same problem
-abbrev pub SaysOn : {S A : Type 0} → (S → Formula) → Parser S A → List ℕ → Parser S A → Type 0
+abbrev pub SaysOn : {S : Type 0} → (S → Formula) → Parser S → List ℕ → Parser S → Type 0
 SaysOn formula old bytes new =
     (rest : List ℕ) → problem_from formula old (bytes ++ rest) ≡ problem_from formula new rest
 
 -- whatever the rest of the text, it has not the form
-abbrev pub SaysNothing : {S A : Type 0} → (S → Formula) → Parser S A → List ℕ → Type 0
+abbrev pub SaysNothing : {S : Type 0} → (S → Formula) → Parser S → List ℕ → Type 0
 SaysNothing formula old bytes = (rest : List ℕ) → problem_from formula old (bytes ++ rest) ≡ None
 
 -- whatever comes after the word, the text writes the same problem
-abbrev pub EndsWord : {S A : Type 0} → (S → Formula) → Parser S A → Parser S A → Type 0
+abbrev pub EndsWord : {S : Type 0} → (S → Formula) → Parser S → Parser S → Type 0
 EndsWord formula old new =
     (words : List Word) (lines : List (List Word))
     → problem_next formula old (with_word old.word.items words) lines ≡ problem_next formula new words lines
 
 -- whatever comes after the word, the text has not the form
-abbrev pub EndsNoWord : {S A : Type 0} → (S → Formula) → Parser S A → Type 0
+abbrev pub EndsNoWord : {S : Type 0} → (S → Formula) → Parser S → Type 0
 EndsNoWord formula old =
     (words : List Word) (lines : List (List Word))
     → problem_next formula old (with_word old.word.items words) lines ≡ None
 
 -- the same, where there is a word, and these are the stages before and after it
-abbrev pub TakesWord : {S A : Type 0} → (S → Formula) → Stage → Parser S A → Stage → Parser S A → Type 0
+abbrev pub TakesWord : {S : Type 0} → (S → Formula) → Stage → Parser S → Stage → Parser S → Type 0
 TakesWord formula s old t new =
     (words : List Word) (lines : List (List Word))
     → problem_staged formula s old (old.word.items ∷ words) lines ≡ problem_staged formula t new words lines
 
 -- where there is a word at this stage, the text has not the form, whatever comes after it
-abbrev pub TakesNoWord : {S A : Type 0} → (S → Formula) → Stage → Parser S A → Type 0
+abbrev pub TakesNoWord : {S : Type 0} → (S → Formula) → Stage → Parser S → Type 0
 TakesNoWord formula s old =
     (words : List Word) (lines : List (List Word)) → problem_staged formula s old (old.word.items ∷ words) lines ≡ None
 
@@ -226,7 +226,7 @@ OnRefusal P Memory = ⊤
 OnRefusal P (Refused reason) = P
 
 -- some of the bytes lead to this line, and with the next one nothing is said
-pub record IsStopped {S A : Type 0} (formula : S → Formula) (old : LineParser S A) (bytes : List ℕ)
+pub record IsStopped {S : Type 0} (formula : S → Formula) (old : LineParser S) (bytes : List ℕ)
     (line : ℕ) : Type 0 where
   pub front : List ℕ
   pub byte : ℕ

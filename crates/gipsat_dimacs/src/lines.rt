@@ -8,18 +8,18 @@ use crate::instance::Instance;
 use crate::parser::Parser;
 use crate::rule::HeaderRule;
 use gipsat_cnf::ClauseSink;
-use std::alloc::{Allocator, Global};
+use std::alloc::Global;
 
 // A parser, and the number of the line that it reads.
 #[derive(Drop)]
-pub struct LineParser<S: ClauseSink, A: Allocator = Global> {
-    pub parser: Parser<S, A>,
+pub struct LineParser<S: ClauseSink> {
+    pub parser: Parser<S>,
     pub line: usize,
 }
 
-impl<S: ClauseSink + Drop, A: Allocator + Copy> LineParser<S, A> {
+impl<S: ClauseSink + Drop> LineParser<S> {
     // Before a text, whose clauses go to what has none.
-    pub fn new(alloc: A, rule: HeaderRule, clauses: S) -> Self
+    pub fn new(alloc: Global, rule: HeaderRule, clauses: S) -> Self
         requires empty { S.formula clauses ≡ [] }
         ensures reading { IsReading result.parser }
         ensures line { result.line ≡ 1 }

@@ -11,25 +11,25 @@ use crate::rule::HeaderRule;
 use crate::stage::{Header, Stage, expect, first_word, is_header, next_line, takes_comment};
 use crate::words::{Item, is_blank, item_in, number};
 use gipsat_cnf::{ClauseSink, Literal};
-use std::alloc::{Allocator, Global};
+use std::alloc::Global;
 
 // What has been read of a text.
 #[derive(Drop)]
-pub struct Parser<S: ClauseSink, A: Allocator = Global> {
+pub struct Parser<S: ClauseSink> {
     // It has the clauses that have ended.
     pub clauses: S,
     // The literals of the clause that has not ended.
-    pub clause: Vec<Literal, A>,
+    pub clause: Vec<Literal>,
     // The word that has not ended.
-    pub word: Vec<u8, A>,
+    pub word: Vec<u8>,
     pub stage: Stage,
     pub in_comment: bool,
     pub rule: HeaderRule,
 }
 
-impl<S: ClauseSink + Drop, A: Allocator + Copy> Parser<S, A> {
+impl<S: ClauseSink + Drop> Parser<S> {
     // Before a text, whose clauses go to what has none.
-    pub fn new(alloc: A, rule: HeaderRule, clauses: S) -> Self
+    pub fn new(alloc: Global, rule: HeaderRule, clauses: S) -> Self
         requires empty { S.formula clauses ≡ [] }
         ensures reading { IsReading result }
         ensures all { (text : List ℕ) → problem_from S.formula result text ≡ problem_by rule text }

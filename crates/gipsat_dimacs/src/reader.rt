@@ -9,7 +9,7 @@ use crate::instance::Instance;
 use crate::lines::LineParser;
 use crate::rule::HeaderRule;
 use gipsat_cnf::{ClauseSink, Cnf};
-use std::alloc::{AllocError, Allocator};
+use std::alloc::{AllocError, Global};
 use std::io::Read;
 
 // How many bytes are asked for at a time.
@@ -19,10 +19,7 @@ const BUFFER_SIZE: usize = 65_536;
 ///
 /// # Errors
 /// As [`read_into`].
-pub fn read_instance<R: Read, A: Allocator + Copy>(
-    alloc: A,
-    reader: &mut R,
-) -> Result<Instance<Cnf<A>>, DimacsError>
+pub fn read_instance<R: Read>(alloc: Global, reader: &mut R) -> Result<Instance<Cnf>, DimacsError>
     ensures end { OnOk result (IsAtEnd (R.remaining reader.new)) }
     ensures ok { IfOk result (λ f. Writes Strict (R.remaining reader.old)
         (record { variables = f.variables; clauses = f.clauses })) }
@@ -38,11 +35,11 @@ pub fn read_instance<R: Read, A: Allocator + Copy>(
 ///
 /// # Errors
 /// As [`read_into`].
-pub fn read_instance_by<R: Read, A: Allocator + Copy>(
-    alloc: A,
+pub fn read_instance_by<R: Read>(
+    alloc: Global,
     reader: &mut R,
     rule: HeaderRule,
-) -> Result<Instance<Cnf<A>>, DimacsError>
+) -> Result<Instance<Cnf>, DimacsError>
     ensures end { OnOk result (IsAtEnd (R.remaining reader.new)) }
     ensures ok { IfOk result (λ f. Writes rule (R.remaining reader.old)
         (record { variables = f.variables; clauses = f.clauses })) }
@@ -62,8 +59,8 @@ pub fn read_instance_by<R: Read, A: Allocator + Copy>(
 /// - [`DimacsError::Memory`] where memory is refused, or a clause is.
 ///
 /// How much was read then is open. What was given clauses is dropped.
-pub fn read_into<R: Read, S: ClauseSink + Drop, A: Allocator + Copy>(
-    alloc: A,
+pub fn read_into<R: Read, S: ClauseSink + Drop>(
+    alloc: Global,
     reader: &mut R,
     rule: HeaderRule,
     sink: S,
@@ -92,7 +89,7 @@ pub fn read_into<R: Read, S: ClauseSink + Drop, A: Allocator + Copy>(
 }
 
 // So many zeros.
-fn zeros<A: Allocator>(alloc: A, len: usize) -> Result<Vec<u8, A>, AllocError>
+fn zeros(alloc: Global, len: usize) -> Result<Vec<u8>, AllocError>
     ensures { IfOk result (λ zeros. vec_len zeros ≡ len) }
 {
     vec![in alloc; 0u8; len]

@@ -3,7 +3,7 @@ ghost use Rattle.std.specs.Prelude.{◌≡◌, ◌++◌, OnOk};
 ghost use Rattle.gipsat_dimacs.specs.Writer.{clause_line, literal_text};
 
 use gipsat_cnf::Literal;
-use std::alloc::{AllocError, Allocator};
+use std::alloc::AllocError;
 use std::io::Write;
 
 /// Writes a clause behind a text, as a line with a 0 behind its literals. Variable k of a formula is k + 1 in the text.
@@ -11,10 +11,7 @@ use std::io::Write;
 /// # Errors
 ///
 /// Where no memory is left. Then a part of the line may stand behind the text.
-pub fn write_clause<A: Allocator>(
-    text: &mut Vec<u8, A>,
-    clause: &[Literal],
-) -> Result<(), AllocError>
+pub fn write_clause(text: &mut Vec<u8>, clause: &[Literal]) -> Result<(), AllocError>
     ensures written { OnOk result (text.new.items ≡ text.old.items ++ clause_line clause.now) }
 {
     for l in clause {
@@ -25,7 +22,7 @@ pub fn write_clause<A: Allocator>(
 }
 
 // Writes a literal, and a space behind it.
-fn write_literal<A: Allocator>(text: &mut Vec<u8, A>, l: Literal) -> Result<(), AllocError>
+fn write_literal(text: &mut Vec<u8>, l: Literal) -> Result<(), AllocError>
     ensures written { OnOk result (text.new.items ≡ text.old.items ++ literal_text l) }
 {
     if !l.is_positive() {

@@ -8,22 +8,22 @@ use crate::checker::Checker;
 use crate::codes::Codes;
 use crate::error::{Failure, Flaw, Notes, Outcome, Place, Stop};
 use crate::step::{GREATEST_NUMBER, Step};
-use std::alloc::{Allocator, Global};
+use std::alloc::Global;
 
 // The greatest code.
 const GREATEST_CODE: u64 = 2 * GREATEST_NUMBER + 1;
 
 // What has been read of a binary proof.
 #[derive(Drop)]
-pub(crate) struct BinaryParser<A: Allocator = Global> {
+pub(crate) struct BinaryParser {
     codes: Codes,
-    step: Step<A>,
+    step: Step,
     in_step: bool,
 }
 
-impl<A: Allocator + Copy> BinaryParser<A> {
+impl BinaryParser {
     // Before a proof.
-    pub(crate) fn new(alloc: A) -> Self {
+    pub(crate) fn new(alloc: Global) -> Self {
         BinaryParser {
             codes: Codes::new(GREATEST_CODE),
             step: Step::new(alloc),
@@ -42,7 +42,7 @@ impl<A: Allocator + Copy> BinaryParser<A> {
     }
 
     // Reads some bytes more, as far as the empty clause.
-    pub(crate) fn feed(&mut self, checker: &mut Checker<A>, bytes: &[u8]) -> Result<(), Stop>
+    pub(crate) fn feed(&mut self, checker: &mut Checker, bytes: &[u8]) -> Result<(), Stop>
         ensures { Keeps checker.old checker.new }
     {
         for byte in bytes {
@@ -55,7 +55,7 @@ impl<A: Allocator + Copy> BinaryParser<A> {
     }
 
     // Reads a byte more.
-    fn byte(&mut self, checker: &mut Checker<A>, byte: u8) -> Result<(), Stop>
+    fn byte(&mut self, checker: &mut Checker, byte: u8) -> Result<(), Stop>
         ensures { Keeps checker.old checker.new }
     {
         if !self.in_step {
@@ -84,7 +84,7 @@ impl<A: Allocator + Copy> BinaryParser<A> {
     }
 
     // Ends the proof.
-    pub(crate) fn finish(&self, checker: &Checker<A>) -> Result<Outcome, Failure>
+    pub(crate) fn finish(&self, checker: &Checker) -> Result<Outcome, Failure>
         ensures { IfOk result (IsRightOf checker.now) }
     {
         if checker.is_refuted() {

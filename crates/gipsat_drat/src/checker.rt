@@ -11,7 +11,7 @@ use crate::trail::Trail;
 use crate::watches::{GONE, Watches};
 use gipsat_cnf::{Cnf, Literal};
 use gipsat_kernel::RatKernel;
-use std::alloc::{AllocError, Allocator, Global};
+use std::alloc::{AllocError, Global};
 use std::marker::Model;
 
 /// Clauses, to which others are added only where they are RUP or RAT. Contracts see the formula of all of them, and
@@ -23,20 +23,34 @@ use std::marker::Model;
 /// satisfiability: where something satisfied all clauses, something satisfies this one as well.
 ///
 /// All that is believed is a [`RatKernel`]: what propagation finds is derived by it.
-#[derive(Drop)]
-pub struct Checker<A: Allocator = Global> {
-    alloc: A,
-    kernel: RatKernel<A>,
-    trail: Trail<A>,
-    watches: Watches<A>,
-    index: Index<A>,
+pub struct Checker {
+    alloc: Global,
+    kernel: RatKernel,
+    trail: Trail,
+    watches: Watches,
+    index: Index,
     // The steps, if they are wanted.
-    log: Log<A>,
+    log: Log,
     // Whether the empty clause was shown.
     refuted: bool,
 }
 
-impl<A: Allocator> Model for Checker<A> {
+// One call in its owners' proofs, in place of one for each field.
+impl Drop for Checker {
+    fn drop(self) {
+        let Checker {
+            alloc: _,
+            kernel,
+            trail,
+            watches,
+            index,
+            log,
+            refuted: _,
+        } = self;
+    }
+}
+
+impl Model for Checker {
     ghost use Rattle.gipsat_drat.specs.Held.{Held};
 
     ghost Value = { Held };
@@ -44,12 +58,12 @@ impl<A: Allocator> Model for Checker<A> {
     ghost view = { λ c. record { clauses = c.kernel; refuted = c.refuted } };
 }
 
-impl<A: Allocator + Copy> Checker<A> {
+impl Checker {
     /// A checker that holds nothing, with room for so many variables. Where a clause has others, it takes room for them.
     ///
     /// # Errors
     /// `AllocError` where memory is refused.
-    pub fn new(alloc: A, variables: u32) -> Result<Self, AllocError>
+    pub fn new(alloc: Global, variables: u32) -> Result<Self, AllocError>
         ensures { IfOk result (λ c. c ≡ held_of []) }
     {
         let mut checker = Checker::of(alloc, RatKernel::new(alloc));
@@ -61,14 +75,18 @@ impl<A: Allocator + Copy> Checker<A> {
     ///
     /// # Errors
     /// `AllocError` where memory is refused. The formula is lost then.
-    pub fn over(alloc: A, formula: Cnf<A>) -> Result<Self, AllocError>
+    pub fn over(alloc: Global, formula: Cnf) -> Result<Self, AllocError>
         ensures { IfOk result (Keeps (held_of formula)) }
     {
         Checker::over_with(alloc, formula, false)
     }
 
     // The same, and the steps are noted if they are wanted.
-    pub(crate) fn over_with(alloc: A, formula: Cnf<A>, keeps_log: bool) -> Result<Self, AllocError>
+    pub(crate) fn over_with(
+        alloc: Global,
+        formula: Cnf,
+        keeps_log: bool,
+    ) -> Result<Self, AllocError>
         ensures { IfOk result (Keeps (held_of formula)) }
     {
         let kernel = RatKernel::over(alloc, formula)?;
@@ -78,7 +96,7 @@ impl<A: Allocator + Copy> Checker<A> {
     }
 
     // The steps, if they were wanted.
-    pub(crate) fn log(&self) -> &Log<A> {
+    pub(crate) fn log(&self) -> &Log {
         &self.log
     }
 
@@ -105,7 +123,7 @@ impl<A: Allocator + Copy> Checker<A> {
     }
 
     // A checker of a kernel whose clauses were not entered, with room for no variable.
-    fn of(alloc: A, kernel: RatKernel<A>) -> Self
+    fn of(alloc: Global, kernel: RatKernel) -> Self
         ensures { result ≡ held_of kernel }
     {
         Checker {
@@ -316,11 +334,7 @@ impl<A: Allocator + Copy> Checker<A> {
     }
 
     // Gives that memory back, with lists for whether each clause stays, and for its new id.
-    fn collect(
-        &mut self,
-        stays: &mut Vec<bool, A>,
-        ids: &mut Vec<usize, A>,
-    ) -> Result<(), AllocError>
+    fn collect(&mut self, stays: &mut Vec<bool>, ids: &mut Vec<usize>) -> Result<(), AllocError>
         ensures { self.new ≡ self.old }
     {
         list_ids(&self.kernel, stays, ids)?;
@@ -336,10 +350,10 @@ impl<A: Allocator + Copy> Checker<A> {
 }
 
 // Lists of each clause whether it stays at a collection, and its id after that.
-pub(crate) fn list_ids<A: Allocator + Copy>(
-    kernel: &RatKernel<A>,
-    stays: &mut Vec<bool, A>,
-    ids: &mut Vec<usize, A>,
+pub(crate) fn list_ids(
+    kernel: &RatKernel,
+    stays: &mut Vec<bool>,
+    ids: &mut Vec<usize>,
 ) -> Result<(), AllocError> {
     let mut next: usize = 0;
     for id in 0..kernel.len() {

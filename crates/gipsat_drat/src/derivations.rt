@@ -1,19 +1,29 @@
 //! Which clauses each derivation of a step used, as a proof with hints tells them. Nothing rests on it.
-use std::alloc::{AllocError, Allocator, Global};
+use std::alloc::{AllocError, Global};
 
 // The derivations since they were forgotten last. They are kept only on request.
-#[derive(Drop)]
-pub(crate) struct Derivations<A: Allocator = Global> {
+pub(crate) struct Derivations {
     is_kept: bool,
     // The ids of the clauses that each one used, in the order of use, one behind another.
-    used: Vec<usize, A>,
+    used: Vec<usize>,
     // The id of each clause that was derived, and where the ids that it used end.
-    ends: Vec<(usize, usize), A>,
+    ends: Vec<(usize, usize)>,
 }
 
-impl<A: Allocator + Copy> Derivations<A> {
+// One call in its owners' proofs, in place of one for each field.
+impl Drop for Derivations {
+    fn drop(self) {
+        let Derivations {
+            is_kept: _,
+            used,
+            ends,
+        } = self;
+    }
+}
+
+impl Derivations {
     // None, and none is asked for.
-    pub(crate) fn new(alloc: A) -> Self {
+    pub(crate) fn new(alloc: Global) -> Self {
         Derivations {
             is_kept: false,
             used: Vec::new(alloc),

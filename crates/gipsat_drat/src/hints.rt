@@ -9,7 +9,7 @@ use crate::rup::{begin_true, falsify, resolve_steps};
 use crate::trail::{Reason, Trail, Value};
 use gipsat_cnf::Literal;
 use gipsat_kernel::RatKernel;
-use std::alloc::{AllocError, Allocator};
+use std::alloc::{AllocError, Global};
 
 // The name of a clause; a negative one is that of a clause with the pivot's negation.
 #[derive(Clone, Copy)]
@@ -30,7 +30,7 @@ enum Rest {
 
 // What a clause leaves open.
 #[inline]
-fn left<A: Allocator + Copy>(trail: &Trail<A>, clause: &[Literal]) -> Rest {
+fn left(trail: &Trail, clause: &[Literal]) -> Rest {
     let mut open = None;
     for l in clause {
         match trail.value(*l) {
@@ -48,7 +48,7 @@ fn left<A: Allocator + Copy>(trail: &Trail<A>, clause: &[Literal]) -> Rest {
 
 // The id of the clause that a hint names.
 #[inline]
-fn named<A: Allocator + Copy>(names: &Names<A>, hint: Hint) -> Result<usize, Stop> {
+fn named(names: &Names, hint: Hint) -> Result<usize, Stop> {
     match names.get(hint.name) {
         Some(id) => Ok(id),
         None => Err(Stop::Refused(Flaw::Unnamed)),
@@ -57,10 +57,10 @@ fn named<A: Allocator + Copy>(names: &Names<A>, hint: Hint) -> Result<usize, Sto
 
 // Makes the literal true that each hint's clause leaves, as far as the first hint with a sign. The id of the first
 // clause whose literals are all false.
-fn follow<A: Allocator + Copy>(
-    kernel: &RatKernel<A>,
-    trail: &mut Trail<A>,
-    names: &Names<A>,
+fn follow(
+    kernel: &RatKernel,
+    trail: &mut Trail,
+    names: &Names,
     hints: &[Hint],
 ) -> Result<Option<usize>, Stop> {
     for hint in hints {
@@ -78,11 +78,11 @@ fn follow<A: Allocator + Copy>(
 }
 
 // Adds a clause that its hints show, by resolution or as RAT on its first literal: its id.
-pub(crate) fn add_hinted<A: Allocator + Copy>(
-    alloc: A,
-    kernel: &mut RatKernel<A>,
-    trail: &mut Trail<A>,
-    names: &Names<A>,
+pub(crate) fn add_hinted(
+    alloc: Global,
+    kernel: &mut RatKernel,
+    trail: &mut Trail,
+    names: &Names,
     clause: &[Literal],
     hints: &[Hint],
 ) -> Result<usize, Stop>
@@ -109,10 +109,10 @@ pub(crate) fn add_hinted<A: Allocator + Copy>(
 
 // Makes the literals of a clause false, and follows hints. Begins to derive the clause if it is shown, and answers
 // whether.
-fn begin_hinted<A: Allocator + Copy>(
-    kernel: &mut RatKernel<A>,
-    trail: &mut Trail<A>,
-    names: &Names<A>,
+fn begin_hinted(
+    kernel: &mut RatKernel,
+    trail: &mut Trail,
+    names: &Names,
     clause: &[Literal],
     hints: &[Hint],
 ) -> Result<bool, Stop>
@@ -129,11 +129,7 @@ fn begin_hinted<A: Allocator + Copy>(
 
 // Resolves the clause that is being derived with the reasons of its literals, and adds a clause if it has all literals
 // that are left: its id.
-fn conclude<A: Allocator + Copy>(
-    kernel: &mut RatKernel<A>,
-    trail: &mut Trail<A>,
-    clause: &[Literal],
-) -> Result<usize, Stop>
+fn conclude(kernel: &mut RatKernel, trail: &mut Trail, clause: &[Literal]) -> Result<usize, Stop>
     ensures { KeepsSatisfiable kernel.old kernel.new }
 {
     resolve_steps(kernel, trail, 0)?;
@@ -145,15 +141,15 @@ fn conclude<A: Allocator + Copy>(
 
 // Adds a clause that is RAT on its first literal: its id. Behind each hint with a sign are those that show a resolvent;
 // the resolvents that were added are listed, and found by the ids of the clauses that they were added for.
-fn add_rat<A: Allocator + Copy>(
-    alloc: A,
-    kernel: &mut RatKernel<A>,
-    trail: &mut Trail<A>,
-    names: &Names<A>,
+fn add_rat(
+    alloc: Global,
+    kernel: &mut RatKernel,
+    trail: &mut Trail,
+    names: &Names,
     clause: &[Literal],
     hints: &[Hint],
-    resolvents: &mut Vec<usize, A>,
-    found: &mut Vec<Option<usize>, A>,
+    resolvents: &mut Vec<usize>,
+    found: &mut Vec<Option<usize>>,
 ) -> Result<usize, Stop>
     ensures { KeepsSatisfiable kernel.old kernel.new }
 {
@@ -181,10 +177,7 @@ fn add_rat<A: Allocator + Copy>(
 }
 
 // The ids that were found, in the order of the clauses that they were found for.
-fn found_in_order<A: Allocator + Copy>(
-    alloc: A,
-    found: &[Option<usize>],
-) -> Result<Vec<usize, A>, AllocError> {
+fn found_in_order(alloc: Global, found: &[Option<usize>]) -> Result<Vec<usize>, AllocError> {
     let mut ordered = Vec::new(alloc);
     for id in found {
         if let Some(id) = *id {
@@ -195,11 +188,11 @@ fn found_in_order<A: Allocator + Copy>(
 }
 
 // Adds the resolvent on the first literal of a clause with the clause of an id, if hints show it: its id.
-fn add_resolvent<A: Allocator + Copy>(
-    alloc: A,
-    kernel: &mut RatKernel<A>,
-    trail: &mut Trail<A>,
-    names: &Names<A>,
+fn add_resolvent(
+    alloc: Global,
+    kernel: &mut RatKernel,
+    trail: &mut Trail,
+    names: &Names,
     clause: &[Literal],
     id: usize,
     hints: &[Hint],

@@ -1,7 +1,7 @@
 //! Where a clause with certain literals is, by a hash of them.
 use gipsat_cnf::Literal;
 use gipsat_kernel::RatKernel;
-use std::alloc::{AllocError, Allocator, Global};
+use std::alloc::{AllocError, Global};
 
 // What is known of a clause.
 #[derive(Clone, Copy)]
@@ -12,24 +12,35 @@ pub(crate) struct Entry {
 }
 
 // For each hash the clauses that have it.
-#[derive(Drop)]
-pub(crate) struct Index<A: Allocator = Global> {
+pub(crate) struct Index {
     // What is known of each clause, by its id, if it was entered and not deleted.
-    entries: Vec<Option<Entry>, A>,
+    entries: Vec<Option<Entry>>,
     // The first clause in each bucket.
-    buckets: Vec<Option<usize>, A>,
+    buckets: Vec<Option<usize>>,
     // How many clauses were deleted.
     dead: usize,
     // Where each literal stands last in the clause that was noted last. A place is compared before it is used.
-    places: Vec<usize, A>,
+    places: Vec<usize>,
+}
+
+// One call in its owners' proofs, in place of one for each field.
+impl Drop for Index {
+    fn drop(self) {
+        let Index {
+            entries,
+            buckets,
+            dead: _,
+            places,
+        } = self;
+    }
 }
 
 // How many buckets there are with the first clause.
 const LEAST_BUCKETS: usize = 1024;
 
-impl<A: Allocator + Copy> Index<A> {
+impl Index {
     // Of no clause, over no variable.
-    pub(crate) fn new(alloc: A) -> Self {
+    pub(crate) fn new(alloc: Global) -> Self {
         Index {
             entries: Vec::new(alloc),
             buckets: Vec::new(alloc),
@@ -151,7 +162,7 @@ impl<A: Allocator + Copy> Index<A> {
     }
 
     // The id of a clause of the formula with these literals, in whatever order and however often each is there.
-    pub(crate) fn find(&mut self, kernel: &RatKernel<A>, clause: &[Literal]) -> Option<usize> {
+    pub(crate) fn find(&mut self, kernel: &RatKernel, clause: &[Literal]) -> Option<usize> {
         let hash = self.hash(clause);
         let mut next = *self.buckets.get(self.bucket(hash))?;
         for _ in 0..self.entries.len() {
@@ -229,9 +240,9 @@ impl<A: Allocator + Copy> Index<A> {
     // What is known of the clauses that stay, by a flag for each id.
     pub(crate) fn kept(
         &self,
-        alloc: A,
+        alloc: Global,
         stays: &[bool],
-    ) -> Result<Vec<Option<Entry>, A>, AllocError> {
+    ) -> Result<Vec<Option<Entry>>, AllocError> {
         let mut entries = Vec::new(alloc);
         for id in 0..self.entries.len() {
             if stays.get(id) == Some(&true) {
@@ -242,7 +253,7 @@ impl<A: Allocator + Copy> Index<A> {
     }
 
     // Knows this alone from now on, where no clause was deleted.
-    pub(crate) fn replace(&mut self, entries: Vec<Option<Entry>, A>) {
+    pub(crate) fn replace(&mut self, entries: Vec<Option<Entry>>) {
         self.entries = entries;
         self.dead = 0;
         self.link_all();

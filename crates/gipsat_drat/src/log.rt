@@ -4,7 +4,7 @@ use crate::derivations::Derivations;
 use crate::rat::has;
 use gipsat_cnf::Literal;
 use gipsat_kernel::RatKernel;
-use std::alloc::{AllocError, Allocator, Global};
+use std::alloc::{AllocError, Global};
 
 // A clause that a step uses, by its name. A candidate has the negation of the step's pivot, and the uses behind it show
 // the resolvent with it.
@@ -31,23 +31,37 @@ pub(crate) struct Added<'a> {
 
 // The steps that added clauses, each of which has the next name behind those of the formula, and the names of the
 // clauses. They are kept only on request.
-#[derive(Drop)]
-pub(crate) struct Log<A: Allocator = Global> {
+pub(crate) struct Log {
     is_kept: bool,
     // The name of each clause of the kernel, by its id. 0 if it has none.
-    names: Vec<u32, A>,
+    names: Vec<u32>,
     // How many clauses the formula has.
     given: u32,
     // The name that was given last.
     last: u32,
-    ends: Vec<Ends, A>,
-    literals: Vec<Literal, A>,
-    uses: Vec<Use, A>,
+    ends: Vec<Ends>,
+    literals: Vec<Literal>,
+    uses: Vec<Use>,
 }
 
-impl<A: Allocator + Copy> Log<A> {
+// One call in its owners' proofs, in place of one for each field.
+impl Drop for Log {
+    fn drop(self) {
+        let Log {
+            is_kept: _,
+            names,
+            given: _,
+            last: _,
+            ends,
+            literals,
+            uses,
+        } = self;
+    }
+}
+
+impl Log {
     // It is not kept.
-    pub(crate) fn new(alloc: A) -> Self {
+    pub(crate) fn new(alloc: Global) -> Self {
         Log {
             is_kept: false,
             names: Vec::new(alloc),
@@ -104,7 +118,7 @@ impl<A: Allocator + Copy> Log<A> {
     // the derived clause is false, which is assumed, is left out. The derived clause has literals of these two.
     fn push_uses(
         &mut self,
-        kernel: &RatKernel<A>,
+        kernel: &RatKernel,
         used: &[usize],
         clause: &[Literal],
         other: &[Literal],
@@ -134,8 +148,8 @@ impl<A: Allocator + Copy> Log<A> {
     // Notes each clause that was derived. One of a literal that another clause has alone is known by the name of that.
     pub(crate) fn note_derived(
         &mut self,
-        kernel: &RatKernel<A>,
-        derivations: &Derivations<A>,
+        kernel: &RatKernel,
+        derivations: &Derivations,
     ) -> Result<(), AllocError> {
         for number in 0..derivations.len() {
             let Some((id, used)) = derivations.get(number) else {
@@ -157,8 +171,8 @@ impl<A: Allocator + Copy> Log<A> {
     // with the pivot's negation, and come behind these.
     pub(crate) fn note_rat(
         &mut self,
-        kernel: &RatKernel<A>,
-        derivations: &Derivations<A>,
+        kernel: &RatKernel,
+        derivations: &Derivations,
         id: usize,
     ) -> Result<(), AllocError> {
         if !self.is_kept {
@@ -236,7 +250,7 @@ impl<A: Allocator + Copy> Log<A> {
     }
 
     // Which clauses the last step needs, by the name of the last step that uses each.
-    pub(crate) fn trim(&self, alloc: A) -> Result<Trim<A>, AllocError> {
+    pub(crate) fn trim(&self, alloc: Global) -> Result<Trim, AllocError> {
         let mut trim = Trim {
             last_uses: vec![in alloc; 0u32; (self.last as usize).saturating_add(1)]?,
         };
@@ -258,12 +272,12 @@ impl<A: Allocator + Copy> Log<A> {
 
 // The last step that uses each clause.
 #[derive(Drop)]
-pub(crate) struct Trim<A: Allocator = Global> {
+pub(crate) struct Trim {
     // Its name, by the name of the clause. 0 if none does.
-    last_uses: Vec<u32, A>,
+    last_uses: Vec<u32>,
 }
 
-impl<A: Allocator> Trim<A> {
+impl Trim {
     // A step uses a clause, and those behind it are noted.
     fn note(&mut self, name: u32, step: u32) {
         if let Some(last) = self.last_uses.get_mut(name as usize) {

@@ -10,17 +10,16 @@ use crate::names::Names;
 use crate::trail::Trail;
 use gipsat_cnf::{Cnf, Literal};
 use gipsat_kernel::RatKernel;
-use std::alloc::{AllocError, Allocator, Global};
+use std::alloc::{AllocError, Global};
 use std::marker::Model;
 
 // Clauses with names, to which others are added only where their hints show them. It neither watches clauses nor looks
 // for any, and what the hints lead to is derived by the kernel.
-#[derive(Drop)]
-pub(crate) struct LratChecker<A: Allocator = Global> {
-    alloc: A,
-    kernel: RatKernel<A>,
-    trail: Trail<A>,
-    names: Names<A>,
+pub(crate) struct LratChecker {
+    alloc: Global,
+    kernel: RatKernel,
+    trail: Trail,
+    names: Names,
     // The greatest name of all that were given.
     last: u64,
     // How many literals the clauses have.
@@ -29,7 +28,22 @@ pub(crate) struct LratChecker<A: Allocator = Global> {
     refuted: bool,
 }
 
-impl<A: Allocator> Model for LratChecker<A> {
+// One call in its owners' proofs, in place of one for each field.
+impl Drop for LratChecker {
+    fn drop(self) {
+        let LratChecker {
+            alloc: _,
+            kernel,
+            trail,
+            names: _,
+            last: _,
+            literals: _,
+            refuted: _,
+        } = self;
+    }
+}
+
+impl Model for LratChecker {
     ghost use Rattle.gipsat_drat.specs.Held.{Held};
 
     ghost Value = { Held };
@@ -40,9 +54,9 @@ impl<A: Allocator> Model for LratChecker<A> {
 // Of so many literals, those that deleted clauses leave behind are not many.
 const FEW_LITERALS: usize = 65_536;
 
-impl<A: Allocator + Copy> LratChecker<A> {
+impl LratChecker {
     // A checker that holds the clauses of a formula, named from 1 on. It takes the formula over without a copy.
-    pub(crate) fn over(alloc: A, formula: Cnf<A>) -> Result<Self, AllocError>
+    pub(crate) fn over(alloc: Global, formula: Cnf) -> Result<Self, AllocError>
         ensures { IfOk result (λ c. c ≡ held_of formula) }
     {
         let kernel = RatKernel::over(alloc, formula)?;
@@ -52,7 +66,7 @@ impl<A: Allocator + Copy> LratChecker<A> {
     }
 
     // A checker of a kernel whose clauses have no names, with room for no variable.
-    fn of(alloc: A, kernel: RatKernel<A>) -> Self
+    fn of(alloc: Global, kernel: RatKernel) -> Self
         ensures { result ≡ held_of kernel }
     {
         LratChecker {
@@ -155,11 +169,7 @@ impl<A: Allocator + Copy> LratChecker<A> {
     }
 
     // Gives that memory back, with lists for whether each clause stays, and for its new id.
-    fn collect(
-        &mut self,
-        stays: &mut Vec<bool, A>,
-        ids: &mut Vec<usize, A>,
-    ) -> Result<(), AllocError>
+    fn collect(&mut self, stays: &mut Vec<bool>, ids: &mut Vec<usize>) -> Result<(), AllocError>
         ensures { self.new ≡ self.old }
     {
         list_ids(&self.kernel, stays, ids)?;
@@ -170,11 +180,7 @@ impl<A: Allocator + Copy> LratChecker<A> {
 }
 
 // Names so many clauses of a formula from 1 on.
-fn name_first<A: Allocator + Copy>(
-    alloc: A,
-    names: &mut Names<A>,
-    len: usize,
-) -> Result<(), AllocError> {
+fn name_first(alloc: Global, names: &mut Names, len: usize) -> Result<(), AllocError> {
     for id in 0..len {
         names.insert(alloc, (id as u64).saturating_add(1), id)?;
     }

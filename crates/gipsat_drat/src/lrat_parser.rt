@@ -7,7 +7,7 @@ use crate::error::{Failure, Flaw, Outcome, Place, Stop};
 use crate::lrat::LratChecker;
 use crate::lrat_step::{GREATEST_NAME, LratStep};
 use crate::words::{Word, Words};
-use std::alloc::{Allocator, Global};
+use std::alloc::Global;
 
 // Where the numbers come from.
 #[derive(Clone, Copy)]
@@ -18,14 +18,14 @@ enum Input {
 
 // What has been read of a proof.
 #[derive(Drop)]
-pub(crate) struct LratParser<A: Allocator = Global> {
+pub(crate) struct LratParser {
     input: Input,
-    step: LratStep<A>,
+    step: LratStep,
 }
 
-impl<A: Allocator + Copy> LratParser<A> {
+impl LratParser {
     // Before a text.
-    pub(crate) fn of_text(alloc: A) -> Self {
+    pub(crate) fn of_text(alloc: Global) -> Self {
         LratParser {
             input: Input::Text(Words::new(GREATEST_NAME)),
             step: LratStep::new(alloc),
@@ -33,7 +33,7 @@ impl<A: Allocator + Copy> LratParser<A> {
     }
 
     // Before a binary proof.
-    pub(crate) fn of_bytes(alloc: A) -> Self {
+    pub(crate) fn of_bytes(alloc: Global) -> Self {
         LratParser {
             input: Input::Binary(Codes::new(2 * GREATEST_NAME + 1)),
             step: LratStep::new(alloc),
@@ -49,7 +49,7 @@ impl<A: Allocator + Copy> LratParser<A> {
     }
 
     // Reads some bytes more, as far as the empty clause.
-    pub(crate) fn feed(&mut self, checker: &mut LratChecker<A>, bytes: &[u8]) -> Result<(), Stop>
+    pub(crate) fn feed(&mut self, checker: &mut LratChecker, bytes: &[u8]) -> Result<(), Stop>
         ensures { Keeps checker.old checker.new }
     {
         let mut start = 0;
@@ -86,7 +86,7 @@ impl<A: Allocator + Copy> LratParser<A> {
     }
 
     // Ends the proof.
-    pub(crate) fn finish(&mut self, checker: &mut LratChecker<A>) -> Result<Outcome, Failure>
+    pub(crate) fn finish(&mut self, checker: &mut LratChecker) -> Result<Outcome, Failure>
         ensures { IfOk result (IsRightOf checker.old) }
     {
         if let Err(stop) = self.end_last(checker) {
@@ -102,7 +102,7 @@ impl<A: Allocator + Copy> LratParser<A> {
     }
 
     // Ends the last step of a text, if no byte is behind its last number.
-    fn end_last(&mut self, checker: &mut LratChecker<A>) -> Result<(), Stop>
+    fn end_last(&mut self, checker: &mut LratChecker) -> Result<(), Stop>
         ensures { Keeps checker.old checker.new }
     {
         let Input::Text(words) = self.input else {
@@ -119,9 +119,9 @@ impl<A: Allocator + Copy> LratParser<A> {
 }
 
 // Reads a text from one place on, as far as the end of a step: the place behind it.
-fn read_words<A: Allocator + Copy>(
+fn read_words(
     words: &mut Words,
-    step: &mut LratStep<A>,
+    step: &mut LratStep,
     bytes: &[u8],
     start: usize,
 ) -> Result<Option<usize>, Stop> {
@@ -140,7 +140,7 @@ fn read_words<A: Allocator + Copy>(
 
 // Adds a word to a step. Whether the step ends by it.
 #[inline]
-fn take_word<A: Allocator + Copy>(step: &mut LratStep<A>, word: Word) -> Result<bool, Stop> {
+fn take_word(step: &mut LratStep, word: Word) -> Result<bool, Stop> {
     match word {
         Word::None => Ok(false),
         Word::Delete if step.is_begun() => {
@@ -153,9 +153,9 @@ fn take_word<A: Allocator + Copy>(step: &mut LratStep<A>, word: Word) -> Result<
 }
 
 // Reads a binary proof from one place on, as far as the end of a step: the place behind it.
-fn read_codes<A: Allocator + Copy>(
+fn read_codes(
     codes: &mut Codes,
-    step: &mut LratStep<A>,
+    step: &mut LratStep,
     bytes: &[u8],
     start: usize,
 ) -> Result<Option<usize>, Stop> {
@@ -169,11 +169,7 @@ fn read_codes<A: Allocator + Copy>(
 
 // Adds a byte to a step. Whether the step ends by it.
 #[inline]
-fn take_code<A: Allocator + Copy>(
-    codes: &mut Codes,
-    step: &mut LratStep<A>,
-    byte: u8,
-) -> Result<bool, Stop> {
+fn take_code(codes: &mut Codes, step: &mut LratStep, byte: u8) -> Result<bool, Stop> {
     if !step.is_begun() {
         codes.count();
         match byte {

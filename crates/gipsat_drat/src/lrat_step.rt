@@ -6,7 +6,7 @@ use crate::hints::Hint;
 use crate::lrat::LratChecker;
 use crate::step::literal;
 use gipsat_cnf::Literal;
-use std::alloc::{Allocator, Global};
+use std::alloc::Global;
 
 // The greatest name.
 pub(crate) const GREATEST_NAME: u64 = 1 << 55;
@@ -27,18 +27,29 @@ enum Part {
 }
 
 // A step that has not ended.
-#[derive(Drop)]
-pub(crate) struct LratStep<A: Allocator = Global> {
+pub(crate) struct LratStep {
     part: Part,
     name: u64,
-    clause: Vec<Literal, A>,
+    clause: Vec<Literal>,
     // The hints, or the names of the clauses to delete.
-    hints: Vec<Hint, A>,
+    hints: Vec<Hint>,
 }
 
-impl<A: Allocator + Copy> LratStep<A> {
+// One call in its owners' proofs, in place of one for each field.
+impl Drop for LratStep {
+    fn drop(self) {
+        let LratStep {
+            part: _,
+            name: _,
+            clause,
+            hints,
+        } = self;
+    }
+}
+
+impl LratStep {
     // The first one of a proof.
-    pub(crate) fn new(alloc: A) -> Self {
+    pub(crate) fn new(alloc: Global) -> Self {
         LratStep {
             part: Part::Start,
             name: 0,
@@ -119,7 +130,7 @@ impl<A: Allocator + Copy> LratStep<A> {
     }
 
     // Ends it, and begins the next one.
-    pub(crate) fn end(&mut self, checker: &mut LratChecker<A>) -> Result<(), Stop>
+    pub(crate) fn end(&mut self, checker: &mut LratChecker) -> Result<(), Stop>
         ensures { Keeps checker.old checker.new }
     {
         if self.part == Part::Names {

@@ -5,7 +5,7 @@ use crate::error::Failure;
 use crate::log::{Added, Log, Trim, Use};
 use gipsat_cnf::Literal;
 use giputils_text::write_groups;
-use std::alloc::{AllocError, Allocator};
+use std::alloc::{AllocError, Global};
 use std::io::Write;
 
 // From how many bytes on they are written.
@@ -22,9 +22,9 @@ pub enum LratFormat {
 
 // Writes the steps that the last one needs, in their order. Each clause is deleted behind the last step that uses it, and
 // those of the formula that none uses are deleted at first.
-pub(crate) fn write_log<A: Allocator + Copy, W: Write>(
-    alloc: A,
-    log: &Log<A>,
+pub(crate) fn write_log<W: Write>(
+    alloc: Global,
+    log: &Log,
     format: LratFormat,
     writer: &mut W,
 ) -> Result<(), Failure>
@@ -37,13 +37,13 @@ pub(crate) fn write_log<A: Allocator + Copy, W: Write>(
 }
 
 // Writes the needed steps, with the names of clauses that wait to be deleted, and bytes that wait to be written.
-fn write_steps<A: Allocator + Copy, W: Write>(
-    log: &Log<A>,
+fn write_steps<W: Write>(
+    log: &Log,
     format: LratFormat,
     writer: &mut W,
-    trim: &mut Trim<A>,
-    gone: &mut Vec<u32, A>,
-    bytes: &mut Vec<u8, A>,
+    trim: &mut Trim,
+    gone: &mut Vec<u32>,
+    bytes: &mut Vec<u8>,
 ) -> Result<(), Failure>
     ensures { IfErr result (λ why. why ≢ Failure.Output → why ≢ Failure.Memory → writer.new ≡ writer.old) }
 {
@@ -64,11 +64,7 @@ fn write_steps<A: Allocator + Copy, W: Write>(
 }
 
 // Lists the names of the formula's clauses that no step uses.
-fn list_unneeded<A: Allocator + Copy>(
-    log: &Log<A>,
-    trim: &Trim<A>,
-    names: &mut Vec<u32, A>,
-) -> Result<(), AllocError> {
+fn list_unneeded(log: &Log, trim: &Trim, names: &mut Vec<u32>) -> Result<(), AllocError> {
     for name in 1..log.given().saturating_add(1) {
         if !trim.is_needed(name) {
             names.push(name)?;
@@ -79,13 +75,13 @@ fn list_unneeded<A: Allocator + Copy>(
 
 // Writes a step that adds a clause, and deletions: of clauses that wait for it, and of those that it uses last. Those that
 // wait may be candidates of a clause that is RAT, and go before it then.
-fn write_step<A: Allocator + Copy>(
-    bytes: &mut Vec<u8, A>,
+fn write_step(
+    bytes: &mut Vec<u8>,
     format: LratFormat,
     given: u32,
     step: Added<'_>,
-    trim: &mut Trim<A>,
-    gone: &mut Vec<u32, A>,
+    trim: &mut Trim,
+    gone: &mut Vec<u32>,
 ) -> Result<(), AllocError> {
     if step.uses.iter().any(|used| used.is_candidate) {
         write_deletion(bytes, format, given, gone)?;
@@ -105,10 +101,7 @@ fn write_step<A: Allocator + Copy>(
 }
 
 // Writes what was not written yet.
-fn flush<A: Allocator + Copy, W: Write>(
-    bytes: &mut Vec<u8, A>,
-    writer: &mut W,
-) -> Result<(), Failure>
+fn flush<W: Write>(bytes: &mut Vec<u8>, writer: &mut W) -> Result<(), Failure>
     ensures { IfErr result (λ why. why ≡ Failure.Output) }
 {
     let done = writer.write_all(bytes);
@@ -120,13 +113,13 @@ fn flush<A: Allocator + Copy, W: Write>(
 }
 
 // Writes a number with a blank behind it.
-fn write_number<A: Allocator>(bytes: &mut Vec<u8, A>, number: u32) -> Result<(), AllocError> {
+fn write_number(bytes: &mut Vec<u8>, number: u32) -> Result<(), AllocError> {
     write!(bytes, "{number} ").map_err(|_| AllocError)
 }
 
 // Writes a number with its sign.
-fn write_signed<A: Allocator>(
-    bytes: &mut Vec<u8, A>,
+fn write_signed(
+    bytes: &mut Vec<u8>,
     format: LratFormat,
     number: u32,
     positive: bool,
@@ -141,8 +134,8 @@ fn write_signed<A: Allocator>(
 }
 
 // Writes the names of clauses that are deleted behind a step, if there are any.
-fn write_deletion<A: Allocator>(
-    bytes: &mut Vec<u8, A>,
+fn write_deletion(
+    bytes: &mut Vec<u8>,
     format: LratFormat,
     behind: u32,
     names: &[u32],
@@ -164,11 +157,7 @@ fn write_deletion<A: Allocator>(
 }
 
 // Writes the name of a clause that is added, or deleted.
-fn write_name<A: Allocator>(
-    bytes: &mut Vec<u8, A>,
-    format: LratFormat,
-    name: u32,
-) -> Result<(), AllocError> {
+fn write_name(bytes: &mut Vec<u8>, format: LratFormat, name: u32) -> Result<(), AllocError> {
     match format {
         LratFormat::Text => write_number(bytes, name),
         LratFormat::Binary => write_groups(bytes, u64::from(name)),
@@ -176,8 +165,8 @@ fn write_name<A: Allocator>(
 }
 
 // Writes a step that adds a clause.
-fn write_addition<A: Allocator>(
-    bytes: &mut Vec<u8, A>,
+fn write_addition(
+    bytes: &mut Vec<u8>,
     format: LratFormat,
     step: Added<'_>,
 ) -> Result<(), AllocError> {
@@ -190,8 +179,8 @@ fn write_addition<A: Allocator>(
 }
 
 // Writes the literals of a clause.
-fn write_literals<A: Allocator>(
-    bytes: &mut Vec<u8, A>,
+fn write_literals(
+    bytes: &mut Vec<u8>,
     format: LratFormat,
     literals: &[Literal],
 ) -> Result<(), AllocError> {
@@ -202,11 +191,7 @@ fn write_literals<A: Allocator>(
 }
 
 // Writes the hints of a step.
-fn write_hints<A: Allocator>(
-    bytes: &mut Vec<u8, A>,
-    format: LratFormat,
-    uses: &[Use],
-) -> Result<(), AllocError> {
+fn write_hints(bytes: &mut Vec<u8>, format: LratFormat, uses: &[Use]) -> Result<(), AllocError> {
     for used in uses {
         write_signed(bytes, format, used.name, !used.is_candidate)?;
     }
@@ -214,11 +199,7 @@ fn write_hints<A: Allocator>(
 }
 
 // Writes the end of a list, which is this in a text.
-fn end_list<A: Allocator>(
-    bytes: &mut Vec<u8, A>,
-    format: LratFormat,
-    end: &[u8],
-) -> Result<(), AllocError> {
+fn end_list(bytes: &mut Vec<u8>, format: LratFormat, end: &[u8]) -> Result<(), AllocError> {
     match format {
         LratFormat::Text => bytes.extend_from_slice(end),
         LratFormat::Binary => {

@@ -1,7 +1,7 @@
 //! Which clause of the kernel has a name of the proof. A wrong answer makes a step fail, and no more.
 
 use crate::watches::GONE;
-use std::alloc::{AllocError, Allocator, Global};
+use std::alloc::{AllocError, Global};
 
 // A name, 0 if there is none, and the id of its clause, `GONE` if that was deleted.
 #[derive(Clone, Copy)]
@@ -15,9 +15,9 @@ const FREE: Slot = Slot { name: 0, id: GONE };
 // The ids by names, in a table of open addressing that takes the memory of the clauses which were not deleted. No name
 // is given twice, so that the slot of a deleted clause stays as it is until the table is made anew.
 #[derive(Drop)]
-pub(crate) struct Names<A: Allocator = Global> {
+pub(crate) struct Names {
     // None, or as many as a power of 2, and half of them are free at least.
-    slots: Vec<Slot, A>,
+    slots: Vec<Slot>,
     // How many are not free.
     used: usize,
     // How many clauses there are.
@@ -27,9 +27,9 @@ pub(crate) struct Names<A: Allocator = Global> {
 // How many slots there are with the first clause.
 const LEAST_SLOTS: usize = 1024;
 
-impl<A: Allocator + Copy> Names<A> {
+impl Names {
     // Of no clause.
-    pub(crate) fn new(alloc: A) -> Self {
+    pub(crate) fn new(alloc: Global) -> Self {
         Names {
             slots: Vec::new(alloc),
             used: 0,
@@ -85,7 +85,7 @@ impl<A: Allocator + Copy> Names<A> {
     }
 
     // Gives a clause a name that none had.
-    pub(crate) fn insert(&mut self, alloc: A, name: u64, id: usize) -> Result<(), AllocError> {
+    pub(crate) fn insert(&mut self, alloc: Global, name: u64, id: usize) -> Result<(), AllocError> {
         if self.used >= self.slots.len() / 2 {
             self.rebuild(alloc)?;
         }
@@ -104,7 +104,7 @@ impl<A: Allocator + Copy> Names<A> {
     }
 
     // Makes a table of the clauses that there are, with room for as many again.
-    fn rebuild(&mut self, alloc: A) -> Result<(), AllocError> {
+    fn rebuild(&mut self, alloc: Global) -> Result<(), AllocError> {
         let wanted = self.len.saturating_mul(4);
         let mut size = LEAST_SLOTS;
         for _ in 0..usize::BITS {

@@ -6,23 +6,23 @@ use crate::binary::BinaryParser;
 use crate::checker::Checker;
 use crate::error::{Failure, Notes, Outcome, Place, Stop};
 use crate::text::TextParser;
-use std::alloc::{Allocator, Global};
+use std::alloc::Global;
 
 // What has been read of a proof.
 #[derive(Drop)]
-pub(crate) enum Parser<A: Allocator = Global> {
-    Text(TextParser<A>),
-    Binary(BinaryParser<A>),
+pub(crate) enum Parser {
+    Text(TextParser),
+    Binary(BinaryParser),
 }
 
-impl<A: Allocator + Copy> Parser<A> {
+impl Parser {
     // Before a text.
-    pub(crate) fn of_text(alloc: A) -> Self {
+    pub(crate) fn of_text(alloc: Global) -> Self {
         Parser::Text(TextParser::new(alloc))
     }
 
     // Before a binary proof.
-    pub(crate) fn of_bytes(alloc: A) -> Self {
+    pub(crate) fn of_bytes(alloc: Global) -> Self {
         Parser::Binary(BinaryParser::new(alloc))
     }
 
@@ -43,7 +43,7 @@ impl<A: Allocator + Copy> Parser<A> {
     }
 
     // Reads some bytes more, as far as the empty clause.
-    pub(crate) fn feed(&mut self, checker: &mut Checker<A>, bytes: &[u8]) -> Result<(), Stop>
+    pub(crate) fn feed(&mut self, checker: &mut Checker, bytes: &[u8]) -> Result<(), Stop>
         ensures { Keeps checker.old checker.new }
     {
         match self {
@@ -53,7 +53,7 @@ impl<A: Allocator + Copy> Parser<A> {
     }
 
     // Ends the proof.
-    pub(crate) fn finish(&mut self, checker: &mut Checker<A>) -> Result<Outcome, Failure>
+    pub(crate) fn finish(&mut self, checker: &mut Checker) -> Result<Outcome, Failure>
         ensures { IfOk result (IsRightOf checker.old) }
     {
         match self {

@@ -7,7 +7,7 @@ use crate::trail::{Reason, Trail, Value};
 use crate::watches::{Watch, Watches};
 use gipsat_cnf::Literal;
 use gipsat_kernel::RatKernel;
-use std::alloc::{AllocError, Allocator};
+use std::alloc::{AllocError, Global};
 
 // What became of a watch: what it is now, whether it stays, and the id of its clause if all literals of that are false.
 #[derive(Clone, Copy)]
@@ -27,11 +27,7 @@ fn seen(id: usize, blocker: Literal, stays: bool) -> Visited {
 }
 
 // The place of a literal behind the first two that isn't false, nor a certain one.
-fn replacement<A: Allocator + Copy>(
-    trail: &Trail<A>,
-    clause: &[Literal],
-    but: Literal,
-) -> Option<usize>
+fn replacement(trail: &Trail, clause: &[Literal], but: Literal) -> Option<usize>
     ensures { IfSome result (λ place. place < length clause.now) }
 {
     for place in 2..clause.len() {
@@ -59,10 +55,10 @@ fn other_watched(clause: &[Literal], l: Literal) -> Option<(Literal, usize)> {
 
 // Looks at a clause one of whose watched literals has become false. Behind a conflict it only drops the watch of a clause
 // that was deleted.
-fn visit_clause<A: Allocator + Copy>(
-    kernel: &mut RatKernel<A>,
-    trail: &mut Trail<A>,
-    watches: &mut Watches<A>,
+fn visit_clause(
+    kernel: &mut RatKernel,
+    trail: &mut Trail,
+    watches: &mut Watches,
     watch: Watch,
     falsified: Literal,
     is_conflict: bool,
@@ -104,11 +100,11 @@ fn visit_clause<A: Allocator + Copy>(
 }
 
 // Looks at each clause that watches a literal that has become false. One whose literals are all false, if one is met.
-fn visit_watches<A: Allocator + Copy>(
-    alloc: A,
-    kernel: &mut RatKernel<A>,
-    trail: &mut Trail<A>,
-    watches: &mut Watches<A>,
+fn visit_watches(
+    alloc: Global,
+    kernel: &mut RatKernel,
+    trail: &mut Trail,
+    watches: &mut Watches,
     falsified: Literal,
 ) -> Result<Option<usize>, AllocError>
     ensures { KeepsSatisfiable kernel.old kernel.new }
@@ -132,18 +128,18 @@ fn visit_watches<A: Allocator + Copy>(
 
 // Writes a watch to a place of a list.
 #[inline]
-fn put<A: Allocator + Copy>(list: &mut Vec<Watch, A>, place: usize, watch: Watch) {
+fn put(list: &mut Vec<Watch>, place: usize, watch: Watch) {
     if let Some(slot) = list.get_mut(place) {
         *slot = watch;
     }
 }
 
 // Propagates what has become true. A clause whose literals are all false, if one is met.
-pub(crate) fn propagate<A: Allocator + Copy>(
-    alloc: A,
-    kernel: &mut RatKernel<A>,
-    trail: &mut Trail<A>,
-    watches: &mut Watches<A>,
+pub(crate) fn propagate(
+    alloc: Global,
+    kernel: &mut RatKernel,
+    trail: &mut Trail,
+    watches: &mut Watches,
 ) -> Result<Option<usize>, AllocError>
     ensures { KeepsSatisfiable kernel.old kernel.new }
 {
@@ -161,12 +157,7 @@ pub(crate) fn propagate<A: Allocator + Copy>(
 }
 
 // The place of a literal of a clause that isn't false, from one place on.
-fn non_false<A: Allocator + Copy>(
-    trail: &Trail<A>,
-    clause: &[Literal],
-    from: usize,
-    but: Option<Literal>,
-) -> Option<usize>
+fn non_false(trail: &Trail, clause: &[Literal], from: usize, but: Option<Literal>) -> Option<usize>
     ensures { IfSome result (λ place. place < length clause.now) }
 {
     for place in from..clause.len() {
@@ -179,10 +170,10 @@ fn non_false<A: Allocator + Copy>(
 }
 
 // Lets a clause watch two literals, or makes the one true that it leaves. Its id if all its literals are false.
-pub(crate) fn attach<A: Allocator + Copy>(
-    kernel: &mut RatKernel<A>,
-    trail: &mut Trail<A>,
-    watches: &mut Watches<A>,
+pub(crate) fn attach(
+    kernel: &mut RatKernel,
+    trail: &mut Trail,
+    watches: &mut Watches,
     id: usize,
 ) -> Result<Option<usize>, AllocError>
     ensures { KeepsSatisfiable kernel.old kernel.new }

@@ -7,15 +7,15 @@ use crate::trail::{Trail, Value};
 use crate::watches::Watches;
 use gipsat_cnf::Literal;
 use gipsat_kernel::RatKernel;
-use std::alloc::{AllocError, Allocator};
+use std::alloc::{AllocError, Global};
 
 // Adds a clause if it is RAT on its first literal, which has to be open: its id. The resolvents are deleted again, also
 // where memory is refused.
-pub(crate) fn add_rat<A: Allocator + Copy>(
-    alloc: A,
-    kernel: &mut RatKernel<A>,
-    trail: &mut Trail<A>,
-    watches: &mut Watches<A>,
+pub(crate) fn add_rat(
+    alloc: Global,
+    kernel: &mut RatKernel,
+    trail: &mut Trail,
+    watches: &mut Watches,
     clause: &[Literal],
 ) -> Result<Option<usize>, AllocError>
     ensures { KeepsSatisfiable kernel.old kernel.new }
@@ -42,14 +42,14 @@ pub(crate) fn add_rat<A: Allocator + Copy>(
 
 // Adds the resolvents of a clause on the pivot, and lists their ids. Adds the clause if unit propagation shows all of
 // them: its id.
-fn add_resolved<A: Allocator + Copy>(
-    alloc: A,
-    kernel: &mut RatKernel<A>,
-    trail: &mut Trail<A>,
-    watches: &mut Watches<A>,
+fn add_resolved(
+    alloc: Global,
+    kernel: &mut RatKernel,
+    trail: &mut Trail,
+    watches: &mut Watches,
     clause: &[Literal],
     pivot: Literal,
-    resolvents: &mut Vec<usize, A>,
+    resolvents: &mut Vec<usize>,
 ) -> Result<Option<usize>, AllocError>
     ensures { KeepsSatisfiable kernel.old kernel.new }
 {
@@ -60,14 +60,14 @@ fn add_resolved<A: Allocator + Copy>(
 }
 
 // Adds the resolvents of a clause on the pivot, as far as unit propagation shows them: their ids. Whether it shows all.
-fn add_resolvents<A: Allocator + Copy>(
-    alloc: A,
-    kernel: &mut RatKernel<A>,
-    trail: &mut Trail<A>,
-    watches: &mut Watches<A>,
+fn add_resolvents(
+    alloc: Global,
+    kernel: &mut RatKernel,
+    trail: &mut Trail,
+    watches: &mut Watches,
     clause: &[Literal],
     pivot: Literal,
-    resolvents: &mut Vec<usize, A>,
+    resolvents: &mut Vec<usize>,
 ) -> Result<bool, AllocError>
     ensures { KeepsSatisfiable kernel.old kernel.new }
 {
@@ -85,13 +85,13 @@ fn add_resolvents<A: Allocator + Copy>(
 }
 
 // The resolvent of a clause on the pivot, which stays, with the clause of an id, if that has the pivot's negation.
-pub(crate) fn resolvent_with<A: Allocator + Copy>(
-    alloc: A,
-    kernel: &RatKernel<A>,
+pub(crate) fn resolvent_with(
+    alloc: Global,
+    kernel: &RatKernel,
     id: usize,
     clause: &[Literal],
     pivot: Literal,
-) -> Result<Option<Vec<Literal, A>>, AllocError> {
+) -> Result<Option<Vec<Literal>>, AllocError> {
     let Some(other) = kernel.clause(id) else {
         return Ok(None);
     };
@@ -120,7 +120,7 @@ pub(crate) fn has(clause: &[Literal], l: Literal) -> bool {
 }
 
 // Deletes clauses.
-pub(crate) fn delete_all<A: Allocator + Copy>(kernel: &mut RatKernel<A>, ids: &[usize])
+pub(crate) fn delete_all(kernel: &mut RatKernel, ids: &[usize])
     ensures { KeepsSatisfiable kernel.old kernel.new }
 {
     for id in ids {

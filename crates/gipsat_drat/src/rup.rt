@@ -10,15 +10,15 @@ use crate::trail::{Reason, Trail, Value};
 use crate::watches::Watches;
 use gipsat_cnf::Literal;
 use gipsat_kernel::RatKernel;
-use std::alloc::{AllocError, Allocator};
+use std::alloc::{AllocError, Global};
 
 // Adds a clause if unit propagation shows that it follows: its id. What was assigned is taken back, also where memory is
 // refused.
-pub(crate) fn add_rup<A: Allocator + Copy>(
-    alloc: A,
-    kernel: &mut RatKernel<A>,
-    trail: &mut Trail<A>,
-    watches: &mut Watches<A>,
+pub(crate) fn add_rup(
+    alloc: Global,
+    kernel: &mut RatKernel,
+    trail: &mut Trail,
+    watches: &mut Watches,
     clause: &[Literal],
 ) -> Result<Option<usize>, AllocError>
     ensures { KeepsSatisfiable kernel.old kernel.new }
@@ -29,11 +29,11 @@ pub(crate) fn add_rup<A: Allocator + Copy>(
 }
 
 // Adds a clause if unit propagation shows that it follows: its id. What was assigned stays.
-fn derive<A: Allocator + Copy>(
-    alloc: A,
-    kernel: &mut RatKernel<A>,
-    trail: &mut Trail<A>,
-    watches: &mut Watches<A>,
+fn derive(
+    alloc: Global,
+    kernel: &mut RatKernel,
+    trail: &mut Trail,
+    watches: &mut Watches,
     clause: &[Literal],
 ) -> Result<Option<usize>, AllocError>
     ensures { KeepsSatisfiable kernel.old kernel.new }
@@ -45,11 +45,11 @@ fn derive<A: Allocator + Copy>(
 }
 
 // Makes the literals of a clause false and propagates. Begins to derive the clause if it is shown, and answers whether.
-fn begin_rup<A: Allocator + Copy>(
-    alloc: A,
-    kernel: &mut RatKernel<A>,
-    trail: &mut Trail<A>,
-    watches: &mut Watches<A>,
+fn begin_rup(
+    alloc: Global,
+    kernel: &mut RatKernel,
+    trail: &mut Trail,
+    watches: &mut Watches,
     clause: &[Literal],
 ) -> Result<bool, AllocError>
     ensures { KeepsSatisfiable kernel.old kernel.new }
@@ -64,9 +64,9 @@ fn begin_rup<A: Allocator + Copy>(
 }
 
 // Begins to derive a clause from another one.
-pub(crate) fn begin<A: Allocator + Copy>(
-    kernel: &mut RatKernel<A>,
-    trail: &mut Trail<A>,
+pub(crate) fn begin(
+    kernel: &mut RatKernel,
+    trail: &mut Trail,
     id: usize,
 ) -> Result<bool, AllocError>
     ensures { kernel.new ≡ kernel.old }
@@ -77,9 +77,9 @@ pub(crate) fn begin<A: Allocator + Copy>(
 }
 
 // Begins to derive a clause that has a true literal.
-pub(crate) fn begin_true<A: Allocator + Copy>(
-    kernel: &mut RatKernel<A>,
-    trail: &mut Trail<A>,
+pub(crate) fn begin_true(
+    kernel: &mut RatKernel,
+    trail: &mut Trail,
     l: Literal,
 ) -> Result<bool, AllocError>
     ensures { kernel.new ≡ kernel.old }
@@ -95,8 +95,8 @@ pub(crate) fn begin_true<A: Allocator + Copy>(
 }
 
 // Makes the literals of a clause false. One of them, if it is true.
-pub(crate) fn falsify<A: Allocator + Copy>(
-    trail: &mut Trail<A>,
+pub(crate) fn falsify(
+    trail: &mut Trail,
     clause: &[Literal],
 ) -> Result<Option<Literal>, AllocError> {
     for l in clause {
@@ -111,9 +111,9 @@ pub(crate) fn falsify<A: Allocator + Copy>(
 
 // Resolves the clause that is being derived with the reasons of its literals, the latest first, and adds a clause if it
 // has all literals that are left: its id.
-fn conclude<A: Allocator + Copy>(
-    kernel: &mut RatKernel<A>,
-    trail: &mut Trail<A>,
+fn conclude(
+    kernel: &mut RatKernel,
+    trail: &mut Trail,
     clause: &[Literal],
 ) -> Result<Option<usize>, AllocError>
     ensures { KeepsSatisfiable kernel.old kernel.new }
@@ -128,9 +128,9 @@ fn conclude<A: Allocator + Copy>(
 
 // Resolves the clause that is being derived with the reasons of the literals that are true from one place on, the latest
 // first.
-pub(crate) fn resolve_steps<A: Allocator + Copy>(
-    kernel: &mut RatKernel<A>,
-    trail: &mut Trail<A>,
+pub(crate) fn resolve_steps(
+    kernel: &mut RatKernel,
+    trail: &mut Trail,
     from: usize,
 ) -> Result<(), AllocError>
     ensures { kernel.new ≡ kernel.old }
@@ -145,11 +145,7 @@ pub(crate) fn resolve_steps<A: Allocator + Copy>(
 }
 
 // Resolves the clause that is being derived with the reason of a true literal, if it has the negation.
-fn resolve<A: Allocator + Copy>(
-    kernel: &mut RatKernel<A>,
-    trail: &mut Trail<A>,
-    l: Literal,
-) -> Result<(), AllocError>
+fn resolve(kernel: &mut RatKernel, trail: &mut Trail, l: Literal) -> Result<(), AllocError>
     ensures { kernel.new ≡ kernel.old }
 {
     if let Reason::Clause(id) = trail.reason(l) {
@@ -161,10 +157,7 @@ fn resolve<A: Allocator + Copy>(
 }
 
 // Takes the literals that are false by the clauses alone out of the clause that is being derived.
-fn resolve_rooted<A: Allocator + Copy>(
-    kernel: &mut RatKernel<A>,
-    trail: &mut Trail<A>,
-) -> Result<(), AllocError>
+fn resolve_rooted(kernel: &mut RatKernel, trail: &mut Trail) -> Result<(), AllocError>
     ensures { kernel.new ≡ kernel.old }
 {
     for place in 0..kernel.marked().len() {
@@ -180,10 +173,7 @@ fn resolve_rooted<A: Allocator + Copy>(
 
 // Adds a clause for each literal that has become true by the clauses alone, which has this literal alone and is its
 // reason from then on.
-fn add_units<A: Allocator + Copy>(
-    kernel: &mut RatKernel<A>,
-    trail: &mut Trail<A>,
-) -> Result<(), AllocError>
+fn add_units(kernel: &mut RatKernel, trail: &mut Trail) -> Result<(), AllocError>
     ensures { KeepsSatisfiable kernel.old kernel.new }
 {
     for place in trail.root()..trail.len() {
@@ -198,9 +188,9 @@ fn add_units<A: Allocator + Copy>(
 }
 
 // Adds the clause of a literal that is true by the clauses alone: its id.
-fn add_unit<A: Allocator + Copy>(
-    kernel: &mut RatKernel<A>,
-    trail: &mut Trail<A>,
+fn add_unit(
+    kernel: &mut RatKernel,
+    trail: &mut Trail,
     l: Literal,
 ) -> Result<Option<usize>, AllocError>
     ensures { KeepsSatisfiable kernel.old kernel.new }
@@ -214,11 +204,11 @@ fn add_unit<A: Allocator + Copy>(
 
 // Lets a clause of the kernel watch two literals, and propagates what it makes true, for good. Whether the empty clause
 // is shown by that. Where memory is refused, what was assigned is taken back.
-pub(crate) fn enter<A: Allocator + Copy>(
-    alloc: A,
-    kernel: &mut RatKernel<A>,
-    trail: &mut Trail<A>,
-    watches: &mut Watches<A>,
+pub(crate) fn enter(
+    alloc: Global,
+    kernel: &mut RatKernel,
+    trail: &mut Trail,
+    watches: &mut Watches,
     id: usize,
 ) -> Result<bool, AllocError>
     ensures keeps { KeepsSatisfiable kernel.old kernel.new }
@@ -234,11 +224,11 @@ pub(crate) fn enter<A: Allocator + Copy>(
 
 // Lets a clause of the kernel watch two literals, and propagates what it makes true, for good. The id of the empty
 // clause if it follows.
-fn settle<A: Allocator + Copy>(
-    alloc: A,
-    kernel: &mut RatKernel<A>,
-    trail: &mut Trail<A>,
-    watches: &mut Watches<A>,
+fn settle(
+    alloc: Global,
+    kernel: &mut RatKernel,
+    trail: &mut Trail,
+    watches: &mut Watches,
     id: usize,
 ) -> Result<Option<usize>, AllocError>
     ensures { KeepsSatisfiable kernel.old kernel.new }
@@ -255,9 +245,9 @@ fn settle<A: Allocator + Copy>(
 }
 
 // Adds the empty clause, where all literals of a clause are false by the clauses alone: its id.
-fn add_empty<A: Allocator + Copy>(
-    kernel: &mut RatKernel<A>,
-    trail: &mut Trail<A>,
+fn add_empty(
+    kernel: &mut RatKernel,
+    trail: &mut Trail,
     conflict: usize,
 ) -> Result<Option<usize>, AllocError>
     ensures { KeepsSatisfiable kernel.old kernel.new }

@@ -5,22 +5,22 @@ ghost use Rattle.gipsat_drat.specs.Held.{Keeps};
 use crate::checker::Checker;
 use crate::error::{Flaw, Notes, Place, Stop};
 use gipsat_cnf::Literal;
-use std::alloc::{Allocator, Global};
+use std::alloc::Global;
 
 // The greatest number of a variable that a proof may name.
 pub(crate) const GREATEST_NUMBER: u64 = 2_147_483_647;
 
 // A step that has not ended.
 #[derive(Drop)]
-pub(crate) struct Step<A: Allocator = Global> {
-    clause: Vec<Literal, A>,
+pub(crate) struct Step {
+    clause: Vec<Literal>,
     deletes: bool,
     notes: Notes,
 }
 
-impl<A: Allocator + Copy> Step<A> {
+impl Step {
     // The first one of a proof.
-    pub(crate) fn new(alloc: A) -> Self {
+    pub(crate) fn new(alloc: Global) -> Self {
         Step {
             clause: Vec::new(alloc),
             deletes: false,
@@ -55,7 +55,7 @@ impl<A: Allocator + Copy> Step<A> {
     }
 
     // Ends it at a place, and begins the next one. A deletion of a clause that is not held is passed over.
-    pub(crate) fn end(&mut self, checker: &mut Checker<A>, place: Place) -> Result<(), Stop>
+    pub(crate) fn end(&mut self, checker: &mut Checker, place: Place) -> Result<(), Stop>
         ensures { Keeps checker.old checker.new }
     {
         if self.deletes {

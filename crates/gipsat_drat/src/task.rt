@@ -15,7 +15,7 @@ use crate::lrat_writer::{LratFormat, write_log};
 use crate::parser::Parser;
 use gipsat_cnf::Cnf;
 use gipsat_dimacs::{DimacsError, Reason, read_instance};
-use std::alloc::{AllocError, Allocator};
+use std::alloc::{AllocError, Global};
 use std::io::{Read, Write};
 
 // How many bytes are asked for at a time.
@@ -36,8 +36,8 @@ const BUFFER_SIZE: usize = 65_536;
 /// - [`DratError::Output`] where a write fails. What was written by then is open.
 ///
 /// At all but the last nothing was written. How much of the inputs was read is open.
-pub fn check_text<A: Allocator + Copy, F: Read, P: Read, W: Write>(
-    alloc: A,
+pub fn check_text<F: Read, P: Read, W: Write>(
+    alloc: Global,
     formula: &mut F,
     proof: &mut P,
     writer: &mut W,
@@ -61,8 +61,8 @@ pub fn check_text<A: Allocator + Copy, F: Read, P: Read, W: Write>(
 ///
 /// # Errors
 /// As [`check_text`].
-pub fn check_text_noting<A: Allocator + Copy, F: Read, P: Read, W: Write>(
-    alloc: A,
+pub fn check_text_noting<F: Read, P: Read, W: Write>(
+    alloc: Global,
     formula: &mut F,
     proof: &mut P,
     writer: &mut W,
@@ -97,8 +97,8 @@ pub fn check_text_noting<A: Allocator + Copy, F: Read, P: Read, W: Write>(
 /// # Errors
 /// As [`check_text`], and [`DratError::Form`] where the proof is in the LRAT form. At all but [`DratError::Output`] and
 /// [`DratError::Memory`] nothing was written.
-pub fn lrat_from_drat<A: Allocator + Copy, F: Read, P: Read, W: Write>(
-    alloc: A,
+pub fn lrat_from_drat<F: Read, P: Read, W: Write>(
+    alloc: Global,
     formula: &mut F,
     proof: &mut P,
     format: LratFormat,
@@ -126,9 +126,9 @@ pub fn lrat_from_drat<A: Allocator + Copy, F: Read, P: Read, W: Write>(
 }
 
 // Checks a proof without hints, and writes one with hints where it is verified.
-fn convert<A: Allocator + Copy, P: Read, W: Write>(
-    alloc: A,
-    formula: Cnf<A>,
+fn convert<P: Read, W: Write>(
+    alloc: Global,
+    formula: Cnf,
     proof: &mut P,
     format: LratFormat,
     writer: &mut W,
@@ -144,9 +144,9 @@ fn convert<A: Allocator + Copy, P: Read, W: Write>(
 }
 
 // Checks a proof without hints about so many clauses, and writes one with hints where it is verified.
-fn convert_steps<A: Allocator + Copy, P: Read, W: Write>(
-    alloc: A,
-    checker: &mut Checker<A>,
+fn convert_steps<P: Read, W: Write>(
+    alloc: Global,
+    checker: &mut Checker,
     clauses: usize,
     proof: &mut P,
     format: LratFormat,
@@ -168,9 +168,9 @@ fn convert_steps<A: Allocator + Copy, P: Read, W: Write>(
 }
 
 // Checks a proof about so many clauses that has no hints.
-fn check_unhinted<A: Allocator + Copy, P: Read>(
-    alloc: A,
-    checker: &mut Checker<A>,
+fn check_unhinted<P: Read>(
+    alloc: Global,
+    checker: &mut Checker,
     clauses: usize,
     proof: &mut P,
     notes: &mut Notes,
@@ -186,9 +186,9 @@ fn check_unhinted<A: Allocator + Copy, P: Read>(
 }
 
 // Checks a proof that nothing satisfies a formula, whatever form it has.
-fn check<A: Allocator + Copy, P: Read>(
-    alloc: A,
-    formula: Cnf<A>,
+fn check<P: Read>(
+    alloc: Global,
+    formula: Cnf,
     proof: &mut P,
     notes: &mut Notes,
 ) -> Result<Outcome, Failure>
@@ -209,10 +209,10 @@ fn check<A: Allocator + Copy, P: Read>(
 }
 
 // Checks a proof with hints, which has begun with some bytes.
-fn check_hinted<A: Allocator + Copy, P: Read>(
-    alloc: A,
-    formula: Cnf<A>,
-    mut parser: LratParser<A>,
+fn check_hinted<P: Read>(
+    alloc: Global,
+    formula: Cnf,
+    mut parser: LratParser,
     start: &[u8],
     proof: &mut P,
 ) -> Result<Outcome, Failure>
@@ -223,10 +223,10 @@ fn check_hinted<A: Allocator + Copy, P: Read>(
 }
 
 // Checks a proof with hints, which has begun with some bytes.
-fn check_hinted_steps<A: Allocator + Copy, P: Read>(
-    alloc: A,
-    checker: &mut LratChecker<A>,
-    parser: &mut LratParser<A>,
+fn check_hinted_steps<P: Read>(
+    alloc: Global,
+    checker: &mut LratChecker,
+    parser: &mut LratParser,
     start: &[u8],
     proof: &mut P,
 ) -> Result<Outcome, Failure>
@@ -239,9 +239,9 @@ fn check_hinted_steps<A: Allocator + Copy, P: Read>(
 }
 
 // Checks a proof without hints, which has begun with some bytes. Where the formula is refuted by itself, they may be any.
-fn check_plain<A: Allocator + Copy, P: Read>(
-    alloc: A,
-    formula: Cnf<A>,
+fn check_plain<P: Read>(
+    alloc: Global,
+    formula: Cnf,
     form: Result<Form, OtherForm>,
     start: &[u8],
     proof: &mut P,
@@ -254,9 +254,9 @@ fn check_plain<A: Allocator + Copy, P: Read>(
 }
 
 // Checks a proof without hints, which has begun with some bytes.
-fn check_steps<A: Allocator + Copy, P: Read>(
-    alloc: A,
-    checker: &mut Checker<A>,
+fn check_steps<P: Read>(
+    alloc: Global,
+    checker: &mut Checker,
     form: Result<Form, OtherForm>,
     start: &[u8],
     proof: &mut P,
@@ -277,10 +277,10 @@ fn check_steps<A: Allocator + Copy, P: Read>(
 }
 
 // Checks a proof without hints, which has begun with some bytes.
-fn check_parsed<A: Allocator + Copy, P: Read>(
-    alloc: A,
-    checker: &mut Checker<A>,
-    parser: &mut Parser<A>,
+fn check_parsed<P: Read>(
+    alloc: Global,
+    checker: &mut Checker,
+    parser: &mut Parser,
     start: &[u8],
     proof: &mut P,
 ) -> Result<Outcome, Failure>
@@ -293,10 +293,7 @@ fn check_parsed<A: Allocator + Copy, P: Read>(
 }
 
 // The first bytes of a proof: so many at least, or all of one that is shorter.
-fn read_start<A: Allocator + Copy, P: Read>(
-    alloc: A,
-    proof: &mut P,
-) -> Result<Vec<u8, A>, Failure> {
+fn read_start<P: Read>(alloc: Global, proof: &mut P) -> Result<Vec<u8>, Failure> {
     let mut start = Vec::new(alloc);
     let mut buf = zeros(alloc, BUFFER_SIZE)?;
     for _ in 0..BUFFER_SIZE {
@@ -312,10 +309,10 @@ fn read_start<A: Allocator + Copy, P: Read>(
 }
 
 // Reads the rest of a proof without hints, as far as the empty clause, and checks it.
-fn check_rest<A: Allocator + Copy, P: Read>(
-    alloc: A,
-    checker: &mut Checker<A>,
-    parser: &mut Parser<A>,
+fn check_rest<P: Read>(
+    alloc: Global,
+    checker: &mut Checker,
+    parser: &mut Parser,
     proof: &mut P,
 ) -> Result<Outcome, Failure>
     ensures { IfOk result (IsRightOf checker.old) }
@@ -339,10 +336,10 @@ fn check_rest<A: Allocator + Copy, P: Read>(
 }
 
 // Reads the rest of a proof with hints, as far as the empty clause, and checks it.
-fn check_hinted_rest<A: Allocator + Copy, P: Read>(
-    alloc: A,
-    checker: &mut LratChecker<A>,
-    parser: &mut LratParser<A>,
+fn check_hinted_rest<P: Read>(
+    alloc: Global,
+    checker: &mut LratChecker,
+    parser: &mut LratParser,
     proof: &mut P,
 ) -> Result<Outcome, Failure>
     ensures { IfOk result (IsRightOf checker.old) }
@@ -366,7 +363,7 @@ fn check_hinted_rest<A: Allocator + Copy, P: Read>(
 }
 
 // So many zeros.
-fn zeros<A: Allocator>(alloc: A, len: usize) -> Result<Vec<u8, A>, AllocError>
+fn zeros(alloc: Global, len: usize) -> Result<Vec<u8>, AllocError>
     ensures { IfOk result (λ zeros. vec_len zeros ≡ len) }
 {
     vec![in alloc; 0u8; len]

@@ -6,18 +6,18 @@ use crate::checker::Checker;
 use crate::error::{Failure, Flaw, Notes, Outcome, Place, Stop};
 use crate::step::{GREATEST_NUMBER, Step};
 use crate::words::{Word, Words};
-use std::alloc::{Allocator, Global};
+use std::alloc::Global;
 
 // What has been read of a text.
 #[derive(Drop)]
-pub(crate) struct TextParser<A: Allocator = Global> {
+pub(crate) struct TextParser {
     words: Words,
-    step: Step<A>,
+    step: Step,
 }
 
-impl<A: Allocator + Copy> TextParser<A> {
+impl TextParser {
     // Before a proof.
-    pub(crate) fn new(alloc: A) -> Self {
+    pub(crate) fn new(alloc: Global) -> Self {
         TextParser {
             words: Words::new(GREATEST_NUMBER),
             step: Step::new(alloc),
@@ -35,7 +35,7 @@ impl<A: Allocator + Copy> TextParser<A> {
     }
 
     // Reads some bytes more, as far as the empty clause.
-    pub(crate) fn feed(&mut self, checker: &mut Checker<A>, bytes: &[u8]) -> Result<(), Stop>
+    pub(crate) fn feed(&mut self, checker: &mut Checker, bytes: &[u8]) -> Result<(), Stop>
         ensures { Keeps checker.old checker.new }
     {
         for byte in bytes {
@@ -49,7 +49,7 @@ impl<A: Allocator + Copy> TextParser<A> {
     }
 
     // Takes a word.
-    fn word(&mut self, checker: &mut Checker<A>, word: Word) -> Result<(), Stop>
+    fn word(&mut self, checker: &mut Checker, word: Word) -> Result<(), Stop>
         ensures { Keeps checker.old checker.new }
     {
         match word {
@@ -65,7 +65,7 @@ impl<A: Allocator + Copy> TextParser<A> {
     }
 
     // Ends the proof.
-    pub(crate) fn finish(&mut self, checker: &mut Checker<A>) -> Result<Outcome, Failure>
+    pub(crate) fn finish(&mut self, checker: &mut Checker) -> Result<Outcome, Failure>
         ensures { IfOk result (IsRightOf checker.old) }
     {
         let word = self.words.finish();

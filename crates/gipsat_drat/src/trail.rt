@@ -1,7 +1,7 @@
 //! The literals that are true, in the order in which they became so, and why.
 use crate::derivations::Derivations;
 use gipsat_cnf::Literal;
-use std::alloc::{AllocError, Allocator, Global};
+use std::alloc::{AllocError, Global};
 
 // What is known of a literal.
 #[derive(Clone, Copy, PartialEq, Eq)]
@@ -22,23 +22,36 @@ pub(crate) enum Reason {
 
 // The true literals. Those before the root are true by the clauses alone, and each has a clause of its own as its
 // reason; the others are true while a clause is falsified.
-#[derive(Drop)]
-pub(crate) struct Trail<A: Allocator = Global> {
+pub(crate) struct Trail {
     // By the code of the literal.
-    values: Vec<Value, A>,
+    values: Vec<Value>,
     // By the variable.
-    reasons: Vec<Reason, A>,
-    steps: Vec<Literal, A>,
+    reasons: Vec<Reason>,
+    steps: Vec<Literal>,
     root: usize,
     // The literals before this place have been propagated.
     head: usize,
     // What was derived of it.
-    derivations: Derivations<A>,
+    derivations: Derivations,
 }
 
-impl<A: Allocator + Copy> Trail<A> {
+// One call in its owners' proofs, in place of one for each field.
+impl Drop for Trail {
+    fn drop(self) {
+        let Trail {
+            values,
+            reasons,
+            steps,
+            root: _,
+            head: _,
+            derivations,
+        } = self;
+    }
+}
+
+impl Trail {
     // No literal is true, and there is no variable so far.
-    pub(crate) fn new(alloc: A) -> Self {
+    pub(crate) fn new(alloc: Global) -> Self {
         Trail {
             values: Vec::new(alloc),
             reasons: Vec::new(alloc),
@@ -50,7 +63,7 @@ impl<A: Allocator + Copy> Trail<A> {
     }
 
     // What was derived since it was forgotten last.
-    pub(crate) fn derivations(&self) -> &Derivations<A> {
+    pub(crate) fn derivations(&self) -> &Derivations {
         &self.derivations
     }
 

@@ -1,6 +1,6 @@
 //! Which clauses to look at when a literal becomes false.
 use gipsat_cnf::Literal;
-use std::alloc::{AllocError, Allocator, Global};
+use std::alloc::{AllocError, Global};
 use std::mem;
 
 // A clause that is to be looked at, and a literal of it: while that is true, there is no need to.
@@ -12,20 +12,20 @@ pub(crate) struct Watch {
 
 // For each literal the clauses that watch it. A clause watches its first two literals.
 #[derive(Drop)]
-pub(crate) struct Watches<A: Allocator = Global> {
-    lists: Vec<Vec<Watch, A>, A>,
+pub(crate) struct Watches {
+    lists: Vec<Vec<Watch>>,
 }
 
-impl<A: Allocator + Copy> Watches<A> {
+impl Watches {
     // Of no clause, over no variable.
-    pub(crate) fn new(alloc: A) -> Self {
+    pub(crate) fn new(alloc: Global) -> Self {
         Watches {
             lists: Vec::new(alloc),
         }
     }
 
     // Has room for so many variables, if there are more than before.
-    pub(crate) fn cover(&mut self, alloc: A, variables: usize) -> Result<(), AllocError> {
+    pub(crate) fn cover(&mut self, alloc: Global, variables: usize) -> Result<(), AllocError> {
         for _ in self.lists.len()..variables.saturating_mul(2) {
             self.lists.push(Vec::new(alloc))?;
         }
@@ -59,7 +59,7 @@ impl<A: Allocator + Copy> Watches<A> {
     }
 
     // Takes the watches of a literal out.
-    pub(crate) fn take(&mut self, alloc: A, l: Literal) -> Vec<Watch, A> {
+    pub(crate) fn take(&mut self, alloc: Global, l: Literal) -> Vec<Watch> {
         match self.lists.get_mut(l.code()) {
             Some(list) => mem::replace(list, Vec::new(alloc)),
             None => Vec::new(alloc),
@@ -67,7 +67,7 @@ impl<A: Allocator + Copy> Watches<A> {
     }
 
     // Puts the watches of a literal back.
-    pub(crate) fn put(&mut self, l: Literal, list: Vec<Watch, A>) {
+    pub(crate) fn put(&mut self, l: Literal, list: Vec<Watch>) {
         if let Some(place) = self.lists.get_mut(l.code()) {
             *place = list;
         }
@@ -82,7 +82,7 @@ impl<A: Allocator + Copy> Watches<A> {
 }
 
 // Names the clauses of one list by their new ids, and forgets those that are gone.
-fn renumber<A: Allocator + Copy>(list: &mut Vec<Watch, A>, ids: &[usize]) {
+fn renumber(list: &mut Vec<Watch>, ids: &[usize]) {
     let mut kept: usize = 0;
     for place in 0..list.len() {
         let Some(Watch { id, blocker }) = list.get(place).copied() else {

@@ -8,12 +8,12 @@ use crate::steps::write_bytes;
 use crate::writer::Format;
 use gipsat_cnf::Literal;
 use giputils_text::write_groups;
-use std::alloc::{AllocError, Allocator};
+use std::alloc::AllocError;
 use std::io::Write;
 
 // Writes that a clause is added under a name, with the names of those that it follows from.
-pub(crate) fn write_added<A: Allocator>(
-    bytes: &mut Vec<u8, A>,
+pub(crate) fn write_added(
+    bytes: &mut Vec<u8>,
     format: Format,
     name: u32,
     clause: &[Literal],
@@ -36,8 +36,8 @@ pub(crate) fn write_added<A: Allocator>(
 }
 
 // Writes that the clause of a name is deleted, behind the step of the last name.
-pub(crate) fn write_deleted<A: Allocator>(
-    bytes: &mut Vec<u8, A>,
+pub(crate) fn write_deleted(
+    bytes: &mut Vec<u8>,
     format: Format,
     last: u32,
     name: u32,
@@ -58,11 +58,7 @@ pub(crate) fn write_deleted<A: Allocator>(
 }
 
 // Writes a name.
-fn write_name<A: Allocator>(
-    bytes: &mut Vec<u8, A>,
-    format: Format,
-    name: u32,
-) -> Result<(), AllocError>
+fn write_name(bytes: &mut Vec<u8>, format: Format, name: u32) -> Result<(), AllocError>
     ensures { OnOk result (bytes.new.items ≡ bytes.old.items ++ name_bytes format name) }
 {
     match format {
@@ -72,10 +68,7 @@ fn write_name<A: Allocator>(
 }
 
 // Writes the literals of a clause in a line, and a 0 behind them.
-fn write_literals<A: Allocator>(
-    bytes: &mut Vec<u8, A>,
-    clause: &[Literal],
-) -> Result<(), AllocError>
+fn write_literals(bytes: &mut Vec<u8>, clause: &[Literal]) -> Result<(), AllocError>
     ensures { OnOk result (bytes.new.items ≡ bytes.old.items ++ literals_text clause.now) }
 {
     for l in clause {
@@ -85,7 +78,7 @@ fn write_literals<A: Allocator>(
 }
 
 // Writes a literal in a line.
-fn write_literal<A: Allocator>(bytes: &mut Vec<u8, A>, l: Literal) -> Result<(), AllocError>
+fn write_literal(bytes: &mut Vec<u8>, l: Literal) -> Result<(), AllocError>
     ensures { OnOk result (bytes.new.items ≡ bytes.old.items ++ literal_text l) }
 {
     if !l.is_positive() {
@@ -96,11 +89,7 @@ fn write_literal<A: Allocator>(bytes: &mut Vec<u8, A>, l: Literal) -> Result<(),
 }
 
 // Writes hints, and the end of a step.
-fn write_hints<A: Allocator>(
-    bytes: &mut Vec<u8, A>,
-    format: Format,
-    hints: &[u32],
-) -> Result<(), AllocError>
+fn write_hints(bytes: &mut Vec<u8>, format: Format, hints: &[u32]) -> Result<(), AllocError>
     ensures { OnOk result (bytes.new.items ≡ bytes.old.items ++ hints_bytes format hints.now) }
 {
     for hint in hints {
@@ -110,11 +99,7 @@ fn write_hints<A: Allocator>(
 }
 
 // Writes a hint.
-fn write_hint<A: Allocator>(
-    bytes: &mut Vec<u8, A>,
-    format: Format,
-    hint: u32,
-) -> Result<(), AllocError>
+fn write_hint(bytes: &mut Vec<u8>, format: Format, hint: u32) -> Result<(), AllocError>
     ensures { OnOk result (bytes.new.items ≡ bytes.old.items ++ hint_bytes format hint) }
 {
     match format {
@@ -124,7 +109,7 @@ fn write_hint<A: Allocator>(
 }
 
 // Writes the end of a step.
-fn write_zero<A: Allocator>(bytes: &mut Vec<u8, A>, format: Format) -> Result<(), AllocError>
+fn write_zero(bytes: &mut Vec<u8>, format: Format) -> Result<(), AllocError>
     ensures { OnOk result (bytes.new.items ≡ bytes.old.items ++ zero_bytes format) }
 {
     match format {

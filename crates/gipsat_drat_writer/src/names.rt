@@ -5,7 +5,6 @@ ghost use Rattle.gipsat_drat_writer.specs.Lrat.{hints_of, name_in};
 use std::alloc::{AllocError, Global};
 
 // The names of the clauses that there are.
-#[derive(Drop)]
 pub(crate) struct Names {
     // By the ids of the solver. 0 for a clause that was freed.
     by_id: Vec<u32>,
@@ -15,6 +14,18 @@ pub(crate) struct Names {
     freed: usize,
     // The names that the last clause was resolved from.
     pub hints: Vec<u32>,
+}
+
+// One call in its owners' proofs, in place of one for each field.
+impl Drop for Names {
+    fn drop(self) {
+        let Names {
+            by_id,
+            last: _,
+            freed: _,
+            hints,
+        } = self;
+    }
 }
 
 impl Names {

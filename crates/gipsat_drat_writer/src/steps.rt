@@ -10,11 +10,11 @@ use crate::writer::Format;
 use gipsat_cnf::Literal;
 use gipsat_dimacs::write_clause;
 use giputils_text::write_groups;
-use std::alloc::{AllocError, Allocator};
+use std::alloc::AllocError;
 
 // Writes a step: a clause is deleted, or else added.
-pub(crate) fn write_step<A: Allocator>(
-    bytes: &mut Vec<u8, A>,
+pub(crate) fn write_step(
+    bytes: &mut Vec<u8>,
     format: Format,
     deleted: bool,
     clause: &[Literal],
@@ -34,10 +34,7 @@ pub(crate) fn write_step<A: Allocator>(
 }
 
 // Writes the bytes of a clause.
-pub(crate) fn write_bytes<A: Allocator>(
-    bytes: &mut Vec<u8, A>,
-    clause: &[Literal],
-) -> Result<(), AllocError>
+pub(crate) fn write_bytes(bytes: &mut Vec<u8>, clause: &[Literal]) -> Result<(), AllocError>
     ensures { OnOk result (bytes.new.items ≡ bytes.old.items ++ clause_bytes clause.now) }
 {
     for l in clause {

@@ -60,7 +60,6 @@ impl From<AllocError> for Fault {
 const BUFFER_SIZE: usize = 65_536;
 
 /// Writes a proof as the search goes on, and stops the search where it can't be written.
-#[derive(Drop)]
 pub struct ProofWriter<W: Write> {
     writer: W,
     form: Form,
@@ -71,6 +70,20 @@ pub struct ProofWriter<W: Write> {
     bytes: Vec<u8>,
     // Why the proof is not whole.
     fault: Option<Fault>,
+}
+
+// One call in its owners' proofs, in place of one for each field.
+impl<W: Write + Drop> Drop for ProofWriter<W> {
+    fn drop(self) {
+        let ProofWriter {
+            writer,
+            form: _,
+            format: _,
+            names: _,
+            bytes,
+            fault: _,
+        } = self;
+    }
 }
 
 impl<W: Write> ProofWriter<W> {

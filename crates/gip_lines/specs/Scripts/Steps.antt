@@ -2,7 +2,7 @@
 use Rattle.std.specs.Prelude.{ℕ, ◌+◌, Bool, true, false, List, [], ◌∷◌, ◌++◌, codes, decimal, if◌then◌else◌, Some, None}
 use Rattle.gip_lines.specs.Scripts.Lines.{greatest_key}
 use Rattle.gip_lines.specs.Scripts.Replies.{ranks_after}
-use Rattle.giputils_heap.specs.declared.comparers.RankTable.{RankTable}
+use Rattle.giputils_bounded.specs.declared.comparers.RankTable.{RankTable}
 use Rattle.gip_lines.specs.declared.scripts.lines.Line.{Line}
 use Rattle.gip_lines.specs.declared.scripts.lines.Line.TheVariants as line
 use Rattle.giputils_heap.specs.declared.run.HeapCall.{HeapCall}

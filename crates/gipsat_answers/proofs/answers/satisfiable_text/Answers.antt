@@ -7,7 +7,7 @@ use Rattle.gipsat_answers.proofs.ValueLines.{value_more, value_last}
 use Rattle.gipsat_answers.proofs.answers.satisfiable_text.Goals as goal
 
 pub loop-variable-preserved : goal.loop-variable-preserved
-loop-variable-preserved g c =
+loop-variable-preserved c =
     let a = assignment_in c.args.model.now in
     let k = c.loop-variable.variable in
     let is : c.deref.result.now ≡ literal_word (a k) k =
@@ -16,7 +16,7 @@ loop-variable-preserved g c =
     c.loop-variable.invariant c.loop-variable-test.true is
 
 pub returns : goal.returns
-returns g c =
+returns c =
     let a = assignment_in c.args.model.now in
     let k = c.loop-variable.variable in
     c.in_ok-push.ensures.items

@@ -5,5 +5,5 @@ use Rattle.gipsat_answers.proofs.Renaming.{unsatisfiable-named}
 use Rattle.gipsat_answers.proofs.names.answer_under.Goals as goal
 
 pub returns-in-Unsat : goal.returns-in-Unsat
-returns-in-Unsat g c = λ old new limit are right.
+returns-in-Unsat c = λ old new limit are right.
     unsatisfiable-named c.args.names.now old.formula (subst (λ answer. IsRight old new limit answer) c.in-Unsat.is right)

@@ -7,12 +7,12 @@ use Rattle.gipsat_answers.proofs.Renaming.{IfOk-more, IsModel-named, IsModel-unn
 use Rattle.gipsat_answers.proofs.names.model_under.Goals as goal
 
 pub returns-then-is_empty : goal.returns-then-is_empty
-returns-then-is_empty g c =
+returns-then-is_empty c =
     let none : c.args.names.now ≡ [] = grind (arith, common_steps) in
     λ f are sat. IsModel-unnamed c.args.names.now f c.args.model.items none sat
 
 pub returns : goal.returns
-returns g c =
+returns c =
     let names = c.args.names.now in
     let some : names ≢ [] = grind (arith, common_steps) in
     IfOk-more c.values_under.result

@@ -4,4 +4,4 @@ use Rattle.gipsat_answers.specs.Names.{named_clause}
 use Rattle.gipsat_answers.proofs.names.number_clause.Given as goal
 
 abbrev pub invariant-loop-l : goal.invariant-loop-l
-invariant-loop-l g l = named_clause l.names l.made.items ≡ take l.l-index l.clause
+invariant-loop-l l = named_clause l.names l.made.items ≡ take l.l-index l.clause

@@ -5,7 +5,7 @@ use Rattle.gipsat_answers.proofs.Renaming.{named-more, AreAllBelow-more}
 use Rattle.gipsat_answers.proofs.names.numbered_by.Goals as goal
 
 pub loop-place-preserved : goal.loop-place-preserved
-loop-place-preserved g c =
+loop-place-preserved c =
     let names = c.args.names.now in
     let is : named_clause names c.deref.result.now ≡ c.clause.result.now = search rules in
     ap (named names) c.in_ok-push.ensures.added
@@ -13,7 +13,7 @@ loop-place-preserved g c =
     c.loop-place.invariant c.clause.ensures is
 
 pub returns-clause-names : goal.returns-clause-names
-returns-clause-names g c = record {
+returns-clause-names c = record {
   rising = c.if-not-is_rising.ensures;
   each = inr (AreAllBelow-more c.variables.result (length c.args.names.now) c.loop-place.made c.if-variables-names.false c.variables.ensures.below);
 }

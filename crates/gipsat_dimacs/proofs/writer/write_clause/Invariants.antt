@@ -4,4 +4,4 @@ use Rattle.gipsat_dimacs.proofs.writer.write_clause.Given as goal
 use Rattle.gipsat_dimacs.specs.Writer.{clause_line}
 
 abbrev pub invariant-loop-l : goal.invariant-loop-l
-invariant-loop-l g l = l.fn.text.items ++ clause_line l.fn.clause ≡ l.text.items ++ clause_line (drop l.l-index l.fn.clause)
+invariant-loop-l l = l.fn.text.items ++ clause_line l.fn.clause ≡ l.text.items ++ clause_line (drop l.l-index l.fn.clause)

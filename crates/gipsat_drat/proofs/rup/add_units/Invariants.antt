@@ -3,4 +3,4 @@ use Rattle.gipsat_kernel.specs.Rat.{KeepsSatisfiable}
 use Rattle.gipsat_drat.proofs.rup.add_units.Given as goal
 
 abbrev pub invariant-loop-place : goal.invariant-loop-place
-invariant-loop-place g l = KeepsSatisfiable l.initial.kernel l.kernel
+invariant-loop-place l = KeepsSatisfiable l.initial.kernel l.kernel

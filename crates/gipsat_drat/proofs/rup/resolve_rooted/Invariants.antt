@@ -3,4 +3,4 @@ use Rattle.std.proofs.Common.{◌≡◌}
 use Rattle.gipsat_drat.proofs.rup.resolve_rooted.Given as goal
 
 abbrev pub invariant-loop-place : goal.invariant-loop-place
-invariant-loop-place g l = l.kernel ≡ l.initial.kernel
+invariant-loop-place l = l.kernel ≡ l.initial.kernel

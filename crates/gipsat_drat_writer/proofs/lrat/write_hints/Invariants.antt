@@ -4,4 +4,4 @@ use Rattle.gipsat_drat_writer.specs.Lrat.{hints_bytes}
 use Rattle.gipsat_drat_writer.proofs.lrat.write_hints.Given as goal
 
 abbrev pub invariant-loop-hint : goal.invariant-loop-hint
-invariant-loop-hint g l = l.fn.bytes.items ++ hints_bytes l.format l.fn.hints ≡ l.bytes.items ++ hints_bytes l.format (drop l.hint-index l.fn.hints)
+invariant-loop-hint l = l.fn.bytes.items ++ hints_bytes l.format l.fn.hints ≡ l.bytes.items ++ hints_bytes l.format (drop l.hint-index l.fn.hints)

@@ -2,7 +2,7 @@
 use Rattle.std.proofs.Common.{◌∙◌, ◌≤◌, []}
 use Rattle.std.proofs.lemmas.List.Elements.{All-same}
 use Rattle.std.proofs.lemmas.Result.{IfOk-weaker}
-use Rattle.giputils_heap.specs.Bounds.{count_limit}
+use Rattle.giputils_bounded.specs.Bounds.{count_limit}
 use Rattle.gip_lines.specs.Scripts.Replies.{start_ranks}
 use Rattle.gip_lines.proofs.Records.{Match, run_of_lines}
 use Rattle.gip_lines.proofs.Tables.{CanCount-steps_from}

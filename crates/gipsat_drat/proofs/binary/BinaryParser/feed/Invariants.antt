@@ -3,4 +3,4 @@ use Rattle.gipsat_drat.specs.Held.{Keeps}
 use Rattle.gipsat_drat.proofs.binary.BinaryParser.feed.Given as goal
 
 abbrev pub invariant-loop-byte : goal.invariant-loop-byte
-invariant-loop-byte g l = Keeps l.initial.checker l.checker
+invariant-loop-byte l = Keeps l.initial.checker l.checker

@@ -3,4 +3,4 @@ use Rattle.gipsat_drat.specs.Held.{Keeps}
 use Rattle.gipsat_drat.proofs.lrat_parser.LratParser.feed.Given as goal
 
 abbrev pub invariant-loop : goal.invariant-loop
-invariant-loop g l = Keeps l.initial.checker l.checker
+invariant-loop l = Keeps l.initial.checker l.checker

@@ -1,7 +1,7 @@
 //! The file that a proof is written to. A formula is not written over, but where that is forced.
 ghost use Rattle.std.specs.Prelude.{◌≡◌, false, IsErr, IsTrue};
 ghost use Rattle.std.specs.Io.KnownBytes.{IsAtEnd};
-ghost use Rattle.gipsat.specs.Options.{reads, request_of};
+ghost use Rattle.gipsat_command.specs.Options.{reads, request_of};
 
 use crate::options::Options;
 use gip_program::{Cause, Existing, FinishError, NewFile};

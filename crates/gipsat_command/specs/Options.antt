@@ -5,14 +5,14 @@ use Rattle.std.specs.Str.{bytes_eq}
 use Rattle.gip_program.specs.Options.{Entry, number, switch, text}
 use Rattle.gipsat_dimacs.specs.declared.rule.HeaderRule.{HeaderRule}
 use Rattle.gipsat_dimacs.specs.declared.rule.HeaderRule.TheVariants as rule
-use Rattle.gipsat.specs.Misuses.{Misuse, MissingModels, MissingProof, OutputTwice, ProofOfMore}
-use Rattle.gipsat.specs.declared.about.Number.{Number}
-use Rattle.gipsat.specs.declared.about.Number.TheVariants.{Conflicts, Models, Time}
-use Rattle.gipsat.specs.declared.about.Switch.{Switch}
-use Rattle.gipsat.specs.declared.about.Switch.TheVariants.{Binary, Check, Force, Lrat, NoEliminate, NoSimplify, NoVivify, NoWitness, Quiet, Relaxed, Stats, Verbose}
-use Rattle.gipsat.specs.declared.about.Text.{Text}
-use Rattle.gipsat.specs.declared.about.Text.TheVariants.{Assume, LratFromDrat, Project, Proof}
-use Rattle.gipsat.specs.declared.options.Options.{Options}
+use Rattle.gipsat_command.specs.Misuses.{Misuse, MissingModels, MissingProof, OutputTwice, ProofOfMore}
+use Rattle.gipsat_command.specs.declared.about.Number.{Number}
+use Rattle.gipsat_command.specs.declared.about.Number.TheVariants.{Conflicts, Models, Time}
+use Rattle.gipsat_command.specs.declared.about.Switch.{Switch}
+use Rattle.gipsat_command.specs.declared.about.Switch.TheVariants.{Binary, Check, Force, Lrat, NoEliminate, NoSimplify, NoVivify, NoWitness, Quiet, Relaxed, Stats, Verbose}
+use Rattle.gipsat_command.specs.declared.about.Text.{Text}
+use Rattle.gipsat_command.specs.declared.about.Text.TheVariants.{Assume, LratFromDrat, Project, Proof}
+use Rattle.gipsat_command.specs.declared.options.Options.{Options}
 
 -- the options, each with its long and its short name
 abbrev pub table : List (Entry Switch Number Text)

@@ -5,19 +5,19 @@ use Rattle.std.specs.Result.{result_map_both}
 use Rattle.std.specs.Str.{bytes_eq}
 use Rattle.gip_program.specs.Items.{Any, Counted, File, Given, Misused, Said, Told, Turned, items_said}
 use Rattle.gip_program.specs.declared.items.Info.{Info}
-use Rattle.gipsat.specs.Misuses.{Misuse, Words, ExtraFile, MissingFile, NotForCheck, InputTwice}
-use Rattle.gipsat.specs.Options.{Request, clash_of, models_of, no_request, output_of, request_of, table}
+use Rattle.gipsat_command.specs.Misuses.{Misuse, Words, ExtraFile, MissingFile, NotForCheck, InputTwice}
+use Rattle.gipsat_command.specs.Options.{Request, clash_of, models_of, no_request, output_of, request_of, table}
 use Rattle.gipsat_dimacs.specs.declared.rule.HeaderRule.TheVariants as rule
-use Rattle.gipsat.specs.declared.about.Number.{Number}
-use Rattle.gipsat.specs.declared.about.Number.TheVariants as number
-use Rattle.gipsat.specs.declared.about.Switch.{Switch}
-use Rattle.gipsat.specs.declared.about.Switch.TheVariants as switch
-use Rattle.gipsat.specs.declared.about.Text.{Text}
-use Rattle.gipsat.specs.declared.about.Text.TheVariants as text
-use Rattle.gipsat.specs.declared.options.Asked.{Asked}
-use Rattle.gipsat.specs.declared.options.Inputs.{Inputs}
-use Rattle.gipsat.specs.declared.options.Task.{Task}
-use Rattle.gipsat.specs.declared.options.Task.TheVariants as task
+use Rattle.gipsat_command.specs.declared.about.Number.{Number}
+use Rattle.gipsat_command.specs.declared.about.Number.TheVariants as number
+use Rattle.gipsat_command.specs.declared.about.Switch.{Switch}
+use Rattle.gipsat_command.specs.declared.about.Switch.TheVariants as switch
+use Rattle.gipsat_command.specs.declared.about.Text.{Text}
+use Rattle.gipsat_command.specs.declared.about.Text.TheVariants as text
+use Rattle.gipsat_command.specs.declared.options.Asked.{Asked}
+use Rattle.gipsat_command.specs.declared.options.Inputs.{Inputs}
+use Rattle.gipsat_command.specs.declared.options.Task.{Task}
+use Rattle.gipsat_command.specs.declared.options.Task.TheVariants as task
 
 -- what the words so far ask of a search, what they ask to be told, the last option but those of checks, whether a check
 -- is asked for, the last option that says how a proof is written, where a check writes one, and the second file

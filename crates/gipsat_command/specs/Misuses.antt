@@ -1,8 +1,8 @@
 -- Why the words of a command line have no meaning.
 use Rattle.std.specs.Prelude.{ℕ, List}
 use Rattle.gip_program.specs.Items as items
-use Rattle.gipsat.specs.declared.errors.UsageError.{UsageError}
-use Rattle.gipsat.specs.declared.errors.UsageError.TheVariants as error
+use Rattle.gipsat_command.specs.declared.errors.UsageError.{UsageError}
+use Rattle.gipsat_command.specs.declared.errors.UsageError.TheVariants as error
 
 -- words that no options have, a file too many or too few, `--lrat` without a proof, `--project` without `--models`, a
 -- proof beside assumptions or several models, an option that a check does not take, standard input as both of its files,

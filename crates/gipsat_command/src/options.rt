@@ -4,16 +4,15 @@ ghost use Rattle.std.specs.Option.{option_map};
 ghost use Rattle.std.specs.Result.{result_map_both};
 ghost use Rattle.gip_program.specs.Items.{left_said, said_of};
 ghost use Rattle.gip_program.specs.Options.{entry_of};
-ghost use Rattle.gipsat.specs.Misuses.{misuse_of};
-ghost use Rattle.gipsat.specs.Options.{clash_of, models_of, no_request, output_of, request_of, table};
-ghost use Rattle.gipsat.specs.Words.{after, after_file, asked_for, check_asked, conversion, files_of, input_of, no_words};
-ghost use Rattle.gipsat.specs.Words.{names_of, plain_check, search_asked, state_of, switched, work_asked, work_of, work_said};
+ghost use Rattle.gipsat_command.specs.Misuses.{misuse_of};
+ghost use Rattle.gipsat_command.specs.Options.{clash_of, models_of, no_request, output_of, request_of, table};
+ghost use Rattle.gipsat_command.specs.Words.{after, after_file, asked_for, check_asked, conversion, files_of, input_of, no_words};
+ghost use Rattle.gipsat_command.specs.Words.{names_of, plain_check, search_asked, state_of, switched, work_asked, work_of, work_said};
 
 use crate::about::{Number, OPTIONS, Switch, Text};
 use crate::errors::UsageError;
 use gip_program::{Info, Item, Items, Opt};
 use gipsat_dimacs::HeaderRule;
-use gipsat_solver::Inprocessing;
 
 /// What the arguments ask for.
 #[derive(Clone, Copy)]
@@ -116,14 +115,6 @@ impl<'a> Options<'a> {
             vivify: true,
             rule: HeaderRule::Strict,
             file: None,
-        }
-    }
-
-    /// What the search does at its pauses.
-    pub fn inprocessing(&self) -> Inprocessing {
-        Inprocessing {
-            eliminates: self.eliminate,
-            vivifies: self.vivify,
         }
     }
 

@@ -1,0 +1,3 @@
+pub mod Misuses
+pub mod Options
+pub mod Words

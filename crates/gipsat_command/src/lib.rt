@@ -1,0 +1,17 @@
+//! The part of the program `gipsat` that needs no solver: its command line and help, its files and errors, and the checks
+//! of proofs.
+#![tactic(auto)]
+
+mod about;
+mod checks;
+mod convert;
+mod errors;
+mod files;
+mod options;
+pub mod proof_file;
+
+pub use about::{ABOUT, Text};
+pub use checks::{check_files, convert_proof};
+pub use errors::{Failure, UsageError};
+pub use files::{Output, Source};
+pub use options::{Options, Task};
