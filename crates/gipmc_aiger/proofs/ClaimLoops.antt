@@ -44,7 +44,7 @@ within_end letter other latches inputs (line ∷ lines) =
     by_end letter other latches inputs line lines (is_end line) refl (within_end letter other latches inputs lines)
 
 -- one claim more
-pub claims_view-more : {A : Type 0} (old new : List (Claim A)) (claim : Claim A) → new ≡ old ++ claim ∷ []
+pub claims_view-more : (old new : List Claim) (claim : Claim) → new ≡ old ++ claim ∷ []
     → claims_view new ≡ claims_view old ++ claim_view claim ∷ []
 claims_view-more old new claim same = rw same (map-append claim_view old (claim ∷ []))
 

@@ -86,7 +86,7 @@ turned_gates = record {
 }
 
 -- the binary form turns them again
-turned_gates_in_binary : {A : Type 0} (c : Circuit A) → rows_of c ≡ turned_gates
+turned_gates_in_binary : (c : Circuit) → rows_of c ≡ turned_gates
     → circuit_of (aig_text c) ≡ Some two_gates
 unfolding circuit_of live_rows_of body_at liveness_at header_at sizes_at properties_at gate_at packed_operands_at digits
 turned_gates_in_binary c same =
@@ -182,12 +182,12 @@ abbrev link_of : ℕ → Lit → Link
 link_of variable literal = record { variable = variable; literal = literal }
 
 -- latches have the values of the literals that symbols name, in any order
-shared_by_names : {A : Type 0} (c : Circuit A) → shared_with c [] two_registers (codes "l1 = 7\nl0 = 4\n")
+shared_by_names : (c : Circuit) → shared_with c [] two_registers (codes "l1 = 7\nl0 = 4\n")
     ≡ link_of 2 (no_of 3) ∷ link_of 1 (yes_of 2) ∷ []
 shared_by_names c = refl
 
 -- the other latch is not shared; what stands behind a comment names nothing
-shared_by_one_name : {A : Type 0} (c : Circuit A) → shared_with c [] two_registers (codes "l0 = 6\nc\nl1 = 4\n")
+shared_by_one_name : (c : Circuit) → shared_with c [] two_registers (codes "l0 = 6\nc\nl1 = 4\n")
     ≡ link_of 1 (yes_of 3) ∷ []
 shared_by_one_name c = refl
 
@@ -195,7 +195,7 @@ shared_by_one_name c = refl
 abbrev latch_of : ℕ → Latch
 latch_of variable = record { variable = variable; next = yes_of variable; reset = None }
 
-shared_in_order : {A : Type 0} (c : Circuit A) → c.inputs.items ≡ 3 ∷ [] → c.latches.items ≡ latch_of 5 ∷ []
+shared_in_order : (c : Circuit) → c.inputs.items ≡ 3 ∷ [] → c.latches.items ≡ latch_of 5 ∷ []
     → shared_with c (4 ∷ []) two_registers (codes "l0 a\nl1 = 4 \ni0 =4\n") ≡ link_of 4 (yes_of 3) ∷ link_of 1 (yes_of 5) ∷ []
 shared_in_order c inputs latches = rw (inputs, latches) refl
 

@@ -37,7 +37,7 @@ variables_of n =
     n.inputs is_constant))
 
 -- the literals that are bad no more are of variables of the circuit
-pub defined_still : {A : Type 0} (d e : Circuit A) (n : Rows) (own : ℕ) (live bads : List Lit) → bads ≡ n.bads ++ live
+pub defined_still : (d e : Circuit) (n : Rows) (own : ℕ) (live bads : List Lit) → bads ≡ n.bads ++ live
     → IsReordering (with_bads n bads) (rows_of d) → IsTrue (is_well_formed d)
     → rows_of e ≡ with_bads (rows_of d) (take own d.bads.items) → IsTrue (list_all (λ x. is_variable e x.variable) live)
 defined_still d e n own live bads same is formed kept =

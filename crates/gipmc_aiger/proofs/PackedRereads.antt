@@ -108,7 +108,7 @@ some_is None some = absurd cc
 some_is (Some x) some = (x, refl)
 
 -- the numbers of a circuit whose inputs, latches and gates are numbered in this order
-record IsNumbered {A : Type 0} (c : Circuit A) : Type 0 where
+record IsNumbered (c : Circuit) : Type 0 where
   inputs : numbered_behind 0 c.inputs.items ≡ Some (length c.inputs.items)
   latches : numbered_behind (length c.inputs.items) (map (λ l. l.variable) c.latches.items)
       ≡ Some (length c.inputs.items + length c.latches.items)
@@ -117,7 +117,7 @@ record IsNumbered {A : Type 0} (c : Circuit A) : Type 0 where
   greatest : greatest_variable c ≡ length c.inputs.items + length c.latches.items + length c.gates.items
 
 -- from the last of each kind
-numbers_from : {A : Type 0} (c : Circuit A) (input latch output : ℕ) → numbered_behind 0 c.inputs.items ≡ Some input
+numbers_from : (c : Circuit) (input latch output : ℕ) → numbered_behind 0 c.inputs.items ≡ Some input
     → numbered_behind input (map (λ l. l.variable) c.latches.items) ≡ Some latch
     → numbered_behind latch (map (λ g. g.output) c.gates.items) ≡ Some output → IsNumbered c
 numbers_from c input latch output inputs latches gates =
@@ -151,7 +151,7 @@ numbers_from c input latch output inputs latches gates =
           output_is;
     }
 
-numbers : {A : Type 0} (c : Circuit A) → IsTrue (is_numbered c) → IsNumbered c
+numbers : (c : Circuit) → IsTrue (is_numbered c) → IsNumbered c
 numbers c numbered =
     let variables = map (λ l. l.variable) c.latches.items in
     let outputs = map (λ g. g.output) c.gates.items in
@@ -290,13 +290,13 @@ of_five : (o a b c d : List ℕ) → o ++ a ++ b ++ c ++ d ≡ o ++ (a ++ (b ++ 
 of_five o a b c d = simp (append_assoc, append-nil)
 
 -- the bytes behind a header of the binary form
-abbrev rows_text : {A : Type 0} → Circuit A → List (List Lit) → List Lit → List ℕ
+abbrev rows_text : Circuit → List (List Lit) → List Lit → List ℕ
 rows_text c justice fairness =
     packed_latch_lines c.latches.items ++ (literal_lines c.bads.items ++ (literal_lines c.constraints.items ++
     (liveness_lines justice fairness ++ (packed_ands c.gates.items ++ []))))
 
 -- the rows of a numbered circuit behind such a header write it
-body-reread : {A : Type 0} (c : Circuit A) (justice : List (List Lit)) (fairness : List Lit) (h : Header) (m : ℕ)
+body-reread : (c : Circuit) (justice : List (List Lit)) (fairness : List Lit) (h : Header) (m : ℕ)
     → m ≡ greatest_variable c → IsWritable c → AreLiveWritable m justice fairness → IsNumbered c
     → IsTrue (are_above c.gates.items)
     → h ≡ header_in Binary m (length c.inputs.items) (length c.latches.items) (length c.gates.items)
@@ -357,7 +357,7 @@ body-reread c justice fairness h m greatest is live numbered are header =
     refl
 
 -- the circuit that the text of a circuit in the binary form writes is that circuit, each gate's greater operand first
-pub aig_rereads : {A : Type 0} (c : Circuit A) → IsWritable c → IsTrue (is_numbered c)
+pub aig_rereads : (c : Circuit) → IsWritable c → IsTrue (is_numbered c)
     → IsTrue (are_above c.gates.items) → circuit_of (aig_text c) ≡ Some (packed_rows_of c)
 unfolding circuit_of live_rows_of
 aig_rereads c is numbered are =
@@ -391,7 +391,7 @@ of_six : (o a b c d e : List ℕ) → o ++ a ++ b ++ c ++ d ++ e ≡ o ++ (a ++ 
 of_six o a b c d e = simp (append_assoc, append-nil)
 
 -- the same with justice properties and fairness constraints
-pub live_aig_rereads : {A B : Type 0} (c : Circuit A) (live : Liveness B) → IsWritable c
+pub live_aig_rereads : (c : Circuit) (live : Liveness) → IsWritable c
     → AreLiveWritable (greatest_variable c) (justice_view live) live.fairness.items → IsTrue (is_numbered c)
     → IsTrue (are_above c.gates.items)
     → live_rows_of (live_aig_text c live) ≡ Some (packed_live_rows c live)

@@ -404,13 +404,13 @@ module _ (h : Header) (m : ℕ) (limit : greatest_literal h ≡ 2 * m + 1) (smal
       refl
 
 -- the lines behind a header of the ascii form
-abbrev rows_text : {A : Type 0} → Circuit A → List (List Lit) → List Lit → List ℕ
+abbrev rows_text : Circuit → List (List Lit) → List Lit → List ℕ
 rows_text c justice fairness =
     input_lines c.inputs.items ++ (latch_lines c.latches.items ++ (literal_lines c.bads.items ++
     (literal_lines c.constraints.items ++ (liveness_lines justice fairness ++ (and_lines c.gates.items ++ [])))))
 
 -- the rows of a circuit behind such a header write it
-body-reread : {A : Type 0} (c : Circuit A) (justice : List (List Lit)) (fairness : List Lit) (h : Header) (m : ℕ)
+body-reread : (c : Circuit) (justice : List (List Lit)) (fairness : List Lit) (h : Header) (m : ℕ)
     → m ≡ greatest_variable c → IsWritable c → AreLiveWritable m justice fairness
     → h ≡ header_in Ascii m (length c.inputs.items) (length c.latches.items) (length c.gates.items)
     (counts_of c.bads.items c.constraints.items justice fairness)
@@ -462,7 +462,7 @@ none_writable m = record {
 }
 
 -- the circuit that the text of a circuit writes is that circuit
-pub aag_rereads : {A : Type 0} (c : Circuit A) → IsWritable c → circuit_of (aag_text c) ≡ Some (rows_of c)
+pub aag_rereads : (c : Circuit) → IsWritable c → circuit_of (aag_text c) ≡ Some (rows_of c)
 unfolding circuit_of live_rows_of
 aag_rereads c is =
     let m = greatest_variable c in
@@ -496,7 +496,7 @@ pub of_ten : (o a b c d e f g h i rest : List ℕ) → (o ++ a ++ b ++ c ++ d ++
 of_ten o a b c d e f g h i rest = simp append_assoc
 
 -- what the text of a circuit with justice properties and fairness constraints writes is these
-pub live_aag_rereads : {A B : Type 0} (c : Circuit A) (l : Liveness B) → IsWritable c
+pub live_aag_rereads : (c : Circuit) (l : Liveness) → IsWritable c
     → AreLiveWritable (greatest_variable c) (justice_view l) l.fairness.items
     → live_rows_of (live_aag_text c l) ≡ Some (live_rows c l)
 unfolding live_rows_of

@@ -2,6 +2,7 @@
 use Rattle.std.proofs.Common.{◌≡◌, ℕ, ◌^◌, ◌<◌, Bool, true, false, List, [], ◌∷◌, ◌++◌, length, map, Some, arith, refl}
 use Rattle.std.proofs.Common.{ap, ◌∙◌, append_assoc, cond, decimal}
 use Rattle.std.specs.Prelude.{◌==◌, if◌then◌else◌}
+use Rattle.std.specs.declared.alloc.Global.{Global}
 use Rattle.std.specs.List.{list_all, list_any, onto_first}
 use Rattle.std.specs.Str.Parse.{AllDigits}
 use Rattle.std.proofs.lemmas.Str.Parse.{digit_from_value}
@@ -84,7 +85,7 @@ bits-no_end (true ∷ bits) = refl
 bits-no_end (false ∷ bits) = refl
 
 -- the moments are read again, each of so many values
-frames-reread : {A : Type 0} (count : ℕ) (frames : List (Vec Bool A))
+frames-reread : (count : ℕ) (frames : List (Vec Bool Global))
     → Every (λ frame. length frame.items ≡ count) frames
     → frames_of count (said_lines (frames_lines frames)) ≡ Some (frames_view frames)
 frames-reread count [] same = refl
@@ -113,7 +114,7 @@ of_four : (d bits frames : List ℕ) → d ++ 10 ∷ [] ++ bits ++ frames ≡ d 
 of_four d bits frames = simp append_assoc
 
 -- the lines of the text of a trace, by the letter of its property
-text-lines : {A : Type 0} (letter property : ℕ) (trace : Trace A) → (letter == 10) ≡ false
+text-lines : (letter property : ℕ) (trace : Trace) → (letter == 10) ≡ false
     → is_remark (letter ∷ []) ≡ false → property < 2 ^ 31
     → said_lines (49 ∷ 10 ∷ letter ∷ (decimal property ++ 10 ∷ [] ++ bits_line trace.latches.items
     ++ frames_lines trace.inputs.items))
@@ -130,20 +131,20 @@ text-lines letter property trace within said small =
     ∙ ap (λ lines. (49 ∷ []) ∷ (letter ∷ decimal property) ∷ lines) (bits-line trace.latches.items frames)
 
 -- the lines of the text of a witness
-lines-are : {A : Type 0} (property : ℕ) (trace : Trace A) → property < 2 ^ 31 → said_lines (witness_text property trace)
+lines-are : (property : ℕ) (trace : Trace) → property < 2 ^ 31 → said_lines (witness_text property trace)
     ≡ (49 ∷ []) ∷ (98 ∷ decimal property) ∷ map bit_code trace.latches.items
     ∷ said_lines (frames_lines trace.inputs.items)
 lines-are property trace small = text-lines 98 property trace refl refl small
 
 -- and of a lasso
-lasso_lines-are : {A : Type 0} (property : ℕ) (trace : Trace A) → property < 2 ^ 31
+lasso_lines-are : (property : ℕ) (trace : Trace) → property < 2 ^ 31
     → said_lines (lasso_text property trace)
     ≡ (49 ∷ []) ∷ (106 ∷ decimal property) ∷ map bit_code trace.latches.items
     ∷ said_lines (frames_lines trace.inputs.items)
 lasso_lines-are property trace small = text-lines 106 property trace refl refl small
 
 -- the witness that the text of a witness writes is that witness, where each moment has so many inputs
-pub witness_rereads : {A : Type 0} (latches inputs : ℕ) (w : Witness A) → w.property < 2 ^ 31
+pub witness_rereads : (latches inputs : ℕ) (w : Witness) → w.property < 2 ^ 31
     → length w.trace.latches.items ≡ latches → Every (λ row. length row.items ≡ inputs) w.trace.inputs.items
     → witness_of latches inputs (witness_text w.property w.trace) ≡ Some (witness_view w)
 unfolding stimulus_of
@@ -185,7 +186,7 @@ properties-reread letter n above same small =
     refl
 
 -- behind the moments of a witness no answer follows
-frames-last : {A : Type 0} (letter other latches inputs : ℕ) (frames : List (Vec Bool A))
+frames-last : (letter other latches inputs : ℕ) (frames : List (Vec Bool Global))
     → claims_from letter other latches inputs true (said_lines (frames_lines frames)) ≡ Some []
 frames-last letter other latches inputs [] = refl
 frames-last letter other latches inputs (frame ∷ frames) =
@@ -195,7 +196,7 @@ frames-last letter other latches inputs (frame ∷ frames) =
     ∙ frames-last letter other latches inputs frames)
 
 -- the lines of one trace have one claim: that of the trace, where each moment has so many inputs
-claim-reread : {A : Type 0} (letter other latches inputs property : ℕ) (trace : Trace A) → 57 < letter
+claim-reread : (letter other latches inputs property : ℕ) (trace : Trace) → 57 < letter
     → (letter == letter) ≡ true → (letter == other) ≡ false → (letter == 46) ≡ false → property < 2 ^ 31 → length trace.latches.items ≡ latches
     → Every (λ row. length row.items ≡ inputs) trace.inputs.items
     → claims_from letter other latches inputs false ((49 ∷ []) ∷ (letter ∷ decimal property)
@@ -227,13 +228,13 @@ bits-no_mark [] = refl
 bits-no_mark (true ∷ bits) = bits-no_mark bits
 bits-no_mark (false ∷ bits) = bits-no_mark bits
 
-frames-no_mark : {A : Type 0} (frames : List (Vec Bool A)) → list_any is_last (said_lines (frames_lines frames)) ≡ false
+frames-no_mark : (frames : List (Vec Bool Global)) → list_any is_last (said_lines (frames_lines frames)) ≡ false
 frames-no_mark [] = refl
 frames-no_mark (frame ∷ frames) =
     rw (bits-line frame.items (frames_lines frames), bits-no_mark frame.items) (frames-no_mark frames)
 
 -- the text of a witness has one claim: that of the witness, where each moment has so many inputs
-pub claims_reread : {A : Type 0} (latches inputs property : ℕ) (trace : Trace A) → property < 2 ^ 31
+pub claims_reread : (latches inputs property : ℕ) (trace : Trace) → property < 2 ^ 31
     → length trace.latches.items ≡ latches → Every (λ row. length row.items ≡ inputs) trace.inputs.items
     → claims_of latches inputs (witness_text property trace) ≡ Some (claim_by (property ∷ []) trace ∷ [])
 claims_reread latches inputs property trace small counted rows =
@@ -247,7 +248,7 @@ claims_reread latches inputs property trace small counted rows =
     (claim-reread 98 106 latches inputs property trace (omega arith) refl refl refl small counted rows)
 
 -- so has the text of a lasso
-pub lassos_reread : {A : Type 0} (latches inputs property : ℕ) (trace : Trace A) → property < 2 ^ 31
+pub lassos_reread : (latches inputs property : ℕ) (trace : Trace) → property < 2 ^ 31
     → length trace.latches.items ≡ latches → Every (λ row. length row.items ≡ inputs) trace.inputs.items
     → lassos_of latches inputs (lasso_text property trace) ≡ Some (claim_by (property ∷ []) trace ∷ [])
 lassos_reread latches inputs property trace small counted rows =

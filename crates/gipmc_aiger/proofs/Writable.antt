@@ -117,39 +117,39 @@ gates_fit m (g ∷ gs) defined first within (one, others) ordered =
     )
 
 -- the variables of the latches and inputs are at most the greatest variable
-inputs_in_all : {A : Type 0} (c : Circuit A) → Every (λ v. v ≤ greatest_variable c) c.inputs.items
+inputs_in_all : (c : Circuit) → Every (λ v. v ≤ greatest_variable c) c.inputs.items
 inputs_in_all c =
     let above_inputs = greatest_input 0 c.inputs.items in
     let above_latches = greatest_latch above_inputs c.latches.items in
     inputs_within 0 (greatest_variable c) c.inputs.items (through above_inputs above_latches (greatest_variable c)
     (from_latch above_inputs c.latches.items) (from_output above_latches c.gates.items))
 
-latches_in_all : {A : Type 0} (c : Circuit A) → Every (λ v. v ≤ greatest_variable c) (latch_variables c)
+latches_in_all : (c : Circuit) → Every (λ v. v ≤ greatest_variable c) (latch_variables c)
 latches_in_all c =
     let above_inputs = greatest_input 0 c.inputs.items in
     let above_latches = greatest_latch above_inputs c.latches.items in
     latches_within above_inputs (greatest_variable c) c.latches.items (from_output above_latches c.gates.items)
 
-outputs_in_all : {A : Type 0} (c : Circuit A) → Every (λ v. v ≤ greatest_variable c) (map (λ g. g.output) c.gates.items)
+outputs_in_all : (c : Circuit) → Every (λ v. v ≤ greatest_variable c) (map (λ g. g.output) c.gates.items)
 outputs_in_all c =
     outputs_within (greatest_latch (greatest_input 0 c.inputs.items) c.latches.items) (greatest_variable c) c.gates.items
     (le_refl (greatest_variable c))
 
 -- no variable of a circuit is above its greatest one
-sources_within : {A : Type 0} (c : Circuit A) → AreWithin (greatest_variable c) (is_source c)
+sources_within : (c : Circuit) → AreWithin (greatest_variable c) (is_source c)
 sources_within c =
     let m = greatest_variable c in
     let constant_in : AreWithin m is_constant = λ v is. subst (λ x. x ≤ m) (sym (eqb-true v 0 is)) (omega arith) in
     with_all m (latch_variables c) (with_variables c.inputs.items is_constant) (latches_in_all c)
     (with_all m c.inputs.items is_constant (inputs_in_all c) constant_in)
 
-variables_within : {A : Type 0} (c : Circuit A) → AreWithin (greatest_variable c) (is_variable c)
+variables_within : (c : Circuit) → AreWithin (greatest_variable c) (is_variable c)
 variables_within c =
     with_all (greatest_variable c) (map (λ g. g.output) c.gates.items) (is_source c) (outputs_in_all c) (sources_within c)
 
 -- a well-formed circuit is writable, if its greatest variable is below 2^31, it has no more rows than that, and fewer
 -- than 2^31 bad literals and constraints
-pub IsWritable-formed : {A : Type 0} (c : Circuit A) → IsTrue (is_well_formed c) → greatest_variable c < 2 ^ 31
+pub IsWritable-formed : (c : Circuit) → IsTrue (is_well_formed c) → greatest_variable c < 2 ^ 31
     → length c.inputs.items + length c.latches.items + length c.gates.items ≤ greatest_variable c
     → length c.bads.items < 2 ^ 31 → length c.constraints.items < 2 ^ 31 → IsWritable c
 IsWritable-formed c formed small counts bads constraints =
@@ -200,7 +200,7 @@ most_is : (m n : ℕ) → m ≤ n → nat_le m n ≡ true
 most_is m n most = grind (arith, most)
 
 -- a well-formed circuit whose numbers are small enough is writable
-pub IsWritable-room : {A : Type 0} (c : Circuit A) → IsTrue (is_well_formed c) → IsTrue (has_room c) → IsWritable c
+pub IsWritable-room : (c : Circuit) → IsTrue (is_well_formed c) → IsTrue (has_room c) → IsWritable c
 IsWritable-room c formed room =
     let rows = length c.inputs.items + length c.latches.items + length c.gates.items in
     let m = greatest_variable c in
@@ -213,7 +213,7 @@ IsWritable-room c formed room =
     (is_less (length c.constraints.items) (2 ^ 31) few_constraints)
 
 -- no other circuit is
-pub room-IsWritable : {A : Type 0} (c : Circuit A) → has_room c ≡ false → ¬ (IsWritable c)
+pub room-IsWritable : (c : Circuit) → has_room c ≡ false → ¬ (IsWritable c)
 room-IsWritable c none is =
     let rows = length c.inputs.items + length c.latches.items + length c.gates.items in
     let m = greatest_variable c in
@@ -235,7 +235,7 @@ justice_fits m (p ∷ ps) defined within used =
 
 -- there is room for justice properties and fairness constraints whose literals are of variables of the circuit, if they are
 -- few enough
-pub AreLiveWritable-defined : {A B : Type 0} (c : Circuit A) (l : Liveness B) → IsTrue (are_defined c l)
+pub AreLiveWritable-defined : (c : Circuit) (l : Liveness) → IsTrue (are_defined c l)
     → length (justice_view l) < 2 ^ 31 → length l.fairness.items < 2 ^ 31 → Every (λ p. length p < 2 ^ 31) (justice_view l)
     → AreLiveWritable (greatest_variable c) (justice_view l) l.fairness.items
 AreLiveWritable-defined c l defined justice fairness sizes =

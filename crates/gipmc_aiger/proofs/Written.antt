@@ -28,7 +28,7 @@ list_all-permuted p xs ys same =
     all_unless_any p xs ∙ ap not (list_any-IsPermutation (λ x. not (p x)) xs ys same) ∙ sym (all_unless_any p ys)
 
 -- circuits with the same rows have the same moments
-pub moments-reordered : {A B : Type 0} (c : Circuit A) (d : Circuit B) (n : Rows) (a : Assignment)
+pub moments-reordered : (c d : Circuit) (n : Rows) (a : Assignment)
     → IsReordering n (rows_of c) → IsReordering n (rows_of d) → is_moment c a ≡ is_moment d a
 moments-reordered c d n a first second =
     let gates : list_all (has_value a) c.gates.items ≡ list_all (has_value a) d.gates.items =
@@ -38,7 +38,7 @@ moments-reordered c d n a first second =
     rw (gates, constraints) refl
 
 -- and the same traces
-IsTrace-reordered : {A B : Type 0} (c : Circuit A) (d : Circuit B) (n : Rows) (m : ℕ) (t : ℕ → Assignment)
+IsTrace-reordered : (c d : Circuit) (n : Rows) (m : ℕ) (t : ℕ → Assignment)
     → IsReordering n (rows_of c) → IsReordering n (rows_of d) → IsTrace c m t → IsTrace d m t
 IsTrace-reordered c d n m t first second is =
     let latches : c.latches.items ≡ d.latches.items = first.latches ∙ sym second.latches in record {
@@ -49,19 +49,19 @@ IsTrace-reordered c d n m t first second is =
     }
 
 -- where one circuit that a text writes fails, so does each other one
-pub FailsAfter-written : {A B : Type 0} (text : List ℕ) (c : Circuit A) (d : Circuit B) (bad : Lit) (m : ℕ)
+pub FailsAfter-written : (text : List ℕ) (c d : Circuit) (bad : Lit) (m : ℕ)
     → Writes text c → Writes text d → FailsAfter c bad m → FailsAfter d bad m
 FailsAfter-written text c d bad m (n, at, first) (o, other, second) (t, is, fails) =
     let same : o ≡ n = same_some o n (sym other ∙ at) in
     (t, IsTrace-reordered c d n m t first (subst (λ x. IsReordering x (rows_of d)) same second) is, fails)
 
 -- where one circuit that a text writes is safe, so is each other one
-pub IsSafe-written : {A B : Type 0} (text : List ℕ) (c : Circuit A) (d : Circuit B) (bad : Lit) → Writes text c
+pub IsSafe-written : (text : List ℕ) (c d : Circuit) (bad : Lit) → Writes text c
     → Writes text d → IsSafe c bad → IsSafe d bad
 IsSafe-written text c d bad first second safe m fails = safe m (FailsAfter-written text d c bad m second first fails)
 
 -- the circuit that a text writes with justice properties is the one that it writes without them, where that is read
-pub Writes-live : {A B : Type 0} (text : List ℕ) (c : Circuit A) (l : Liveness B) → is_live_alone (live_rows c l) ≡ false
+pub Writes-live : (text : List ℕ) (c : Circuit) (l : Liveness) → is_live_alone (live_rows c l) ≡ false
     → WritesLive text c l → Writes text c
 unfolding circuit_of
 Writes-live text c l beside (n, at, is) =

@@ -18,7 +18,7 @@ abbrev pub number_text : ℕ → ℕ → List ℕ
 number_text n end = decimal n ++ end ∷ []
 
 -- the header: the greatest variable, then how many inputs, latches, outputs, gates, bad literals and constraints follow
-abbrev pub header_line : {A : Type 0} → ℕ → Circuit A → List ℕ
+abbrev pub header_line : ℕ → Circuit → List ℕ
 header_line maximum c =
     codes "aag " ++ number_text maximum 32 ++ number_text (length c.inputs.items) 32
     ++ number_text (length c.latches.items) 32 ++ number_text 0 32 ++ number_text (length c.gates.items) 32
@@ -76,17 +76,17 @@ greatest_output n [] = n
 greatest_output n (g ∷ gates) = greatest_output (max n g.output) gates
 
 -- the greatest variable that a circuit defines
-abbrev pub greatest_variable : {A : Type 0} → Circuit A → ℕ
+abbrev pub greatest_variable : Circuit → ℕ
 greatest_variable c = greatest_output (greatest_latch (greatest_input 0 c.inputs.items) c.latches.items) c.gates.items
 
 -- the text of a circuit in the ascii form
-abbrev pub aag_text : {A : Type 0} → Circuit A → List ℕ
+abbrev pub aag_text : Circuit → List ℕ
 aag_text c =
     header_line (greatest_variable c) c ++ input_lines c.inputs.items ++ latch_lines c.latches.items
     ++ literal_lines c.bads.items ++ literal_lines c.constraints.items ++ and_lines c.gates.items
 
 -- the header of the binary form; a machine's numbers end at 2^64
-abbrev pub packed_header_line : {A : Type 0} → Circuit A → List ℕ
+abbrev pub packed_header_line : Circuit → List ℕ
 packed_header_line c =
     codes "aig " ++ number_text (min (min (length c.inputs.items + length c.latches.items) 18446744073709551615
     + length c.gates.items) 18446744073709551615) 32 ++ number_text (length c.inputs.items) 32
@@ -120,7 +120,7 @@ numbered_behind n [] = Some n
 numbered_behind n (v ∷ vs) = if v == n + 1 then numbered_behind v vs else None
 
 -- the inputs, the latches and the outputs of the gates are numbered from 1 on, in this order
-abbrev pub is_numbered : {A : Type 0} → Circuit A → Bool
+abbrev pub is_numbered : Circuit → Bool
 is_numbered c =
     is_some (numbered_behind 0 c.inputs.items >>= λ input.
     numbered_behind input (map (λ l. l.variable) c.latches.items) >>= λ latch.
@@ -135,7 +135,7 @@ abbrev pub are_above : List And → Bool
 are_above gates = list_all is_above gates
 
 -- the text of a circuit in the binary form
-abbrev pub aig_text : {A : Type 0} → Circuit A → List ℕ
+abbrev pub aig_text : Circuit → List ℕ
 aig_text c =
     packed_header_line c ++ packed_latch_lines c.latches.items ++ literal_lines c.bads.items
     ++ literal_lines c.constraints.items ++ packed_ands c.gates.items
@@ -147,7 +147,7 @@ greater_first g =
     then record { output = g.output; left = g.right; right = g.left } else g
 
 -- the parts of a circuit as the binary form has them: the greater operand of each gate comes first
-abbrev pub packed_rows_of : {A : Type 0} → Circuit A → Rows
+abbrev pub packed_rows_of : Circuit → Rows
 packed_rows_of c = record {
   inputs = c.inputs.items;
   latches = c.latches.items;

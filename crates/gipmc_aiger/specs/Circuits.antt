@@ -230,7 +230,7 @@ pub record Rows : Type 0 where
   pub constraints : List Lit
 
 -- the rows of a circuit
-abbrev pub rows_of : {A : Type 0} → Circuit A → Rows
+abbrev pub rows_of : Circuit → Rows
 rows_of c = record {
   inputs = c.inputs.items;
   latches = c.latches.items;
@@ -301,5 +301,5 @@ pub record IsReordering (old new : Rows) : Type 0 where
   pub constraints : new.constraints ≡ old.constraints
 
 -- a text writes a circuit, whose gates may stand in another order
-abbrev pub Writes : {A : Type 0} → List ℕ → Circuit A → Type 0
+abbrev pub Writes : List ℕ → Circuit → Type 0
 Writes text c = (n : Rows) × (circuit_of text ≡ Some n) × IsReordering n (rows_of c)

@@ -125,14 +125,14 @@ abbrev pub lassos_of : ℕ → ℕ → List ℕ → Option (List Claimed)
 lassos_of latches inputs text = claims_from (byte "j") (byte "b") latches inputs false (said_lines text)
 
 -- the claim that a trace is a witness of these properties
-abbrev pub claim_by : {A : Type 0} → List ℕ → Trace A → Claimed
+abbrev pub claim_by : List ℕ → Trace → Claimed
 claim_by properties trace =
     record { properties = properties; latches = trace.latches.items; inputs = frames_view trace.inputs.items }
 
 -- a claim without where it lies in memory
-abbrev pub claim_view : {A : Type 0} → claims.Claim A → Claimed
+abbrev pub claim_view : claims.Claim → Claimed
 claim_view claim = claim_by claim.properties.items claim.trace
 
 -- some claims without where they lie in memory
-abbrev pub claims_view : {A : Type 0} → List (claims.Claim A) → List Claimed
+abbrev pub claims_view : List claims.Claim → List Claimed
 claims_view claims = map claim_view claims

@@ -1,5 +1,6 @@
 -- The text of an invariant: clauses over latches in the DIMACS form. The latch at place n has number n + 1.
 use Rattle.std.specs.Prelude.{ℕ, ◌==◌, Bool, false, not, List, [], ◌∷◌, ◌++◌, length, get_or, filter, map, codes, decimal, Option, Some, None, if◌then◌else◌}
+use Rattle.std.specs.declared.alloc.Global.{Global}
 use Rattle.std.specs.declared.vec.Vec.{Vec}
 use Rattle.std.specs.Str.{byte}
 use Rattle.gipsat_cnf.specs.Formulas.{Clause, Formula}
@@ -14,12 +15,12 @@ use Rattle.giputils_text.specs.Lines.{pieces, space, text_lines}
 use Rattle.gipmc_aiger.specs.Reading.{◌>>=◌}
 
 -- a line for each clause
-abbrev pub clause_lines : {A : Type 0} → List (Vec Lit A) → List ℕ
+abbrev pub clause_lines : List (Vec Lit Global) → List ℕ
 clause_lines [] = []
 clause_lines (clause ∷ clauses) = clause_line clause.items ++ clause_lines clauses
 
 -- the text of an invariant: the header with the numbers of latches and clauses, and the clauses
-abbrev pub invariant_text : {A : Type 0} → ℕ → List (Vec Lit A) → List ℕ
+abbrev pub invariant_text : ℕ → List (Vec Lit Global) → List ℕ
 invariant_text latches clauses =
     codes "p cnf " ++ decimal latches ++ codes " " ++ decimal (length clauses) ++ codes "\n" ++ clause_lines clauses
 
@@ -80,7 +81,7 @@ abbrev pub invariant_of : ℕ → List ℕ → Option Formula
 invariant_of latches text = invariant_in latches (uncommented_lines text)
 
 -- some clauses without where they lie in memory
-abbrev pub clauses_view : {A : Type 0} → List (Vec Lit A) → Formula
+abbrev pub clauses_view : List (Vec Lit Global) → Formula
 clauses_view clauses = map (λ clause. clause.items) clauses
 
 -- a literal over places of latches, over their variables
@@ -88,7 +89,7 @@ abbrev pub over_variables : List ℕ → Lit → Lit
 over_variables variables l = record { variable = get_or variables l.variable 0; positive = l.positive }
 
 -- the invariant over the variables of the circuit that a text writes for it, if it has the form
-abbrev pub invariant_for : {A : Type 0} → Circuit A → List ℕ → Option Formula
+abbrev pub invariant_for : Circuit → List ℕ → Option Formula
 invariant_for c text =
     invariant_of (length c.latches.items) text >>= λ clauses.
     Some (map (map (over_variables (latch_variables c))) clauses)

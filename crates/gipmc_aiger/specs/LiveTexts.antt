@@ -26,7 +26,7 @@ liveness_lines justice fairness = size_lines justice ++ justice_lines justice ++
 
 -- the header: the greatest variable, then how many inputs, latches, outputs, gates, bad literals, constraints, justice
 -- properties and fairness constraints follow
-abbrev pub live_header_line : {A : Type 0} → ℕ → Circuit A → ℕ → ℕ → List ℕ
+abbrev pub live_header_line : ℕ → Circuit → ℕ → ℕ → List ℕ
 live_header_line maximum c justice fairness =
     codes "aag " ++ number_text maximum 32 ++ number_text (length c.inputs.items) 32
     ++ number_text (length c.latches.items) 32 ++ number_text 0 32 ++ number_text (length c.gates.items) 32
@@ -34,14 +34,14 @@ live_header_line maximum c justice fairness =
     ++ number_text justice 32 ++ number_text fairness 10
 
 -- the text in the ascii form
-abbrev pub live_aag_text : {A B : Type 0} → Circuit A → Liveness B → List ℕ
+abbrev pub live_aag_text : Circuit → Liveness → List ℕ
 live_aag_text c l =
     live_header_line (greatest_variable c) c (length l.justice.items) (length l.fairness.items)
     ++ input_lines c.inputs.items ++ latch_lines c.latches.items ++ literal_lines c.bads.items
     ++ literal_lines c.constraints.items ++ liveness_lines (justice_view l) l.fairness.items ++ and_lines c.gates.items
 
 -- the header of the binary form; a machine's numbers end at 2^64
-abbrev pub live_packed_header_line : {A : Type 0} → Circuit A → ℕ → ℕ → List ℕ
+abbrev pub live_packed_header_line : Circuit → ℕ → ℕ → List ℕ
 live_packed_header_line c justice fairness =
     codes "aig " ++ number_text (min (min (length c.inputs.items + length c.latches.items) 18446744073709551615
     + length c.gates.items) 18446744073709551615) 32 ++ number_text (length c.inputs.items) 32
@@ -50,14 +50,14 @@ live_packed_header_line c justice fairness =
     ++ number_text justice 32 ++ number_text fairness 10
 
 -- the text in the binary form
-abbrev pub live_aig_text : {A B : Type 0} → Circuit A → Liveness B → List ℕ
+abbrev pub live_aig_text : Circuit → Liveness → List ℕ
 live_aig_text c l =
     live_packed_header_line c (length l.justice.items) (length l.fairness.items)
     ++ packed_latch_lines c.latches.items ++ literal_lines c.bads.items ++ literal_lines c.constraints.items
     ++ liveness_lines (justice_view l) l.fairness.items ++ packed_ands c.gates.items
 
 -- what the binary form has of them: the greater operand of each gate comes first
-abbrev pub packed_live_rows : {A B : Type 0} → Circuit A → Liveness B → LiveRows
+abbrev pub packed_live_rows : Circuit → Liveness → LiveRows
 packed_live_rows c l =
     record { circuit = packed_rows_of c; justice = justice_view l; fairness = l.fairness.items }
 

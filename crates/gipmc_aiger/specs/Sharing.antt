@@ -50,12 +50,12 @@ links_by_place own others = map linked (zip own others)
 
 -- what a certificate of these inputs and latches shares with the circuit: what the symbols behind its rows name `= n`;
 -- where they name nothing so, inputs and latches in order
-abbrev pub links_with : {A : Type 0} → Circuit A → List ℕ → List ℕ → List Link → List Link
+abbrev pub links_with : Circuit → List ℕ → List ℕ → List Link → List Link
 links_with c inputs latches named =
     if length named == 0
     then links_by_place inputs c.inputs.items ++ links_by_place latches (latch_variables c) else named
 
-abbrev pub shared_with : {A : Type 0} → Circuit A → List ℕ → List Register → List ℕ → List Link
+abbrev pub shared_with : Circuit → List ℕ → List Register → List ℕ → List Link
 shared_with c inputs registers symbols =
     let latches = map (λ r. r.variable) registers in
     links_with c inputs latches (links_in inputs latches (text_lines symbols))

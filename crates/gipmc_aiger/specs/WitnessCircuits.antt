@@ -38,7 +38,7 @@ pub record WitnessRows : Type 0 where
   pub symbols : List ℕ
 
 -- the rows of a circuit with these latches, and such bytes behind them
-abbrev pub witness_rows : {A : Type 0} → Circuit A → List Register → List ℕ → WitnessRows
+abbrev pub witness_rows : Circuit → List Register → List ℕ → WitnessRows
 witness_rows c registers symbols = record {
   inputs = c.inputs.items;
   registers = registers;
@@ -77,7 +77,7 @@ witness_rows_of text = do
 
 -- the certificate has these gates in some order, these bad literals and constraints; it shares with the circuit what its
 -- symbols say, and as its own it has the other latches and inputs
-pub record IsWitnessOf {A B : Type 0} (c : Circuit A) (n : WitnessRows) (w : WitnessCircuit B) : Type 0 where
+pub record IsWitnessOf (c : Circuit) (n : WitnessRows) (w : WitnessCircuit) : Type 0 where
   pub gates : IsPermutation n.gates w.circuit.gates.items
   pub bads : w.circuit.bads.items ≡ n.bads
   pub constraints : w.circuit.constraints.items ≡ n.constraints
@@ -87,5 +87,5 @@ pub record IsWitnessOf {A B : Type 0} (c : Circuit A) (n : WitnessRows) (w : Wit
   pub inputs : w.inputs.items ≡ unlinked_variables w.shared.items n.inputs
 
 -- a text writes a certificate of the circuit
-abbrev pub WritesWitness : {A B : Type 0} → Circuit A → List ℕ → WitnessCircuit B → Type 0
+abbrev pub WritesWitness : Circuit → List ℕ → WitnessCircuit → Type 0
 WritesWitness c text w = (n : WitnessRows) × (witness_rows_of text ≡ Some n) × IsWitnessOf c n w

@@ -1,5 +1,6 @@
 -- Witnesses in HWMCC's form.
 use Rattle.std.specs.Prelude.{ℕ, ◌==◌, ◌&&◌, ◌||◌, Bool, false, not, List, [], ◌∷◌, ◌++◌, length, map, filter, codes, Option, Some, None, if◌then◌else◌}
+use Rattle.std.specs.declared.alloc.Global.{Global}
 use Rattle.std.specs.declared.vec.Vec.{Vec}
 use Rattle.std.specs.List.{list_all}
 use Rattle.std.specs.Str.{byte}
@@ -82,7 +83,7 @@ abbrev pub witness_of : ℕ → ℕ → List ℕ → Option Stimulus
 witness_of latches inputs text = stimulus_of latches inputs (said_lines text)
 
 -- some lists without where they lie in memory
-abbrev pub frames_view : {A : Type 0} → List (Vec Bool A) → List (List Bool)
+abbrev pub frames_view : List (Vec Bool Global) → List (List Bool)
 frames_view frames = map (λ frame. frame.items) frames
 
 -- a value in a text
@@ -95,6 +96,6 @@ bits_line [] = codes "\n"
 bits_line (bit ∷ bits) = bit_text bit ++ bits_line bits
 
 -- a line for each moment, and the line `.`
-abbrev pub frames_lines : {A : Type 0} → List (Vec Bool A) → List ℕ
+abbrev pub frames_lines : List (Vec Bool Global) → List ℕ
 frames_lines [] = codes ".\n"
 frames_lines (frame ∷ frames) = bits_line frame.items ++ frames_lines frames

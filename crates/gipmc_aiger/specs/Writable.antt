@@ -25,7 +25,7 @@ FitsGate m g = FitsVariable m g.output × FitsLiteral m g.left × FitsLiteral m 
 
 -- the forms have room for the circuit: its greatest variable is below 2^31, no row defines 0 or uses a greater one,
 -- there are no more rows than variables, and fewer than 2^31 bad literals and constraints
-pub record IsWritable {A : Type 0} (c : Circuit A) : Type 0 where
+pub record IsWritable (c : Circuit) : Type 0 where
   pub small : greatest_variable c < 2 ^ 31
   pub inputs : Every (FitsVariable (greatest_variable c)) c.inputs.items
   pub latches : Every (FitsLatch (greatest_variable c)) c.latches.items
@@ -38,7 +38,7 @@ pub record IsWritable {A : Type 0} (c : Circuit A) : Type 0 where
 
 -- the greatest variable is below 2^31, there are no more rows than that, and fewer than 2^31 bad literals and
 -- constraints
-abbrev pub has_room : {A : Type 0} → Circuit A → Bool
+abbrev pub has_room : Circuit → Bool
 has_room c =
     (nat_lt (greatest_variable c) (2 ^ 31)
     && nat_le (length c.inputs.items + length c.latches.items + length c.gates.items) (greatest_variable c))

@@ -17,7 +17,7 @@ use crate::tails::tail;
 use gipmc_circuits::well_formed::is_well_formed;
 use gipmc_circuits::{Circuit, Netlist};
 use gipsat_cnf::Literal;
-use std::alloc::{AllocError, Allocator};
+use std::alloc::{AllocError, Global};
 
 /// Reads a circuit in either form of AIGER 1.9. Where the text has neither bad literals nor justice properties, its outputs
 /// are taken for bad literals. Beside bad literals, justice properties and fairness constraints are read over;
@@ -30,7 +30,7 @@ use std::alloc::{AllocError, Allocator};
 /// - [`AigerError::Twice`], [`AigerError::Undefined`] or [`AigerError::Cycle`] with a variable where an `aag` text
 ///   writes no circuit.
 /// - [`AigerError::Memory`] where memory is refused.
-pub fn read_circuit<A: Allocator + Copy>(alloc: A, text: &[u8]) -> Result<Netlist<A>, AigerError>
+pub fn read_circuit(alloc: Global, text: &[u8]) -> Result<Netlist, AigerError>
     ensures ok { IfOk result (λ n. Writes text.now n.circuit) }
     ensures refused { (place : Place) (reason : Reason) → IsErrOf result (AigerError.Refused place reason) →
         circuit_of text.now ≡ None }
@@ -56,10 +56,7 @@ pub fn read_circuit<A: Allocator + Copy>(alloc: A, text: &[u8]) -> Result<Netlis
 /// # Errors
 /// As for [`read_circuit`]. A variable of a justice property or of a fairness constraint that is not defined is one that
 /// is used.
-pub fn read_liveness<A: Allocator + Copy>(
-    alloc: A,
-    text: &[u8],
-) -> Result<(Netlist<A>, Liveness<A>), AigerError>
+pub fn read_liveness(alloc: Global, text: &[u8]) -> Result<(Netlist, Liveness), AigerError>
     ensures ok { IfOk result (λ x. WritesLive text.now x.0.circuit x.1) }
     ensures defined { IfOk result (λ x. IsTrue (are_defined x.0.circuit x.1)) }
     ensures refused { (place : Place) (reason : Reason) → IsErrOf result (AigerError.Refused place reason) →
@@ -81,7 +78,7 @@ pub fn read_liveness<A: Allocator + Copy>(
 
 // The header and the rows of a circuit, whose justice properties stand beside bad literals alone.
 #[tactic(auto, unfolding(crate::specs::Circuits::circuit_of))]
-fn alone<A: Allocator + Copy>(alloc: A, text: &[u8]) -> Result<(Header, Circuit<A>), Stop>
+fn alone(alloc: Global, text: &[u8]) -> Result<(Header, Circuit), Stop>
     ensures { Gives (λ x. rows_of x.1) result (circuit_of text.now) }
 {
     let (header, circuit, liveness) = whole(alloc, text)?;
@@ -92,7 +89,7 @@ fn alone<A: Allocator + Copy>(alloc: A, text: &[u8]) -> Result<(Header, Circuit<
 }
 
 // Whether there are justice properties, and no bad literals.
-fn is_live_alone<A: Allocator + Copy>(circuit: &Circuit<A>, liveness: &Liveness<A>) -> bool
+fn is_live_alone(circuit: &Circuit, liveness: &Liveness) -> bool
     ensures { result ≡ is_live_alone (live_rows circuit.now liveness.now) }
 {
     !liveness.justice.is_empty() && circuit.bads.is_empty()
@@ -100,10 +97,7 @@ fn is_live_alone<A: Allocator + Copy>(circuit: &Circuit<A>, liveness: &Liveness<
 
 // The header and the rows.
 #[tactic(auto, unfolding(crate::specs::Circuits::live_rows_of))]
-fn whole<A: Allocator + Copy>(
-    alloc: A,
-    text: &[u8],
-) -> Result<(Header, Circuit<A>, Liveness<A>), Stop>
+fn whole(alloc: Global, text: &[u8]) -> Result<(Header, Circuit, Liveness), Stop>
     ensures { Gives (λ x. live_rows x.1 x.2) result (live_rows_of text.now) }
 {
     let (header, rest) = header(text)?;
@@ -113,11 +107,7 @@ fn whole<A: Allocator + Copy>(
 
 // The circuit that the rows behind a header write, its justice properties and its fairness constraints.
 #[tactic(auto, unfolding(crate::specs::Circuits::body_at))]
-fn body<A: Allocator + Copy>(
-    alloc: A,
-    header: &Header,
-    bytes: &[u8],
-) -> Result<(Circuit<A>, Liveness<A>), Stop>
+fn body(alloc: Global, header: &Header, bytes: &[u8]) -> Result<(Circuit, Liveness), Stop>
     ensures { Gives (λ x. live_rows x.0 x.1) result (body_at header.now bytes.now) }
 {
     let (inputs, rest) = rows(alloc, header, header.sizes.inputs, bytes)?;
@@ -140,11 +130,7 @@ fn body<A: Allocator + Copy>(
 }
 
 // The outputs, where a text has neither bad literals nor justice properties; else the bad literals.
-pub(crate) fn bads_of<A: Allocator>(
-    header: &Header,
-    outputs: Vec<Literal, A>,
-    bads: Vec<Literal, A>,
-) -> Vec<Literal, A>
+pub(crate) fn bads_of(header: &Header, outputs: Vec<Literal>, bads: Vec<Literal>) -> Vec<Literal>
     ensures { result.items ≡ bads_of header.now outputs.items bads.items }
 {
     if header.bads == 0 && header.justice == 0 {
@@ -154,11 +140,7 @@ pub(crate) fn bads_of<A: Allocator>(
 }
 
 // The circuit with its gates in order.
-fn ordered<A: Allocator + Copy>(
-    alloc: A,
-    form: Form,
-    mut circuit: Circuit<A>,
-) -> Result<Netlist<A>, AigerError>
+fn ordered(alloc: Global, form: Form, mut circuit: Circuit) -> Result<Netlist, AigerError>
     ensures ok { IfOk result (λ n. IsReordering (rows_of circuit) (rows_of n.circuit)) }
     ensures defect { IfErr result (IsErrorOf (rows_of circuit)) }
 {
@@ -176,12 +158,12 @@ fn ordered<A: Allocator + Copy>(
 
 // The same, if the literals of justice properties and fairness constraints are of its variables: they are tested as bad
 // literals are.
-fn ordered_with<A: Allocator + Copy>(
-    alloc: A,
+fn ordered_with(
+    alloc: Global,
     form: Form,
-    mut circuit: Circuit<A>,
-    liveness: &Liveness<A>,
-) -> Result<Netlist<A>, AigerError>
+    mut circuit: Circuit,
+    liveness: &Liveness,
+) -> Result<Netlist, AigerError>
     ensures ok { IfOk result (λ n. IsReordering (rows_of circuit) (rows_of n.circuit)) }
     ensures defined { IfOk result (λ n. IsTrue (are_defined n.circuit liveness.now)) }
     ensures defect { IfErr result (IsErrorOf (as_bads (live_rows circuit liveness.now))) }
@@ -199,11 +181,7 @@ fn ordered_with<A: Allocator + Copy>(
 }
 
 // The circuit with its gates in order, if it is well-formed.
-fn tested<A: Allocator + Copy>(
-    alloc: A,
-    form: Form,
-    mut circuit: Circuit<A>,
-) -> Result<Circuit<A>, AigerError>
+fn tested(alloc: Global, form: Form, mut circuit: Circuit) -> Result<Circuit, AigerError>
     ensures ok { IfOk result (λ c. IsReordering (rows_of circuit) (rows_of c)) }
     ensures formed { IfOk result (λ c. IsTrue (is_well_formed c)) }
     ensures defect { IfErr result (IsErrorOf (rows_of circuit)) }
@@ -221,11 +199,7 @@ fn tested<A: Allocator + Copy>(
 }
 
 // The circuit with so many of its bad literals. None where memory is refused.
-fn shortened<A: Allocator + Copy>(
-    alloc: A,
-    mut circuit: Circuit<A>,
-    count: usize,
-) -> Option<Netlist<A>>
+fn shortened(alloc: Global, mut circuit: Circuit, count: usize) -> Option<Netlist>
     ensures { IfSome result
         (λ n. rows_of n.circuit ≡ with_bads (rows_of circuit) (take count circuit.bads.items)) }
 {
@@ -238,10 +212,7 @@ fn shortened<A: Allocator + Copy>(
 }
 
 // Adds the literals of justice properties and the fairness constraints.
-fn push_literals<A: Allocator + Copy>(
-    literals: &mut Vec<Literal, A>,
-    liveness: &Liveness<A>,
-) -> Result<(), AllocError>
+fn push_literals(literals: &mut Vec<Literal>, liveness: &Liveness) -> Result<(), AllocError>
     ensures { OnOk result (literals.new.items ≡ literals.old.items
         ++ live_literals (justice_view liveness.now) liveness.now.fairness.items) }
 {
@@ -251,10 +222,7 @@ fn push_literals<A: Allocator + Copy>(
 }
 
 // Adds the literals of justice properties.
-fn push_justice<A: Allocator + Copy>(
-    literals: &mut Vec<Literal, A>,
-    justice: &[Vec<Literal, A>],
-) -> Result<(), AllocError>
+fn push_justice(literals: &mut Vec<Literal>, justice: &[Vec<Literal>]) -> Result<(), AllocError>
     ensures { OnOk result (literals.new.items ≡ literals.old.items
         ++ flattened (map (λ property. property.items) justice.now)) }
 {

@@ -14,17 +14,23 @@ use crate::witness::{
 };
 use gipmc_circuits::Trace;
 use giputils_text::split_once;
-use std::alloc::{Allocator, Global};
+use std::alloc::Global;
 
 /// What a witness claims: that its trace makes bad literals true at its last moment, or that it is a lasso of justice
 /// properties.
-#[derive(Drop)]
-pub struct Claim<A: Allocator = Global> {
+pub struct Claim {
     /// The places of these bad literals or justice properties among those of the circuit. A trace in abc's form names
     /// none.
-    pub properties: Vec<u32, A>,
+    pub properties: Vec<u32>,
     /// The trace.
-    pub trace: Trace<A>,
+    pub trace: Trace,
+}
+
+// One call in its owners' proofs, in place of one for each field.
+impl Drop for Claim {
+    fn drop(self) {
+        let Claim { properties, trace } = self;
+    }
 }
 
 /// Reads the witnesses of all answers of a text about bad literals, for a circuit of so many latches and inputs. Answers
@@ -37,12 +43,12 @@ pub struct Claim<A: Allocator = Global> {
 /// # Errors
 /// - [`AigerError::Refused`] with the line and the reason where the text has another form.
 /// - [`AigerError::Memory`] where memory is refused.
-pub fn read_claims<A: Allocator + Copy>(
-    alloc: A,
+pub fn read_claims(
+    alloc: Global,
     latches: usize,
     inputs: usize,
     text: &[u8],
-) -> Result<Vec<Claim<A>, A>, AigerError>
+) -> Result<Vec<Claim>, AigerError>
     ensures ok { IfOk result (λ claims. claims_of latches inputs text.now ≡ Some (claims_view claims.items)) }
     ensures refused { (place : Place) (reason : Reason) → IsErrOf result (AigerError.Refused place reason) →
         claims_of latches inputs text.now ≡ None }
@@ -61,12 +67,12 @@ pub fn read_claims<A: Allocator + Copy>(
 /// # Errors
 /// - [`AigerError::Refused`] with the line and the reason where the text has another form.
 /// - [`AigerError::Memory`] where memory is refused.
-pub fn read_lassos<A: Allocator + Copy>(
-    alloc: A,
+pub fn read_lassos(
+    alloc: Global,
     latches: usize,
     inputs: usize,
     text: &[u8],
-) -> Result<Vec<Claim<A>, A>, AigerError>
+) -> Result<Vec<Claim>, AigerError>
     ensures ok { IfOk result (λ claims. lassos_of latches inputs text.now ≡ Some (claims_view claims.items)) }
     ensures refused { (place : Place) (reason : Reason) → IsErrOf result (AigerError.Refused place reason) →
         lassos_of latches inputs text.now ≡ None }
@@ -79,12 +85,7 @@ pub fn read_lassos<A: Allocator + Copy>(
 }
 
 // The claims of a text.
-fn claims<A: Allocator + Copy>(
-    alloc: A,
-    latches: usize,
-    inputs: usize,
-    text: &[u8],
-) -> Result<Vec<Claim<A>, A>, Stop>
+fn claims(alloc: Global, latches: usize, inputs: usize, text: &[u8]) -> Result<Vec<Claim>, Stop>
     ensures { Gives (λ v. claims_view v.items) result (claims_of latches inputs text.now) }
 {
     if is_bare(text) {
@@ -115,12 +116,7 @@ fn is_last(line: &[u8]) -> bool
 }
 
 // The claim of a text in abc's form.
-fn bare_alone<A: Allocator + Copy>(
-    alloc: A,
-    latches: usize,
-    inputs: usize,
-    text: &[u8],
-) -> Result<Vec<Claim<A>, A>, Stop>
+fn bare_alone(alloc: Global, latches: usize, inputs: usize, text: &[u8]) -> Result<Vec<Claim>, Stop>
     ensures { Gives (λ v. claims_view v.items) result (bare_alone latches inputs (said_lines text.now)) }
 {
     let claim = bare(alloc, latches, inputs, text)?;
@@ -131,12 +127,7 @@ fn bare_alone<A: Allocator + Copy>(
 
 // The same alone.
 #[tactic(auto, unfolding(crate::specs::Claims::bare_of))]
-fn bare<A: Allocator + Copy>(
-    alloc: A,
-    latches: usize,
-    inputs: usize,
-    text: &[u8],
-) -> Result<Claim<A>, Stop>
+fn bare(alloc: Global, latches: usize, inputs: usize, text: &[u8]) -> Result<Claim, Stop>
     ensures { Gives claim_view result (bare_of latches inputs (said_lines text.now)) }
 {
     let (latches, rest) = bits(alloc, latches, text)?;
@@ -149,11 +140,7 @@ fn bare<A: Allocator + Copy>(
 }
 
 // The values at each moment, up to the last one.
-fn bare_frames<A: Allocator + Copy>(
-    alloc: A,
-    count: usize,
-    text: &[u8],
-) -> Result<Vec<Vec<bool, A>, A>, Stop>
+fn bare_frames(alloc: Global, count: usize, text: &[u8]) -> Result<Vec<Vec<bool>>, Stop>
     ensures { Gives (λ v. frames_view v.items) result (bare_frames_of count (said_lines text.now)) }
 {
     let mut frames = Vec::new(alloc);
@@ -180,14 +167,14 @@ fn before_mark(line: &[u8]) -> &[u8]
 }
 
 // The claims of the answers of a text about properties with this letter. Those with the other letter are read over.
-fn answered<A: Allocator + Copy>(
-    alloc: A,
+fn answered(
+    alloc: Global,
     letter: u8,
     other: u8,
     latches: usize,
     inputs: usize,
     text: &[u8],
-) -> Result<Vec<Claim<A>, A>, Stop>
+) -> Result<Vec<Claim>, Stop>
     ensures { Gives (λ v. claims_view v.items) result
         (claims_from letter other latches inputs false (said_lines text.now)) }
 {
@@ -228,13 +215,13 @@ fn begins_with(letter: u8, text: &[u8]) -> bool
 
 // The claim at the front of a text.
 #[tactic(auto, unfolding(crate::specs::Claims::claim_of))]
-fn claim_at<A: Allocator + Copy>(
-    alloc: A,
+fn claim_at(
+    alloc: Global,
     letter: u8,
     latches: usize,
     inputs: usize,
     text: &[u8],
-) -> Result<Claim<A>, Stop>
+) -> Result<Claim, Stop>
     ensures { Gives claim_view result (claim_of letter latches inputs (said_lines text.now)) }
 {
     let rest = status(text)?;
@@ -271,11 +258,7 @@ fn behind(text: &[u8]) -> &[u8]
 }
 
 // The properties that a line names behind this letter, and the text behind it.
-fn properties<A: Allocator + Copy>(
-    alloc: A,
-    letter: u8,
-    text: &[u8],
-) -> Result<(Vec<u32, A>, &[u8]), Stop>
+fn properties(alloc: Global, letter: u8, text: &[u8]) -> Result<(Vec<u32>, &[u8]), Stop>
     ensures { Gives (λ x. (x.0.items, said_lines x.1.now)) result (properties_at letter (said_lines text.now)) }
 {
     let Some((line, rest)) = said_line(text) else {
@@ -289,11 +272,7 @@ fn properties<A: Allocator + Copy>(
 }
 
 // The properties that a line names behind this letter.
-fn properties_of<A: Allocator + Copy>(
-    alloc: A,
-    letter: u8,
-    line: &[u8],
-) -> Result<Vec<u32, A>, Stop>
+fn properties_of(alloc: Global, letter: u8, line: &[u8]) -> Result<Vec<u32>, Stop>
     ensures { Gives (λ v. v.items) result (properties_of letter line.now) }
 {
     let (front, words) = split_once(line, letter);
@@ -307,7 +286,7 @@ fn properties_of<A: Allocator + Copy>(
 }
 
 // The places between these letters of a text.
-fn places<A: Allocator + Copy>(alloc: A, letter: u8, text: &[u8]) -> Result<Vec<u32, A>, Stop>
+fn places(alloc: Global, letter: u8, text: &[u8]) -> Result<Vec<u32>, Stop>
     ensures { Gives (λ v. v.items) result (places_of (pieces letter text.now)) }
 {
     let mut places = Vec::new(alloc);

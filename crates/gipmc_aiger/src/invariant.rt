@@ -16,7 +16,7 @@ use gipmc_circuits::{Circuit, Latch};
 use gipsat_cnf::Literal;
 use gipsat_dimacs::write_clause;
 use giputils_text::{number, split_line, split_once};
-use std::alloc::{AllocError, Allocator};
+use std::alloc::{AllocError, Global};
 use std::io::Write;
 
 /// Reads the clauses of an invariant of a circuit with so many latches. A literal's variable is the place of its latch.
@@ -24,11 +24,11 @@ use std::io::Write;
 /// # Errors
 /// - [`AigerError::Refused`] with the line and the reason where the text has another form.
 /// - [`AigerError::Memory`] where memory is refused.
-pub fn read_invariant<A: Allocator + Copy>(
-    alloc: A,
+pub fn read_invariant(
+    alloc: Global,
     latches: usize,
     text: &[u8],
-) -> Result<Vec<Vec<Literal, A>, A>, AigerError>
+) -> Result<Vec<Vec<Literal>>, AigerError>
     ensures ok { IfOk result (λ clauses. invariant_of latches text.now ≡ Some (clauses_view clauses.items)) }
     ensures refused { (place : Place) (reason : Reason) → IsErrOf result (AigerError.Refused place reason) →
         invariant_of latches text.now ≡ None }
@@ -45,11 +45,11 @@ pub fn read_invariant<A: Allocator + Copy>(
 /// # Errors
 /// - [`AigerError::Refused`] with the line and the reason where the text has another form.
 /// - [`AigerError::Memory`] where memory is refused, or the variable of a latch is 2^31 or more.
-pub fn read_invariant_for<A: Allocator + Copy>(
-    alloc: A,
-    circuit: &Circuit<A>,
+pub fn read_invariant_for(
+    alloc: Global,
+    circuit: &Circuit,
     text: &[u8],
-) -> Result<Vec<Vec<Literal, A>, A>, AigerError>
+) -> Result<Vec<Vec<Literal>>, AigerError>
     ensures ok { IfOk result (λ clauses. invariant_for circuit.now text.now ≡ Some (clauses_view clauses.items)) }
     ensures refused { (place : Place) (reason : Reason) → IsErrOf result (AigerError.Refused place reason) →
         invariant_for circuit.now text.now ≡ None }
@@ -63,11 +63,11 @@ pub fn read_invariant_for<A: Allocator + Copy>(
 }
 
 // Clauses over places of latches, over their variables.
-fn over_variables<A: Allocator + Copy>(
-    alloc: A,
+fn over_variables(
+    alloc: Global,
     latches: &[Latch],
-    clauses: &[Vec<Literal, A>],
-) -> Result<Vec<Vec<Literal, A>, A>, AllocError>
+    clauses: &[Vec<Literal>],
+) -> Result<Vec<Vec<Literal>>, AllocError>
     ensures { IfOk result (λ moved. clauses_view moved.items
         ≡ map (map (over_variables (map (λ l. l.variable) latches.now))) (clauses_view clauses.now)) }
 {
@@ -80,11 +80,11 @@ fn over_variables<A: Allocator + Copy>(
 }
 
 // A clause over places of latches, over their variables.
-fn clause_over_variables<A: Allocator + Copy>(
-    alloc: A,
+fn clause_over_variables(
+    alloc: Global,
     latches: &[Latch],
     clause: &[Literal],
-) -> Result<Vec<Literal, A>, AllocError>
+) -> Result<Vec<Literal>, AllocError>
     ensures { IfOk result (λ moved. moved.items
         ≡ map (over_variables (map (λ l. l.variable) latches.now)) clause.now) }
 {
@@ -118,11 +118,7 @@ fn variable_at(latches: &[Latch], place: usize) -> u32
 
 // The clauses of an invariant.
 #[tactic(auto, unfolding(crate::specs::Invariants::invariant_in))]
-fn invariant<A: Allocator + Copy>(
-    alloc: A,
-    latches: usize,
-    text: &[u8],
-) -> Result<Vec<Vec<Literal, A>, A>, Stop>
+fn invariant(alloc: Global, latches: usize, text: &[u8]) -> Result<Vec<Vec<Literal>>, Stop>
     ensures { Gives (λ v. clauses_view v.items) result (invariant_in latches (uncommented_lines text.now)) }
 {
     let (count, rest) = clause_count(latches, text)?;
@@ -188,11 +184,7 @@ fn header_with(p: &[u8], cnf: &[u8], latches: &[u8], clauses: &[u8]) -> Option<(
 }
 
 // The clauses that the lines of a text write.
-fn clauses<A: Allocator + Copy>(
-    alloc: A,
-    latches: usize,
-    text: &[u8],
-) -> Result<Vec<Vec<Literal, A>, A>, Stop>
+fn clauses(alloc: Global, latches: usize, text: &[u8]) -> Result<Vec<Vec<Literal>>, Stop>
     ensures { Gives (λ v. clauses_view v.items) result (clauses_in latches (uncommented_lines text.now)) }
 {
     let mut clauses = Vec::new(alloc);
@@ -232,12 +224,7 @@ fn is_comment(line: &[u8]) -> bool
 }
 
 // The clause that a line writes.
-fn clause<A: Allocator + Copy>(
-    alloc: A,
-    latches: usize,
-    line: &[u8],
-    left: usize,
-) -> Result<Vec<Literal, A>, Stop>
+fn clause(alloc: Global, latches: usize, line: &[u8], left: usize) -> Result<Vec<Literal>, Stop>
     ensures { Gives (λ v. v.items) result (clause_in latches (pieces space line.now)) }
 {
     let mut clause = Vec::new(alloc);
@@ -302,11 +289,11 @@ const GREATEST_NUMBER: u32 = 2_147_483_647;
 ///
 /// # Errors
 /// `AllocError` where memory is refused.
-pub fn write_invariant<A: Allocator + Copy>(
-    alloc: A,
+pub fn write_invariant(
+    alloc: Global,
     latches: usize,
-    clauses: &[Vec<Literal, A>],
-) -> Result<Vec<u8, A>, AllocError>
+    clauses: &[Vec<Literal>],
+) -> Result<Vec<u8>, AllocError>
     ensures { IfOk result (λ text. text.items ≡ invariant_text latches clauses.now) }
 {
     let mut text = Vec::new(alloc);
@@ -320,17 +307,14 @@ pub fn write_invariant<A: Allocator + Copy>(
 }
 
 // Writes a number.
-fn write_number<A: Allocator>(text: &mut Vec<u8, A>, number: u64) -> Result<(), AllocError>
+fn write_number(text: &mut Vec<u8>, number: u64) -> Result<(), AllocError>
     ensures { OnOk result (text.new.items ≡ text.old.items ++ decimal number) }
 {
     write!(text, "{number}").map_err(|_| AllocError)
 }
 
 // Writes a line for each clause.
-fn write_clauses<A: Allocator + Copy>(
-    text: &mut Vec<u8, A>,
-    clauses: &[Vec<Literal, A>],
-) -> Result<(), AllocError>
+fn write_clauses(text: &mut Vec<u8>, clauses: &[Vec<Literal>]) -> Result<(), AllocError>
     ensures { OnOk result (text.new.items ≡ text.old.items ++ clause_lines clauses.now) }
 {
     for clause in clauses {

@@ -12,18 +12,18 @@ use crate::writer::{
 };
 use gipmc_circuits::Circuit;
 use gipsat_cnf::Literal;
-use std::alloc::{AllocError, Allocator};
+use std::alloc::{AllocError, Global};
 
 /// Writes a circuit with its justice properties and fairness constraints in the ascii form, as
 /// [`write_aag`](crate::write_aag) writes a circuit.
 ///
 /// # Errors
 /// `AllocError` where memory is refused.
-pub fn write_live_aag<A: Allocator + Copy>(
-    alloc: A,
-    circuit: &Circuit<A>,
-    liveness: &Liveness<A>,
-) -> Result<Vec<u8, A>, AllocError>
+pub fn write_live_aag(
+    alloc: Global,
+    circuit: &Circuit,
+    liveness: &Liveness,
+) -> Result<Vec<u8>, AllocError>
     ensures { IfOk result (λ text. text.items ≡ live_aag_text circuit.now liveness.now) }
 {
     let justice = liveness.justice.len() as u64;
@@ -44,11 +44,11 @@ pub fn write_live_aag<A: Allocator + Copy>(
 ///
 /// # Errors
 /// As for [`write_aig`](crate::write_aig).
-pub fn write_live_aig<A: Allocator + Copy>(
-    alloc: A,
-    circuit: &Circuit<A>,
-    liveness: &Liveness<A>,
-) -> Result<Vec<u8, A>, WriteError>
+pub fn write_live_aig(
+    alloc: Global,
+    circuit: &Circuit,
+    liveness: &Liveness,
+) -> Result<Vec<u8>, WriteError>
     ensures text { IfOk result (λ text. text.items ≡ live_aig_text circuit.now liveness.now) }
     ensures numbered { IfOk result (λ text. IsTrue (is_numbered circuit.now)) }
     ensures ordered { IfOk result (λ text. IsTrue (are_above circuit.now.gates.items)) }
@@ -70,11 +70,7 @@ pub fn write_live_aig<A: Allocator + Copy>(
 }
 
 // The text in the binary form.
-fn packed<A: Allocator + Copy>(
-    alloc: A,
-    circuit: &Circuit<A>,
-    liveness: &Liveness<A>,
-) -> Result<Vec<u8, A>, AllocError>
+fn packed(alloc: Global, circuit: &Circuit, liveness: &Liveness) -> Result<Vec<u8>, AllocError>
     ensures { IfOk result (λ text. text.items ≡ live_aig_text circuit.now liveness.now) }
 {
     let justice = liveness.justice.len() as u64;
@@ -89,13 +85,13 @@ fn packed<A: Allocator + Copy>(
 }
 
 // The header, with so many justice properties and fairness constraints.
-fn live_header_line<A: Allocator + Copy>(
-    alloc: A,
+fn live_header_line(
+    alloc: Global,
     maximum: u32,
-    circuit: &Circuit<A>,
+    circuit: &Circuit,
     justice: u64,
     fairness: u64,
-) -> Result<Vec<u8, A>, AllocError>
+) -> Result<Vec<u8>, AllocError>
     ensures { IfOk result (λ text. text.items ≡ live_header_line maximum circuit.now justice fairness) }
 {
     let mut text = Vec::new(alloc);
@@ -113,12 +109,12 @@ fn live_header_line<A: Allocator + Copy>(
 }
 
 // The header of the binary form, with so many justice properties and fairness constraints.
-fn live_packed_header_line<A: Allocator + Copy>(
-    alloc: A,
-    circuit: &Circuit<A>,
+fn live_packed_header_line(
+    alloc: Global,
+    circuit: &Circuit,
     justice: u64,
     fairness: u64,
-) -> Result<Vec<u8, A>, AllocError>
+) -> Result<Vec<u8>, AllocError>
     ensures { IfOk result (λ text. text.items ≡ live_packed_header_line circuit.now justice fairness) }
 {
     let inputs = circuit.inputs.len() as u64;
@@ -140,10 +136,7 @@ fn live_packed_header_line<A: Allocator + Copy>(
 
 // Writes the lines of justice properties and fairness constraints.
 #[tactic(auto, using(std::proofs::Common::append_assoc))]
-fn write_liveness<A: Allocator + Copy>(
-    text: &mut Vec<u8, A>,
-    liveness: &Liveness<A>,
-) -> Result<(), AllocError>
+fn write_liveness(text: &mut Vec<u8>, liveness: &Liveness) -> Result<(), AllocError>
     ensures { OnOk result (text.new.items ≡ text.old.items
         ++ liveness_lines (justice_view liveness.now) liveness.now.fairness.items) }
 {
@@ -154,10 +147,7 @@ fn write_liveness<A: Allocator + Copy>(
 }
 
 // Writes how many literals each justice property has, in a line each.
-fn write_sizes<A: Allocator + Copy>(
-    text: &mut Vec<u8, A>,
-    justice: &[Vec<Literal, A>],
-) -> Result<(), AllocError>
+fn write_sizes(text: &mut Vec<u8>, justice: &[Vec<Literal>]) -> Result<(), AllocError>
     ensures { OnOk result (text.new.items ≡ text.old.items
         ++ size_lines (map (λ property. property.items) justice.now)) }
 {
@@ -168,10 +158,7 @@ fn write_sizes<A: Allocator + Copy>(
 }
 
 // Writes a line for each literal of justice properties.
-fn write_justice<A: Allocator + Copy>(
-    text: &mut Vec<u8, A>,
-    justice: &[Vec<Literal, A>],
-) -> Result<(), AllocError>
+fn write_justice(text: &mut Vec<u8>, justice: &[Vec<Literal>]) -> Result<(), AllocError>
     ensures { OnOk result (text.new.items ≡ text.old.items
         ++ justice_lines (map (λ property. property.items) justice.now)) }
 {

@@ -9,7 +9,7 @@ ghost use Rattle.gipmc_aiger.specs.Defects.{operands, used_literals, visit_at};
 use crate::error::Defect;
 use gipmc_circuits::{And, Circuit, Latch, is_well_formed};
 use gipsat_cnf::Literal;
-use std::alloc::{AllocError, Allocator};
+use std::alloc::{AllocError, Global};
 
 // What defines a variable.
 #[derive(Clone, Copy)]
@@ -32,7 +32,7 @@ pub(crate) enum Visit {
 }
 
 // Puts the gates of a circuit in order, if they are not. Only then it takes the memory of the search for one.
-pub(crate) fn order<A: Allocator + Copy>(alloc: A, circuit: &mut Circuit<A>) -> Result<(), Defect>
+pub(crate) fn order(alloc: Global, circuit: &mut Circuit) -> Result<(), Defect>
     ensures ok { OnOk result (IsReordering (rows_of circuit.old) (rows_of circuit.new)) }
     ensures defect { IfErr result (IsDefectOf (rows_of circuit.old)) }
 {
@@ -43,7 +43,7 @@ pub(crate) fn order<A: Allocator + Copy>(alloc: A, circuit: &mut Circuit<A>) -> 
 }
 
 // The same, by a search.
-fn sort<A: Allocator + Copy>(alloc: A, circuit: &mut Circuit<A>) -> Result<(), Defect>
+fn sort(alloc: Global, circuit: &mut Circuit) -> Result<(), Defect>
     ensures ok { OnOk result (IsReordering (rows_of circuit.old) (rows_of circuit.new)) }
     ensures defect { IfErr result (IsDefectOf (rows_of circuit.old)) }
 {
@@ -78,10 +78,7 @@ fn definition_of(definitions: &[Option<Definition>], variable: u32) -> Option<De
 }
 
 // What defines each variable.
-fn definitions<A: Allocator + Copy>(
-    alloc: A,
-    circuit: &Circuit<A>,
-) -> Result<Vec<Option<Definition>, A>, Defect>
+fn definitions(alloc: Global, circuit: &Circuit) -> Result<Vec<Option<Definition>>, Defect>
     ensures ok { IfOk result (λ definitions. defined_in definitions.items ≡ defines (rows_of circuit.now)) }
     ensures defect { IfErr result (IsTwiceIn (defined_variables (rows_of circuit.now)) is_constant) }
 {
@@ -94,10 +91,7 @@ fn definitions<A: Allocator + Copy>(
 }
 
 // Notes that inputs define their variables, which nothing else may define.
-fn define_inputs<A: Allocator>(
-    definitions: &mut Vec<Option<Definition>, A>,
-    inputs: &[u32],
-) -> Result<(), Defect>
+fn define_inputs(definitions: &mut Vec<Option<Definition>>, inputs: &[u32]) -> Result<(), Defect>
     ensures ok { OnOk result
         (defined_in definitions.new.items ≡ with_variables inputs.now (defined_in definitions.old.items)) }
     ensures defect { IfErr result (IsTwiceIn inputs.now (defined_in definitions.old.items)) }
@@ -109,8 +103,8 @@ fn define_inputs<A: Allocator>(
 }
 
 // Notes that latches define their variables, which nothing else may define.
-fn define_latches<A: Allocator>(
-    definitions: &mut Vec<Option<Definition>, A>,
+fn define_latches(
+    definitions: &mut Vec<Option<Definition>>,
     latches: &[Latch],
 ) -> Result<(), Defect>
     ensures ok { OnOk result (defined_in definitions.new.items
@@ -125,10 +119,7 @@ fn define_latches<A: Allocator>(
 }
 
 // Notes that gates define their outputs, which nothing else may define.
-fn define_gates<A: Allocator>(
-    definitions: &mut Vec<Option<Definition>, A>,
-    gates: &[And],
-) -> Result<(), Defect>
+fn define_gates(definitions: &mut Vec<Option<Definition>>, gates: &[And]) -> Result<(), Defect>
     ensures ok { OnOk result (defined_in definitions.new.items
         ≡ with_variables (map (λ g. g.output) gates.now) (defined_in definitions.old.items)) }
     ensures defect { IfErr result
@@ -141,8 +132,8 @@ fn define_gates<A: Allocator>(
 }
 
 // Notes what defines a variable, which nothing else may define.
-fn define<A: Allocator>(
-    definitions: &mut Vec<Option<Definition>, A>,
+fn define(
+    definitions: &mut Vec<Option<Definition>>,
     variable: u32,
     by: Definition,
 ) -> Result<(), Defect>
@@ -159,10 +150,7 @@ fn define<A: Allocator>(
 }
 
 // Lets the table have at least so many places. Nothing more is defined then.
-fn grow<A: Allocator>(
-    definitions: &mut Vec<Option<Definition>, A>,
-    len: usize,
-) -> Result<(), AllocError>
+fn grow(definitions: &mut Vec<Option<Definition>>, len: usize) -> Result<(), AllocError>
     ensures same { OnOk result (defined_in definitions.new.items ≡ defined_in definitions.old.items) }
     ensures long { OnOk result (len ≤ length definitions.new.items) }
 {
@@ -173,10 +161,7 @@ fn grow<A: Allocator>(
 }
 
 // Tests that each variable that is used is defined.
-fn are_defined<A: Allocator>(
-    definitions: &[Option<Definition>],
-    circuit: &Circuit<A>,
-) -> Result<(), Defect>
+fn are_defined(definitions: &[Option<Definition>], circuit: &Circuit) -> Result<(), Defect>
     ensures { IfErr result (IsUndefinedIn (used_literals (rows_of circuit.now)) (defined_in definitions.now)) }
 {
     are_next_defined(definitions, &circuit.latches)?;
@@ -231,11 +216,11 @@ fn is_defined(definitions: &[Option<Definition>], l: Literal) -> Result<(), Defe
 }
 
 // The place of each gate in an order, by a search in depth.
-fn visits<A: Allocator + Copy>(
-    alloc: A,
+fn visits(
+    alloc: Global,
     definitions: &[Option<Definition>],
     gates: &[And],
-) -> Result<Vec<Visit, A>, Defect>
+) -> Result<Vec<Visit>, Defect>
     ensures { IfErr result (IsCycleIn gates.now) }
 {
     let mut visits = vec![in alloc; Visit::New; gates.len()]?;
@@ -249,11 +234,11 @@ fn visits<A: Allocator + Copy>(
 }
 
 // Visits what waits, and what that depends on. Nothing waits then. How many gates have a place in the order.
-fn visit_all<A: Allocator>(
+fn visit_all(
     definitions: &[Option<Definition>],
     gates: &[And],
     visits: &mut [Visit],
-    waiting: &mut Vec<usize, A>,
+    waiting: &mut Vec<usize>,
     done: usize,
 ) -> Result<usize, Defect>
     requires { IsStack gates.now visits.old waiting.old.items }
@@ -273,11 +258,11 @@ fn visit_all<A: Allocator>(
 }
 
 // Opens the gate that has waited last, or closes it. How many gates have a place in the order then.
-fn step<A: Allocator>(
+fn step(
     definitions: &[Option<Definition>],
     gates: &[And],
     visits: &mut [Visit],
-    waiting: &mut Vec<usize, A>,
+    waiting: &mut Vec<usize>,
     place: usize,
     done: usize,
 ) -> Result<usize, Defect>
@@ -318,11 +303,11 @@ fn note(visits: &mut [Visit], place: usize, visit: Visit)
 }
 
 // Opens a gate. What it depends on then waits behind it, as far as it is new.
-fn open<A: Allocator>(
+fn open(
     definitions: &[Option<Definition>],
     gates: &[And],
     visits: &mut [Visit],
-    waiting: &mut Vec<usize, A>,
+    waiting: &mut Vec<usize>,
     place: usize,
 ) -> Result<(), Defect>
     requires { IsStack gates.now visits.old (waiting.old.items ++ place ∷ []) }
@@ -347,12 +332,12 @@ fn gate_at(gates: &[And], place: usize) -> Option<And>
 }
 
 // Lets the gate of a literal wait, if there is one that is new.
-fn wait<A: Allocator>(
+fn wait(
     definitions: &[Option<Definition>],
     gates: &[And],
     visits: &[Visit],
     l: Literal,
-    waiting: &mut Vec<usize, A>,
+    waiting: &mut Vec<usize>,
 ) -> Result<(), Defect>
     ensures ok { OnOk result (AddsGateOf gates.now l.variable waiting.old.items waiting.new.items) }
     ensures defect { IfErr result (MeetsOpen gates.now visits.now l.variable) }

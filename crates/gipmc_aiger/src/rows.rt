@@ -11,7 +11,7 @@ use crate::headers::GREATEST_COUNT;
 use crate::numbers::{NEWLINE, SPACE, delta, expected, number, optional};
 use gipmc_circuits::{And, Latch, Register};
 use gipsat_cnf::Literal;
-use std::alloc::Allocator;
+use std::alloc::Global;
 
 // What a row says.
 pub(crate) trait Row: Sized + Drop {
@@ -24,12 +24,12 @@ pub(crate) trait Row: Sized + Drop {
 }
 
 // So many rows, and the bytes behind them.
-pub(crate) fn rows<'a, T: Row, A: Allocator>(
-    alloc: A,
+pub(crate) fn rows<'a, T: Row>(
+    alloc: Global,
     header: &Header,
     count: u32,
     bytes: &'a [u8],
-) -> Result<(Vec<T, A>, &'a [u8]), Stop>
+) -> Result<(Vec<T>, &'a [u8]), Stop>
     ensures { Gives (λ x. (x.0.items, x.1.now)) result (rows_at (T.says header.now) 0 count bytes.now) }
 {
     let mut rows = Vec::new(alloc);

@@ -13,20 +13,20 @@ use crate::tails::{GREATEST_PLACE, begins_comment};
 use gipmc_circuits::{Circuit, Link, Register};
 use gipsat_cnf::Literal;
 use giputils_text::split_line;
-use std::alloc::{AllocError, Allocator};
+use std::alloc::{AllocError, Global};
 
 /// The inputs and latches that symbols name `= n`, each with the literal of number n. Where there is no such symbol,
 /// inputs and latches with those of the circuit that stand at the same places.
 ///
 /// # Errors
 /// `AllocError` where memory is refused, or where a variable of the circuit is 2^31 or more.
-pub(crate) fn shared<A: Allocator + Copy>(
-    alloc: A,
-    circuit: &Circuit<A>,
+pub(crate) fn shared(
+    alloc: Global,
+    circuit: &Circuit,
     inputs: &[u32],
     registers: &[Register],
     symbols: &[u8],
-) -> Result<Vec<Link, A>, AllocError>
+) -> Result<Vec<Link>, AllocError>
     ensures { IfOk result
         (λ links. links.items ≡ shared_with circuit.now inputs.now registers.now symbols.now) }
 {
@@ -39,22 +39,19 @@ pub(crate) fn shared<A: Allocator + Copy>(
 }
 
 // The variables of the latches.
-fn register_variables<A: Allocator + Copy>(
-    alloc: A,
-    registers: &[Register],
-) -> Result<Vec<u32, A>, AllocError>
+fn register_variables(alloc: Global, registers: &[Register]) -> Result<Vec<u32>, AllocError>
     ensures { IfOk result (λ all. all.items ≡ map (λ r. r.variable) registers.now) }
 {
     registers.iter().map(|r| r.variable).collect(alloc)
 }
 
 // The inputs and latches that symbols name `= n`.
-fn by_names<A: Allocator + Copy>(
-    alloc: A,
+fn by_names(
+    alloc: Global,
     inputs: &[u32],
     latches: &[u32],
     symbols: &[u8],
-) -> Result<Vec<Link, A>, AllocError>
+) -> Result<Vec<Link>, AllocError>
     ensures { IfOk result
         (λ links. links.items ≡ links_in inputs.now latches.now (text_lines symbols.now)) }
 {
@@ -71,8 +68,8 @@ fn by_names<A: Allocator + Copy>(
 }
 
 // Adds the link that a line states, if it states one.
-fn push_named<A: Allocator>(
-    links: &mut Vec<Link, A>,
+fn push_named(
+    links: &mut Vec<Link>,
     inputs: &[u32],
     latches: &[u32],
     line: &[u8],
@@ -149,12 +146,12 @@ fn item_at(variables: &[u32], place: u32) -> Result<u32, Stop>
 }
 
 // Inputs and latches with those of the circuit at the same places.
-fn in_order<A: Allocator + Copy>(
-    alloc: A,
-    circuit: &Circuit<A>,
+fn in_order(
+    alloc: Global,
+    circuit: &Circuit,
     inputs: &[u32],
     latches: &[u32],
-) -> Result<Vec<Link, A>, AllocError>
+) -> Result<Vec<Link>, AllocError>
     ensures { IfOk result (λ links. links.items
         ≡ links_by_place inputs.now circuit.now.inputs.items
         ++ links_by_place latches.now (latch_variables circuit.now)) }
@@ -167,21 +164,14 @@ fn in_order<A: Allocator + Copy>(
 }
 
 // The variables of the latches of a circuit.
-fn latch_variables<A: Allocator + Copy>(
-    alloc: A,
-    circuit: &Circuit<A>,
-) -> Result<Vec<u32, A>, AllocError>
+fn latch_variables(alloc: Global, circuit: &Circuit) -> Result<Vec<u32>, AllocError>
     ensures { IfOk result (λ all. all.items ≡ latch_variables circuit.now) }
 {
     circuit.latches.iter().map(|l| l.variable).collect(alloc)
 }
 
 // Adds links of variables with those at the same places of another list.
-fn push_by_place<A: Allocator>(
-    links: &mut Vec<Link, A>,
-    own: &[u32],
-    others: &[u32],
-) -> Result<(), AllocError>
+fn push_by_place(links: &mut Vec<Link>, own: &[u32], others: &[u32]) -> Result<(), AllocError>
     ensures { OnOk result (links.new.items ≡ links.old.items ++ links_by_place own.now others.now) }
 {
     for place in 0..own.len().min(others.len()) {
@@ -191,11 +181,7 @@ fn push_by_place<A: Allocator>(
 }
 
 // Adds a link of a variable with another one, if a literal has room for that.
-fn push_link<A: Allocator>(
-    links: &mut Vec<Link, A>,
-    variable: u32,
-    other: u32,
-) -> Result<(), AllocError>
+fn push_link(links: &mut Vec<Link>, variable: u32, other: u32) -> Result<(), AllocError>
     ensures { OnOk result (links.new.items ≡ links.old.items ++ linked (variable, other) ∷ []) }
 {
     if other >= 1 << 31 {

@@ -10,16 +10,16 @@ use crate::numbers::{expected, number};
 use crate::place::error_at;
 use gipmc_circuits::Trace;
 use giputils_text::split_line;
-use std::alloc::{AllocError, Allocator, Global};
+use std::alloc::{AllocError, Global};
 use std::io::Write;
 
 /// A trace, and the bad literal that it is to make true at its last moment.
 #[derive(Drop)]
-pub struct Witness<A: Allocator = Global> {
+pub struct Witness {
     /// The place of the bad literal among those of the circuit.
     pub property: u32,
     /// The trace.
-    pub trace: Trace<A>,
+    pub trace: Trace,
 }
 
 /// Reads the first witness of a text, for a circuit of so many latches and inputs. An `x` is read as 0. Lines that
@@ -28,12 +28,12 @@ pub struct Witness<A: Allocator = Global> {
 /// # Errors
 /// - [`AigerError::Refused`] with the line and the reason where the text has another form.
 /// - [`AigerError::Memory`] where memory is refused.
-pub fn read_witness<A: Allocator + Copy>(
-    alloc: A,
+pub fn read_witness(
+    alloc: Global,
     latches: usize,
     inputs: usize,
     text: &[u8],
-) -> Result<Witness<A>, AigerError>
+) -> Result<Witness, AigerError>
     ensures ok { IfOk result (λ w. witness_of latches inputs text.now ≡ Some (witness_view w)) }
     ensures refused { (place : Place) (reason : Reason) → IsErrOf result (AigerError.Refused place reason) →
         witness_of latches inputs text.now ≡ None }
@@ -47,12 +47,7 @@ pub fn read_witness<A: Allocator + Copy>(
 
 // The first witness of a text.
 #[tactic(auto, unfolding(crate::specs::Witnesses::stimulus_of))]
-fn stimulus<A: Allocator + Copy>(
-    alloc: A,
-    latches: usize,
-    inputs: usize,
-    text: &[u8],
-) -> Result<Witness<A>, Stop>
+fn stimulus(alloc: Global, latches: usize, inputs: usize, text: &[u8]) -> Result<Witness, Stop>
     ensures { Gives witness_view result (stimulus_of latches inputs (said_lines text.now)) }
 {
     let rest = status(text)?;
@@ -116,11 +111,7 @@ fn property_of(line: &[u8]) -> Result<u32, Stop>
 pub(crate) const GREATEST_PROPERTY: u32 = 2_147_483_647;
 
 // So many values in a line, and the text behind it.
-pub(crate) fn bits<A: Allocator + Copy>(
-    alloc: A,
-    count: usize,
-    text: &[u8],
-) -> Result<(Vec<bool, A>, &[u8]), Stop>
+pub(crate) fn bits(alloc: Global, count: usize, text: &[u8]) -> Result<(Vec<bool>, &[u8]), Stop>
     ensures { Gives (λ x. (x.0.items, said_lines x.1.now)) result (bits_at count (said_lines text.now)) }
 {
     let Some((line, rest)) = said_line(text) else {
@@ -131,12 +122,12 @@ pub(crate) fn bits<A: Allocator + Copy>(
 }
 
 // The values in a line.
-pub(crate) fn bits_in<A: Allocator + Copy>(
-    alloc: A,
+pub(crate) fn bits_in(
+    alloc: Global,
     count: usize,
     line: &[u8],
     left: usize,
-) -> Result<Vec<bool, A>, Stop>
+) -> Result<Vec<bool>, Stop>
     ensures { Gives (λ v. v.items) result (bits_of count line.now) }
 {
     if line.len() != count {
@@ -163,18 +154,14 @@ fn is_bit(byte: u8) -> bool
 }
 
 // The values that some bytes write.
-fn values<A: Allocator + Copy>(alloc: A, line: &[u8]) -> Result<Vec<bool, A>, AllocError>
+fn values(alloc: Global, line: &[u8]) -> Result<Vec<bool>, AllocError>
     ensures { IfOk result (λ v. v.items ≡ map (λ b. b == 49) line.now) }
 {
     line.iter().map(|byte| *byte == b'1').collect(alloc)
 }
 
 // The values at each moment, up to the line `.`.
-pub(crate) fn frames<A: Allocator + Copy>(
-    alloc: A,
-    count: usize,
-    text: &[u8],
-) -> Result<Vec<Vec<bool, A>, A>, Stop>
+pub(crate) fn frames(alloc: Global, count: usize, text: &[u8]) -> Result<Vec<Vec<bool>>, Stop>
     ensures { Gives (λ v. frames_view v.items) result (frames_of count (said_lines text.now)) }
 {
     let mut frames = Vec::new(alloc);
@@ -235,11 +222,7 @@ pub(crate) fn left_at(line: &[u8], after: &[u8]) -> usize {
 ///
 /// # Errors
 /// `AllocError` where memory is refused.
-pub fn write_witness<A: Allocator + Copy>(
-    alloc: A,
-    property: u32,
-    trace: &Trace<A>,
-) -> Result<Vec<u8, A>, AllocError>
+pub fn write_witness(alloc: Global, property: u32, trace: &Trace) -> Result<Vec<u8>, AllocError>
     ensures { IfOk result (λ text. text.items ≡ witness_text property trace.now) }
 {
     let mut text = Vec::new(alloc);
@@ -252,11 +235,7 @@ pub fn write_witness<A: Allocator + Copy>(
 ///
 /// # Errors
 /// `AllocError` where memory is refused.
-pub fn write_lasso<A: Allocator + Copy>(
-    alloc: A,
-    property: u32,
-    trace: &Trace<A>,
-) -> Result<Vec<u8, A>, AllocError>
+pub fn write_lasso(alloc: Global, property: u32, trace: &Trace) -> Result<Vec<u8>, AllocError>
     ensures { IfOk result (λ text. text.items ≡ lasso_text property trace.now) }
 {
     let mut text = Vec::new(alloc);
@@ -267,11 +246,7 @@ pub fn write_lasso<A: Allocator + Copy>(
 
 // Writes what stands behind the letter of a property: its place, and the trace.
 #[tactic(auto, using(std::proofs::Common::append_assoc))]
-fn write_trace<A: Allocator + Copy>(
-    text: &mut Vec<u8, A>,
-    property: u32,
-    trace: &Trace<A>,
-) -> Result<(), AllocError>
+fn write_trace(text: &mut Vec<u8>, property: u32, trace: &Trace) -> Result<(), AllocError>
     ensures { OnOk result (text.new.items ≡ text.old.items ++ (decimal property ++ codes "\n"
         ++ bits_line trace.now.latches.items ++ frames_lines trace.now.inputs.items)) }
 {
@@ -283,14 +258,14 @@ fn write_trace<A: Allocator + Copy>(
 }
 
 // Writes a number.
-fn write_number<A: Allocator>(text: &mut Vec<u8, A>, number: u32) -> Result<(), AllocError>
+fn write_number(text: &mut Vec<u8>, number: u32) -> Result<(), AllocError>
     ensures { OnOk result (text.new.items ≡ text.old.items ++ decimal number) }
 {
     write!(text, "{number}").map_err(|_| AllocError)
 }
 
 // Writes a line of values.
-fn write_bits<A: Allocator>(text: &mut Vec<u8, A>, bits: &[bool]) -> Result<(), AllocError>
+fn write_bits(text: &mut Vec<u8>, bits: &[bool]) -> Result<(), AllocError>
     ensures { OnOk result (text.new.items ≡ text.old.items ++ bits_line bits.now) }
 {
     for bit in bits {
@@ -301,7 +276,7 @@ fn write_bits<A: Allocator>(text: &mut Vec<u8, A>, bits: &[bool]) -> Result<(), 
 }
 
 // Writes a value.
-fn write_bit<A: Allocator>(text: &mut Vec<u8, A>, bit: bool) -> Result<(), AllocError>
+fn write_bit(text: &mut Vec<u8>, bit: bool) -> Result<(), AllocError>
     ensures { OnOk result (text.new.items ≡ text.old.items ++ bit_text bit) }
 {
     if bit {
@@ -313,10 +288,7 @@ fn write_bit<A: Allocator>(text: &mut Vec<u8, A>, bit: bool) -> Result<(), Alloc
 }
 
 // Writes a line for each moment, and the end.
-fn write_frames<A: Allocator + Copy>(
-    text: &mut Vec<u8, A>,
-    frames: &[Vec<bool, A>],
-) -> Result<(), AllocError>
+fn write_frames(text: &mut Vec<u8>, frames: &[Vec<bool>]) -> Result<(), AllocError>
     ensures { OnOk result (text.new.items ≡ text.old.items ++ frames_lines frames.now) }
 {
     for frame in frames {

@@ -16,7 +16,7 @@ use crate::rows::rows;
 use crate::sharing::shared;
 use crate::tails::tail;
 use gipmc_circuits::{Circuit, Latch, Register, WitnessCircuit};
-use std::alloc::{AllocError, Allocator};
+use std::alloc::{AllocError, Global};
 
 /// Reads a circuit in either form of AIGER 1.9 as a certificate of another one. The reset of a latch may be any literal.
 ///
@@ -28,11 +28,11 @@ use std::alloc::{AllocError, Allocator};
 /// - [`AigerError::Twice`], [`AigerError::Undefined`] or [`AigerError::Cycle`] with a variable where an `aag` text
 ///   writes no circuit.
 /// - [`AigerError::Memory`] where memory is refused, or where a variable of the circuit is 2^31 or more.
-pub fn read_witness_circuit<A: Allocator + Copy>(
-    alloc: A,
-    circuit: &Circuit<A>,
+pub fn read_witness_circuit(
+    alloc: Global,
+    circuit: &Circuit,
     text: &[u8],
-) -> Result<WitnessCircuit<A>, AigerError>
+) -> Result<WitnessCircuit, AigerError>
     ensures ok { IfOk result (WritesWitness circuit.now text.now) }
     ensures refused { (place : Place) (reason : Reason) → IsErrOf result (AigerError.Refused place reason) →
         witness_rows_of text.now ≡ None }
@@ -46,10 +46,7 @@ pub fn read_witness_circuit<A: Allocator + Copy>(
 
 // The header, the circuit and its latches, and what stands behind the rows.
 #[tactic(auto, unfolding(crate::specs::WitnessCircuits::witness_rows_of))]
-fn whole<A: Allocator + Copy>(
-    alloc: A,
-    text: &[u8],
-) -> Result<(Header, Circuit<A>, Vec<Register, A>, &[u8]), Stop>
+fn whole(alloc: Global, text: &[u8]) -> Result<(Header, Circuit, Vec<Register>, &[u8]), Stop>
     ensures { Gives (λ x. witness_rows x.1 x.2.items x.3.now) result (witness_rows_of text.now) }
 {
     let (header, rest) = header(text)?;
@@ -59,11 +56,11 @@ fn whole<A: Allocator + Copy>(
 
 // The circuit and its latches that the rows behind a header write, and what stands behind them.
 #[tactic(auto, unfolding(crate::specs::WitnessCircuits::witness_body_at))]
-fn body<'a, A: Allocator + Copy>(
-    alloc: A,
+fn body<'a>(
+    alloc: Global,
     header: &Header,
     bytes: &'a [u8],
-) -> Result<(Circuit<A>, Vec<Register, A>, &'a [u8]), Stop>
+) -> Result<(Circuit, Vec<Register>, &'a [u8]), Stop>
     ensures { Gives (λ x. witness_rows x.0 x.1.items x.2.now) result (witness_body_at header.now bytes.now) }
 {
     let (inputs, rest) = rows(alloc, header, header.sizes.inputs, bytes)?;
@@ -87,10 +84,7 @@ fn body<'a, A: Allocator + Copy>(
 }
 
 // The latches, whose resets are left open.
-fn latches<A: Allocator + Copy>(
-    alloc: A,
-    registers: &[Register],
-) -> Result<Vec<Latch, A>, AllocError> {
+fn latches(alloc: Global, registers: &[Register]) -> Result<Vec<Latch>, AllocError> {
     registers
         .iter()
         .map(|r| Latch {
@@ -102,14 +96,14 @@ fn latches<A: Allocator + Copy>(
 }
 
 // The certificate of the circuit that consists of these rows, and what it shares.
-fn made<A: Allocator + Copy>(
-    alloc: A,
-    circuit: &Circuit<A>,
+fn made(
+    alloc: Global,
+    circuit: &Circuit,
     form: Form,
-    read: Circuit<A>,
+    read: Circuit,
     registers: &[Register],
     symbols: &[u8],
-) -> Result<WitnessCircuit<A>, AigerError>
+) -> Result<WitnessCircuit, AigerError>
     ensures ok { IfOk result (IsWitnessOf circuit.now (witness_rows read registers.now symbols.now)) }
     ensures error { IfErr result (IsErrorOf (rows_of read)) }
 {
@@ -119,11 +113,7 @@ fn made<A: Allocator + Copy>(
 }
 
 // The circuit with its gates in order.
-fn ordered<A: Allocator + Copy>(
-    alloc: A,
-    form: Form,
-    mut circuit: Circuit<A>,
-) -> Result<Circuit<A>, AigerError>
+fn ordered(alloc: Global, form: Form, mut circuit: Circuit) -> Result<Circuit, AigerError>
     ensures ok { IfOk result (λ c. IsReordering (rows_of circuit) (rows_of c)) }
     ensures error { IfErr result (IsErrorOf (rows_of circuit)) }
 {

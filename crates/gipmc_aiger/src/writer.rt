@@ -13,7 +13,7 @@ ghost use Rattle.giputils_text.specs.Groups.{groups};
 use gipmc_circuits::{And, Circuit, Latch, Netlist};
 use gipsat_cnf::Literal;
 use giputils_text::write_groups;
-use std::alloc::{AllocError, AllocFailed, Allocator};
+use std::alloc::{AllocError, AllocFailed, Global};
 use std::io::Write;
 use thiserror::Error;
 
@@ -22,10 +22,7 @@ use thiserror::Error;
 ///
 /// # Errors
 /// `AllocError` where memory is refused.
-pub fn write_aag<A: Allocator + Copy>(
-    alloc: A,
-    circuit: &Circuit<A>,
-) -> Result<Vec<u8, A>, AllocError>
+pub fn write_aag(alloc: Global, circuit: &Circuit) -> Result<Vec<u8>, AllocError>
     ensures { IfOk result (λ text. text.items ≡ aag_text circuit.now) }
 {
     let mut text = header_line(alloc, greatest_variable(circuit), circuit)?;
@@ -39,7 +36,7 @@ pub fn write_aag<A: Allocator + Copy>(
 
 /// Whether the forms have room for a circuit: its greatest variable is below 2^31, it has no more inputs, latches and
 /// gates than that, and fewer than 2^31 bad literals and constraints.
-pub fn is_writable<A: Allocator>(netlist: &Netlist<A>) -> bool
+pub fn is_writable(netlist: &Netlist) -> bool
     ensures yes { IsTrue result → IsWritable netlist.now.circuit }
     ensures no { result ≡ false → ¬ (IsWritable netlist.now.circuit) }
 {
@@ -47,7 +44,7 @@ pub fn is_writable<A: Allocator>(netlist: &Netlist<A>) -> bool
 }
 
 // Whether the circuit's numbers are small enough for the forms.
-fn has_room<A: Allocator>(circuit: &Circuit<A>) -> bool
+fn has_room(circuit: &Circuit) -> bool
     ensures { result ≡ has_room circuit.now }
 {
     let greatest = greatest_variable(circuit);
@@ -56,7 +53,7 @@ fn has_room<A: Allocator>(circuit: &Circuit<A>) -> bool
 }
 
 // Whether the circuit has at most so many inputs, latches and gates.
-fn has_rows<A: Allocator>(circuit: &Circuit<A>, most: usize) -> bool
+fn has_rows(circuit: &Circuit, most: usize) -> bool
     ensures { result ≡ nat_le (length circuit.now.inputs.items + length circuit.now.latches.items
         + length circuit.now.gates.items) most }
 {
@@ -103,10 +100,7 @@ impl<T: Drop> From<AllocFailed<T>> for WriteError {
 /// - [`WriteError::Numbering`] with a variable that has another number.
 /// - [`WriteError::Order`] with the output of a gate that does not stand behind its operands.
 /// - [`WriteError::Memory`] where memory is refused.
-pub fn write_aig<A: Allocator + Copy>(
-    alloc: A,
-    circuit: &Circuit<A>,
-) -> Result<Vec<u8, A>, WriteError>
+pub fn write_aig(alloc: Global, circuit: &Circuit) -> Result<Vec<u8>, WriteError>
     ensures text { IfOk result (λ text. text.items ≡ aig_text circuit.now) }
     ensures numbered { IfOk result (λ text. IsTrue (is_numbered circuit.now)) }
     ensures ordered { IfOk result (λ text. IsTrue (are_above circuit.now.gates.items)) }
@@ -128,7 +122,7 @@ pub fn write_aig<A: Allocator + Copy>(
 }
 
 // The text of a circuit in the binary form.
-fn packed<A: Allocator + Copy>(alloc: A, circuit: &Circuit<A>) -> Result<Vec<u8, A>, AllocError>
+fn packed(alloc: Global, circuit: &Circuit) -> Result<Vec<u8>, AllocError>
     ensures { IfOk result (λ text. text.items ≡ aig_text circuit.now) }
 {
     let mut text = packed_header_line(alloc, circuit)?;
@@ -140,7 +134,7 @@ fn packed<A: Allocator + Copy>(alloc: A, circuit: &Circuit<A>) -> Result<Vec<u8,
 }
 
 // Tests the numbers of the variables. The first that has another number than it should, if there is one.
-pub(crate) fn are_numbered<A: Allocator>(circuit: &Circuit<A>) -> Result<(), u32>
+pub(crate) fn are_numbered(circuit: &Circuit) -> Result<(), u32>
     ensures ok { OnOk result (IsTrue (is_numbered circuit.now)) }
     ensures refused { OnErr result (is_numbered circuit.now ≡ false) }
 {
@@ -203,10 +197,7 @@ fn last_output(first: u32, gates: &[And]) -> Result<u32, u32>
 }
 
 // The header of the binary form.
-fn packed_header_line<A: Allocator + Copy>(
-    alloc: A,
-    circuit: &Circuit<A>,
-) -> Result<Vec<u8, A>, AllocError>
+fn packed_header_line(alloc: Global, circuit: &Circuit) -> Result<Vec<u8>, AllocError>
     ensures { IfOk result (λ text. text.items ≡ packed_header_line circuit.now) }
 {
     let inputs = circuit.inputs.len() as u64;
@@ -232,10 +223,7 @@ pub(crate) fn sum(inputs: u64, latches: u64, gates: u64) -> u64
 }
 
 // Writes a line for each latch, without its variable.
-pub(crate) fn write_packed_latches<A: Allocator>(
-    text: &mut Vec<u8, A>,
-    latches: &[Latch],
-) -> Result<(), AllocError>
+pub(crate) fn write_packed_latches(text: &mut Vec<u8>, latches: &[Latch]) -> Result<(), AllocError>
     ensures { OnOk result (text.new.items ≡ text.old.items ++ packed_latch_lines latches.now) }
 {
     for latch in latches {
@@ -246,7 +234,7 @@ pub(crate) fn write_packed_latches<A: Allocator>(
 
 // Writes the line of a latch without its variable.
 #[tactic(auto, using(std::proofs::Common::append_assoc))]
-fn write_packed_latch<A: Allocator>(text: &mut Vec<u8, A>, latch: Latch) -> Result<(), AllocError>
+fn write_packed_latch(text: &mut Vec<u8>, latch: Latch) -> Result<(), AllocError>
     ensures { OnOk result (text.new.items ≡ text.old.items ++ packed_latch_line latch) }
 {
     write_number(text, literal_number(latch.next), b' ')?;
@@ -255,10 +243,7 @@ fn write_packed_latch<A: Allocator>(text: &mut Vec<u8, A>, latch: Latch) -> Resu
 }
 
 // Writes the bytes of each gate.
-pub(crate) fn write_packed_ands<A: Allocator>(
-    text: &mut Vec<u8, A>,
-    gates: &[And],
-) -> Result<(), AllocError>
+pub(crate) fn write_packed_ands(text: &mut Vec<u8>, gates: &[And]) -> Result<(), AllocError>
     ensures { OnOk result (text.new.items ≡ text.old.items ++ packed_ands gates.now) }
 {
     for gate in gates {
@@ -268,7 +253,7 @@ pub(crate) fn write_packed_ands<A: Allocator>(
 }
 
 // Writes the bytes of a gate, whose output is to be above its operands.
-fn write_packed_and<A: Allocator>(text: &mut Vec<u8, A>, gate: And) -> Result<(), AllocError>
+fn write_packed_and(text: &mut Vec<u8>, gate: And) -> Result<(), AllocError>
     ensures { OnOk result (text.new.items ≡ text.old.items ++ packed_and gate) }
 {
     let left = literal_number(gate.left);
@@ -303,11 +288,7 @@ pub(crate) fn are_above(gates: &[And]) -> Result<(), u32>
 
 // Writes two numbers in groups of 7 bits.
 #[tactic(auto, using(std::proofs::Common::append_assoc))]
-fn write_deltas<A: Allocator>(
-    text: &mut Vec<u8, A>,
-    first: u64,
-    second: u64,
-) -> Result<(), AllocError>
+fn write_deltas(text: &mut Vec<u8>, first: u64, second: u64) -> Result<(), AllocError>
     requires first { first < 2 ^ 34 }
     requires second { second < 2 ^ 34 }
     ensures { OnOk result (text.new.items ≡ text.old.items ++ (groups 4 first ++ groups 4 second)) }
@@ -318,7 +299,7 @@ fn write_deltas<A: Allocator>(
 }
 
 // The greatest variable that a circuit defines.
-pub(crate) fn greatest_variable<A: Allocator>(circuit: &Circuit<A>) -> u32
+pub(crate) fn greatest_variable(circuit: &Circuit) -> u32
     ensures { result ≡ greatest_variable circuit.now }
 {
     let greatest = greatest_input(&circuit.inputs);
@@ -360,11 +341,7 @@ fn greatest_output(first: u32, gates: &[And]) -> u32
 }
 
 // The header.
-fn header_line<A: Allocator + Copy>(
-    alloc: A,
-    maximum: u32,
-    circuit: &Circuit<A>,
-) -> Result<Vec<u8, A>, AllocError>
+fn header_line(alloc: Global, maximum: u32, circuit: &Circuit) -> Result<Vec<u8>, AllocError>
     ensures { IfOk result (λ text. text.items ≡ header_line maximum circuit.now) }
 {
     let mut text = Vec::new(alloc);
@@ -381,11 +358,7 @@ fn header_line<A: Allocator + Copy>(
 
 // Writes a number and a byte behind it.
 #[tactic(auto, using(std::proofs::Common::append_assoc))]
-pub(crate) fn write_number<A: Allocator>(
-    text: &mut Vec<u8, A>,
-    number: u64,
-    end: u8,
-) -> Result<(), AllocError>
+pub(crate) fn write_number(text: &mut Vec<u8>, number: u64, end: u8) -> Result<(), AllocError>
     ensures { OnOk result (text.new.items ≡ text.old.items ++ (decimal number ++ end ∷ [])) }
 {
     write_decimal(text, number)?;
@@ -394,7 +367,7 @@ pub(crate) fn write_number<A: Allocator>(
 }
 
 // Writes a number.
-fn write_decimal<A: Allocator>(text: &mut Vec<u8, A>, number: u64) -> Result<(), AllocError>
+fn write_decimal(text: &mut Vec<u8>, number: u64) -> Result<(), AllocError>
     ensures { OnOk result (text.new.items ≡ text.old.items ++ decimal number) }
 {
     write!(text, "{number}").map_err(|_| AllocError)
@@ -409,10 +382,7 @@ fn literal_number(l: Literal) -> u64
 }
 
 // Writes a line for each input.
-pub(crate) fn write_inputs<A: Allocator>(
-    text: &mut Vec<u8, A>,
-    inputs: &[u32],
-) -> Result<(), AllocError>
+pub(crate) fn write_inputs(text: &mut Vec<u8>, inputs: &[u32]) -> Result<(), AllocError>
     ensures { OnOk result (text.new.items ≡ text.old.items ++ input_lines inputs.now) }
 {
     for input in inputs {
@@ -422,10 +392,7 @@ pub(crate) fn write_inputs<A: Allocator>(
 }
 
 // Writes a line for each literal.
-pub(crate) fn write_literals<A: Allocator>(
-    text: &mut Vec<u8, A>,
-    literals: &[Literal],
-) -> Result<(), AllocError>
+pub(crate) fn write_literals(text: &mut Vec<u8>, literals: &[Literal]) -> Result<(), AllocError>
     ensures { OnOk result (text.new.items ≡ text.old.items ++ literal_lines literals.now) }
 {
     for l in literals {
@@ -435,10 +402,7 @@ pub(crate) fn write_literals<A: Allocator>(
 }
 
 // Writes a line for each latch.
-pub(crate) fn write_latches<A: Allocator>(
-    text: &mut Vec<u8, A>,
-    latches: &[Latch],
-) -> Result<(), AllocError>
+pub(crate) fn write_latches(text: &mut Vec<u8>, latches: &[Latch]) -> Result<(), AllocError>
     ensures { OnOk result (text.new.items ≡ text.old.items ++ latch_lines latches.now) }
 {
     for latch in latches {
@@ -449,7 +413,7 @@ pub(crate) fn write_latches<A: Allocator>(
 
 // Writes the line of a latch.
 #[tactic(auto, using(std::proofs::Common::append_assoc))]
-fn write_latch<A: Allocator>(text: &mut Vec<u8, A>, latch: Latch) -> Result<(), AllocError>
+fn write_latch(text: &mut Vec<u8>, latch: Latch) -> Result<(), AllocError>
     ensures { OnOk result (text.new.items ≡ text.old.items ++ latch_line latch) }
 {
     write_number(text, 2 * u64::from(latch.variable), b' ')?;
@@ -469,10 +433,7 @@ fn reset_number(variable: u32, reset: Option<bool>) -> u64
 }
 
 // Writes a line for each gate.
-pub(crate) fn write_ands<A: Allocator>(
-    text: &mut Vec<u8, A>,
-    gates: &[And],
-) -> Result<(), AllocError>
+pub(crate) fn write_ands(text: &mut Vec<u8>, gates: &[And]) -> Result<(), AllocError>
     ensures { OnOk result (text.new.items ≡ text.old.items ++ and_lines gates.now) }
 {
     for gate in gates {
@@ -483,7 +444,7 @@ pub(crate) fn write_ands<A: Allocator>(
 
 // Writes the line of a gate.
 #[tactic(auto, using(std::proofs::Common::append_assoc))]
-fn write_and<A: Allocator>(text: &mut Vec<u8, A>, gate: And) -> Result<(), AllocError>
+fn write_and(text: &mut Vec<u8>, gate: And) -> Result<(), AllocError>
     ensures { OnOk result (text.new.items ≡ text.old.items ++ and_line gate) }
 {
     write_number(text, 2 * u64::from(gate.output), b' ')?;

@@ -11,25 +11,25 @@ use Rattle.gipmc_circuits.specs.Circuit.{has_value, is_valuation}
 use Rattle.gipmc_builder.specs.Build.{AddsInputs, AddsLatches, Extends, GivesAnd, GivesDigits, GivesOr, GivesXor, Keeps, are_positive, variables_of}
 
 -- a valuation has 0 false
-pub zero_false : {A : Type 0} (c : Circuit A) (a : Assignment) → IsTrue (is_valuation c a) → a 0 ≡ false
+pub zero_false : (c : Circuit) (a : Assignment) → IsTrue (is_valuation c a) → a 0 ≡ false
 zero_false c a is = not-true (a 0) (and_parts (not (a 0)) (list_all (has_value a) c.gates.items) is).0
 
-pub Extends-same : {A : Type 0} (c : Circuit A) → Extends c c
+pub Extends-same : (c : Circuit) → Extends c c
 Extends-same c = record { valuations = λ a is. is; initials = λ a is. is; transitions = λ a b is. is }
 
 -- what extends an extension extends the circuit
-pub Extends-then : {A : Type 0} {c d e : Circuit A} → Extends c d → Extends d e → Extends c e
+pub Extends-then : {c d e : Circuit} → Extends c d → Extends d e → Extends c e
 Extends-then first then = record {
   valuations = λ a is. first.valuations a (then.valuations a is);
   initials = λ a is. first.initials a (then.initials a is);
   transitions = λ a b is. first.transitions a b (then.transitions a b is);
 }
 
-pub keeps_same : {A : Type 0} (c : Circuit A) → Keeps c c
+pub keeps_same : (c : Circuit) → Keeps c c
 keeps_same c = record { extends = Extends-same c; inputs = refl; latches = refl; bads = refl; constraints = refl }
 
 -- further gates, and then more of them
-pub keeps_then : {A : Type 0} {c d e : Circuit A} → Keeps c d → Keeps d e → Keeps c e
+pub keeps_then : {c d e : Circuit} → Keeps c d → Keeps d e → Keeps c e
 keeps_then first then = record {
   extends = Extends-then first.extends then.extends;
   inputs = then.inputs ∙ first.inputs;
@@ -54,7 +54,7 @@ one_of_two false true = refl
 one_of_two false false = refl
 
 -- of two gates, by a third one
-pub gives_xor : {A : Type 0} (c d e : Circuit A) (x y nx ny o p q : Lit) → nx ≡ negated x → ny ≡ negated y
+pub gives_xor : (c d e : Circuit) (x y nx ny o p q : Lit) → nx ≡ negated x → ny ≡ negated y
     → GivesAnd c x ny o → Keeps c d → GivesAnd d nx y p → Keeps d e → GivesOr e o p q → GivesXor e x y q
 gives_xor c d e x y nx ny o p q turned_x turned_y first more second last either a is =
     let in_d = last.extends.valuations a is in
@@ -75,7 +75,7 @@ digits_of false false true = refl
 digits_of false false false = refl
 
 -- of the five steps of a full adder
-pub gives_digits : {A : Type 0} (c d e f g : Circuit A) (x y z half low both through high : Lit)
+pub gives_digits : (c d e f g : Circuit) (x y z half low both through high : Lit)
     → GivesXor c x y half → Keeps c d → GivesXor d half z low → Keeps d e → GivesAnd e x y both → Keeps e f
     → GivesAnd f half z through → Keeps f g → GivesOr g both through high → GivesDigits g x y z low high
 gives_digits c d e f g x y z half low both through high is_half to_d is_low to_e is_both to_f is_through to_g is_high a is =
@@ -86,10 +86,10 @@ gives_digits c d e f g x y z half low both through high is_half to_d is_low to_e
     rw (is_high a is, is_low a in_d, is_both a in_e, is_through a in_f, is_half a in_c)
     (digits_of (is_true a x) (is_true a y) (is_true a z))
 
-pub adds_latches_same : {A : Type 0} (c : Circuit A) → AddsLatches c c
+pub adds_latches_same : (c : Circuit) → AddsLatches c c
 adds_latches_same c = record { extends = Extends-same c; inputs = refl; gates = refl; bads = refl; constraints = refl }
 
-pub adds_latches_then : {A : Type 0} {c d e : Circuit A} → AddsLatches c d → AddsLatches d e → AddsLatches c e
+pub adds_latches_then : {c d e : Circuit} → AddsLatches c d → AddsLatches d e → AddsLatches c e
 adds_latches_then first then = record {
   extends = Extends-then first.extends then.extends;
   inputs = then.inputs ∙ first.inputs;
@@ -102,7 +102,7 @@ none_behind : {X : Type 0} (xs : List X) → xs ≡ xs ++ []
 none_behind [] = refl
 none_behind (x ∷ xs) = ap (λ ys. x ∷ ys) (none_behind xs)
 
-pub adds_no_inputs : {A : Type 0} (c : Circuit A) → AddsInputs c c []
+pub adds_no_inputs : (c : Circuit) → AddsInputs c c []
 adds_no_inputs c = record {
   extends = Extends-same c;
   inputs = none_behind c.inputs.items;
@@ -112,7 +112,7 @@ adds_no_inputs c = record {
   constraints = refl;
 }
 
-pub adds_inputs_then : {A : Type 0} {c d e : Circuit A} (ls : List Lit) (l : Lit) → AddsInputs c d (variables_of ls)
+pub adds_inputs_then : {c d e : Circuit} (ls : List Lit) (l : Lit) → AddsInputs c d (variables_of ls)
     → AddsInputs d e (l.variable ∷ []) → AddsInputs c e (variables_of (ls ++ l ∷ []))
 adds_inputs_then {c = c} {e = e} ls l first then = record {
   extends = Extends-then first.extends then.extends;

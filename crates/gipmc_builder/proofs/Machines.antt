@@ -19,7 +19,7 @@ use Rattle.gipmc_builder.specs.Machine.{IsMachine, NeverBad, state_after}
 use Rattle.gipmc_builder.proofs.Latched.{all_weaker, held, next_of, start_of, starts}
 
 -- the state at each moment of a trace is the one that the steps reach
-pub state_along : {A S I : Type 0} (c : Circuit A) (bad : Lit) (step : S → I → S) (start : S) (is_bad : S → I → Bool)
+pub state_along : {S I : Type 0} (c : Circuit) (bad : Lit) (step : S → I → S) (start : S) (is_bad : S → I → Bool)
     (m : IsMachine c bad step start is_bad) (n : ℕ) (t : ℕ → Assignment) → IsTrace c n t → (i : ℕ) → i ≤ n
     → m.state (t i) ≡ state_after step start (λ k. m.input (t k)) i
 state_along c bad step start is_bad m n t is zero within = m.starts (t 0) (is.moments 0 within) is.initial
@@ -133,12 +133,12 @@ all_both p q (x ∷ xs) first second =
     and_from (p x && q x) (list_all (λ y. p y && q y) xs) (and_from (p x) (q x) here also) (all_both p q xs rest others)
 
 -- a valuation with what the latches hold and the inputs are given
-record Made {A : Type 0} (c : Circuit A) (value : Latch → Bool) (given b : Assignment) : Type 0 where
+record Made (c : Circuit) (value : Latch → Bool) (given b : Assignment) : Type 0 where
   valuation : IsTrue (is_valuation c b)
   latches : IsTrue (list_all (λ l. beq (b l.variable) (value l)) c.latches.items)
   inputs : map b c.inputs.items ≡ map given c.inputs.items
 
-made : {A : Type 0} (c : Circuit A) → IsTrue (is_well_formed c) → (value : Latch → Bool) (given : Assignment)
+made : (c : Circuit) → IsTrue (is_well_formed c) → (value : Latch → Bool) (given : Assignment)
     → (b : Assignment) × Made c value given b
 made c formed value given =
     let inputs = c.inputs.items in
@@ -170,23 +170,23 @@ made c formed value given =
     )
 
 -- the values at each moment, by the inputs that are given
-pub run : {A : Type 0} (c : Circuit A) → IsTrue (is_well_formed c) → (ℕ → Assignment) → ℕ → Assignment
+pub run : (c : Circuit) → IsTrue (is_well_formed c) → (ℕ → Assignment) → ℕ → Assignment
 run c formed given zero = (made c formed start_of (given 0)).0
 run c formed given (suc i) = (made c formed (next_of (run c formed given i)) (given (suc i))).0
 
-run-inputs : {A : Type 0} (c : Circuit A) (formed : IsTrue (is_well_formed c)) (given : ℕ → Assignment) (i : ℕ)
+run-inputs : (c : Circuit) (formed : IsTrue (is_well_formed c)) (given : ℕ → Assignment) (i : ℕ)
     → map (run c formed given i) c.inputs.items ≡ map (given i) c.inputs.items
 unfolding run
 run-inputs c formed given zero = (made c formed start_of (given 0)).1.inputs
 run-inputs c formed given (suc i) = (made c formed (next_of (run c formed given i)) (given (suc i))).1.inputs
 
-run-valuation : {A : Type 0} (c : Circuit A) (formed : IsTrue (is_well_formed c)) (given : ℕ → Assignment) (i : ℕ)
+run-valuation : (c : Circuit) (formed : IsTrue (is_well_formed c)) (given : ℕ → Assignment) (i : ℕ)
     → IsTrue (is_valuation c (run c formed given i))
 unfolding run
 run-valuation c formed given zero = (made c formed start_of (given 0)).1.valuation
 run-valuation c formed given (suc i) = (made c formed (next_of (run c formed given i)) (given (suc i))).1.valuation
 
-run-initial : {A : Type 0} (c : Circuit A) (formed : IsTrue (is_well_formed c)) (given : ℕ → Assignment)
+run-initial : (c : Circuit) (formed : IsTrue (is_well_formed c)) (given : ℕ → Assignment)
     → IsTrue (is_initial c (run c formed given 0))
 unfolding run
 run-initial c formed given =
@@ -194,13 +194,13 @@ run-initial c formed given =
     all_weaker (λ l. beq (b l.variable) (start_of l)) (holds_reset b) c.latches.items (λ l is. starts l.reset (b l.variable) is)
     (made c formed start_of (given 0)).1.latches
 
-run-transition : {A : Type 0} (c : Circuit A) (formed : IsTrue (is_well_formed c)) (given : ℕ → Assignment) (i : ℕ)
+run-transition : (c : Circuit) (formed : IsTrue (is_well_formed c)) (given : ℕ → Assignment) (i : ℕ)
     → IsTrue (is_transition c (run c formed given i) (run c formed given (suc i)))
 unfolding run
 run-transition c formed given i = (made c formed (next_of (run c formed given i)) (given (suc i))).1.latches
 
 -- a well-formed circuit without constraints has a trace of each length, whatever inputs are given
-pub IsTrace-run : {A : Type 0} (c : Circuit A) (formed : IsTrue (is_well_formed c)) (given : ℕ → Assignment)
+pub IsTrace-run : (c : Circuit) (formed : IsTrue (is_well_formed c)) (given : ℕ → Assignment)
     → c.constraints.items ≡ [] → (n : ℕ) → IsTrace c n (run c formed given)
 IsTrace-run c formed given none n = record {
   initial = run-initial c formed given;
@@ -214,7 +214,7 @@ IsTrace-run c formed given none n = record {
 }
 
 -- what the circuit's literal says at the end of a trace
-bad_along : {A S I : Type 0} (c : Circuit A) (bad : Lit) (step : S → I → S) (start : S) (is_bad : S → I → Bool)
+bad_along : {S I : Type 0} (c : Circuit) (bad : Lit) (step : S → I → S) (start : S) (is_bad : S → I → Bool)
     (m : IsMachine c bad step start is_bad) (n : ℕ) (t : ℕ → Assignment) → IsTrace c n t
     → is_true (t n) bad ≡ is_bad (state_after step start (λ k. m.input (t k)) n) (m.input (t n))
 bad_along c bad step start is_bad m n t is =
@@ -222,7 +222,7 @@ bad_along c bad step start is_bad m n t is =
     ∙ ap (λ s. is_bad s (m.input (t n))) (state_along c bad step start is_bad m n t is n (le_refl n))
 
 -- a circuit that does what a step function does is safe exactly if no state that the steps reach is bad
-pub IsSafe-machine : {A S I : Type 0} (c : Circuit A) (bad : Lit) (step : S → I → S) (start : S) (is_bad : S → I → Bool)
+pub IsSafe-machine : {S I : Type 0} (c : Circuit) (bad : Lit) (step : S → I → S) (start : S) (is_bad : S → I → Bool)
     → IsMachine c bad step start is_bad → IsTrue (is_well_formed c) → IsSafe c bad ↔ NeverBad step start is_bad
 IsSafe-machine {S = S} {I = I} c bad step start is_bad m formed = (
   λ safe inputs n.

@@ -81,12 +81,12 @@ pub number_of-end : (a : Assignment) (ls : List Lit) (i : ℕ) → length ls ≤
 number_of-end a ls i past = ap (number_of a) (drop_all i ls past)
 
 -- what a sum has so far: its digits, and what is left with the carry behind them
-abbrev pub SumSoFar : {A : Type 0} → Circuit A → List Lit → List Lit → ℕ → List Lit → Lit → Type 0
+abbrev pub SumSoFar : Circuit → List Lit → List Lit → ℕ → List Lit → Lit → Type 0
 SumSoFar c xs ys i zs carry =
     (a : Assignment) → IsTrue (is_valuation c a)
     → number_over a zs (number_of a (drop i xs) + number_of a (drop i ys) + bit_of a carry) ≡ number_of a xs + number_of a ys
 
-pub sum_none : {A : Type 0} (c : Circuit A) (xs ys : List Lit) → SumSoFar c xs ys 0 [] (constant false)
+pub sum_none : (c : Circuit) (xs ys : List Lit) → SumSoFar c xs ys 0 [] (constant false)
 sum_none c xs ys a is =
     ap (λ b. number_of a xs + number_of a ys + cond b 1 0) (is_true-constant a false (zero_false c a is))
     ∙ add-zero (number_of a xs + number_of a ys)
@@ -95,7 +95,7 @@ carried : (n m x y z low high n' m' : ℕ) → n ≡ x + 2 * n' → m ≡ y + 2 
     → low + 2 * (n' + m' + high) ≡ n + m + z
 carried n m x y z low high n' m' is also digits = omega (arith, is, also, digits)
 
-pub sum_more : {A : Type 0} (c d : Circuit A) (xs ys zs : List Lit) (i : ℕ) (x y carry low high : Lit)
+pub sum_more : (c d : Circuit) (xs ys zs : List Lit) (i : ℕ) (x y carry low high : Lit)
     → x ≡ get_or xs i (constant false) → y ≡ get_or ys i (constant false) → SumSoFar c xs ys i zs carry → Keeps c d
     → GivesDigits d x y carry low high → SumSoFar d xs ys (i + 1) (zs ++ low ∷ []) high
 sum_more c d xs ys zs i x y carry low high at_x at_y before keeps digits a is =
@@ -110,7 +110,7 @@ sum_more c d xs ys zs i x y carry low high at_x at_y before keeps digits a is =
 last_carry : (n m b : ℕ) → n ≡ 0 → m ≡ 0 → b + 2 * 0 ≡ n + m + b
 last_carry n m b none also = omega (arith, none, also)
 
-pub sum_all : {A : Type 0} (c : Circuit A) (xs ys zs : List Lit) (i : ℕ) (carry : Lit) → SumSoFar c xs ys i zs carry
+pub sum_all : (c : Circuit) (xs ys zs : List Lit) (i : ℕ) (carry : Lit) → SumSoFar c xs ys i zs carry
     → length xs ≤ i → length ys ≤ i → GivesSum c xs ys (zs ++ carry ∷ [])
 sum_all c xs ys zs i carry before left right a is =
     sym (number_over-zero a (zs ++ carry ∷ [])) ∙ number_over-push a zs carry 0
@@ -119,13 +119,13 @@ sum_all c xs ys zs i carry before left right a is =
     ∙ before a is
 
 -- what a choice has so far
-abbrev pub ChoiceSoFar : {A : Type 0} → Circuit A → Lit → List Lit → List Lit → ℕ → List Lit → Type 0
+abbrev pub ChoiceSoFar : Circuit → Lit → List Lit → List Lit → ℕ → List Lit → Type 0
 ChoiceSoFar c s xs ys i zs =
     (a : Assignment) → IsTrue (is_valuation c a)
     → number_over a zs (cond (is_true a s) (number_of a (drop i xs)) (number_of a (drop i ys)))
     ≡ cond (is_true a s) (number_of a xs) (number_of a ys)
 
-pub choice_none : {A : Type 0} (c : Circuit A) (s : Lit) (xs ys : List Lit) → ChoiceSoFar c s xs ys 0 []
+pub choice_none : (c : Circuit) (s : Lit) (xs ys : List Lit) → ChoiceSoFar c s xs ys 0 []
 choice_none c s xs ys a is = refl
 
 picked : (s x y b : Bool) (n m n' m' : ℕ) → b ≡ cond s x y → n ≡ cond x 1 0 + 2 * n' → m ≡ cond y 1 0 + 2 * m'
@@ -133,7 +133,7 @@ picked : (s x y b : Bool) (n m n' m' : ℕ) → b ≡ cond s x y → n ≡ cond 
 picked true x y b n m n' m' is left right = rw is (sym left)
 picked false x y b n m n' m' is left right = rw is (sym right)
 
-pub choice_more : {A : Type 0} (c d : Circuit A) (s : Lit) (xs ys zs : List Lit) (i : ℕ) (x y bit : Lit)
+pub choice_more : (c d : Circuit) (s : Lit) (xs ys zs : List Lit) (i : ℕ) (x y bit : Lit)
     → x ≡ get_or xs i (constant false) → y ≡ get_or ys i (constant false) → ChoiceSoFar c s xs ys i zs → Keeps c d
     → GivesMux d s x y bit → ChoiceSoFar d s xs ys (i + 1) (zs ++ bit ∷ [])
 choice_more c d s xs ys zs i x y bit at_x at_y before keeps mux a is =
@@ -149,7 +149,7 @@ none_left : (s : Bool) (n m : ℕ) → n ≡ 0 → m ≡ 0 → 0 ≡ cond s n m
 none_left true n m left right = sym left
 none_left false n m left right = sym right
 
-pub choice_all : {A : Type 0} (c : Circuit A) (s : Lit) (xs ys zs : List Lit) (i : ℕ) → ChoiceSoFar c s xs ys i zs
+pub choice_all : (c : Circuit) (s : Lit) (xs ys zs : List Lit) (i : ℕ) → ChoiceSoFar c s xs ys i zs
     → length xs ≤ i → length ys ≤ i → GivesChoice c s xs ys zs
 choice_all c s xs ys zs i before left right a is =
     sym (number_over-zero a zs)
@@ -158,12 +158,12 @@ choice_all c s xs ys zs i before left right a is =
     ∙ before a is
 
 -- what a comparison has so far
-abbrev pub SameSoFar : {A : Type 0} → Circuit A → List Lit → List Lit → ℕ → Lit → Type 0
+abbrev pub SameSoFar : Circuit → List Lit → List Lit → ℕ → Lit → Type 0
 SameSoFar c xs ys i same =
     (a : Assignment) → IsTrue (is_valuation c a)
     → (is_true a same && (number_of a (drop i xs) == number_of a (drop i ys))) ≡ (number_of a xs == number_of a ys)
 
-pub same_none : {A : Type 0} (c : Circuit A) (xs ys : List Lit) → SameSoFar c xs ys 0 (constant true)
+pub same_none : (c : Circuit) (xs ys : List Lit) → SameSoFar c xs ys 0 (constant true)
 same_none c xs ys a is =
     ap (λ b. b && (number_of a xs == number_of a ys)) (is_true-constant a true (zero_false c a is))
 
@@ -189,7 +189,7 @@ both_and true b x y n m n' m' all is left right before =
     rw is (sym (halves_same x y n' m') ∙ sym (rw (left, right) refl) ∙ before)
 both_and false b x y n m n' m' all is left right before = before
 
-pub same_more : {A : Type 0} (c d e : Circuit A) (xs ys : List Lit) (i : ℕ) (x y same bit next : Lit)
+pub same_more : (c d e : Circuit) (xs ys : List Lit) (i : ℕ) (x y same bit next : Lit)
     → x ≡ get_or xs i (constant false) → y ≡ get_or ys i (constant false) → SameSoFar c xs ys i same → Keeps c d
     → GivesEqual d x y bit → Keeps d e → GivesAnd e same bit next → SameSoFar e xs ys (i + 1) next
 same_more c d e xs ys i x y same bit next at_x at_y before keeps equal more both a is =
@@ -205,7 +205,7 @@ and_last : (b : Bool) (n m : ℕ) → n ≡ 0 → m ≡ 0 → b ≡ (b && (n == 
 and_last true n m left right = rw (left, right) refl
 and_last false n m left right = refl
 
-pub same_all : {A : Type 0} (c : Circuit A) (xs ys : List Lit) (i : ℕ) (same : Lit) → SameSoFar c xs ys i same
+pub same_all : (c : Circuit) (xs ys : List Lit) (i : ℕ) (same : Lit) → SameSoFar c xs ys i same
     → length xs ≤ i → length ys ≤ i → GivesSame c xs ys same
 same_all c xs ys i same before left right a is =
     and_last (is_true a same) (number_of a (drop i xs)) (number_of a (drop i ys)) (number_of-end a xs i left) (number_of-end a ys i right)
@@ -237,15 +237,15 @@ digits_all n ls rest before ended a none =
     sym (number_over-zero a ls) ∙ ap (number_over a ls) is ∙ before a none
 
 -- what a register has so far: latches for its first bits
-pub record RegisterSoFar {A : Type 0} (c : Circuit A) (bits next : List Lit) (start : ℕ) (i rest : ℕ) : Type 0 where
+pub record RegisterSoFar (c : Circuit) (bits next : List Lit) (start : ℕ) (i rest : ℕ) : Type 0 where
   pub starts : (a : Assignment) → IsTrue (is_valuation c a) → IsTrue (is_initial c a) → number_over a (take i bits) rest ≡ start
   pub takes : (a b : Assignment) → IsTrue (is_valuation c a) → IsTrue (is_transition c a b)
       → number_over b (take i bits) (number_of a (drop i next)) ≡ number_of a next
 
-pub register_none : {A : Type 0} (c : Circuit A) (bits next : List Lit) (start : ℕ) → RegisterSoFar c bits next start 0 start
+pub register_none : (c : Circuit) (bits next : List Lit) (start : ℕ) → RegisterSoFar c bits next start 0 start
 register_none c bits next start = record { starts = λ a is first. refl; takes = λ a b is goes. refl }
 
-pub register_more : {A : Type 0} (c d : Circuit A) (bits next : List Lit) (start i rest : ℕ) (bit l : Lit)
+pub register_more : (c d : Circuit) (bits next : List Lit) (start i rest : ℕ) (bit l : Lit)
     → RegisterSoFar c bits next start i rest → i < length bits → bit ≡ get_or bits i bit
     → l ≡ get_or next i (constant false) → AddsLatches c d → StartsAs d bit (Some (rest % 2 == 1)) → Becomes d bit l
     → RegisterSoFar d bits next start (i + 1) (rest / 2)
@@ -268,13 +268,13 @@ register_more c d bits next start i rest bit l before less at at_l adds starts b
           ∙ before.takes a b (adds.extends.valuations a is) (adds.extends.transitions a b goes);
     }
 
-pub starts_at : {A : Type 0} (c : Circuit A) (bits next : List Lit) (start i rest : ℕ)
+pub starts_at : (c : Circuit) (bits next : List Lit) (start i rest : ℕ)
     → RegisterSoFar c bits next start i rest → length bits ≤ i → StartsAt c bits start
 starts_at c bits next start i rest all past a is first =
     number_over-mod a bits rest start
     (ap (λ ls. number_over a ls rest) (sym (take_all i bits past)) ∙ all.starts a is first)
 
-pub takes_next : {A : Type 0} (c : Circuit A) (bits next : List Lit) (start i rest : ℕ)
+pub takes_next : (c : Circuit) (bits next : List Lit) (start i rest : ℕ)
     → RegisterSoFar c bits next start i rest → length bits ≤ i → Takes c bits next
 takes_next c bits next start i rest all past a b is goes =
     number_over-mod b bits (number_of a (drop i next)) (number_of a next)

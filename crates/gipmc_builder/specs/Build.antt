@@ -8,7 +8,7 @@ use Rattle.gipmc_circuits.specs.declared.circuit.Circuit.{Circuit}
 use Rattle.gipmc_circuits.specs.Circuit.{is_initial, is_reset, is_transition, is_valuation}
 
 -- the circuit has nothing in it
-pub record IsEmpty {A : Type 0} (c : Circuit A) : Type 0 where
+pub record IsEmpty (c : Circuit) : Type 0 where
   pub inputs : c.inputs.items ≡ []
   pub latches : c.latches.items ≡ []
   pub gates : c.gates.items ≡ []
@@ -16,13 +16,13 @@ pub record IsEmpty {A : Type 0} (c : Circuit A) : Type 0 where
   pub constraints : c.constraints.items ≡ []
 
 -- each valuation of the new circuit is one of the old one, and so are its initial ones and its transitions
-pub record Extends {A : Type 0} (old new : Circuit A) : Type 0 where
+pub record Extends (old new : Circuit) : Type 0 where
   pub valuations : (a : Assignment) → IsTrue (is_valuation new a) → IsTrue (is_valuation old a)
   pub initials : (a : Assignment) → IsTrue (is_initial new a) → IsTrue (is_initial old a)
   pub transitions : (a b : Assignment) → IsTrue (is_transition new a b) → IsTrue (is_transition old a b)
 
 -- the new circuit is the old one with further gates
-pub record Keeps {A : Type 0} (old new : Circuit A) : Type 0 where
+pub record Keeps (old new : Circuit) : Type 0 where
   pub extends : Extends old new
   pub inputs : new.inputs.items ≡ old.inputs.items
   pub latches : new.latches.items ≡ old.latches.items
@@ -30,7 +30,7 @@ pub record Keeps {A : Type 0} (old new : Circuit A) : Type 0 where
   pub constraints : new.constraints.items ≡ old.constraints.items
 
 -- the new circuit is the old one with further inputs
-pub record AddsInputs {A : Type 0} (old new : Circuit A) (more : List ℕ) : Type 0 where
+pub record AddsInputs (old new : Circuit) (more : List ℕ) : Type 0 where
   pub extends : Extends old new
   pub inputs : new.inputs.items ≡ old.inputs.items ++ more
   pub latches : new.latches.items ≡ old.latches.items
@@ -39,7 +39,7 @@ pub record AddsInputs {A : Type 0} (old new : Circuit A) (more : List ℕ) : Typ
   pub constraints : new.constraints.items ≡ old.constraints.items
 
 -- the new circuit is the old one with further latches
-pub record AddsLatches {A : Type 0} (old new : Circuit A) : Type 0 where
+pub record AddsLatches (old new : Circuit) : Type 0 where
   pub extends : Extends old new
   pub inputs : new.inputs.items ≡ old.inputs.items
   pub gates : new.gates.items ≡ old.gates.items
@@ -47,7 +47,7 @@ pub record AddsLatches {A : Type 0} (old new : Circuit A) : Type 0 where
   pub constraints : new.constraints.items ≡ old.constraints.items
 
 -- the new circuit is the old one with further bad literals and constraints
-pub record AddsProperties {A : Type 0} (old new : Circuit A) (more_bads more_constraints : List Lit) : Type 0 where
+pub record AddsProperties (old new : Circuit) (more_bads more_constraints : List Lit) : Type 0 where
   pub extends : Extends old new
   pub inputs : new.inputs.items ≡ old.inputs.items
   pub latches : new.latches.items ≡ old.latches.items
@@ -56,31 +56,31 @@ pub record AddsProperties {A : Type 0} (old new : Circuit A) (more_bads more_con
   pub constraints : new.constraints.items ≡ old.constraints.items ++ more_constraints
 
 -- in each initial valuation the literal is what the reset allows
-abbrev pub StartsAs : {A : Type 0} → Circuit A → Lit → Option Bool → Type 0
+abbrev pub StartsAs : Circuit → Lit → Option Bool → Type 0
 StartsAs c l reset = (a : Assignment) → IsTrue (is_initial c a) → IsTrue (is_reset reset (is_true a l))
 
 -- by each transition the literal becomes what another one was
-abbrev pub Becomes : {A : Type 0} → Circuit A → Lit → Lit → Type 0
+abbrev pub Becomes : Circuit → Lit → Lit → Type 0
 Becomes c l next = (a b : Assignment) → IsTrue (is_transition c a b) → is_true b l ≡ is_true a next
 
 -- in each valuation the literal is true exactly if both others are
-abbrev pub GivesAnd : {A : Type 0} → Circuit A → Lit → Lit → Lit → Type 0
+abbrev pub GivesAnd : Circuit → Lit → Lit → Lit → Type 0
 GivesAnd c x y o = (a : Assignment) → IsTrue (is_valuation c a) → is_true a o ≡ (is_true a x && is_true a y)
 
 -- in each valuation the literal is true exactly if one of the others is, or both
-abbrev pub GivesOr : {A : Type 0} → Circuit A → Lit → Lit → Lit → Type 0
+abbrev pub GivesOr : Circuit → Lit → Lit → Lit → Type 0
 GivesOr c x y o = (a : Assignment) → IsTrue (is_valuation c a) → is_true a o ≡ (is_true a x || is_true a y)
 
 -- in each valuation the literal is true exactly if the others are both true, or both false
-abbrev pub GivesEqual : {A : Type 0} → Circuit A → Lit → Lit → Lit → Type 0
+abbrev pub GivesEqual : Circuit → Lit → Lit → Lit → Type 0
 GivesEqual c x y o = (a : Assignment) → IsTrue (is_valuation c a) → is_true a o ≡ beq (is_true a x) (is_true a y)
 
 -- in each valuation the literal is true exactly if one of the others is, and not both
-abbrev pub GivesXor : {A : Type 0} → Circuit A → Lit → Lit → Lit → Type 0
+abbrev pub GivesXor : Circuit → Lit → Lit → Lit → Type 0
 GivesXor c x y o = (a : Assignment) → IsTrue (is_valuation c a) → is_true a o ≡ not (beq (is_true a x) (is_true a y))
 
 -- in each valuation the literal is what the one is where the selector is true, and else what the other is
-abbrev pub GivesMux : {A : Type 0} → Circuit A → Lit → Lit → Lit → Lit → Type 0
+abbrev pub GivesMux : Circuit → Lit → Lit → Lit → Lit → Type 0
 GivesMux c s x y o =
     (a : Assignment) → IsTrue (is_valuation c a) → is_true a o ≡ (if is_true a s then is_true a x else is_true a y)
 
@@ -94,34 +94,34 @@ number_of a [] = 0
 number_of a (l ∷ ls) = bit_of a l + 2 * number_of a ls
 
 -- in each valuation the two literals are the digits of the sum of three bits
-abbrev pub GivesDigits : {A : Type 0} → Circuit A → Lit → Lit → Lit → Lit → Lit → Type 0
+abbrev pub GivesDigits : Circuit → Lit → Lit → Lit → Lit → Lit → Type 0
 GivesDigits c x y z low high =
     (a : Assignment) → IsTrue (is_valuation c a) → bit_of a low + 2 * bit_of a high ≡ bit_of a x + bit_of a y + bit_of a z
 
 -- in each valuation the number is the sum of the others
-abbrev pub GivesSum : {A : Type 0} → Circuit A → List Lit → List Lit → List Lit → Type 0
+abbrev pub GivesSum : Circuit → List Lit → List Lit → List Lit → Type 0
 GivesSum c xs ys zs =
     (a : Assignment) → IsTrue (is_valuation c a) → number_of a zs ≡ number_of a xs + number_of a ys
 
 -- in each valuation the number is the one where the selector is true, and else the other
-abbrev pub GivesChoice : {A : Type 0} → Circuit A → Lit → List Lit → List Lit → List Lit → Type 0
+abbrev pub GivesChoice : Circuit → Lit → List Lit → List Lit → List Lit → Type 0
 GivesChoice c s xs ys zs =
     (a : Assignment) → IsTrue (is_valuation c a)
     → number_of a zs ≡ (if is_true a s then number_of a xs else number_of a ys)
 
 -- in each valuation the literal is true exactly if the numbers are the same
-abbrev pub GivesSame : {A : Type 0} → Circuit A → List Lit → List Lit → Lit → Type 0
+abbrev pub GivesSame : Circuit → List Lit → List Lit → Lit → Type 0
 GivesSame c xs ys o =
     (a : Assignment) → IsTrue (is_valuation c a) → is_true a o ≡ (number_of a xs == number_of a ys)
 
 -- in each initial valuation the register holds the number, as far as it has bits
-abbrev pub StartsAt : {A : Type 0} → Circuit A → List Lit → ℕ → Type 0
+abbrev pub StartsAt : Circuit → List Lit → ℕ → Type 0
 StartsAt c bits start =
     (a : Assignment) → IsTrue (is_valuation c a) → IsTrue (is_initial c a)
     → number_of a bits ≡ start % 2 ^ length bits
 
 -- by each transition the register takes the number that others had, as far as it has bits
-abbrev pub Takes : {A : Type 0} → Circuit A → List Lit → List Lit → Type 0
+abbrev pub Takes : Circuit → List Lit → List Lit → Type 0
 Takes c bits next =
     (a b : Assignment) → IsTrue (is_valuation c a) → IsTrue (is_transition c a b)
     → number_of b bits ≡ number_of a next % 2 ^ length bits

@@ -16,7 +16,7 @@ NeverBad {I} step start is_bad =
     (inputs : ℕ → I) (n : ℕ) → is_bad (state_after step start inputs n) (inputs n) ≡ false
 
 -- the circuit starts in a state and steps from state to state, and its literal tells which of them are bad
-pub record IsMachine {A S I : Type 0} (c : Circuit A) (bad : Lit) (step : S → I → S) (start : S) (is_bad : S → I → Bool)
+pub record IsMachine {S I : Type 0} (c : Circuit) (bad : Lit) (step : S → I → S) (start : S) (is_bad : S → I → Bool)
     : Type 0 where
   pub state : Assignment → S
   pub input : Assignment → I

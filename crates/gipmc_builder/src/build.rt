@@ -12,7 +12,7 @@ ghost use Rattle.gipmc_builder.specs.Build.{GivesChoice, GivesDigits, GivesSame,
 
 use gipmc_circuits::{And, Circuit, Latch, Netlist};
 use gipsat_cnf::Literal;
-use std::alloc::{AllocError, Allocator, Global};
+use std::alloc::{AllocError, Global};
 
 /// The literal that is always true, or always false.
 pub fn constant(value: bool) -> Literal
@@ -25,7 +25,7 @@ pub fn constant(value: bool) -> Literal
 ///
 /// # Errors
 /// `AllocError` where memory is refused.
-pub fn digits<A: Allocator + Copy>(alloc: A, n: u64) -> Result<Vec<Literal, A>, AllocError>
+pub fn digits(alloc: Global, n: u64) -> Result<Vec<Literal>, AllocError>
     ensures { IfOk result (λ digits. AreDigits n digits.items) }
 {
     let mut digits = Vec::new(alloc);
@@ -74,16 +74,16 @@ fn width_of(left: &[Literal], right: &[Literal]) -> usize
 /// Each new variable is greater than those before it. Numbers are lists of literals, the lowest digit first; a digit
 /// that a list has not is 0. A call that is refused may have added a part of what it is to add.
 #[derive(Drop)]
-pub struct Builder<A: Allocator = Global> {
+pub struct Builder {
     /// The circuit so far.
-    pub circuit: Circuit<A>,
+    pub circuit: Circuit,
     /// The variable that the next step takes.
     pub variables: usize,
 }
 
-impl<A: Allocator + Copy> Builder<A> {
+impl Builder {
     /// The builder of a circuit that has nothing in it yet. It takes no memory.
-    pub fn new(alloc: A) -> Self
+    pub fn new(alloc: Global) -> Self
         ensures { IsEmpty result.circuit }
     {
         Builder {
@@ -93,7 +93,7 @@ impl<A: Allocator + Copy> Builder<A> {
     }
 
     /// The builder of a circuit that begins with these gates, latches and inputs.
-    pub fn over(netlist: Netlist<A>) -> Self
+    pub fn over(netlist: Netlist) -> Self
         ensures circuit { result.circuit ≡ netlist.circuit }
         ensures variables { result.variables ≡ netlist.variables }
     {
@@ -108,7 +108,7 @@ impl<A: Allocator + Copy> Builder<A> {
     ///
     /// # Errors
     /// `AllocError` where memory is refused.
-    pub fn finish(self, alloc: A) -> Result<Option<Netlist<A>>, AllocError>
+    pub fn finish(self, alloc: Global) -> Result<Option<Netlist>, AllocError>
         ensures { IfOk result
             (λ made. MatchOption made (is_well_formed self.circuit ≡ false) (λ n. n.circuit ≡ self.circuit)) }
     {
@@ -137,7 +137,7 @@ impl<A: Allocator + Copy> Builder<A> {
     ///
     /// # Errors
     /// `AllocError` where memory is refused, or where a variable would be 2^31 or more.
-    pub fn bits(&mut self, alloc: A, width: usize) -> Result<Vec<Literal, A>, AllocError>
+    pub fn bits(&mut self, alloc: Global, width: usize) -> Result<Vec<Literal>, AllocError>
         ensures same { self.new.circuit ≡ self.old.circuit }
         ensures width { IfOk result (λ bits. length bits.items ≡ width) }
         ensures positive { IfOk result (λ bits. IsTrue (are_positive bits.items)) }
@@ -167,7 +167,7 @@ impl<A: Allocator + Copy> Builder<A> {
     ///
     /// # Errors
     /// `AllocError` where memory is refused, or where a variable would be 2^31 or more.
-    pub fn inputs(&mut self, alloc: A, width: usize) -> Result<Vec<Literal, A>, AllocError>
+    pub fn inputs(&mut self, alloc: Global, width: usize) -> Result<Vec<Literal>, AllocError>
         ensures adds { IfOk result (λ bits.
             AddsInputs self.old.circuit self.new.circuit (variables_of bits.items)) }
         ensures width { IfOk result (λ bits. length bits.items ≡ width) }
@@ -345,10 +345,10 @@ impl<A: Allocator + Copy> Builder<A> {
     /// `AllocError` where memory is refused, or where a variable would be 2^31 or more.
     pub fn add(
         &mut self,
-        alloc: A,
+        alloc: Global,
         left: &[Literal],
         right: &[Literal],
-    ) -> Result<Vec<Literal, A>, AllocError>
+    ) -> Result<Vec<Literal>, AllocError>
         ensures keeps { Keeps self.old.circuit self.new.circuit }
         ensures gives { IfOk result (λ sum. GivesSum self.new.circuit left.now right.now sum.items) }
     {
@@ -370,11 +370,11 @@ impl<A: Allocator + Copy> Builder<A> {
     /// `AllocError` where memory is refused, or where a variable would be 2^31 or more.
     pub fn choose(
         &mut self,
-        alloc: A,
+        alloc: Global,
         selector: Literal,
         left: &[Literal],
         right: &[Literal],
-    ) -> Result<Vec<Literal, A>, AllocError>
+    ) -> Result<Vec<Literal>, AllocError>
         ensures keeps { Keeps self.old.circuit self.new.circuit }
         ensures gives { IfOk result (λ chosen.
             GivesChoice self.new.circuit selector left.now right.now chosen.items) }

@@ -8,18 +8,18 @@ use Rattle.gipmc_circuits.specs.Circuit.{is_initial, is_moment, is_transition}
 use Rattle.gipmc_circuits.specs.WitnessCircuits.{IsCertifiedBy, are_linked, are_paired, claims_hold}
 
 -- the claims hold at each valuation of the certificate that is alike in what is shared
-abbrev pub Accepts : {A B : Type 0} → Circuit A → WitnessCircuit B → Assignment → Type 0
+abbrev pub Accepts : Circuit → WitnessCircuit → Assignment → Type 0
 Accepts c w a = (b : Assignment) → IsTrue (are_paired c w a b) → IsTrue (claims_hold w b)
 
 -- the certificate accepts each initial moment, and each moment behind one that it accepts; where it accepts, the literal
 -- is false
-pub record IsAccepted {A B : Type 0} (c : Circuit A) (bad : Lit) (w : WitnessCircuit B) : Type 0 where
+pub record IsAccepted (c : Circuit) (bad : Lit) (w : WitnessCircuit) : Type 0 where
   pub initiated : (a : Assignment) → IsTrue (is_initial c a) → IsTrue (is_moment c a) → Accepts c w a
   pub inductive : (a d : Assignment) → IsTrue (is_moment c a) → Accepts c w a → IsTrue (is_transition c a d)
       → IsTrue (is_moment c d) → Accepts c w d
   pub excluded : (a : Assignment) → IsTrue (is_moment c a) → Accepts c w a → ¬ (IsTrue (is_true a bad))
 
-pub accepted : {A B : Type 0} (c : Circuit A) (w : WitnessCircuit B) (bad : Lit) → w.resets.items ≡ [] → w.nexts.items ≡ []
+pub accepted : (c : Circuit) (w : WitnessCircuit) (bad : Lit) → w.resets.items ≡ [] → w.nexts.items ≡ []
     → IsCertifiedBy c bad w → IsAccepted c bad w
 accepted c w bad no_resets no_nexts is = record {
   initiated = λ a first is_now b together.

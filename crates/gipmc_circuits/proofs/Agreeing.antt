@@ -38,7 +38,7 @@ has_value-alike n a b g agree within =
     (is_true-alike n a b g.left agree left) (is_true-alike n a b g.right agree right))
 
 -- what `is_below` says of each part
-pub record Below {A : Type 0} (n : ℕ) (c : Circuit A) : Type 0 where
+pub record Below (n : ℕ) (c : Circuit) : Type 0 where
   pub some : 0 < n
   pub inputs : IsTrue (list_all (λ v. ltb v n) c.inputs.items)
   pub latches : IsTrue (list_all (latch_below n) c.latches.items)
@@ -46,7 +46,7 @@ pub record Below {A : Type 0} (n : ℕ) (c : Circuit A) : Type 0 where
   pub bads : IsTrue (list_all (literal_below n) c.bads.items)
   pub constraints : IsTrue (list_all (literal_below n) c.constraints.items)
 
-pub below-parts : {A : Type 0} (n : ℕ) (c : Circuit A) → IsTrue (is_below n c) → Below n c
+pub below-parts : (n : ℕ) (c : Circuit) → IsTrue (is_below n c) → Below n c
 below-parts n c within =
     let inputs = list_all (λ v. ltb v n) c.inputs.items in
     let latches = list_all (latch_below n) c.latches.items in
@@ -60,7 +60,7 @@ below-parts n c within =
     let (h, m) = and_parts bads constraints e in
     record { some = ltb-true 0 n some; inputs = i; latches = l; gates = g; bads = h; constraints = m }
 
-pub is_valuation-alike : {A : Type 0} (n : ℕ) (c : Circuit A) (a b : Assignment) → IsTrue (is_below n c) → AgreeBelow n a b
+pub is_valuation-alike : (n : ℕ) (c : Circuit) (a b : Assignment) → IsTrue (is_below n c) → AgreeBelow n a b
     → is_valuation c a ≡ is_valuation c b
 is_valuation-alike n c a b within agree =
     let parts = below-parts n c within in
@@ -68,7 +68,7 @@ is_valuation-alike n c a b within agree =
     (ap not (agree 0 parts.some))
     (all_alike (gate_below n) (has_value a) (has_value b) c.gates.items (λ g. has_value-alike n a b g agree) parts.gates)
 
-pub is_moment-alike : {A : Type 0} (n : ℕ) (c : Circuit A) (a b : Assignment) → IsTrue (is_below n c) → AgreeBelow n a b
+pub is_moment-alike : (n : ℕ) (c : Circuit) (a b : Assignment) → IsTrue (is_below n c) → AgreeBelow n a b
     → is_moment c a ≡ is_moment c b
 is_moment-alike n c a b within agree =
     both_alike (is_valuation c a) (is_valuation c b) (makes_true a c.constraints.items) (makes_true b c.constraints.items)
@@ -76,14 +76,14 @@ is_moment-alike n c a b within agree =
     (all_alike (literal_below n) (is_true a) (is_true b) c.constraints.items (λ l. is_true-alike n a b l agree)
     (below-parts n c within).constraints)
 
-pub is_initial-alike : {A : Type 0} (n : ℕ) (c : Circuit A) (a b : Assignment) → IsTrue (is_below n c) → AgreeBelow n a b
+pub is_initial-alike : (n : ℕ) (c : Circuit) (a b : Assignment) → IsTrue (is_below n c) → AgreeBelow n a b
     → is_initial c a ≡ is_initial c b
 is_initial-alike n c a b within agree =
     all_alike (latch_below n) (λ l. is_reset l.reset (a l.variable)) (λ l. is_reset l.reset (b l.variable)) c.latches.items
     (λ l inside. ap (is_reset l.reset) (agree l.variable (ltb-true l.variable n (and_parts (ltb l.variable n) (literal_below n l.next) inside).0)))
     (below-parts n c within).latches
 
-pub is_transition-alike : {A : Type 0} (n : ℕ) (c : Circuit A) (a b d e : Assignment) → IsTrue (is_below n c)
+pub is_transition-alike : (n : ℕ) (c : Circuit) (a b d e : Assignment) → IsTrue (is_below n c)
     → AgreeBelow n a b → AgreeBelow n d e → is_transition c a d ≡ is_transition c b e
 is_transition-alike n c a b d e within agree also =
     all_alike (latch_below n) (λ l. beq (d l.variable) (is_true a l.next)) (λ l. beq (e l.variable) (is_true b l.next)) c.latches.items

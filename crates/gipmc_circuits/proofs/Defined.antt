@@ -47,39 +47,39 @@ joined : (a b c rest : Bool) → a ≡ true → b ≡ true → c ≡ true → re
 joined a b c rest first second third = rw (first, second, third) refl
 
 -- the notes behind the inputs, the latches and the gates, with what each step says
-pub record Notes {A : Type 0} (c : Circuit A) (start inputs : Assignment) : Type 0 where
+pub record Notes (c : Circuit) (start inputs : Assignment) : Type 0 where
   pub first : start ≡ is_constant
   pub new : IsTrue (are_new c.inputs.items start)
   pub inputs_are : inputs ≡ with_variables c.inputs.items start
 
-pub notes_of : {A : Type 0} (c : Circuit A) (start inputs : Assignment) (new : Bool) → start ≡ is_constant
+pub notes_of : (c : Circuit) (start inputs : Assignment) (new : Bool) → start ≡ is_constant
     → new ≡ are_new c.inputs.items start → (IsTrue new → inputs ≡ with_variables c.inputs.items start) → IsTrue new → Notes c start inputs
 notes_of c start inputs new first says defines is = record { first = first; new = sym says ∙ is; inputs_are = defines is }
 
-notes_sources : {A : Type 0} (c : Circuit A) (start inputs : Assignment) → Notes c start inputs → inputs ≡ with_variables c.inputs.items is_constant
+notes_sources : (c : Circuit) (start inputs : Assignment) → Notes c start inputs → inputs ≡ with_variables c.inputs.items is_constant
 notes_sources c start inputs notes = notes.inputs_are ∙ ap (with_variables c.inputs.items) notes.first
 
-pub not_new_inputs : {A : Type 0} (c : Circuit A) (start : Assignment) → start ≡ is_constant → are_new c.inputs.items start ≡ false
+pub not_new_inputs : (c : Circuit) (start : Assignment) → start ≡ is_constant → are_new c.inputs.items start ≡ false
     → false ≡ is_well_formed c
 not_new_inputs c start first is_not =
     let none : are_new c.inputs.items is_constant ≡ false = ap (are_new c.inputs.items) (sym first) ∙ is_not in
     rw none refl
 
-pub not_new_latches : {A : Type 0} (c : Circuit A) (start inputs : Assignment) → Notes c start inputs
+pub not_new_latches : (c : Circuit) (start inputs : Assignment) → Notes c start inputs
     → are_new (latch_variables c) inputs ≡ false → false ≡ is_well_formed c
 not_new_latches c start inputs notes is_not =
     false_second (are_new c.inputs.items is_constant) (are_new (latch_variables c) (with_variables c.inputs.items is_constant))
     (are_in_order c.gates.items (is_source c) && uses_defined (is_variable c) c)
     (ap (are_new (latch_variables c)) (sym (notes_sources c start inputs notes)) ∙ is_not)
 
-pub not_in_order : {A : Type 0} (c : Circuit A) (start inputs latches : Assignment) → Notes c start inputs
+pub not_in_order : (c : Circuit) (start inputs latches : Assignment) → Notes c start inputs
     → latches ≡ with_variables (latch_variables c) inputs → are_in_order c.gates.items latches ≡ false → false ≡ is_well_formed c
 not_in_order c start inputs latches notes latches_are is_not =
     let sources : latches ≡ is_source c = latches_are ∙ ap (with_variables (latch_variables c)) (notes_sources c start inputs notes) in
     false_third (are_new c.inputs.items is_constant && are_new (latch_variables c) (with_variables c.inputs.items is_constant))
     (are_in_order c.gates.items (is_source c)) (uses_defined (is_variable c) c) (ap (are_in_order c.gates.items) (sym sources) ∙ is_not)
 
-pub in_order_uses : {A : Type 0} (c : Circuit A) (start inputs latches gates : Assignment) → Notes c start inputs
+pub in_order_uses : (c : Circuit) (start inputs latches gates : Assignment) → Notes c start inputs
     → are_new (latch_variables c) inputs ≡ true → latches ≡ with_variables (latch_variables c) inputs
     → are_in_order c.gates.items latches ≡ true → gates ≡ with_variables (map (λ g. g.output) c.gates.items) latches
     → uses_defined gates c ≡ is_well_formed c

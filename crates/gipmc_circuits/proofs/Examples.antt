@@ -1,20 +1,21 @@
 -- Worked examples of traces, of circuits that are safe, of certificates, and of circuits that are well-formed and not.
-use Rattle.std.proofs.Common.{◌≡◌, ℕ, ◌+◌, ◌++◌, zero, suc, Bool, true, false, not, List, [], ◌∷◌, Vec, Some, None, eqb, length, map, arith, refl, sym, subst, IsTrue}
+use Rattle.std.proofs.Common.{◌≡◌, ℕ, ◌+◌, zero, suc, Bool, true, false, not, List, [], ◌∷◌, Vec, Some, None, eqb, length, map, arith, refl, sym, subst}
 use Rattle.std.specs.Prelude.{◌==◌, ◌&&◌, slice_get}
+use Rattle.std.specs.declared.alloc.Global.{Global}
 use Rattle.std.proofs.Math.Nat.{le_refl}
 use Rattle.std.specs.Bool.{beq}
 use Rattle.std.specs.List.{list_all}
 use Rattle.std.proofs.lemmas.Bool.{and_parts, false≢true}
 use Rattle.gipsat_cnf.specs.Formulas.{Assignment}
 use Rattle.gipsat_cnf.specs.Assumptions.{makes_true}
-use Rattle.gipsat_cnf.specs.Literals.{Lit, negated}
+use Rattle.gipsat_cnf.specs.Literals.{Lit}
 use Rattle.gipsat_cnf.proofs.Places.{none_some, same_some}
 use Rattle.gipmc_circuits.specs.declared.circuit.And.{And}
 use Rattle.gipmc_circuits.specs.declared.circuit.Circuit.{Circuit}
 use Rattle.gipsat_cnf.specs.Models.{assignment_in}
 use Rattle.gipmc_circuits.specs.declared.trace.Trace.{Trace}
 use Rattle.gipmc_circuits.specs.Circuit.{FailsAfter, IsSafe, IsTrace, has_value, is_reset, is_valuation}
-use Rattle.gipmc_circuits.specs.Traces.{FailsBy, HoldsRow, HoldsRows, fits, have_width}
+use Rattle.gipmc_circuits.specs.Traces.{FailsBy, HoldsRow, HoldsRows, have_width}
 use Rattle.gipmc_circuits.specs.WellFormed.{are_in_order, are_new, is_constant, with_variables}
 use Rattle.gipmc_circuits.specs.Widened.{are_stacked}
 use Rattle.gipmc_circuits.specs.WitnessCircuits.{are_defined_from, reset_gate, unlinked}
@@ -37,7 +38,7 @@ reset_latch : is_reset (Some false) true ≡ false
 reset_latch = refl
 
 -- such a latch alone may hold 1 after three transitions
-free_latch_fails : {A : Type 0} (c : Circuit A) → c.latches.items ≡ record { variable = 1; next = yes_of 1; reset = None } ∷ []
+free_latch_fails : (c : Circuit) → c.latches.items ≡ record { variable = 1; next = yes_of 1; reset = None } ∷ []
     → c.gates.items ≡ [] → c.constraints.items ≡ [] → FailsAfter c (yes_of 1) 3
 free_latch_fails c latches gates constraints = (
   (λ i. first),
@@ -50,7 +51,7 @@ free_latch_fails c latches gates constraints = (
 )
 
 -- an input may be bad at the start
-bad_at_the_start : {A : Type 0} (c : Circuit A) → c.latches.items ≡ [] → c.gates.items ≡ [] → c.constraints.items ≡ []
+bad_at_the_start : (c : Circuit) → c.latches.items ≡ [] → c.gates.items ≡ [] → c.constraints.items ≡ []
     → FailsAfter c (yes_of 1) 0
 bad_at_the_start c latches gates constraints = (
   (λ i. first),
@@ -63,14 +64,14 @@ bad_at_the_start c latches gates constraints = (
 )
 
 -- a trace of one row, by which an input is bad
-holds_one : {B : Type 0} (row : Vec Bool B) → row.items ≡ true ∷ [] → HoldsRows (λ i. first) (1 ∷ []) (row ∷ [])
+holds_one : (row : Vec Bool Global) → row.items ≡ true ∷ [] → HoldsRows (λ i. first) (1 ∷ []) (row ∷ [])
 holds_one row is zero r at zero v at_input =
     subst (λ w. first w ≡ assignment_in r.items 0) (same_some 1 v at_input)
     (subst (λ q. true ≡ assignment_in q.items 0) (same_some row r at) (rw is refl))
 holds_one row is zero r at (suc k) v at_input = none_some v at_input
 holds_one row is (suc i) r at k v at_input = none_some r at
 
-stays_first : {A : Type 0} (c : Circuit A) → c.latches.items ≡ [] → c.gates.items ≡ [] → c.constraints.items ≡ []
+stays_first : (c : Circuit) → c.latches.items ≡ [] → c.gates.items ≡ [] → c.constraints.items ≡ []
     → IsTrace c 0 (λ i. first)
 stays_first c latches gates constraints =
     record { initial = rw latches refl; moments = λ i within. rw (gates, constraints) refl; transitions = λ i less. rw latches refl }
@@ -78,7 +79,7 @@ stays_first c latches gates constraints =
 no_latches : (row : List Bool) → HoldsRow first [] row
 no_latches row k v at = none_some v at
 
-input_is_true : {A B : Type 0} (c : Circuit A) (trace : Trace B) (row : Vec Bool B) → c.inputs.items ≡ 1 ∷ []
+input_is_true : (c : Circuit) (trace : Trace) (row : Vec Bool Global) → c.inputs.items ≡ 1 ∷ []
     → c.latches.items ≡ [] → c.gates.items ≡ [] → c.constraints.items ≡ [] → trace.latches.items ≡ []
     → trace.inputs.items ≡ row ∷ [] → row.items ≡ true ∷ [] → FailsBy c (yes_of 1) trace
 input_is_true c trace row inputs latches gates constraints none rows is =
@@ -94,7 +95,7 @@ input_is_true c trace row inputs latches gates constraints none rows is =
     )
 
 -- a trace with a value for a latch that the circuit has not
-latch_is_too_many : {A B : Type 0} (c : Circuit A) (bad : Lit) (trace : Trace B) → c.latches.items ≡ []
+latch_is_too_many : (c : Circuit) (bad : Lit) (trace : Trace) → c.latches.items ≡ []
     → trace.latches.items ≡ false ∷ [] → ¬ (FailsBy c bad trace)
 latch_is_too_many c bad trace latches one (fit, n, t, count, is_trace, follows, fails) =
     let (width, rows) = and_parts (length trace.latches.items == length c.latches.items)
@@ -102,7 +103,7 @@ latch_is_too_many c bad trace latches one (fit, n, t, count, is_trace, follows, 
     false≢true (rw (latches, one) at width)
 
 -- a row without a value for an input
-input_is_missing : {A B : Type 0} (c : Circuit A) (bad : Lit) (trace : Trace B) (row : Vec Bool B)
+input_is_missing : (c : Circuit) (bad : Lit) (trace : Trace) (row : Vec Bool Global)
     → c.inputs.items ≡ 1 ∷ [] → trace.inputs.items ≡ row ∷ [] → row.items ≡ [] → ¬ (FailsBy c bad trace)
 input_is_missing c bad trace row inputs rows none (fit, n, t, count, is_trace, follows, fails) =
     let (width, all) = and_parts (length trace.latches.items == length c.latches.items)
@@ -110,7 +111,7 @@ input_is_missing c bad trace row inputs rows none (fit, n, t, count, is_trace, f
     false≢true (rw (inputs, rows, none) at all)
 
 -- without a row there is no moment, and nothing fails
-no_row : {A B : Type 0} (c : Circuit A) (bad : Lit) (trace : Trace B) → trace.inputs.items ≡ [] → ¬ (FailsBy c bad trace)
+no_row : (c : Circuit) (bad : Lit) (trace : Trace) → trace.inputs.items ≡ [] → ¬ (FailsBy c bad trace)
 no_row c bad trace none (fit, n, t, count, is_trace, follows, fails) =
     let moments : 0 ≡ n + 1 = subst (λ xs. length xs ≡ n + 1) none count in
     absurd (omega (arith, moments))
@@ -124,14 +125,14 @@ not_both : (value : Bool) → beq value true ≡ true → (beq value false && tr
 not_both true bad constraint = false≢true constraint
 not_both false bad constraint = false≢true bad
 
-last_moment_breaks : {A : Type 0} (c : Circuit A) → c.constraints.items ≡ not_of 1 ∷ [] → IsSafe c (yes_of 1)
+last_moment_breaks : (c : Circuit) → c.constraints.items ≡ not_of 1 ∷ [] → IsSafe c (yes_of 1)
 last_moment_breaks c constraints n (t, is, bad) =
     let moment = is.moments n (le_refl n) in
     let kept = (and_parts (is_valuation c (t n)) (makes_true (t n) c.constraints.items) moment).1 in
     not_both (t n 1) bad (rw constraints at kept)
 
 -- where the bad literal is the constant, nothing is bad
-nothing_bad : {A : Type 0} (c : Circuit A) → IsSafe c (yes_of 0)
+nothing_bad : (c : Circuit) → IsSafe c (yes_of 0)
 nothing_bad c n (t, is, bad) =
     let moment = is.moments n (le_refl n) in
     let valuation = (and_parts (is_valuation c (t n)) (makes_true (t n) c.constraints.items) moment).0 in
@@ -139,7 +140,7 @@ nothing_bad c n (t, is, bad) =
     not_both (t n 0) bad (beq_false (t n 0) zero_false)
 
 -- where there is no bad literal, each of them is safe
-no_bad_literal : {A : Type 0} (c : Circuit A) → c.bads.items ≡ []
+no_bad_literal : (c : Circuit) → c.bads.items ≡ []
     → (place : ℕ) (bad : Lit) → slice_get c.bads.items place ≡ Some bad → IsSafe c bad
 no_bad_literal c none place bad at = none_some bad (rw none at at)
 

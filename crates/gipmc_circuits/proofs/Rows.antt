@@ -1,6 +1,7 @@
 -- Values that hold a row, and the rows of a trace.
 use Rattle.std.proofs.Common.{◌≡◌, ⊎_elim, ℕ, suc, ◌+◌, ◌≤◌, Bool, true, false, not, List, ◌∷◌, Some, Vec, length, map, get_or, arith, refl, sym, ap, subst, ◌∙◌}
 use Rattle.std.specs.Prelude.{slice_get}
+use Rattle.std.specs.declared.alloc.Global.{Global}
 use Rattle.std.specs.Bool.{beq}
 use Rattle.std.proofs.Math.ListN.{get_or-map}
 use Rattle.std.proofs.lemmas.Bool.{cases_lt, false≢true}
@@ -48,12 +49,12 @@ holds_row a variables row n past all k v at =
     all k (omega (arith, past, within)) v at
 
 -- the inputs have the values of the rows up to the place
-abbrev pub HoldsRowsUpTo : {A : Type 0} → ℕ → (ℕ → Assignment) → List ℕ → List (Vec Bool A) → Type 0
-HoldsRowsUpTo {A} n t inputs rows =
-    (i : ℕ) (row : Vec Bool A) → i ≤ n → slice_get rows i ≡ Some row → HoldsRow (t i) inputs row.items
+abbrev pub HoldsRowsUpTo : ℕ → (ℕ → Assignment) → List ℕ → List (Vec Bool Global) → Type 0
+HoldsRowsUpTo n t inputs rows =
+    (i : ℕ) (row : Vec Bool Global) → i ≤ n → slice_get rows i ≡ Some row → HoldsRow (t i) inputs row.items
 
 -- those of the first row
-pub holds_first : {A : Type 0} (a : Assignment) (inputs : List ℕ) (rows rest : List (Vec Bool A)) (first : Vec Bool A)
+pub holds_first : (a : Assignment) (inputs : List ℕ) (rows rest : List (Vec Bool Global)) (first : Vec Bool Global)
     → rows ≡ first ∷ rest → HoldsRow a inputs first.items → HoldsRowsUpTo 0 (λ i. a) inputs rows
 holds_first a inputs rows rest first split holds i row within at =
     let none : i ≡ 0 = omega (arith, within) in
@@ -62,8 +63,8 @@ holds_first a inputs rows rest first split holds i row within at =
     subst (λ r. HoldsRow a inputs r.items) same holds
 
 -- those of one more row
-pub holds_more : {A : Type 0} (n : ℕ) (t : ℕ → Assignment) (b : Assignment) (inputs : List ℕ)
-    (rows rest : List (Vec Bool A)) (first last : Vec Bool A)
+pub holds_more : (n : ℕ) (t : ℕ → Assignment) (b : Assignment) (inputs : List ℕ)
+    (rows rest : List (Vec Bool Global)) (first last : Vec Bool Global)
     → rows ≡ first ∷ rest → last ≡ get_or rest n last → HoldsRowsUpTo n t inputs rows → HoldsRow b inputs last.items
     → HoldsRowsUpTo (n + 1) (followed_by b n t) inputs rows
 holds_more n t b inputs rows rest first last split read old new i row within at =
@@ -80,7 +81,7 @@ holds_more n t b inputs rows rest first last split read old new i row within at 
     (cases_lt i (n + 1))
 
 -- those of all rows
-pub holds_rows : {A : Type 0} (n : ℕ) (t : ℕ → Assignment) (inputs : List ℕ) (rows : List (Vec Bool A)) → length rows ≡ n + 1
+pub holds_rows : (n : ℕ) (t : ℕ → Assignment) (inputs : List ℕ) (rows : List (Vec Bool Global)) → length rows ≡ n + 1
     → HoldsRowsUpTo n t inputs rows → HoldsRows t inputs rows
 holds_rows n t inputs rows all holds i row at =
     let within = slice_get_within rows i row at in

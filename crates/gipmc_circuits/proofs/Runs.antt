@@ -16,7 +16,7 @@ values_along step start values inputs n = values (state_after step start inputs 
 
 -- they are a trace where the values of each state and input are a moment, those of the next state follow it, and those
 -- of the first one are initial
-pub IsTrace-steps : {A S I : Type 0} (c : Circuit A) (step : S → I → S) (start : S) (values : S → I → Assignment)
+pub IsTrace-steps : {S I : Type 0} (c : Circuit) (step : S → I → S) (start : S) (values : S → I → Assignment)
     → ((i : I) → IsTrue (is_initial c (values start i))) → ((s : S) (i : I) → IsTrue (is_moment c (values s i)))
     → ((s : S) (i j : I) → IsTrue (is_transition c (values s i) (values (step s i) j)))
     → (inputs : ℕ → I) (n : ℕ) → IsTrace c n (values_along step start values inputs)
@@ -30,7 +30,7 @@ IsTrace-steps c step start values first moments goes inputs n = record {
 }
 
 -- so where the circuit is safe, no state that the steps reach makes the literal true
-pub IsSafe-steps : {A S I : Type 0} (c : Circuit A) (bad : Lit) (step : S → I → S) (start : S)
+pub IsSafe-steps : {S I : Type 0} (c : Circuit) (bad : Lit) (step : S → I → S) (start : S)
     (values : S → I → Assignment) → IsSafe c bad → ((i : I) → IsTrue (is_initial c (values start i)))
     → ((s : S) (i : I) → IsTrue (is_moment c (values s i)))
     → ((s : S) (i j : I) → IsTrue (is_transition c (values s i) (values (step s i) j)))

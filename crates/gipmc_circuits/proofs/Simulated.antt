@@ -147,7 +147,7 @@ resets_hold b (k ∷ links) all =
     and_from (is_linked b b k) (are_linked b b links) (reset_holds b k here) (resets_hold b links rest)
 
 -- a certificate whose gates are in order, at first and later, simulates each circuit
-pub simulated : {A B : Type 0} (c : Circuit A) (w : WitnessCircuit B) (order : List And)
+pub simulated : (c : Circuit) (w : WitnessCircuit) (order : List And)
     → IsPermutation (map reset_gate w.resets.items ++ w.circuit.gates.items) order
     → IsTrue (are_defined_from (link_variables w.shared.items ++ w.inputs.items) order)
     → IsTrue (are_defined_from ((link_variables w.shared.items ++ link_variables w.nexts.items) ++ w.inputs.items)

@@ -1,9 +1,10 @@
 -- What three questions about a circuit and its certificate together say of the circuit.
-use Rattle.std.proofs.Common.{◌≡◌, ⊎_elim, ℕ, ◌+◌, ◌-◌, ◌<◌, ◌≤◌, ◌++◌, ◌&&◌, ltb, false, not, List, [], ◌∷◌, length, map, IsTrue, Vec, arith, refl, sym, ap, subst, ◌∙◌}
+use Rattle.std.proofs.Common.{◌≡◌, ⊎_elim, ℕ, ◌+◌, ◌-◌, ◌&&◌, ltb, false, List, [], ◌∷◌, length, map, IsTrue, Vec, arith, refl, sym, ap, subst, ◌∙◌}
+use Rattle.std.specs.declared.alloc.Global.{Global}
 use Rattle.std.specs.Bool.{beq}
 use Rattle.std.specs.List.{list_all}
 use Rattle.std.proofs.Math.Path.{fun_ext}
-use Rattle.std.proofs.lemmas.Bool.{and_from, and_parts, cond-true, cond-false, false≢true, le-ltb, lt-ltb, ltb-true, or_cases}
+use Rattle.std.proofs.lemmas.Bool.{and_from, and_parts, cond-false, false≢true, le-ltb, ltb-true, or_cases}
 use Rattle.std.proofs.lemmas.List.Folds.{list_all-append, list_all-map}
 use Rattle.gipsat_cnf.specs.Assumptions.{makes_true}
 use Rattle.gipsat_cnf.specs.Encodings.{Adds, AllBelow}
@@ -22,7 +23,7 @@ use Rattle.gipmc_circuits.proofs.Certified.{beside, beside-first, implied_items,
 use Rattle.gipmc_circuits.proofs.Traces.{safe_by}
 
 -- a circuit that is certified is safe: along a trace the certificate goes with it, and its claims hold
-pub safe_by_certificate : {A B : Type 0} (c : Circuit A) (w : WitnessCircuit B) (bad : Lit) → IsCertifiedBy c bad w → IsSafe c bad
+pub safe_by_certificate : (c : Circuit) (w : WitnessCircuit) (bad : Lit) → IsCertifiedBy c bad w → IsSafe c bad
 safe_by_certificate c w bad is =
     safe_by c bad (λ a. (b : Assignment) × IsTrue (are_paired c w a b) × IsTrue (claims_hold w b))
     (λ a first is_now.
@@ -34,13 +35,13 @@ safe_by_certificate c w bad is =
     (λ a is_now (b, together, claimed). is.excluded a b together claimed)
 
 -- what the bounds of a certificate say of each part
-record Below {B : Type 0} (n m : ℕ) (w : WitnessCircuit B) : Type 0 where
+record Below (n m : ℕ) (w : WitnessCircuit) : Type 0 where
   circuit : IsTrue (is_below n w.circuit)
   shared : IsTrue (list_all (link_below n m) w.shared.items)
   resets : IsTrue (list_all (link_below n n) w.resets.items)
   nexts : IsTrue (list_all (link_below n n) w.nexts.items)
 
-parts_below : {B : Type 0} (n m : ℕ) (w : WitnessCircuit B) → IsTrue (is_witness_below n m w) → Below n m w
+parts_below : (n m : ℕ) (w : WitnessCircuit) → IsTrue (is_witness_below n m w) → Below n m w
 parts_below n m w within =
     let shared = list_all (link_below n m) w.shared.items in
     let resets = list_all (link_below n n) w.resets.items in
@@ -60,7 +61,7 @@ linked-alike n m links a d b e within agree also =
     ∙ ap (beq (e k.variable)) (is_true-alike m a d k.literal agree other))
     within
 
-paired-alike : {A B : Type 0} (n m : ℕ) (c : Circuit A) (w : WitnessCircuit B) (a d b e : Assignment)
+paired-alike : (n m : ℕ) (c : Circuit) (w : WitnessCircuit) (a d b e : Assignment)
     → is_moment c a ≡ is_moment c d → Below n m w → AgreeBelow m a d → AgreeBelow n b e → are_paired c w a b ≡ are_paired c w d e
 paired-alike n m c w a d b e moments below agree also =
     both_alike (is_valuation w.circuit b) (is_valuation w.circuit e) (are_linked a b w.shared.items && is_moment c a)
@@ -68,7 +69,7 @@ paired-alike n m c w a d b e moments below agree also =
     (both_alike (are_linked a b w.shared.items) (are_linked d e w.shared.items) (is_moment c a) (is_moment c d)
     (linked-alike n m w.shared.items a d b e below.shared agree also) moments)
 
-claims-alike : {B : Type 0} (n : ℕ) (w : WitnessCircuit B) (b e : Assignment) → IsTrue (is_below n w.circuit) → AgreeBelow n b e
+claims-alike : (n : ℕ) (w : WitnessCircuit) (b e : Assignment) → IsTrue (is_below n w.circuit) → AgreeBelow n b e
     → claims_hold w b ≡ claims_hold w e
 claims-alike n w b e within agree =
     let parts = below-parts n w.circuit within in
@@ -91,7 +92,7 @@ first-agrees : (n : ℕ) (b a : Assignment) → AgreeBelow n b (values_at 0 (bes
 first-agrees n b a v less = beside-first n b a v less ∙ ap (λ x. x v) (sym (values_at-none (beside n b a)))
 
 -- the clauses of a pair that begins imply what the certificate claims
-pub initiated_by : {A B : Type 0} (n m : ℕ) (c : Circuit A) (w : WitnessCircuit B) (rows : List (Vec Lit B)) (e f g h : Formula)
+pub initiated_by : (n m : ℕ) (c : Circuit) (w : WitnessCircuit) (rows : List (Vec Lit Global)) (e f g h : Formula)
     → e ≡ [] → IsTrue (is_witness_below n m w) → ((a : Assignment) → holds rows a ≡ makes_true a (claims w.circuit))
     → Adds (λ a. IsTrue (are_paired c w (values_at n a) (values_at 0 a))) e f
     → Adds (λ a. IsTrue (is_initial c (values_at n a))) f g
@@ -117,7 +118,7 @@ initiated_by n m c w rows e f g h none within claimed pair initial resets all a 
     (sym (claimed (values_at 0 z)) ∙ implied_items 0 h rows z all sat_h)
 
 -- the clauses of a pair at which the claims hold imply that the literal is false
-pub excluded_by : {A B : Type 0} (n m : ℕ) (c : Circuit A) (w : WitnessCircuit B) (bad : Lit) (rows : List (Vec Lit B)) (e f g : Formula)
+pub excluded_by : (n m : ℕ) (c : Circuit) (w : WitnessCircuit) (bad : Lit) (rows : List (Vec Lit Global)) (e f g : Formula)
     → e ≡ [] → IsTrue (is_witness_below n m w) → ((a : Assignment) → holds rows a ≡ makes_true a (claims w.circuit))
     → Adds (λ a. IsTrue (are_paired c w (values_at n a) (values_at 0 a))) e f
     → Adds (λ a. IsTrue (holds rows a)) f g → ImpliesAt n g (negated bad ∷ []) → ExcludesBy c w bad
@@ -137,7 +138,7 @@ excluded_by n m c w bad rows e f g none within claimed pair adds implied a b tog
     ⊎_elim (λ is. not_both a bad fails is) (λ is. false≢true is) (or_cases (is_true a (negated bad)) false one)
 
 -- the clauses of two pairs with a transition of both between them imply the claims behind it, where they hold before
-pub inductive_by : {A B : Type 0} (n m k l : ℕ) (c : Circuit A) (w : WitnessCircuit B) (rows : List (Vec Lit B))
+pub inductive_by : (n m k l : ℕ) (c : Circuit) (w : WitnessCircuit) (rows : List (Vec Lit Global))
     (e f g h i j : Formula) → k ≡ n + m → l ≡ k + n → e ≡ [] → IsTrue (is_below m c) → IsTrue (is_witness_below n m w)
     → ((a : Assignment) → holds rows a ≡ makes_true a (claims w.circuit))
     → Adds (λ a. IsTrue (are_paired c w (values_at n a) (values_at 0 a))) e f

@@ -77,7 +77,7 @@ values_from (g ∷ gates) defined a order =
           ((booleans_Decides (b g.output) (is_true b g.left && is_true b g.right)).1 (output ∙ sym (operands_alike g defined b a parts.operands old))) all,
     )
 
-order-part : {A : Type 0} (c : Circuit A) → IsTrue (is_well_formed c) → IsTrue (are_in_order c.gates.items (is_source c))
+order-part : (c : Circuit) → IsTrue (is_well_formed c) → IsTrue (are_in_order c.gates.items (is_source c))
 order-part c is =
     let news = are_new c.inputs.items is_constant && are_new (latch_variables c) (with_variables c.inputs.items is_constant) in
     let literals = list_all (λ l. is_variable c l.next.variable) c.latches.items
@@ -86,7 +86,7 @@ order-part c is =
     let (new, others) = and_parts news (are_in_order c.gates.items (is_source c) && literals) is in
     (and_parts (are_in_order c.gates.items (is_source c)) literals others).0
 
-pub uses-part : {A : Type 0} (c : Circuit A) → IsTrue (is_well_formed c) → IsTrue (uses_defined (is_variable c) c)
+pub uses-part : (c : Circuit) → IsTrue (is_well_formed c) → IsTrue (uses_defined (is_variable c) c)
 uses-part c is =
     let news = are_new c.inputs.items is_constant && are_new (latch_variables c) (with_variables c.inputs.items is_constant) in
     let ordered = are_in_order c.gates.items (is_source c) in
@@ -98,7 +98,7 @@ keeps_defined [] defined v is = is
 keeps_defined (w ∷ vs) defined v is = keeps_defined vs (with_variable w defined) v (or_right (eqb v w) (defined v) is)
 
 -- two valuations that agree at 0, the inputs and the latches agree at each variable of the circuit
-pub valuations-agree : {A : Type 0} (c : Circuit A) (a b : Assignment) → IsTrue (is_well_formed c) → IsTrue (is_valuation c a)
+pub valuations-agree : (c : Circuit) (a b : Assignment) → IsTrue (is_well_formed c) → IsTrue (is_valuation c a)
     → IsTrue (is_valuation c b) → ((v : ℕ) → IsTrue (is_source c v) → a v ≡ b v)
     → (v : ℕ) → IsTrue (is_variable c v) → a v ≡ b v
 valuations-agree c a b is in_a in_b agree =
@@ -106,7 +106,7 @@ valuations-agree c a b is in_a in_b agree =
     (and_parts (not (b 0)) (list_all (has_value b) c.gates.items) in_b).1 agree
 
 -- whatever the values of the inputs and latches are, there is a valuation that has them
-pub valuation-exists : {A : Type 0} (c : Circuit A) (a : Assignment) → IsTrue (is_well_formed c) → a 0 ≡ false
+pub valuation-exists : (c : Circuit) (a : Assignment) → IsTrue (is_well_formed c) → a 0 ≡ false
     → (b : Assignment) × IsTrue (is_valuation c b) × ((v : ℕ) → IsTrue (is_source c v) → b v ≡ a v)
 valuation-exists c a is zero_false =
     let (b, keeps, all) = values_from c.gates.items (is_source c) a (order-part c is) in

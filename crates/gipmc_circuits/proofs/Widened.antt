@@ -124,22 +124,22 @@ starts None value is = refl
 starts (Some v) value is = is
 
 -- the values of a moment, with what the further latches hold there
-record Wide {A B : Type 0} (n : ℕ) (c : Circuit A) (e : Circuit B) (ls : List Latch) (value : Latch → Bool) (a b : Assignment)
+record Wide (n : ℕ) (c : Circuit) (e : Circuit) (ls : List Latch) (value : Latch → Bool) (a b : Assignment)
     : Type 0 where
   agree : AgreeBelow n b a
   moment : IsTrue (is_moment c a) → IsTrue (is_moment e b)
   latches : IsTrue (list_all (λ l. beq (b l.variable) (value l)) ls)
 
-in_order : {A B : Type 0} (n : ℕ) (c : Circuit A) (e : Circuit B) (x : IsWidened n c e)
+in_order : (n : ℕ) (c : Circuit) (e : Circuit) (x : IsWidened n c e)
     → IsTrue (are_in_order x.more_gates (λ v. ltb v (n + length x.more_latches)))
 in_order n c e x = stacked-in_order x.more_gates (n + length x.more_latches) x.stacked
 
 -- the values that the gates make of those that the latches hold
-widened : {A B : Type 0} (n : ℕ) (c : Circuit A) (e : Circuit B) → IsWidened n c e → (Latch → Bool) → Assignment → Assignment
+widened : (n : ℕ) (c : Circuit) (e : Circuit) → IsWidened n c e → (Latch → Bool) → Assignment → Assignment
 widened n c e x value a =
     (values_from x.more_gates (λ v. ltb v (n + length x.more_latches)) (held x.more_latches value a) (in_order n c e x)).0
 
-wide : {A B : Type 0} (n : ℕ) (c : Circuit A) (e : Circuit B) (x : IsWidened n c e) (value : Latch → Bool) (a : Assignment)
+wide : (n : ℕ) (c : Circuit) (e : Circuit) (x : IsWidened n c e) (value : Latch → Bool) (a : Assignment)
     → IsTrue (is_below n c) → Wide n c e x.more_latches value a (widened n c e x value a)
 unfolding widened
 wide n c e x value a below =
@@ -167,24 +167,24 @@ wide n c e x value a below =
     }
 
 -- the values along a trace, with what the further latches hold
-along : {A B : Type 0} (n : ℕ) (c : Circuit A) (e : Circuit B) → IsWidened n c e → (ℕ → Assignment) → ℕ → Assignment
+along : (n : ℕ) (c : Circuit) (e : Circuit) → IsWidened n c e → (ℕ → Assignment) → ℕ → Assignment
 along n c e x t zero = widened n c e x start_of (t 0)
 along n c e x t (suc i) = widened n c e x (next_of (along n c e x t i)) (t (suc i))
 
-agree_along : {A B : Type 0} (n : ℕ) (c : Circuit A) (e : Circuit B) (x : IsWidened n c e) (t : ℕ → Assignment)
+agree_along : (n : ℕ) (c : Circuit) (e : Circuit) (x : IsWidened n c e) (t : ℕ → Assignment)
     → IsTrue (is_below n c) → (i : ℕ) → AgreeBelow n (along n c e x t i) (t i)
 unfolding along
 agree_along n c e x t below zero = (wide n c e x start_of (t 0) below).agree
 agree_along n c e x t below (suc i) = (wide n c e x (next_of (along n c e x t i)) (t (suc i)) below).agree
 
-moment_along : {A B : Type 0} (n : ℕ) (c : Circuit A) (e : Circuit B) (x : IsWidened n c e) (t : ℕ → Assignment)
+moment_along : (n : ℕ) (c : Circuit) (e : Circuit) (x : IsWidened n c e) (t : ℕ → Assignment)
     → IsTrue (is_below n c) → (i : ℕ) → IsTrue (is_moment c (t i)) → IsTrue (is_moment e (along n c e x t i))
 unfolding along
 moment_along n c e x t below zero is_now = (wide n c e x start_of (t 0) below).moment is_now
 moment_along n c e x t below (suc i) is_now =
     (wide n c e x (next_of (along n c e x t i)) (t (suc i)) below).moment is_now
 
-initial_along : {A B : Type 0} (n : ℕ) (c : Circuit A) (e : Circuit B) (x : IsWidened n c e) (t : ℕ → Assignment)
+initial_along : (n : ℕ) (c : Circuit) (e : Circuit) (x : IsWidened n c e) (t : ℕ → Assignment)
     → IsTrue (is_below n c) → IsTrue (is_initial c (t 0)) → IsTrue (is_initial e (along n c e x t 0))
 unfolding along
 initial_along n c e x t below first =
@@ -198,7 +198,7 @@ initial_along n c e x t below first =
     (list_all-append (holds_reset b) c.latches.items x.more_latches
     ∙ and_from (list_all (holds_reset b) c.latches.items) (list_all (holds_reset b) x.more_latches) old more)
 
-transition_along : {A B : Type 0} (n : ℕ) (c : Circuit A) (e : Circuit B) (x : IsWidened n c e) (t : ℕ → Assignment)
+transition_along : (n : ℕ) (c : Circuit) (e : Circuit) (x : IsWidened n c e) (t : ℕ → Assignment)
     → IsTrue (is_below n c) → (i : ℕ) → IsTrue (is_transition c (t i) (t (suc i)))
     → IsTrue (is_transition e (along n c e x t i) (along n c e x t (suc i)))
 unfolding along
@@ -214,7 +214,7 @@ transition_along n c e x t below i goes =
     ∙ and_from (list_all (holds_next a b) c.latches.items) (list_all (holds_next a b) x.more_latches) old more)
 
 -- each trace of the circuit is, below n, one of the circuit with further latches and gates
-pub IsTrace-widened : {A B : Type 0} (n : ℕ) (c : Circuit A) (e : Circuit B) (m : ℕ) (t : ℕ → Assignment)
+pub IsTrace-widened : (n : ℕ) (c : Circuit) (e : Circuit) (m : ℕ) (t : ℕ → Assignment)
     → IsWidened n c e → IsTrue (is_below n c) → IsTrace c m t
     → (u : ℕ → Assignment) × IsTrace e m u × ((i : ℕ) → AgreeBelow n (u i) (t i))
 IsTrace-widened n c e m t x below is = (

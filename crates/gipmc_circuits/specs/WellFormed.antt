@@ -31,25 +31,25 @@ abbrev pub is_constant : ℕ → Bool
 is_constant v = eqb v 0
 
 -- the variables of the latches
-abbrev pub latch_variables : {A : Type 0} → Circuit A → List ℕ
+abbrev pub latch_variables : Circuit → List ℕ
 latch_variables c = map (λ l. l.variable) c.latches.items
 
 -- the variables whose values the gates start from: 0, those of the inputs and those of the latches
-abbrev pub is_source : {A : Type 0} → Circuit A → ℕ → Bool
+abbrev pub is_source : Circuit → ℕ → Bool
 is_source c = with_variables (latch_variables c) (with_variables c.inputs.items is_constant)
 
 -- the variables of the circuit: the sources, and the outputs of the gates
-abbrev pub is_variable : {A : Type 0} → Circuit A → ℕ → Bool
+abbrev pub is_variable : Circuit → ℕ → Bool
 is_variable c = with_variables (map (λ g. g.output) c.gates.items) (is_source c)
 
 -- each literal of the latches, the bad literals and the constraints is of a variable that is defined
-abbrev pub uses_defined : {A : Type 0} → (ℕ → Bool) → Circuit A → Bool
+abbrev pub uses_defined : (ℕ → Bool) → Circuit → Bool
 uses_defined defined c =
     list_all (λ l. defined l.next.variable) c.latches.items
     && (list_all (λ l. defined l.variable) c.bads.items && list_all (λ l. defined l.variable) c.constraints.items)
 
 -- each variable is defined once, the gates in order, and each literal's variable is defined
-abbrev pub is_well_formed : {A : Type 0} → Circuit A → Bool
+abbrev pub is_well_formed : Circuit → Bool
 is_well_formed c =
     (are_new c.inputs.items is_constant && are_new (latch_variables c) (with_variables c.inputs.items is_constant))
     && (are_in_order c.gates.items (is_source c) && uses_defined (is_variable c) c)

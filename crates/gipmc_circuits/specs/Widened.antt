@@ -18,7 +18,7 @@ are_numbered [] n = true
 are_numbered (l ∷ latches) n = eqb l.variable n && are_numbered latches (n + 1)
 
 -- e is c with further latches, numbered from n on, and further gates, numbered behind them
-pub record IsWidened {A B : Type 0} (n : ℕ) (c : Circuit A) (e : Circuit B) : Type 0 where
+pub record IsWidened (n : ℕ) (c : Circuit) (e : Circuit) : Type 0 where
   pub more_latches : List Latch
   pub more_gates : List And
   pub latches : e.latches.items ≡ c.latches.items ++ more_latches

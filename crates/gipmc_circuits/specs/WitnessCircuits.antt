@@ -16,11 +16,11 @@ use Rattle.gipmc_circuits.specs.Encoding.{is_below, literal_below}
 use Rattle.gipmc_circuits.specs.WellFormed.{are_in_order, are_new, is_constant, with_variables}
 
 -- what a circuit claims as a certificate: its bad literals are false, and its constraints true
-abbrev pub claims : {A : Type 0} → Circuit A → List Lit
+abbrev pub claims : Circuit → List Lit
 claims w = map negated w.bads.items ++ w.constraints.items
 
 -- what it claims is true
-abbrev pub claims_hold : {A : Type 0} → WitnessCircuit A → Assignment → Bool
+abbrev pub claims_hold : WitnessCircuit → Assignment → Bool
 claims_hold w b = makes_true b (claims w.circuit)
 
 -- the variable has in b the value that its literal has in a
@@ -32,36 +32,36 @@ abbrev pub are_linked : Assignment → Assignment → List Link → Bool
 are_linked a b links = list_all (is_linked a b) links
 
 -- a valuation of the certificate and a moment of the circuit, alike in what they share
-abbrev pub are_paired : {A B : Type 0} → Circuit A → WitnessCircuit B → Assignment → Assignment → Bool
+abbrev pub are_paired : Circuit → WitnessCircuit → Assignment → Assignment → Bool
 are_paired c w a b = is_valuation w.circuit b && (are_linked a b w.shared.items && is_moment c a)
 
 -- the certificate can begin wherever the circuit does, and go on wherever the circuit does
-pub record Simulates {A B : Type 0} (c : Circuit A) (w : WitnessCircuit B) : Type 0 where
+pub record Simulates (c : Circuit) (w : WitnessCircuit) : Type 0 where
   pub begins : (a : Assignment) → IsTrue (is_moment c a)
       → (b : Assignment) × IsTrue (are_paired c w a b) × IsTrue (are_linked b b w.resets.items)
   pub goes_on : (b d : Assignment) → IsTrue (is_moment c d)
       → (e : Assignment) × IsTrue (are_paired c w d e) × IsTrue (are_linked b e w.nexts.items)
 
 -- the claims hold wherever both begin
-abbrev pub IsInitiatedBy : {A B : Type 0} → Circuit A → WitnessCircuit B → Type 0
+abbrev pub IsInitiatedBy : Circuit → WitnessCircuit → Type 0
 IsInitiatedBy c w =
     (a b : Assignment) → IsTrue (are_paired c w a b) → IsTrue (is_initial c a) → IsTrue (are_linked b b w.resets.items)
     → IsTrue (claims_hold w b)
 
 -- where the claims hold, they hold behind each transition of both
-abbrev pub IsInductiveBy : {A B : Type 0} → Circuit A → WitnessCircuit B → Type 0
+abbrev pub IsInductiveBy : Circuit → WitnessCircuit → Type 0
 IsInductiveBy c w =
     (a b d e : Assignment) → IsTrue (are_paired c w a b) → IsTrue (claims_hold w b) → IsTrue (is_transition c a d)
     → IsTrue (are_linked b e w.nexts.items) → IsTrue (are_paired c w d e) → IsTrue (claims_hold w e)
 
 -- where the claims hold, the literal is false
-abbrev pub ExcludesBy : {A B : Type 0} → Circuit A → WitnessCircuit B → Lit → Type 0
+abbrev pub ExcludesBy : Circuit → WitnessCircuit → Lit → Type 0
 ExcludesBy c w bad =
     (a b : Assignment) → IsTrue (are_paired c w a b) → IsTrue (claims_hold w b) → ¬ (IsTrue (is_true a bad))
 
 -- the certificate simulates the circuit; its claims hold at first and are kept, and where they hold, the literal is
 -- false
-pub record IsCertifiedBy {A B : Type 0} (c : Circuit A) (bad : Lit) (w : WitnessCircuit B) : Type 0 where
+pub record IsCertifiedBy (c : Circuit) (bad : Lit) (w : WitnessCircuit) : Type 0 where
   pub simulates : Simulates c w
   pub initiated : IsInitiatedBy c w
   pub inductive : IsInductiveBy c w
@@ -89,7 +89,7 @@ abbrev pub link_below : ℕ → ℕ → Link → Bool
 link_below n m k = ltb k.variable n && literal_below m k.literal
 
 -- the variables of the certificate are below n, and those of the circuit that it shares below m
-abbrev pub is_witness_below : {B : Type 0} → ℕ → ℕ → WitnessCircuit B → Bool
+abbrev pub is_witness_below : ℕ → ℕ → WitnessCircuit → Bool
 is_witness_below n m w =
     is_below n w.circuit && (list_all (link_below n m) w.shared.items
     && (list_all (link_below n n) w.resets.items && list_all (link_below n n) w.nexts.items))

@@ -2,7 +2,7 @@
 ghost use Rattle.std.specs.Prelude.{◌≡◌, []};
 
 use gipsat_cnf::Literal;
-use std::alloc::{Allocator, Global};
+use std::alloc::Global;
 
 /// An and-gate: its output is true exactly if both operands are.
 #[derive(Clone, Copy)]
@@ -27,23 +27,35 @@ pub struct Latch {
 }
 
 /// A circuit. Variable 0 is false; each other variable is that of an input, of a latch or of a gate.
-#[derive(Drop)]
-pub struct Circuit<A: Allocator = Global> {
+pub struct Circuit {
     /// The variables of the inputs, which may have any value at each moment.
-    pub inputs: Vec<u32, A>,
+    pub inputs: Vec<u32>,
     /// The latches.
-    pub latches: Vec<Latch, A>,
+    pub latches: Vec<Latch>,
     /// The gates, each behind those that its operands are outputs of.
-    pub gates: Vec<And, A>,
+    pub gates: Vec<And>,
     /// The bad literals: each is to be false at every moment.
-    pub bads: Vec<Literal, A>,
+    pub bads: Vec<Literal>,
     /// The constraints: a moment at which one is false does not count.
-    pub constraints: Vec<Literal, A>,
+    pub constraints: Vec<Literal>,
 }
 
-impl<A: Allocator + Copy> Circuit<A> {
+// One call in its owners' proofs, in place of one for each field.
+impl Drop for Circuit {
+    fn drop(self) {
+        let Circuit {
+            inputs,
+            latches,
+            gates,
+            bads,
+            constraints,
+        } = self;
+    }
+}
+
+impl Circuit {
     /// The circuit with nothing in it. It takes no memory yet.
-    pub fn new(alloc: A) -> Self
+    pub fn new(alloc: Global) -> Self
         ensures inputs { result.inputs.items ≡ [] }
         ensures latches { result.latches.items ≡ [] }
         ensures gates { result.gates.items ≡ [] }

@@ -4,7 +4,7 @@ use crate::circuit::Circuit;
 use crate::netlist::Netlist;
 use crate::trace::{Trace, evaluate, fits, is_reset, is_true, next_latches};
 use gipsat_cnf::Literal;
-use std::alloc::{AllocError, Allocator};
+use std::alloc::{AllocError, Global};
 use std::fmt::{self, Display};
 
 /// Why a trace is no counterexample. Moments, latches and constraints are counted from 0.
@@ -39,7 +39,7 @@ impl Display for TraceDoubt {
 }
 
 // The first latch that does not begin at its reset.
-fn wrong_reset<A: Allocator>(circuit: &Circuit<A>, latches: &[bool]) -> Option<usize> {
+fn wrong_reset(circuit: &Circuit, latches: &[bool]) -> Option<usize> {
     for (place, latch) in circuit.latches.iter().enumerate() {
         let value = latches.get(place).copied().unwrap_or(false);
         if !is_reset(latch.reset, value) {
@@ -63,11 +63,11 @@ fn first_false(values: &[bool], literals: &[Literal]) -> Option<usize> {
 ///
 /// # Errors
 /// `AllocError` where memory is refused.
-pub fn trace_doubt<A: Allocator + Copy>(
-    alloc: A,
-    netlist: &Netlist<A>,
+pub fn trace_doubt(
+    alloc: Global,
+    netlist: &Netlist,
     bad: Literal,
-    trace: &Trace<A>,
+    trace: &Trace,
 ) -> Result<Option<TraceDoubt>, AllocError> {
     let circuit = &netlist.circuit;
     if !fits(circuit, trace) {

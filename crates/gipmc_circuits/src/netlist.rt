@@ -6,13 +6,13 @@ ghost use Rattle.gipmc_circuits.specs.WellFormed.{is_well_formed};
 use crate::circuit::Circuit;
 use crate::encoding::variables;
 use crate::well_formed::is_well_formed;
-use std::alloc::{AllocError, Allocator, Global};
+use std::alloc::{AllocError, Global};
 
 /// A circuit that is well-formed, and the number of its variables.
 #[derive(Drop)]
-pub struct Netlist<A: Allocator = Global> {
+pub struct Netlist {
     /// The circuit.
-    pub circuit: Circuit<A>,
+    pub circuit: Circuit,
     /// One more than its greatest variable, at least 1.
     pub variables: usize,
     pub ghost formed: { IsTrue (is_well_formed circuit) },
@@ -20,12 +20,12 @@ pub struct Netlist<A: Allocator = Global> {
     pub ghost least: { (n : ℕ) → IsTrue (is_below n circuit) → variables ≤ n },
 }
 
-impl<A: Allocator + Copy> Netlist<A> {
+impl Netlist {
     /// The netlist of a circuit. None if the circuit is not well-formed.
     ///
     /// # Errors
     /// `AllocError` where memory is refused.
-    pub fn new(alloc: A, circuit: Circuit<A>) -> Result<Option<Self>, AllocError>
+    pub fn new(alloc: Global, circuit: Circuit) -> Result<Option<Self>, AllocError>
         ensures { IfOk result
             (λ made. MatchOption made (is_well_formed circuit ≡ false) (λ n. n.circuit ≡ circuit)) }
     {

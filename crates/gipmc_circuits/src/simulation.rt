@@ -9,14 +9,10 @@ use crate::trace::value_of;
 use crate::well_formed::{define, define_gates, define_inputs};
 use crate::witness_circuit::{Link, WitnessCircuit};
 use gipsat_cnf::Literal;
-use std::alloc::{AllocError, Allocator};
+use std::alloc::{AllocError, Global};
 
 // Whether each variable comes once, none of them is 0, and the gates are in order behind them.
-fn are_defined_from<A: Allocator + Copy>(
-    alloc: A,
-    sources: &[u32],
-    gates: &[And],
-) -> Result<bool, AllocError>
+fn are_defined_from(alloc: Global, sources: &[u32], gates: &[And]) -> Result<bool, AllocError>
     ensures { IfOk result (λ are. IsTrue are → IsTrue (are_defined_from sources.now gates.now)) }
 {
     let mut defined = Vec::new(alloc);
@@ -28,17 +24,14 @@ fn are_defined_from<A: Allocator + Copy>(
 }
 
 // The variables of the links.
-fn variables_of<A: Allocator + Copy>(alloc: A, links: &[Link]) -> Result<Vec<u32, A>, AllocError>
+fn variables_of(alloc: Global, links: &[Link]) -> Result<Vec<u32>, AllocError>
     ensures { IfOk result (λ all. all.items ≡ link_variables links.now) }
 {
     links.iter().map(|k| k.variable).collect(alloc)
 }
 
 /// Whether the gates have values behind each step, whatever is shared.
-pub(crate) fn goes_on<A: Allocator + Copy>(
-    alloc: A,
-    certificate: &WitnessCircuit<A>,
-) -> Result<bool, AllocError>
+pub(crate) fn goes_on(alloc: Global, certificate: &WitnessCircuit) -> Result<bool, AllocError>
     ensures { IfOk result (λ does. IsTrue does → IsTrue (are_defined_from
         ((link_variables certificate.now.shared.items ++ link_variables certificate.now.nexts.items)
         ++ certificate.now.inputs.items) certificate.now.circuit.gates.items)) }
@@ -51,10 +44,7 @@ pub(crate) fn goes_on<A: Allocator + Copy>(
 }
 
 /// Whether the latches have resets and the gates values at first, whatever is shared.
-pub(crate) fn begins<A: Allocator + Copy>(
-    alloc: A,
-    certificate: &WitnessCircuit<A>,
-) -> Result<bool, AllocError>
+pub(crate) fn begins(alloc: Global, certificate: &WitnessCircuit) -> Result<bool, AllocError>
     ensures { IfOk result (λ does. IsTrue does → (order : List Gate)
         × IsPermutation
         (map reset_gate certificate.now.resets.items ++ certificate.now.circuit.gates.items) order
@@ -88,14 +78,14 @@ fn reset_gate(link: Link) -> And
 }
 
 // The gates that give the latches their resets.
-fn reset_gates<A: Allocator + Copy>(alloc: A, links: &[Link]) -> Result<Vec<And, A>, AllocError>
+fn reset_gates(alloc: Global, links: &[Link]) -> Result<Vec<And>, AllocError>
     ensures { IfOk result (λ gates. gates.items ≡ map reset_gate links.now) }
 {
     links.iter().map(|k| reset_gate(*k)).collect(alloc)
 }
 
 // Puts the gates in the order of the ranks of their outputs.
-fn sort<A: Allocator>(gates: &mut Vec<And, A>, ranks: &[usize]) -> Result<(), AllocError>
+fn sort(gates: &mut Vec<And>, ranks: &[usize]) -> Result<(), AllocError>
     ensures { OnOk result (IsPermutation gates.old.items gates.new.items) }
 {
     gates.sort_by_key(|gate| rank_of(ranks, gate.output))
@@ -108,12 +98,12 @@ fn rank_of(ranks: &[usize], variable: u32) -> usize {
 
 // For each variable, how many of the gates stand before its own, where each stands behind its operands. The gates are
 // gone over until no more of them find their operands, at most so many times and once.
-fn ranks<A: Allocator + Copy>(
-    alloc: A,
+fn ranks(
+    alloc: Global,
     sources: &[u32],
     gates: &[And],
     times: usize,
-) -> Result<Vec<usize, A>, AllocError> {
+) -> Result<Vec<usize>, AllocError> {
     let mut defined = Vec::new(alloc);
     define(&mut defined, 0)?;
     for source in sources {
@@ -132,9 +122,9 @@ fn ranks<A: Allocator + Copy>(
 }
 
 // Ranks the gates that are not ranked yet and find their operands, behind so many others. How many are ranked then.
-fn rank_gates<A: Allocator>(
-    ranks: &mut Vec<usize, A>,
-    defined: &mut Vec<bool, A>,
+fn rank_gates(
+    ranks: &mut Vec<usize>,
+    defined: &mut Vec<bool>,
     gates: &[And],
     before: usize,
 ) -> Result<usize, AllocError> {

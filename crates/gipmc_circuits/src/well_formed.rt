@@ -7,11 +7,11 @@ ghost use Rattle.gipmc_circuits.specs.WellFormed.{are_in_order, are_new, is_well
 use crate::circuit::{And, Circuit, Latch};
 use crate::trace::value_of;
 use gipsat_cnf::Literal;
-use std::alloc::{AllocError, Allocator};
+use std::alloc::{AllocError, Global};
 
 // Lets the notes have at least so many places. Nothing more is defined then.
 #[tactic(auto, using(crate::proofs::Defined::defined_pushed))]
-fn grow<A: Allocator>(defined: &mut Vec<bool, A>, len: usize) -> Result<(), AllocError>
+fn grow(defined: &mut Vec<bool>, len: usize) -> Result<(), AllocError>
     ensures same { OnOk result (assignment_in defined.new.items ≡ assignment_in defined.old.items) }
     ensures long { OnOk result (len ≤ length defined.new.items) }
 {
@@ -23,10 +23,7 @@ fn grow<A: Allocator>(defined: &mut Vec<bool, A>, len: usize) -> Result<(), Allo
 
 // Notes that a variable is defined.
 #[tactic(auto, using(crate::proofs::Defined::defined_set))]
-pub(crate) fn define<A: Allocator>(
-    defined: &mut Vec<bool, A>,
-    variable: u32,
-) -> Result<(), AllocError>
+pub(crate) fn define(defined: &mut Vec<bool>, variable: u32) -> Result<(), AllocError>
     ensures { OnOk result
         (assignment_in defined.new.items ≡ with_variable variable (assignment_in defined.old.items)) }
 {
@@ -36,10 +33,7 @@ pub(crate) fn define<A: Allocator>(
 }
 
 // Whether none of the inputs is defined before it comes; they are defined then.
-pub(crate) fn define_inputs<A: Allocator>(
-    defined: &mut Vec<bool, A>,
-    inputs: &[u32],
-) -> Result<bool, AllocError>
+pub(crate) fn define_inputs(defined: &mut Vec<bool>, inputs: &[u32]) -> Result<bool, AllocError>
     ensures says { IfOk result (λ new. new ≡ are_new inputs.now (assignment_in defined.old.items)) }
     ensures defines { IfOk result (λ new. IsTrue new →
         assignment_in defined.new.items ≡ with_variables inputs.now (assignment_in defined.old.items)) }
@@ -54,10 +48,7 @@ pub(crate) fn define_inputs<A: Allocator>(
 }
 
 // Whether no latch's variable is defined before it comes; they are defined then.
-fn define_latches<A: Allocator>(
-    defined: &mut Vec<bool, A>,
-    latches: &[Latch],
-) -> Result<bool, AllocError>
+fn define_latches(defined: &mut Vec<bool>, latches: &[Latch]) -> Result<bool, AllocError>
     ensures says { IfOk result (λ new.
         new ≡ are_new (map (λ l. l.variable) latches.now) (assignment_in defined.old.items)) }
     ensures defines { IfOk result (λ new. IsTrue new → assignment_in defined.new.items
@@ -80,10 +71,7 @@ fn has_operands(defined: &[bool], gate: And) -> bool
 }
 
 // Whether each gate's operands are defined before it and its output is not; the outputs are defined then.
-pub(crate) fn define_gates<A: Allocator>(
-    defined: &mut Vec<bool, A>,
-    gates: &[And],
-) -> Result<bool, AllocError>
+pub(crate) fn define_gates(defined: &mut Vec<bool>, gates: &[And]) -> Result<bool, AllocError>
     ensures says { IfOk result (λ ordered. ordered ≡ are_in_order gates.now (assignment_in defined.old.items)) }
     ensures defines { IfOk result (λ ordered. IsTrue ordered → assignment_in defined.new.items
         ≡ with_variables (map (λ g. g.output) gates.now) (assignment_in defined.old.items)) }
@@ -115,7 +103,7 @@ fn are_defined(defined: &[bool], literals: &[Literal]) -> bool
 }
 
 // Whether the variable of each literal is defined.
-fn uses_defined<A: Allocator>(defined: &[bool], circuit: &Circuit<A>) -> bool
+fn uses_defined(defined: &[bool], circuit: &Circuit) -> bool
     ensures { result ≡ uses_defined (assignment_in defined.now) circuit.now }
 {
     have_next(defined, &circuit.latches)
@@ -129,10 +117,7 @@ fn uses_defined<A: Allocator>(defined: &[bool], circuit: &Circuit<A>) -> bool
 ///
 /// # Errors
 /// `AllocError` where memory is refused.
-pub fn is_well_formed<A: Allocator + Copy>(
-    alloc: A,
-    circuit: &Circuit<A>,
-) -> Result<bool, AllocError>
+pub fn is_well_formed(alloc: Global, circuit: &Circuit) -> Result<bool, AllocError>
     ensures { IfOk result (λ is. is ≡ is_well_formed circuit.now) }
 {
     let mut defined = Vec::new(alloc);

@@ -8,7 +8,7 @@ use crate::circuit::Circuit;
 use crate::trace::value_of;
 use crate::well_formed::define;
 use gipsat_cnf::Literal;
-use std::alloc::{AllocError, Allocator, Global};
+use std::alloc::{AllocError, Global};
 
 /// A variable, and a literal whose value it has.
 #[derive(Clone, Copy)]
@@ -31,30 +31,42 @@ pub struct Register {
 }
 
 /// A circuit as a certificate of another one. It claims that its bad literals are false and its constraints true.
-#[derive(Drop)]
-pub struct WitnessCircuit<A: Allocator = Global> {
+pub struct WitnessCircuit {
     /// Its gates, bad literals and constraints.
-    pub circuit: Circuit<A>,
+    pub circuit: Circuit,
     /// Its inputs and latches that have the value of a literal of the other circuit, at each moment.
-    pub shared: Vec<Link, A>,
+    pub shared: Vec<Link>,
     /// What each other latch holds at the first moment: itself if it may hold either value then.
-    pub resets: Vec<Link, A>,
+    pub resets: Vec<Link>,
     /// What each other latch holds at the next moment.
-    pub nexts: Vec<Link, A>,
+    pub nexts: Vec<Link>,
     /// The other inputs.
-    pub inputs: Vec<u32, A>,
+    pub inputs: Vec<u32>,
 }
 
-impl<A: Allocator + Copy> WitnessCircuit<A> {
+// One call in its owners' proofs, in place of one for each field.
+impl Drop for WitnessCircuit {
+    fn drop(self) {
+        let WitnessCircuit {
+            circuit,
+            shared,
+            resets,
+            nexts,
+            inputs,
+        } = self;
+    }
+}
+
+impl WitnessCircuit {
     /// The certificate of a circuit and its latches, of which these inputs and latches are shared.
     ///
     /// # Errors
     /// `AllocError` where memory is refused.
     pub fn new(
-        alloc: A,
-        circuit: Circuit<A>,
+        alloc: Global,
+        circuit: Circuit,
         registers: &[Register],
-        shared: Vec<Link, A>,
+        shared: Vec<Link>,
     ) -> Result<Self, AllocError>
         ensures circuit { IfOk result (λ w. w.circuit ≡ circuit) }
         ensures shared { IfOk result (λ w. w.shared ≡ shared) }
@@ -80,7 +92,7 @@ impl<A: Allocator + Copy> WitnessCircuit<A> {
 }
 
 // Notes of the variables of the links, and of 0.
-fn marks<A: Allocator + Copy>(alloc: A, links: &[Link]) -> Result<Vec<bool, A>, AllocError>
+fn marks(alloc: Global, links: &[Link]) -> Result<Vec<bool>, AllocError>
     ensures { IfOk result
         (λ marks. assignment_in marks.items ≡ with_variables (link_variables links.now) is_constant) }
 {
@@ -91,7 +103,7 @@ fn marks<A: Allocator + Copy>(alloc: A, links: &[Link]) -> Result<Vec<bool, A>, 
 }
 
 // Notes the variables of the links.
-fn mark_links<A: Allocator>(marks: &mut Vec<bool, A>, links: &[Link]) -> Result<(), AllocError>
+fn mark_links(marks: &mut Vec<bool>, links: &[Link]) -> Result<(), AllocError>
     ensures { OnOk result (assignment_in marks.new.items
         ≡ with_variables (link_variables links.now) (assignment_in marks.old.items)) }
 {
@@ -102,11 +114,11 @@ fn mark_links<A: Allocator>(marks: &mut Vec<bool, A>, links: &[Link]) -> Result<
 }
 
 // The latches whose variables are not marked.
-fn unlinked<A: Allocator + Copy>(
-    alloc: A,
+fn unlinked(
+    alloc: Global,
     marks: &[bool],
     registers: &[Register],
-) -> Result<Vec<Register, A>, AllocError>
+) -> Result<Vec<Register>, AllocError>
     ensures { IfOk result
         (λ own. own.items ≡ filter (λ r. not (assignment_in marks.now r.variable)) registers.now) }
 {
@@ -121,10 +133,7 @@ fn unlinked<A: Allocator + Copy>(
 }
 
 // What the latches hold at first.
-fn reset_links<A: Allocator + Copy>(
-    alloc: A,
-    registers: &[Register],
-) -> Result<Vec<Link, A>, AllocError>
+fn reset_links(alloc: Global, registers: &[Register]) -> Result<Vec<Link>, AllocError>
     ensures { IfOk result (λ links. links.items ≡ map reset_link registers.now) }
 {
     registers
@@ -137,10 +146,7 @@ fn reset_links<A: Allocator + Copy>(
 }
 
 // What the latches hold next.
-fn next_links<A: Allocator + Copy>(
-    alloc: A,
-    registers: &[Register],
-) -> Result<Vec<Link, A>, AllocError>
+fn next_links(alloc: Global, registers: &[Register]) -> Result<Vec<Link>, AllocError>
     ensures { IfOk result (λ links. links.items ≡ map next_link registers.now) }
 {
     registers
@@ -153,11 +159,7 @@ fn next_links<A: Allocator + Copy>(
 }
 
 // The variables that are not marked.
-fn unmarked<A: Allocator + Copy>(
-    alloc: A,
-    marks: &[bool],
-    variables: &[u32],
-) -> Result<Vec<u32, A>, AllocError>
+fn unmarked(alloc: Global, marks: &[bool], variables: &[u32]) -> Result<Vec<u32>, AllocError>
     ensures { IfOk result (λ left. left.items ≡ filter (λ v. not (assignment_in marks.now v)) variables.now) }
 {
     let mut left = Vec::new(alloc);

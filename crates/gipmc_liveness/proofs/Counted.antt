@@ -20,7 +20,7 @@ use Rattle.gipmc_liveness.specs.Liveness.{AllRecur, IsLive, IsRun, Recurs}
 use Rattle.gipmc_liveness.specs.Turns.{CountsTo, MeetsMore, MetBetween, always, turn, turns}
 
 -- the parts of a run are traces
-pub IsTrace-run : {A : Type 0} (c : Circuit A) (t : ℕ → Assignment) (n : ℕ) → IsRun c t → IsTrace c n t
+pub IsTrace-run : (c : Circuit) (t : ℕ → Assignment) (n : ℕ) → IsRun c t → IsTrace c n t
 IsTrace-run c t n is = record {
   initial = is.initial;
   moments = λ i within. is.moments i;
@@ -223,7 +223,7 @@ stages-stacked (m ∷ ls) n x g before l o from room here less all last =
     (and_from (eqb (g + 1) (g + 1)) (are_stacked others ((g + 1) + 1)) (eq-eqb (g + 1) (g + 1) refl)
     (subst (λ k. IsTrue (are_stacked others k)) two later))))
 
-pub IsWidened-chained : {A B : Type 0} (n : ℕ) (c : Circuit A) (e : Circuit B) (stages : List Lit) (last : Lit)
+pub IsWidened-chained : (n : ℕ) (c : Circuit) (e : Circuit) (stages : List Lit) (last : Lit)
     → IsChained n c e stages last → 0 < n → IsTrue (list_all (literal_below n) stages) → IsTrue (literal_below n last)
     → IsWidened n c e
 IsWidened-chained n c e stages last is some all below = record {
@@ -240,14 +240,14 @@ IsWidened-chained n c e stages last is some all below = record {
       (omega (arith, some)) all below);
 }
 
-always_true : {A : Type 0} (c : Circuit A) (a : Assignment) → IsTrue (is_moment c a) → IsTrue (is_true a always)
+always_true : (c : Circuit) (a : Assignment) → IsTrue (is_moment c a) → IsTrue (is_true a always)
 always_true c a is =
     let (valuation, constraints) = and_parts (is_valuation c a) (makes_true a c.constraints.items) is in
     let zero_false = not-true (a 0) (and_parts (not (a 0)) (list_all (has_value a) c.gates.items) valuation).0 in
     (booleans_Decides (a 0) false).1 zero_false
 
 -- the gates and latches that were added
-more_gates : {A B : Type 0} (n : ℕ) (c : Circuit A) (e : Circuit B) (stages : List Lit) (last : Lit) (a : Assignment)
+more_gates : (n : ℕ) (c : Circuit) (e : Circuit) (stages : List Lit) (last : Lit) (a : Assignment)
     → IsChained n c e stages last → IsTrue (is_moment e a)
     → IsTrue (is_moment c a) × IsTrue (list_all (has_value a) (stage_gates n (n + length stages) always stages))
     × IsTrue (has_value a (last_gate n stages last))
@@ -268,7 +268,7 @@ more_gates n c e stages last a is moment =
       (and_parts (has_value a (last_gate n stages last)) true end).0,
     )
 
-more_latches : {A B : Type 0} (n : ℕ) (c : Circuit A) (e : Circuit B) (stages : List Lit) (last : Lit) (a b : Assignment)
+more_latches : (n : ℕ) (c : Circuit) (e : Circuit) (stages : List Lit) (last : Lit) (a b : Assignment)
     → IsChained n c e stages last → IsTrue (is_transition e a b)
     → IsTrue (is_transition c a b) × IsTrue (list_all (holds_next a b) (stage_latches n (n + length stages) stages))
 more_latches n c e stages last a b is goes =
@@ -278,7 +278,7 @@ more_latches n c e stages last a b is goes =
     and_parts (list_all (holds_next a b) c.latches.items) (list_all (holds_next a b) more)
     (sym (list_all-append (holds_next a b) c.latches.items more) ∙ all)
 
-first_latches : {A B : Type 0} (n : ℕ) (c : Circuit A) (e : Circuit B) (stages : List Lit) (last : Lit) (a : Assignment)
+first_latches : (n : ℕ) (c : Circuit) (e : Circuit) (stages : List Lit) (last : Lit) (a : Assignment)
     → IsChained n c e stages last → IsTrue (is_initial e a)
     → IsTrue (is_initial c a) × IsTrue (list_all (holds_reset a) (stage_latches n (n + length stages) stages))
 first_latches n c e stages last a is first =
@@ -288,7 +288,7 @@ first_latches n c e stages last a is first =
     and_parts (list_all (holds_reset a) c.latches.items) (list_all (holds_reset a) more)
     (sym (list_all-append (holds_reset a) c.latches.items more) ∙ all)
 
-counts_along : {A B : Type 0} (n : ℕ) (c : Circuit A) (e : Circuit B) (stages : List Lit) (last : Lit) (m : ℕ) (u : ℕ → Assignment)
+counts_along : (n : ℕ) (c : Circuit) (e : Circuit) (stages : List Lit) (last : Lit) (m : ℕ) (u : ℕ → Assignment)
     → IsChained n c e stages last → IsTrace e m u → Counts n (n + length stages) m always stages u
 counts_along n c e stages last m u is trace = record {
   first = (first_latches n c e stages last (u 0) is trace.initial).1;
@@ -297,7 +297,7 @@ counts_along n c e stages last m u is trace = record {
 }
 
 -- a trace of the circuit that counts is one of the circuit
-IsTrace-chained : {A B : Type 0} (n : ℕ) (c : Circuit A) (e : Circuit B) (stages : List Lit) (last : Lit) (m : ℕ) (u : ℕ → Assignment)
+IsTrace-chained : (n : ℕ) (c : Circuit) (e : Circuit) (stages : List Lit) (last : Lit) (m : ℕ) (u : ℕ → Assignment)
     → IsChained n c e stages last → IsTrace e m u → IsTrace c m u
 IsTrace-chained n c e stages last m u is trace = record {
   initial = (first_latches n c e stages last (u 0) is trace.initial).0;
@@ -314,7 +314,7 @@ MetBetween-alike n t u m k (l ∷ ls) agree all (i, from, is, rest) =
     (i, from, is_true-alike n (u i) (t i) l (agree i) first ∙ is, MetBetween-alike n t u (i + 1) k ls agree others rest)
 
 -- the circuit that counts fails where the stages and the last literal are met in turn
-FailsAfter-chained : {A B : Type 0} (n : ℕ) (c : Circuit A) (e : Circuit B) (stages : List Lit) (last : Lit) (m : ℕ)
+FailsAfter-chained : (n : ℕ) (c : Circuit) (e : Circuit) (stages : List Lit) (last : Lit) (m : ℕ)
     (t : ℕ → Assignment) → IsChained n c e stages last → IsTrue (is_below n c) → 0 < n → IsTrue (list_all (literal_below n) stages)
     → IsTrue (literal_below n last) → IsTrace c m t → MetBetween t 0 m stages → IsTrue (is_true (t m) last)
     → FailsAfter e (yes_of (top n stages)) m
@@ -330,7 +330,7 @@ FailsAfter-chained n c e stages last m t is within some all below trace met ends
     (u, longer, (booleans_Decides (u m (top n stages)) true).1 on)
 
 -- and only there
-FailsAfter-met : {A B : Type 0} (n : ℕ) (c : Circuit A) (e : Circuit B) (stages : List Lit) (last : Lit) (m : ℕ)
+FailsAfter-met : (n : ℕ) (c : Circuit) (e : Circuit) (stages : List Lit) (last : Lit) (m : ℕ)
     → IsChained n c e stages last → FailsAfter e (yes_of (top n stages)) m
     → (t : ℕ → Assignment) × IsTrace c m t × MetBetween t 0 m stages × IsTrue (is_true (t m) last)
 FailsAfter-met n c e stages last m is (u, trace, fails) =
@@ -342,7 +342,7 @@ FailsAfter-met n c e stages last m is (u, trace, fails) =
     (u, IsTrace-chained n c e stages last m u is trace, MetBetween-before u k 0 m stages (omega arith) met, ends)
 
 -- so it counts the literals in turn
-CountsTo-chained : {A B : Type 0} (n : ℕ) (c : Circuit A) (e : Circuit B) (literals : List Lit) (k : ℕ)
+CountsTo-chained : (n : ℕ) (c : Circuit) (e : Circuit) (literals : List Lit) (k : ℕ)
     → IsChained n c e (turns literals k) (turn literals k) → IsTrue (is_below n c) → 0 < n
     → IsTrue (list_all (literal_below n) (turns literals k)) → IsTrue (literal_below n (turn literals k))
     → CountsTo c literals k e (yes_of (top n (turns literals k)))
@@ -353,14 +353,14 @@ CountsTo-chained n c e literals k is within some all below m = (
 )
 
 -- a circuit with such a chain counts to k
-pub CountsTo-counter : {A B : Type 0} (c : Circuit A) (literals : List Lit) (k : ℕ) (e : Circuit B) (bad : Lit)
+pub CountsTo-counter : (c : Circuit) (literals : List Lit) (k : ℕ) (e : Circuit) (bad : Lit)
     → IsCounterOf c literals k e bad → CountsTo c literals k e bad
 CountsTo-counter c literals k e bad (n, is) =
     subst (CountsTo c literals k e) (sym is.counted)
     (CountsTo-chained n c e literals k is.chained is.fresh (below-parts n c is.fresh).some is.stages is.last)
 
 -- each literal recurs whose turn it is
-Recurs-at : {A : Type 0} (c : Circuit A) (t : ℕ → Assignment) (ls : List Lit) (i : ℕ) → IsRun c t → AllRecur t ls
+Recurs-at : (c : Circuit) (t : ℕ → Assignment) (ls : List Lit) (i : ℕ) → IsRun c t → AllRecur t ls
     → Recurs t (get_or ls i always)
 Recurs-at c t [] i run recur = λ m. (m, omega arith, always_true c (t m) (run.moments m))
 Recurs-at c t (l ∷ ls) zero run recur = recur l (0, refl)
@@ -375,7 +375,7 @@ MetBetween-recur t (l ∷ ls) recur m =
     let (n, rest) = MetBetween-recur t ls (λ j (k, at). recur j (suc k, at)) (i + 1) in
     (n, (i, from, is, rest))
 
-Recurs-turns : {A : Type 0} (c : Circuit A) (t : ℕ → Assignment) (literals : List Lit) → IsRun c t → AllRecur t literals
+Recurs-turns : (c : Circuit) (t : ℕ → Assignment) (literals : List Lit) → IsRun c t → AllRecur t literals
     → (k : ℕ) (l : Lit) → Has (turns literals k) l → Recurs t l
 Recurs-turns c t literals run recur zero l (i, at) = none_some l at
 Recurs-turns c t literals run recur (suc k) l (i, at) =
@@ -383,7 +383,7 @@ Recurs-turns c t literals run recur (suc k) l (i, at) =
     (Recurs-at c t literals (k % length literals) run recur) i l at
 
 -- on a run on which the literals recur, any number of them is met in turn
-MeetsMore-run : {A : Type 0} (c : Circuit A) (t : ℕ → Assignment) (literals : List Lit) (k : ℕ) → IsRun c t → AllRecur t literals
+MeetsMore-run : (c : Circuit) (t : ℕ → Assignment) (literals : List Lit) (k : ℕ) → IsRun c t → AllRecur t literals
     → (n : ℕ) × MeetsMore c literals k n
 MeetsMore-run c t literals k run recur =
     let (m, met) = MetBetween-recur t (turns literals k) (Recurs-turns c t literals run recur k) 0 in
@@ -391,13 +391,13 @@ MeetsMore-run c t literals k run recur =
     (n, (t, IsTrace-run c t n run, MetBetween-behind t 0 m n (turns literals k) from met, is))
 
 -- where no trace meets more than k of them, the circuit is live
-pub IsLive-met : {A : Type 0} (c : Circuit A) (fairness justice : List Lit) (k : ℕ)
+pub IsLive-met : (c : Circuit) (fairness justice : List Lit) (k : ℕ)
     → ((n : ℕ) → ¬ (MeetsMore c (fairness ++ justice) k n)) → IsLive c fairness justice
 IsLive-met c fairness justice k never (t, run, recur) =
     let (n, meets) = MeetsMore-run c t (fairness ++ justice) k run recur in never n meets
 
 -- where the circuit that counts is safe, the circuit is live
-pub IsLive-counted : {A B : Type 0} (c : Circuit A) (e : Circuit B) (fairness justice : List Lit) (k : ℕ) (bad : Lit)
+pub IsLive-counted : (c : Circuit) (e : Circuit) (fairness justice : List Lit) (k : ℕ) (bad : Lit)
     → CountsTo c (fairness ++ justice) k e bad → IsSafe e bad → IsLive c fairness justice
 IsLive-counted c e fairness justice k bad counts safe =
     IsLive-met c fairness justice k (λ n meets. safe n ((counts n).1 meets))

@@ -44,7 +44,7 @@ only_one l m zero at = same_some l m at
 only_one l m (suc k) at = none_some m at
 
 -- where the turn stays, the client may wait forever
-starving : {A : Type 0} (c : Circuit A) → c.latches.items ≡ stays ∷ waits ∷ [] → c.gates.items ≡ still ∷ []
+starving : (c : Circuit) → c.latches.items ≡ stays ∷ waits ∷ [] → c.gates.items ≡ still ∷ []
     → c.constraints.items ≡ [] → FailsForever c [] (yes_of 2 ∷ [])
 starving c latches gates constraints = (
   (λ i. waiting_forever),
@@ -59,7 +59,7 @@ starving c latches gates constraints = (
 value_of : (x y : Bool) → IsTrue (beq x y) → x ≡ y
 value_of x y is = (booleans_Decides x y).0 is
 
-zero_false : {A : Type 0} (c : Circuit A) (a : Assignment) → IsTrue (is_moment c a) → a 0 ≡ false
+zero_false : (c : Circuit) (a : Assignment) → IsTrue (is_moment c a) → a 0 ≡ false
 zero_false c a is =
     let (valuation, constraints) = and_parts (is_valuation c a) (makes_true a c.constraints.items) is in
     not-true (a 0) (and_parts (not (a 0)) (list_all (has_value a) c.gates.items) valuation).0
@@ -71,7 +71,7 @@ record Fair (t : ℕ → Assignment) : Type 0 where
   wait : (i : ℕ) → t (i + 1) 2 ≡ is_true (t i) (yes_of 3)
   gate : (i : ℕ) → t i 3 ≡ (is_true (t i) (yes_of 2) && is_true (t i) (not_of 1))
 
-fair_run : {A : Type 0} (c : Circuit A) (t : ℕ → Assignment) → c.latches.items ≡ changes ∷ waits ∷ [] → c.gates.items ≡ still ∷ []
+fair_run : (c : Circuit) (t : ℕ → Assignment) → c.latches.items ≡ changes ∷ waits ∷ [] → c.gates.items ≡ still ∷ []
     → IsRun c t → Fair t
 fair_run c t latches gates run = record {
   first =
@@ -106,7 +106,7 @@ served t fair (suc d) =
     ap (λ i. t i 2) next ∙ fair.wait (d + 2) ∙ ap (λ v. beq v true) off
 
 -- where the turn changes, no client waits forever
-fair_arbiter : {A : Type 0} (c : Circuit A) → c.latches.items ≡ changes ∷ waits ∷ [] → c.gates.items ≡ still ∷ []
+fair_arbiter : (c : Circuit) → c.latches.items ≡ changes ∷ waits ∷ [] → c.gates.items ≡ still ∷ []
     → IsLive c [] (yes_of 2 ∷ [])
 fair_arbiter c latches gates (t, run, recur) =
     let (m, from, is) = recur (yes_of 2) (0, refl) 2 in
@@ -118,13 +118,13 @@ fair_arbiter c latches gates (t, run, recur) =
     split m from = omega (arith, from)
 
 -- no run is fair where the constant is to recur
-never_fair : {A : Type 0} (c : Circuit A) (justice : List Lit) → IsLive c (yes_of 0 ∷ []) justice
+never_fair : (c : Circuit) (justice : List Lit) → IsLive c (yes_of 0 ∷ []) justice
 never_fair c justice (t, run, recur) =
     let (m, from, is) = recur (yes_of 0) (0, refl) 0 in
     false≢true (sym (zero_false c (t m) (run.moments m)) ∙ value_of (t m 0) true is)
 
 -- a constraint that the second moment breaks ends every run
-no_run : {A : Type 0} (c : Circuit A) (fairness justice : List Lit) → c.latches.items ≡ changes ∷ []
+no_run : (c : Circuit) (fairness justice : List Lit) → c.latches.items ≡ changes ∷ []
     → c.constraints.items ≡ not_of 1 ∷ [] → IsLive c fairness justice
 no_run c fairness justice latches constraints (t, run, recur) =
     let first : t 0 1 ≡ false = value_of (t 0 1) false (and_parts (holds_reset (t 0) changes) true (rw latches at run.initial)).0 in
@@ -200,7 +200,7 @@ ends_in_bad : note 6 (yes_of 1) 5 14
 ends_in_bad = refl
 
 -- where the turn stays, the first moment alone is a lasso
-waiting_round : {A : Type 0} (c : Circuit A) → c.latches.items ≡ stays ∷ waits ∷ [] → c.gates.items ≡ still ∷ []
+waiting_round : (c : Circuit) → c.latches.items ≡ stays ∷ waits ∷ [] → c.gates.items ≡ still ∷ []
     → c.constraints.items ≡ [] → HasLasso c (yes_of 2 ∷ []) 0
 waiting_round c latches gates constraints = (
   0,

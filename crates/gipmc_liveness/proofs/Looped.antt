@@ -70,7 +70,7 @@ round-reaches start n m i within from upto =
 abbrev pub looped : ℕ → ℕ → (ℕ → Assignment) → ℕ → Assignment
 looped start n t i = t (round start n i)
 
-pub IsRun-looped : {A : Type 0} (c : Circuit A) (start n : ℕ) (t : ℕ → Assignment) → LoopsBack c start n t
+pub IsRun-looped : (c : Circuit) (start n : ℕ) (t : ℕ → Assignment) → LoopsBack c start n t
     → IsRun c (looped start n t)
 IsRun-looped c start n t is = record {
   initial = is.trace.initial;
@@ -101,7 +101,7 @@ Recurs-looped start n t l within (m, from, upto, is) i =
     (j, behind_i, subst (λ q. IsTrue (is_true (t q) l)) (sym at) is)
 
 -- a lasso gives a run on which all that is met in its loop recurs
-pub FailsForever-lasso : {A B : Type 0} (c : Circuit A) (fairness justice : List Lit) (lasso : Lasso B)
+pub FailsForever-lasso : (c : Circuit) (fairness justice : List Lit) (lasso : Lasso)
     → IsLasso c fairness justice lasso → FailsForever c fairness justice
 FailsForever-lasso c fairness justice lasso (fit, loops) =
     let (n, t, rows, back, follows, met) = loops in (

@@ -1,6 +1,7 @@
 -- The moments of a lasso, one after another.
 use Rattle.std.proofs.Common.{◌≡◌, ◌⊎◌, ⊎_elim, inl, inr, ℕ, zero, suc, ◌+◌, ◌≤◌, Bool, false, not, List, [], ◌∷◌, Some, Vec, length, get_or, IsTrue, arith, refl, sym, ap, subst, ◌∙◌}
 use Rattle.std.specs.Prelude.{filter, slice_get}
+use Rattle.std.specs.declared.alloc.Global.{Global}
 use Rattle.std.proofs.lemmas.Bool.{cases_Bool, cases_lt, cond-false, cond-true}
 use Rattle.std.proofs.lemmas.Option.{get_or_from_slice_get, slice_get_within}
 use Rattle.gipsat_cnf.specs.Formulas.{Assignment, Has, is_true}
@@ -16,12 +17,12 @@ use Rattle.gipmc_liveness.specs.declared.lasso.Lasso.{Lasso}
 use Rattle.gipmc_liveness.specs.Lassos.{FollowsUpTo, IsMet, IsReachedBy, Loops}
 
 -- a row that stands at a place is the one that is read there
-row_read : {B : Type 0} (rows : List (Vec Bool B)) (k : ℕ) (last row : Vec Bool B) → last ≡ get_or rows k last
+row_read : (rows : List (Vec Bool Global)) (k : ℕ) (last row : Vec Bool Global) → last ≡ get_or rows k last
     → slice_get rows k ≡ Some row → last ≡ row
 row_read rows k last row read at = read ∙ get_or_from_slice_get rows k row last at
 
 -- the first moment
-pub reached_first : {A B : Type 0} (c : Circuit A) (trace : Trace B) (a : Assignment) (first : Vec Bool B)
+pub reached_first : (c : Circuit) (trace : Trace) (a : Assignment) (first : Vec Bool Global)
     → first ≡ get_or trace.inputs.items 0 first → IsTrue (is_initial c a) → IsTrue (is_moment c a)
     → HoldsRow a (latch_variables c) trace.latches.items → HoldsRow a c.inputs.items first.items → IsReachedBy c trace 0 a
 reached_first c trace a first read initial moment latches inputs = (
@@ -38,7 +39,7 @@ reached_first c trace a first read initial moment latches inputs = (
 )
 
 -- what the trace says of one more moment
-follows_more : {A B : Type 0} (n : ℕ) (c : Circuit A) (trace : Trace B) (t : ℕ → Assignment) (b : Assignment) (last : Vec Bool B)
+follows_more : (n : ℕ) (c : Circuit) (trace : Trace) (t : ℕ → Assignment) (b : Assignment) (last : Vec Bool Global)
     → last ≡ get_or trace.inputs.items (n + 1) last → HoldsRow b c.inputs.items last.items → FollowsUpTo n c trace t
     → FollowsUpTo (n + 1) c trace (followed_by b n t)
 follows_more n c trace t b last read new (latches, old) = (
@@ -58,7 +59,7 @@ follows_more n c trace t b last read new (latches, old) = (
 )
 
 -- one more moment
-pub reached_more : {A B : Type 0} (c : Circuit A) (trace : Trace B) (n : ℕ) (a b : Assignment) (last : Vec Bool B)
+pub reached_more : (c : Circuit) (trace : Trace) (n : ℕ) (a b : Assignment) (last : Vec Bool Global)
     → IsReachedBy c trace n a → last ≡ get_or trace.inputs.items (n + 1) last → IsTrue (is_transition c a b)
     → IsTrue (is_moment c b) → HoldsRow b c.inputs.items last.items → IsReachedBy c trace (n + 1) b
 reached_more c trace n a b last (t, is, at, follows) read goes moment row = (
@@ -95,13 +96,13 @@ met_or_left test (m ∷ ls) l (suc k) at =
         (cases_Bool (test m))
 
 -- the loop so far: where it started, where it is, and which of the literals are left to be met
-abbrev pub LoopSoFar : {A B : Type 0} → Circuit A → List Lit → Lasso B → Assignment → ℕ → Assignment → List Lit → Type 0
+abbrev pub LoopSoFar : Circuit → List Lit → Lasso → Assignment → ℕ → Assignment → List Lit → Type 0
 LoopSoFar c literals lasso first n a left =
     (t : ℕ → Assignment) × IsTrace c n t × (t n ≡ a) × FollowsUpTo n c lasso.trace t × (t lasso.start ≡ first)
     × ((l : Lit) → Has literals l → IsMet lasso.start n t l ⊎ Has left l)
 
 -- where it starts
-pub loop_first : {A B : Type 0} (c : Circuit A) (literals left : List Lit) (lasso : Lasso B) (a : Assignment)
+pub loop_first : (c : Circuit) (literals left : List Lit) (lasso : Lasso) (a : Assignment)
     → IsReachedBy c lasso.trace lasso.start a → left ≡ filter (λ l. not (is_true a l)) literals
     → LoopSoFar c literals lasso a lasso.start a left
 loop_first c literals left lasso a (t, is, at, follows) are = (
@@ -118,8 +119,8 @@ loop_first c literals left lasso a (t, is, at, follows) are = (
 )
 
 -- one more moment of it
-pub loop_more : {A B : Type 0} (c : Circuit A) (literals left rest : List Lit) (lasso : Lasso B) (first : Assignment) (n : ℕ)
-    (a b : Assignment) (last : Vec Bool B)
+pub loop_more : (c : Circuit) (literals left rest : List Lit) (lasso : Lasso) (first : Assignment) (n : ℕ)
+    (a b : Assignment) (last : Vec Bool Global)
     → LoopSoFar c literals lasso first n a left → lasso.start ≤ n → last ≡ get_or lasso.trace.inputs.items (n + 1) last
     → IsTrue (is_transition c a b) → IsTrue (is_moment c b) → HoldsRow b c.inputs.items last.items
     → rest ≡ filter (λ l. not (is_true b l)) left → LoopSoFar c literals lasso first (n + 1) b rest
@@ -150,10 +151,10 @@ loop_more c literals left rest lasso first n a b last (t, is, at, follows, start
     )
 
 -- where its last moment leads back to where it started, and nothing is left
-pub loop_closed : {A B : Type 0} (c : Circuit A) (literals left : List Lit) (lasso : Lasso B) (n : ℕ) (first a : Assignment)
+pub loop_closed : (c : Circuit) (literals left : List Lit) (lasso : Lasso) (n : ℕ) (first a : Assignment)
     → LoopSoFar c literals lasso first n a left → lasso.start ≤ n → length lasso.trace.inputs.items ≡ n + 1
     → IsTrue (is_transition c a first) → left ≡ [] → Loops c literals lasso
-loop_closed {B = B} c literals left lasso n first a (t, is, at, (latches, inputs), start, met) within rows goes none = (
+loop_closed c literals left lasso n first a (t, is, at, (latches, inputs), start, met) within rows goes none = (
   n,
   t,
   rows,
@@ -167,6 +168,6 @@ loop_closed {B = B} c literals left lasso n first a (t, is, at, (latches, inputs
   λ l has. ⊎_elim (λ is_met. is_met) (λ (k, there). none_some l (subst (λ ls. slice_get ls k ≡ Some l) none there)) (met l has),
 )
   where
-    within_rows : (i : ℕ) (row : Vec Bool B) → slice_get lasso.trace.inputs.items i ≡ Some row → i ≤ n
+    within_rows : (i : ℕ) (row : Vec Bool Global) → slice_get lasso.trace.inputs.items i ≡ Some row → i ≤ n
     within_rows i row there =
         let less = slice_get_within lasso.trace.inputs.items i row there in omega (arith, rows, less)

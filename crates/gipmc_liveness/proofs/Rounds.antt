@@ -98,7 +98,7 @@ round-behind t ls recur j (suc d) =
     less a b c first then = omega (arith, first, then)
 
 -- between two rounds that begin with the same latches is a lasso
-lasso-between : {A : Type 0} (c : Circuit A) (t : ℕ → Assignment) (ls : List Lit) (p q r : ℕ) → IsRun c t → p < q → q ≤ r
+lasso-between : (c : Circuit) (t : ℕ → Assignment) (ls : List Lit) (p q r : ℕ) → IsRun c t → p < q → q ≤ r
     → AllBetween t p q ls → code (t p) (latch_variables c) ≡ code (t r) (latch_variables c) → HasLasso c ls (r - 1)
 lasso-between c t ls p q r run less upto met same =
     let last : r ≡ (r - 1) + 1 = omega (arith, less, upto) in (
@@ -118,7 +118,7 @@ lasso-between c t ls p q r run less upto met same =
     within l (i, after, before, is) = (i, after, omega (arith, before, upto), is)
 
 -- where no trace leads round a loop in which all of them are true, the circuit is live
-pub IsLive-without_lasso : {A : Type 0} (c : Circuit A) (fairness justice : List Lit)
+pub IsLive-without_lasso : (c : Circuit) (fairness justice : List Lit)
     → ((n : ℕ) → HasLasso c (fairness ++ justice) n → ⊥) → IsLive c fairness justice
 IsLive-without_lasso c fairness justice never (t, run, recur) =
     let ls = fairness ++ justice in

@@ -335,7 +335,7 @@ saving_at-agrees n start m t i v less =
     unlike : (a b : ℕ) → a < b → a ≡ b → ⊥
     unlike a b less same = omega (arith, less, same)
 
-IsTrace-saving_at : {A : Type 0} (n start m : ℕ) (c : Circuit A) (t : ℕ → Assignment) → IsTrue (is_below n c) → LoopsBack c start m t
+IsTrace-saving_at : (n start m : ℕ) (c : Circuit) (t : ℕ → Assignment) → IsTrue (is_below n c) → LoopsBack c start m t
     → IsTrace c (m + 1) (saving_at n start m t)
 IsTrace-saving_at n start m c t below is =
     let v = saving_at n start m t in
@@ -370,7 +370,7 @@ IsTrace-saving_at n start m c t below is =
         ∙ ap (λ j. is_transition c (t j) (t start)) last ∙ is.back)
         (cases_lt i m)
 
-Runs-saving : {A B : Type 0} (n : ℕ) (c : Circuit A) (e : Circuit B) (ls : List Lit) (m : ℕ) (u : ℕ → Assignment)
+Runs-saving : (n : ℕ) (c : Circuit) (e : Circuit) (ls : List Lit) (m : ℕ) (u : ℕ → Assignment)
     → IsSaving n c e ls → IsTrace e m u → Runs m (saver_latches n (latch_variables c) ls) (saver_gates n (latch_variables c) ls) u
 Runs-saving n c e ls m u is trace =
     let xs = latch_variables c in
@@ -384,7 +384,7 @@ Runs-saving n c e ls m u is trace =
     })
 
 -- each lasso is a trace that fails, with one transition more
-FailsByLassos-from : {A B : Type 0} (n : ℕ) (c : Circuit A) (ls : List Lit) (e : Circuit B) (bad : Lit) → IsSaverFrom n c ls e bad
+FailsByLassos-from : (n : ℕ) (c : Circuit) (ls : List Lit) (e : Circuit) (bad : Lit) → IsSaverFrom n c ls e bad
     → FailsByLassos c ls e bad
 FailsByLassos-from n c ls e bad is m (start, t, loops, met) =
     let parts = below-parts n c is.fresh in
@@ -434,12 +434,12 @@ FailsByLassos-from n c ls e bad is m (start, t, loops, met) =
           ((booleans_Decides (u (m + 1) (last_of n (length xs) (length ls))) true).1 on),
     )
 
-pub FailsByLassos-saver : {A B : Type 0} (c : Circuit A) (ls : List Lit) (e : Circuit B) (bad : Lit) → IsSaverOf c ls e bad
+pub FailsByLassos-saver : (c : Circuit) (ls : List Lit) (e : Circuit) (bad : Lit) → IsSaverOf c ls e bad
     → FailsByLassos c ls e bad
 FailsByLassos-saver c ls e bad (n, is) = FailsByLassos-from n c ls e bad is
 
 -- where the circuit that saves is safe, the circuit is live
-pub IsLive-saved : {A B : Type 0} (c : Circuit A) (e : Circuit B) (fairness justice : List Lit) (bad : Lit)
+pub IsLive-saved : (c : Circuit) (e : Circuit) (fairness justice : List Lit) (bad : Lit)
     → FailsByLassos c (fairness ++ justice) e bad → IsSafe e bad → IsLive c fairness justice
 IsLive-saved c e fairness justice bad fails safe =
     IsLive-without_lasso c fairness justice (λ n lasso. safe (n + 1) (fails n lasso))

@@ -199,7 +199,7 @@ saver_gates-stacked n xs ls some variables literals =
     (subst (λ k. IsTrue (are_stacked N k)) behind
     (notes-stacked f (n + 2 + length xs) (f + 1 + 7 * length xs) n ls (length ls) some (omega arith) (omega arith) (omega arith) literals)))
 
-pub IsWidened-saving : {A B : Type 0} (n : ℕ) (c : Circuit A) (e : Circuit B) (ls : List Lit) → IsSaving n c e ls → IsTrue (is_below n c)
+pub IsWidened-saving : (n : ℕ) (c : Circuit) (e : Circuit) (ls : List Lit) → IsSaving n c e ls → IsTrue (is_below n c)
     → IsTrue (list_all (literal_below n) ls) → IsWidened (n + 1) c e
 IsWidened-saving n c e ls is below within =
     let parts = below-parts n c below in
@@ -240,7 +240,7 @@ gate-more n g is =
     and_from (ltb g.output (n + 1)) (literal_below (n + 1) g.left && literal_below (n + 1) g.right) (ltb-more g.output n output)
     (and_from (literal_below (n + 1) g.left) (literal_below (n + 1) g.right) (ltb-more g.left.variable n left) (ltb-more g.right.variable n right))
 
-pub is_below-more : {A : Type 0} (n : ℕ) (c : Circuit A) → IsTrue (is_below n c) → IsTrue (is_below (n + 1) c)
+pub is_below-more : (n : ℕ) (c : Circuit) → IsTrue (is_below n c) → IsTrue (is_below (n + 1) c)
 is_below-more n c is =
     let parts = below-parts n c is in
     let m = n + 1 in

@@ -16,7 +16,7 @@ abbrev gates_from : ℕ → List Lit → ℕ → Lit → List And
 gates_from n stages k before = stage_gates (n + k) (n + length stages + 2 * k) before (drop k stages)
 
 -- what is there so far, and what is left, are all of the stages
-pub record StagesSoFar {A : Type 0} (old now : Circuit A) (n : ℕ) (stages : List Lit) (k : ℕ) (before : Lit) : Type 0 where
+pub record StagesSoFar (old now : Circuit) (n : ℕ) (stages : List Lit) (k : ℕ) (before : Lit) : Type 0 where
   pub latches : now.latches.items ++ latches_from n stages k
       ≡ old.latches.items ++ stage_latches n (n + length stages) stages
   pub gates : now.gates.items ++ gates_from n stages k before
@@ -24,7 +24,7 @@ pub record StagesSoFar {A : Type 0} (old now : Circuit A) (n : ℕ) (stages : Li
   pub constraints : now.constraints.items ≡ old.constraints.items
   pub last : all_passed (n + k) before (drop k stages) ≡ all_passed n always stages
 
-pub stages_none : {A : Type 0} (c : Circuit A) (n : ℕ) (stages : List Lit) → StagesSoFar c c n stages 0 always
+pub stages_none : (c : Circuit) (n : ℕ) (stages : List Lit) → StagesSoFar c c n stages 0 always
 stages_none c n stages =
     let x : n + 0 ≡ n = omega arith in
     let g : n + length stages + 2 * 0 ≡ n + length stages = omega arith in
@@ -37,7 +37,7 @@ stages_none c n stages =
       last = ap (λ y. all_passed y always stages) x;
     }
 
-pub stages_more : {A : Type 0} (c d e : Circuit A) (n : ℕ) (stages : List Lit) (k : ℕ) (before l : Lit)
+pub stages_more : (c d e : Circuit) (n : ℕ) (stages : List Lit) (k : ℕ) (before l : Lit)
     → StagesSoFar c d n stages k before → k < length stages → l ≡ get_or stages k l
     → AddsStage d e (n + k) (n + length stages + 2 * k) before l → StagesSoFar c e n stages (k + 1) (yes_of (n + k))
 stages_more c d e n stages k before l so_far less read adds =
@@ -70,7 +70,7 @@ stages_more c d e n stages k before l so_far less read adds =
           ∙ ap (λ ls. all_passed (n + k) before ls) (sym split) ∙ so_far.last;
     }
 
-pub stages_all : {A : Type 0} (c d : Circuit A) (n : ℕ) (stages : List Lit) (k : ℕ) (before : Lit)
+pub stages_all : (c d : Circuit) (n : ℕ) (stages : List Lit) (k : ℕ) (before : Lit)
     → StagesSoFar c d n stages k before → length stages ≤ k → AddsStages c d n stages
 stages_all c d n stages k before so_far past =
     let none : drop k stages ≡ [] = drop_all k stages past in
@@ -82,13 +82,13 @@ stages_all c d n stages k before so_far past =
       constraints = so_far.constraints;
     }
 
-pub stages_passed : {A : Type 0} (c d : Circuit A) (n : ℕ) (stages : List Lit) (k : ℕ) (before : Lit)
+pub stages_passed : (c d : Circuit) (n : ℕ) (stages : List Lit) (k : ℕ) (before : Lit)
     → StagesSoFar c d n stages k before → length stages ≤ k → before ≡ all_passed n always stages
 stages_passed c d n stages k before so_far past =
     ap (λ ls. all_passed (n + k) before ls) (sym (drop_all k stages past)) ∙ so_far.last
 
 -- the whole chain
-pub IsChained-made : {A : Type 0} (n : ℕ) (c d e f : Circuit A) (stages : List Lit) (last before : Lit) (output : ℕ)
+pub IsChained-made : (n : ℕ) (c d e f : Circuit) (stages : List Lit) (last before : Lit) (output : ℕ)
     → IsCopied c d → AddsStages d e n stages → before ≡ all_passed n always stages → output ≡ n + length stages + 2 * length stages
     → f.gates.items ≡ e.gates.items ++ passing output before last ∷ [] → f.latches.items ≡ e.latches.items
     → f.constraints.items ≡ e.constraints.items → IsChained n c f stages last

@@ -51,19 +51,19 @@ abbrev pub last_gate : ℕ → List Lit → Lit → And
 last_gate n stages last = passing (top n stages) (all_passed n always stages) last
 
 -- the new circuit is the old one with the latch and the gates of a stage
-pub record AddsStage {A : Type 0} (old new : Circuit A) (x g : ℕ) (before l : Lit) : Type 0 where
+pub record AddsStage (old new : Circuit) (x g : ℕ) (before l : Lit) : Type 0 where
   pub latches : new.latches.items ≡ old.latches.items ++ passed x g ∷ []
   pub gates : new.gates.items ≡ (old.gates.items ++ passing g before l ∷ []) ++ waiting x g ∷ []
   pub constraints : new.constraints.items ≡ old.constraints.items
 
 -- the new circuit is the old one with the latches and gates of stages
-pub record AddsStages {A : Type 0} (old new : Circuit A) (n : ℕ) (stages : List Lit) : Type 0 where
+pub record AddsStages (old new : Circuit) (n : ℕ) (stages : List Lit) : Type 0 where
   pub latches : new.latches.items ≡ old.latches.items ++ stage_latches n (n + length stages) stages
   pub gates : new.gates.items ≡ old.gates.items ++ stage_gates n (n + length stages) always stages
   pub constraints : new.constraints.items ≡ old.constraints.items
 
 -- e is c with the latches and gates of stages, and a last gate
-pub record IsChained {A B : Type 0} (n : ℕ) (c : Circuit A) (e : Circuit B) (stages : List Lit) (last : Lit) : Type 0 where
+pub record IsChained (n : ℕ) (c : Circuit) (e : Circuit) (stages : List Lit) (last : Lit) : Type 0 where
   pub latches : e.latches.items ≡ c.latches.items ++ stage_latches n (n + length stages) stages
   pub gates : e.gates.items
       ≡ c.gates.items ++ (stage_gates n (n + length stages) always stages ++ last_gate n stages last ∷ [])
@@ -71,7 +71,7 @@ pub record IsChained {A B : Type 0} (n : ℕ) (c : Circuit A) (e : Circuit B) (s
 
 -- e is c with a chain of k latches, whose variables are n and those behind it, as c has none: each waits for one of the
 -- literals in turn, and the last gate is bad, for one literal more
-pub record IsCounterFrom {A B : Type 0} (n : ℕ) (c : Circuit A) (literals : List Lit) (k : ℕ) (e : Circuit B) (bad : Lit) : Type 0 where
+pub record IsCounterFrom (n : ℕ) (c : Circuit) (literals : List Lit) (k : ℕ) (e : Circuit) (bad : Lit) : Type 0 where
   pub fresh : IsTrue (is_below n c)
   pub stages : IsTrue (list_all (literal_below n) (turns literals k))
   pub last : IsTrue (literal_below n (turn literals k))
@@ -79,11 +79,11 @@ pub record IsCounterFrom {A B : Type 0} (n : ℕ) (c : Circuit A) (literals : Li
   pub counted : bad ≡ yes_of (top n (turns literals k))
 
 -- e is c with such a chain
-abbrev pub IsCounterOf : {A B : Type 0} → Circuit A → List Lit → ℕ → Circuit B → Lit → Type 0
+abbrev pub IsCounterOf : Circuit → List Lit → ℕ → Circuit → Lit → Type 0
 IsCounterOf c literals k e bad = (n : ℕ) × IsCounterFrom n c literals k e bad
 
 -- e has the inputs, latches, gates and constraints of c
-pub record IsCopied {A : Type 0} (c e : Circuit A) : Type 0 where
+pub record IsCopied (c e : Circuit) : Type 0 where
   pub inputs : e.inputs.items ≡ c.inputs.items
   pub latches : e.latches.items ≡ c.latches.items
   pub gates : e.gates.items ≡ c.gates.items

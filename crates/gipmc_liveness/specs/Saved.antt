@@ -83,21 +83,21 @@ abbrev pub last_of : ℕ → ℕ → ℕ → ℕ
 last_of n x l = first_gate n x l + 1 + 7 * x + 3 * l
 
 -- the new circuit is the old one with further latches and gates
-pub record Adds {A : Type 0} (old new : Circuit A) (more_latches : List Latch) (more_gates : List And) : Type 0 where
+pub record Adds (old new : Circuit) (more_latches : List Latch) (more_gates : List And) : Type 0 where
   pub inputs : new.inputs.items ≡ old.inputs.items
   pub latches : new.latches.items ≡ old.latches.items ++ more_latches
   pub gates : new.gates.items ≡ old.gates.items ++ more_gates
   pub constraints : new.constraints.items ≡ old.constraints.items
 
 -- the new circuit is the old one with the input n, the latch that something is saved, and the first gates
-pub record AddsSaving {A : Type 0} (old new : Circuit A) (n f : ℕ) : Type 0 where
+pub record AddsSaving (old new : Circuit) (n f : ℕ) : Type 0 where
   pub inputs : new.inputs.items ≡ old.inputs.items ++ n ∷ []
   pub latches : new.latches.items ≡ old.latches.items ++ latch (n + 1) f ∷ []
   pub gates : new.gates.items ≡ old.gates.items ++ saving n (n + 1) f
   pub constraints : new.constraints.items ≡ old.constraints.items
 
 -- e is c with the input n, which saves, and with latches and gates for each latch of c and each of the literals
-pub record IsSaving {A B : Type 0} (n : ℕ) (c : Circuit A) (e : Circuit B) (literals : List Lit) : Type 0 where
+pub record IsSaving (n : ℕ) (c : Circuit) (e : Circuit) (literals : List Lit) : Type 0 where
   pub inputs : e.inputs.items ≡ c.inputs.items ++ n ∷ []
   pub latches : e.latches.items ≡ c.latches.items ++ saver_latches n (latch_variables c) literals
   pub gates : e.gates.items ≡ c.gates.items ++ saver_gates n (latch_variables c) literals
@@ -105,20 +105,20 @@ pub record IsSaving {A B : Type 0} (n : ℕ) (c : Circuit A) (e : Circuit B) (li
 
 -- e is c with an input n that saves what the latches hold, where the variables from n on are none of c; the last gate is
 -- bad: the latches hold what was saved, and each of the literals was true since
-pub record IsSaverFrom {A B : Type 0} (n : ℕ) (c : Circuit A) (literals : List Lit) (e : Circuit B) (bad : Lit) : Type 0 where
+pub record IsSaverFrom (n : ℕ) (c : Circuit) (literals : List Lit) (e : Circuit) (bad : Lit) : Type 0 where
   pub fresh : IsTrue (is_below n c)
   pub within : IsTrue (list_all (literal_below n) literals)
   pub saves : IsSaving n c e literals
   pub looped : bad ≡ yes_of (last_of n (length (latch_variables c)) (length literals))
 
 -- e is c with such an input
-abbrev pub IsSaverOf : {A B : Type 0} → Circuit A → List Lit → Circuit B → Lit → Type 0
+abbrev pub IsSaverOf : Circuit → List Lit → Circuit → Lit → Type 0
 IsSaverOf c literals e bad = (n : ℕ) × IsSaverFrom n c literals e bad
 
 -- some trace of n transitions leads back to one of its moments, and each of the literals is true since
-abbrev pub HasLasso : {A : Type 0} → Circuit A → List Lit → ℕ → Type 0
+abbrev pub HasLasso : Circuit → List Lit → ℕ → Type 0
 HasLasso c literals n = (start : ℕ) × (t : ℕ → Assignment) × LoopsBack c start n t × AllMet start n t literals
 
 -- with each lasso of c, e fails behind its last moment
-abbrev pub FailsByLassos : {A B : Type 0} → Circuit A → List Lit → Circuit B → Lit → Type 0
+abbrev pub FailsByLassos : Circuit → List Lit → Circuit → Lit → Type 0
 FailsByLassos c literals e bad = (n : ℕ) → HasLasso c literals n → FailsAfter e bad (n + 1)

@@ -25,10 +25,10 @@ MetBetween t m n [] = m ≤ n
 MetBetween t m n (l ∷ ls) = (i : ℕ) × (m ≤ i) × IsTrue (is_true (t i) l) × MetBetween t (i + 1) n ls
 
 -- on a trace of n transitions k of the literals are met in turn before the last moment, and there the next one
-abbrev pub MeetsMore : {A : Type 0} → Circuit A → List Lit → ℕ → ℕ → Type 0
+abbrev pub MeetsMore : Circuit → List Lit → ℕ → ℕ → Type 0
 MeetsMore c literals k n =
     (t : ℕ → Assignment) × IsTrace c n t × MetBetween t 0 n (turns literals k) × IsTrue (is_true (t n) (turn literals k))
 
 -- the literal of e becomes true exactly where more than k of the literals are met in turn on a trace of c
-abbrev pub CountsTo : {A B : Type 0} → Circuit A → List Lit → ℕ → Circuit B → Lit → Type 0
+abbrev pub CountsTo : Circuit → List Lit → ℕ → Circuit → Lit → Type 0
 CountsTo c literals k e bad = (n : ℕ) → FailsAfter e bad n ↔ MeetsMore c literals k n

@@ -11,7 +11,7 @@ ghost use Rattle.gipmc_liveness.specs.Turns.{CountsTo, always, turn, turns};
 use crate::lasso::both;
 use gipmc_circuits::{And, Circuit, Latch, Netlist, Verdict, certify};
 use gipsat_cnf::{Literal, SatSolver};
-use std::alloc::{AllocError, Allocator};
+use std::alloc::{AllocError, Global};
 
 // The literal that is always true.
 fn always() -> Literal
@@ -45,11 +45,11 @@ fn in_turn(literals: &[Literal], place: usize) -> Literal
 }
 
 // So many of the literals, in turn.
-fn stages_in_turn<A: Allocator + Copy>(
-    alloc: A,
+fn stages_in_turn(
+    alloc: Global,
     literals: &[Literal],
     count: usize,
-) -> Result<Vec<Literal, A>, AllocError>
+) -> Result<Vec<Literal>, AllocError>
     ensures { IfOk result (λ stages. stages.items ≡ turns literals.now count) }
 {
     let mut stages = Vec::new(alloc);
@@ -60,10 +60,7 @@ fn stages_in_turn<A: Allocator + Copy>(
 }
 
 // The circuit without its bad literals.
-pub(crate) fn copied<A: Allocator + Copy>(
-    alloc: A,
-    circuit: &Circuit<A>,
-) -> Result<Circuit<A>, AllocError>
+pub(crate) fn copied(alloc: Global, circuit: &Circuit) -> Result<Circuit, AllocError>
     ensures { IfOk result (IsCopied circuit.now) }
 {
     let mut copy = Circuit::new(alloc);
@@ -75,8 +72,8 @@ pub(crate) fn copied<A: Allocator + Copy>(
 }
 
 // Adds a stage: the latch of this variable, and gates from the other one on. The literal that it is passed.
-fn add_stage<A: Allocator>(
-    circuit: &mut Circuit<A>,
+fn add_stage(
+    circuit: &mut Circuit,
     latch: usize,
     gate: usize,
     before: Literal,
@@ -108,11 +105,7 @@ fn add_stage<A: Allocator>(
 }
 
 // Adds the stages, with variables from n on. The literal that all of them are passed.
-fn add_stages<A: Allocator>(
-    circuit: &mut Circuit<A>,
-    n: usize,
-    stages: &[Literal],
-) -> Result<Literal, AllocError>
+fn add_stages(circuit: &mut Circuit, n: usize, stages: &[Literal]) -> Result<Literal, AllocError>
     requires { n + 3 * length stages.now < 2 ^ 31 }
     ensures adds { IfOk result (λ _. AddsStages circuit.old circuit.new n stages.now) }
     ensures passed { IfOk result (λ passed. passed ≡ all_passed n always stages.now) }
@@ -126,13 +119,13 @@ fn add_stages<A: Allocator>(
 }
 
 // The circuit with the stages behind it, and the literal that all of them are passed and the last one is true.
-fn chained<A: Allocator + Copy>(
-    alloc: A,
-    circuit: &Circuit<A>,
+fn chained(
+    alloc: Global,
+    circuit: &Circuit,
     n: usize,
     stages: &[Literal],
     last: Literal,
-) -> Result<(Circuit<A>, Literal), AllocError>
+) -> Result<(Circuit, Literal), AllocError>
     requires { n + 3 * length stages.now < 2 ^ 31 }
     ensures chained { IfOk result (λ made. IsChained n circuit.now made.0 stages.now last) }
     ensures bad { IfOk result (λ made. made.1 ≡ yes_of (top n stages.now)) }
@@ -159,13 +152,13 @@ fn chained<A: Allocator + Copy>(
 ///
 /// # Errors
 /// `AllocError` where memory is refused, or where `k` or the number of variables is 2^29 or more.
-pub fn counting<A: Allocator + Copy>(
-    alloc: A,
-    netlist: &Netlist<A>,
+pub fn counting(
+    alloc: Global,
+    netlist: &Netlist,
     fairness: &[Literal],
     justice: &[Literal],
     k: usize,
-) -> Result<Option<(Netlist<A>, Literal)>, AllocError>
+) -> Result<Option<(Netlist, Literal)>, AllocError>
     ensures counter { IfOk result (λ made. IfSome made
         (λ m. IsCounterOf netlist.now.circuit (fairness.now ++ justice.now) k m.0.circuit m.1)) }
     ensures counts { IfOk result (λ made. IfSome made
@@ -198,13 +191,13 @@ pub fn counting<A: Allocator + Copy>(
 /// # Errors
 /// `AllocError` where memory is refused, where `k` or the number of variables is 2^29 or more, or where two moments would
 /// have more than 2^31 variables.
-pub fn certify_live<S: SatSolver<A> + Drop, A: Allocator + Copy>(
-    alloc: A,
-    netlist: &Netlist<A>,
+pub fn certify_live<S: SatSolver + Drop>(
+    alloc: Global,
+    netlist: &Netlist,
     fairness: &[Literal],
     justice: &[Literal],
     k: usize,
-    invariant: &[Vec<Literal, A>],
+    invariant: &[Vec<Literal>],
     limit: usize,
 ) -> Result<Option<Verdict>, AllocError>
     ensures { IfOk result (λ said. IfSome said
@@ -213,6 +206,6 @@ pub fn certify_live<S: SatSolver<A> + Drop, A: Allocator + Copy>(
     let Some((made, bad)) = counting(alloc, netlist, fairness, justice, k)? else {
         return Ok(None);
     };
-    let verdict = certify::<S, A>(alloc, &made, bad, invariant, limit)?;
+    let verdict = certify::<S>(alloc, &made, bad, invariant, limit)?;
     Ok(Some(verdict))
 }

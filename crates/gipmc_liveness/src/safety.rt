@@ -15,7 +15,7 @@ use crate::counter::{are_below, copied};
 use crate::lasso::{Lasso, both, replay_lasso};
 use gipmc_circuits::{And, Circuit, Latch, Netlist, Trace, Verdict, certify};
 use gipsat_cnf::{Literal, SatSolver};
-use std::alloc::{AllocError, Allocator};
+use std::alloc::{AllocError, Global};
 
 // The literal of a variable.
 fn yes_of(variable: usize) -> Literal
@@ -59,11 +59,7 @@ fn latch(variable: usize, gate: usize) -> Latch
 }
 
 // Adds an input, the latch behind it, which tells that something is saved, and the first gates.
-fn add_saving<A: Allocator + Copy>(
-    circuit: &mut Circuit<A>,
-    n: usize,
-    first: usize,
-) -> Result<(), AllocError>
+fn add_saving(circuit: &mut Circuit, n: usize, first: usize) -> Result<(), AllocError>
     requires input { n + 1 < 2 ^ 31 }
     requires gates { first + 1 < 2 ^ 31 }
     ensures { OnOk result (AddsSaving circuit.old circuit.new n first) }
@@ -78,8 +74,8 @@ fn add_saving<A: Allocator + Copy>(
 }
 
 // Adds a latch that keeps what another one held when it was saved, and what tells that they are the same.
-fn add_shadow<A: Allocator + Copy>(
-    circuit: &mut Circuit<A>,
+fn add_shadow(
+    circuit: &mut Circuit,
     saved: usize,
     kept: usize,
     variable: usize,
@@ -106,8 +102,8 @@ fn add_shadow<A: Allocator + Copy>(
 }
 
 // Adds a latch that notes that the literal was true since something was saved.
-fn add_note<A: Allocator + Copy>(
-    circuit: &mut Circuit<A>,
+fn add_note(
+    circuit: &mut Circuit,
     outside: usize,
     l: Literal,
     variable: usize,
@@ -129,8 +125,8 @@ fn add_note<A: Allocator + Copy>(
 }
 
 // Adds such a latch for each of these.
-fn add_shadows<A: Allocator + Copy>(
-    circuit: &mut Circuit<A>,
+fn add_shadows(
+    circuit: &mut Circuit,
     latches: &[Latch],
     n: usize,
     variable: usize,
@@ -151,8 +147,8 @@ fn add_shadows<A: Allocator + Copy>(
 }
 
 // Adds such a latch for each of the literals.
-fn add_notes<A: Allocator + Copy>(
-    circuit: &mut Circuit<A>,
+fn add_notes(
+    circuit: &mut Circuit,
     literals: &[Literal],
     outside: usize,
     variable: usize,
@@ -178,12 +174,12 @@ fn add_notes<A: Allocator + Copy>(
 
 // The circuit with an input that saves, and the literal that the latches hold what was saved, and each of the literals
 // was true since.
-fn saver<A: Allocator + Copy>(
-    alloc: A,
-    circuit: &Circuit<A>,
+fn saver(
+    alloc: Global,
+    circuit: &Circuit,
     n: usize,
     literals: &[Literal],
-) -> Result<(Circuit<A>, Literal), AllocError>
+) -> Result<(Circuit, Literal), AllocError>
     requires within { IsTrue (is_below n circuit.now) }
     requires variables { n < 2 ^ 27 }
     requires latches { length circuit.now.latches.items < 2 ^ 27 }
@@ -213,12 +209,12 @@ fn saver<A: Allocator + Copy>(
 ///
 /// # Errors
 /// `AllocError` where memory is refused, or where the number of variables, or that of the literals, is 2^27 or more.
-pub fn to_safety<A: Allocator + Copy>(
-    alloc: A,
-    netlist: &Netlist<A>,
+pub fn to_safety(
+    alloc: Global,
+    netlist: &Netlist,
     fairness: &[Literal],
     justice: &[Literal],
-) -> Result<Option<(Netlist<A>, Literal)>, AllocError>
+) -> Result<Option<(Netlist, Literal)>, AllocError>
     ensures saver { IfOk result (λ made. IfSome made
         (λ m. IsSaverOf netlist.now.circuit (fairness.now ++ justice.now) m.0.circuit m.1)) }
     ensures fails { IfOk result (λ made. IfSome made
@@ -250,12 +246,12 @@ pub fn to_safety<A: Allocator + Copy>(
 /// # Errors
 /// `AllocError` where memory is refused, where the number of variables, or that of the literals, is 2^27 or more, or
 /// where two moments would have more than 2^31 variables.
-pub fn certify_without_lasso<S: SatSolver<A> + Drop, A: Allocator + Copy>(
-    alloc: A,
-    netlist: &Netlist<A>,
+pub fn certify_without_lasso<S: SatSolver + Drop>(
+    alloc: Global,
+    netlist: &Netlist,
     fairness: &[Literal],
     justice: &[Literal],
-    invariant: &[Vec<Literal, A>],
+    invariant: &[Vec<Literal>],
     limit: usize,
 ) -> Result<Option<Verdict>, AllocError>
     ensures { IfOk result (λ said. IfSome said
@@ -264,16 +260,12 @@ pub fn certify_without_lasso<S: SatSolver<A> + Drop, A: Allocator + Copy>(
     let Some((made, bad)) = to_safety(alloc, netlist, fairness, justice)? else {
         return Ok(None);
     };
-    let verdict = certify::<S, A>(alloc, &made, bad, invariant, limit)?;
+    let verdict = certify::<S>(alloc, &made, bad, invariant, limit)?;
     Ok(Some(verdict))
 }
 
 // The values at the first places.
-fn first<A: Allocator + Copy>(
-    alloc: A,
-    values: &[bool],
-    len: usize,
-) -> Result<Vec<bool, A>, AllocError> {
+fn first(alloc: Global, values: &[bool], len: usize) -> Result<Vec<bool>, AllocError> {
     let mut first = Vec::new(alloc);
     for value in values.iter().take(len) {
         first.push(*value)?;
@@ -282,11 +274,11 @@ fn first<A: Allocator + Copy>(
 }
 
 // The lasso that a trace of the longer circuit is. None if nothing is saved before its last moment.
-fn carried_back<A: Allocator + Copy>(
-    alloc: A,
-    netlist: &Netlist<A>,
-    trace: &Trace<A>,
-) -> Result<Option<Lasso<A>>, AllocError> {
+fn carried_back(
+    alloc: Global,
+    netlist: &Netlist,
+    trace: &Trace,
+) -> Result<Option<Lasso>, AllocError> {
     let width = netlist.circuit.inputs.len();
     let latches = first(alloc, &trace.latches, netlist.circuit.latches.len())?;
     let Some((_, rows)) = trace.inputs.split_last() else {
@@ -313,13 +305,13 @@ fn carried_back<A: Allocator + Copy>(
 ///
 /// # Errors
 /// `AllocError` where memory is refused.
-pub fn lasso_of<A: Allocator + Copy>(
-    alloc: A,
-    netlist: &Netlist<A>,
+pub fn lasso_of(
+    alloc: Global,
+    netlist: &Netlist,
     fairness: &[Literal],
     justice: &[Literal],
-    trace: &Trace<A>,
-) -> Result<Option<Lasso<A>>, AllocError>
+    trace: &Trace,
+) -> Result<Option<Lasso>, AllocError>
     ensures { IfOk result
         (λ found. IfSome found (IsLasso netlist.now.circuit fairness.now justice.now)) }
 {

@@ -1,5 +1,6 @@
 -- What holds of a part holds of the whole circuit.
 use Rattle.std.proofs.Common.{◌≡◌, ℕ, zero, suc, ◌+◌, ◌&&◌, ◌||◌, Bool, not, List, [], ◌∷◌, map, IsTrue, Vec, arith, refl, sym, ap, subst, ◌∙◌}
+use Rattle.std.specs.declared.alloc.Global.{Global}
 use Rattle.std.specs.List.{All, Contains, list_all}
 use Rattle.std.proofs.lemmas.Bool.{and_from, and_parts}
 use Rattle.std.proofs.lemmas.List.Elements.{All-head, All-tail}
@@ -27,7 +28,7 @@ all_renamed rename own other (x ∷ xs) ys same within all =
     (subst IsTrue (sym (same x)) (passes other ys (rename x) all (All-head (λ z. Contains ys (rename z)) x xs within)))
     (all_renamed rename own other xs ys same (All-tail (λ z. Contains ys (rename z)) x xs within) all)
 
-pub is_moment-read : {A B : Type 0} (names : List ℕ) (part : Circuit A) (whole : Circuit B) (a : Assignment)
+pub is_moment-read : (names : List ℕ) (part whole : Circuit) (a : Assignment)
     → IsPartOf names part whole → IsTrue (is_moment whole a) → IsTrue (is_moment part (read names a))
 is_moment-read names part whole a is moment =
     let (valuation, constraints) = and_parts (is_valuation whole a) (makes_true a whole.constraints.items) moment in
@@ -38,18 +39,18 @@ is_moment-read names part whole a is moment =
     (all_renamed (gate_named names) (has_value (read names a)) (has_value a) part.gates.items whole.gates.items (λ g. refl) is.gates gates))
     (all_renamed (literal_named names) (is_true (read names a)) (is_true a) part.constraints.items whole.constraints.items (λ l. refl) is.constraints constraints)
 
-pub is_initial-read : {A B : Type 0} (names : List ℕ) (part : Circuit A) (whole : Circuit B) (a : Assignment)
+pub is_initial-read : (names : List ℕ) (part whole : Circuit) (a : Assignment)
     → IsPartOf names part whole → IsTrue (is_initial whole a) → IsTrue (is_initial part (read names a))
 is_initial-read names part whole a is initial =
     all_renamed (latch_named names) (holds_reset (read names a)) (holds_reset a) part.latches.items whole.latches.items (λ l. refl) is.latches initial
 
-pub is_transition-read : {A B : Type 0} (names : List ℕ) (part : Circuit A) (whole : Circuit B) (a b : Assignment)
+pub is_transition-read : (names : List ℕ) (part whole : Circuit) (a b : Assignment)
     → IsPartOf names part whole → IsTrue (is_transition whole a b) → IsTrue (is_transition part (read names a) (read names b))
 is_transition-read names part whole a b is transition =
     all_renamed (latch_named names) (holds_next (read names a) (read names b)) (holds_next a b) part.latches.items whole.latches.items (λ l. refl) is.latches transition
 
 -- a trace of the whole circuit, read through the names, is one of the part
-pub IsTrace-read : {A B : Type 0} (names : List ℕ) (part : Circuit A) (whole : Circuit B) (n : ℕ) (t : ℕ → Assignment)
+pub IsTrace-read : (names : List ℕ) (part whole : Circuit) (n : ℕ) (t : ℕ → Assignment)
     → IsPartOf names part whole → IsTrace whole n t → IsTrace part n (λ i. read names (t i))
 IsTrace-read names part whole n t is trace = record {
   initial = is_initial-read names part whole (t 0) is trace.initial;
@@ -58,13 +59,13 @@ IsTrace-read names part whole n t is trace = record {
 }
 
 -- if the whole circuit fails after n transitions, the part does
-pub FailsAfter-part : {A B : Type 0} (names : List ℕ) (part : Circuit A) (whole : Circuit B) (bad : Lit) (n : ℕ)
+pub FailsAfter-part : (names : List ℕ) (part whole : Circuit) (bad : Lit) (n : ℕ)
     → IsPartOf names part whole → FailsAfter whole (literal_named names bad) n → FailsAfter part bad n
 FailsAfter-part names part whole bad n is (t, trace, fails) =
     ((λ i. read names (t i)), IsTrace-read names part whole n t is trace, fails)
 
 -- if the part is safe, the whole circuit is
-pub IsSafe-part : {A B : Type 0} (names : List ℕ) (part : Circuit A) (whole : Circuit B) (bad : Lit)
+pub IsSafe-part : (names : List ℕ) (part whole : Circuit) (bad : Lit)
     → IsPartOf names part whole → IsSafe part bad → IsSafe whole (literal_named names bad)
 IsSafe-part names part whole bad is safe n fails = safe n (FailsAfter-part names part whole bad n is fails)
 
@@ -74,7 +75,7 @@ satisfies-read : (names : List ℕ) (a : Assignment) (clause : Clause)
 satisfies-read names a [] = refl
 satisfies-read names a (l ∷ clause) = ap (λ rest. is_true (read names a) l || rest) (satisfies-read names a clause)
 
-holds-rows : {A : Type 0} (clauses : List (Vec Lit A)) (a : Assignment) → holds clauses a ≡ list_all (satisfies_clause a) (rows clauses)
+holds-rows : (clauses : List (Vec Lit Global)) (a : Assignment) → holds clauses a ≡ list_all (satisfies_clause a) (rows clauses)
 holds-rows [] a = refl
 holds-rows (c ∷ clauses) a = ap (λ rest. satisfies_clause a c.items && rest) (holds-rows clauses a)
 
@@ -83,14 +84,14 @@ rows-read : (names : List ℕ) (a : Assignment) (lists : List Clause)
 rows-read names a [] = refl
 rows-read names a (c ∷ lists) = rw (satisfies-read names a c, rows-read names a lists) refl
 
-pub holds-read : {A B : Type 0} (names : List ℕ) (own : List (Vec Lit A)) (named : List (Vec Lit B)) (a : Assignment)
+pub holds-read : (names : List ℕ) (own named : List (Vec Lit Global)) (a : Assignment)
     → rows named ≡ rows_named names own → holds named a ≡ holds own (read names a)
 holds-read names own named a same =
     holds-rows named a ∙ ap (list_all (satisfies_clause a)) same ∙ rows-read names a (rows own) ∙ sym (holds-rows own (read names a))
 
 -- an invariant of the part, under the names, is one of the whole circuit
-pub IsSafeByClauses-part : {A B C D : Type 0} (names : List ℕ) (part : Circuit A) (whole : Circuit B) (bad : Lit)
-    → (own : List (Vec Lit C)) (named : List (Vec Lit D)) → IsPartOf names part whole → rows named ≡ rows_named names own
+pub IsSafeByClauses-part : (names : List ℕ) (part whole : Circuit) (bad : Lit) (own named : List (Vec Lit Global))
+    → IsPartOf names part whole → rows named ≡ rows_named names own
     → IsSafeByClauses part own bad → IsSafeByClauses whole named (literal_named names bad)
 IsSafeByClauses-part names part whole bad own named is same by = record {
   initiated = λ a initial moment.

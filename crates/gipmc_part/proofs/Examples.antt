@@ -40,7 +40,7 @@ gate = record { output = 8; left = yes_of 7; right = yes_of 9 }
 latch_is_named : latch_named names own ≡ kept
 latch_is_named = refl
 
-a_part : {A B : Type 0} (part : Circuit A) (whole : Circuit B) → part.gates.items ≡ [] → part.latches.items ≡ own ∷ []
+a_part : (part whole : Circuit) → part.gates.items ≡ [] → part.latches.items ≡ own ∷ []
     → part.constraints.items ≡ [] → whole.latches.items ≡ left_out ∷ kept ∷ [] → whole.gates.items ≡ gate ∷ []
     → IsPartOf names part whole
 a_part part whole gates latches constraints others more = record {

@@ -1,6 +1,7 @@
 -- What stands under the names for a literal, a gate or a latch, and for each of a list.
 use Rattle.std.proofs.Common.{◌≡◌, ℕ, zero, suc, ◌<◌, List, [], ◌∷◌, ◌++◌, length, map, get_or, Vec, arith, refl, sym, ap, subst, ◌∙◌}
 use Rattle.std.specs.Prelude.{slice_get, Some}
+use Rattle.std.specs.declared.alloc.Global.{Global}
 use Rattle.std.specs.List.{All, Contains}
 use Rattle.std.proofs.Math.ListN.{get_or-map}
 use Rattle.std.proofs.lemmas.List.{length-map}
@@ -51,8 +52,8 @@ unnamed rename (y ∷ own) zero x at = (y, refl, same_some (rename y) x at)
 unnamed rename (y ∷ own) (suc k) x at = unnamed rename own k x at
 
 -- verdicts on the part are verdicts on the whole circuit
-pub AreSafeByClauses-part : {A B C D : Type 0} (names : List ℕ) (part : Circuit A) (whole : Circuit B) (own bads : List Lit)
-    → (clauses : List (Vec Lit C)) (invariant : List (Vec Lit D)) (verdicts : List Verdict) → IsPartOf names part whole
+pub AreSafeByClauses-part : (names : List ℕ) (part whole : Circuit) (own bads : List Lit)
+    → (clauses invariant : List (Vec Lit Global)) (verdicts : List Verdict) → IsPartOf names part whole
     → map (literal_named names) own ≡ bads → rows invariant ≡ rows_named names clauses
     → AreSafeByClauses part clauses own verdicts → AreSafeByClauses whole invariant bads verdicts
 AreSafeByClauses-part names part whole own bads clauses invariant verdicts is literals same safe k bad at certified =

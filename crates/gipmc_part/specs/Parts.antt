@@ -1,5 +1,6 @@
 -- Parts of circuits, with numbers of their own.
 use Rattle.std.specs.Prelude.{◌≡◌, ℕ, List, Vec, map, slice_get, slice_index_or, Some}
+use Rattle.std.specs.declared.alloc.Global.{Global}
 use Rattle.std.specs.List.{All, Contains}
 use Rattle.gipsat_cnf.specs.Formulas.{Assignment}
 use Rattle.gipsat_cnf.specs.Literals.{Lit}
@@ -28,7 +29,7 @@ abbrev pub latch_named : List ℕ → Latch → Latch
 latch_named names l = record { variable = name names l.variable; next = literal_named names l.next; reset = l.reset }
 
 -- under the names, 0 is 0, and each gate, latch and constraint of the part is one of the whole circuit
-pub record IsPartOf {A B : Type 0} (names : List ℕ) (part : Circuit A) (whole : Circuit B) : Type 0 where
+pub record IsPartOf (names : List ℕ) (part whole : Circuit) : Type 0 where
   pub constant : name names 0 ≡ 0
   pub gates : All (λ g. Contains whole.gates.items (gate_named names g)) part.gates.items
   pub latches : All (λ l. Contains whole.latches.items (latch_named names l)) part.latches.items
@@ -39,15 +40,15 @@ abbrev pub read : List ℕ → Assignment → Assignment
 read names a v = a (name names v)
 
 -- the literals of the clauses
-abbrev pub rows : {A : Type 0} → List (Vec Lit A) → List (List Lit)
+abbrev pub rows : List (Vec Lit Global) → List (List Lit)
 rows clauses = map (λ c. c.items) clauses
 
 -- the clauses of the part, over the variables of the whole circuit
-abbrev pub rows_named : {A : Type 0} → List ℕ → List (Vec Lit A) → List (List Lit)
+abbrev pub rows_named : List ℕ → List (Vec Lit Global) → List (List Lit)
 rows_named names clauses = map (map (literal_named names)) (rows clauses)
 
 -- by the clauses the circuit is safe as to each literal whose verdict is `Certified`
-abbrev pub AreSafeByClauses : {A B : Type 0} → Circuit A → List (Vec Lit B) → List Lit → List Verdict → Type 0
+abbrev pub AreSafeByClauses : Circuit → List (Vec Lit Global) → List Lit → List Verdict → Type 0
 AreSafeByClauses c invariant bads verdicts =
     (k : ℕ) → (bad : Lit) → slice_get bads k ≡ Some bad → slice_get verdicts k ≡ Some Certified
     → IsSafeByClauses c invariant bad

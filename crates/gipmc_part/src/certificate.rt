@@ -6,7 +6,7 @@ ghost use Rattle.gipmc_part.specs.Parts.{AreSafeByClauses, IsPartOf};
 use crate::part::Part;
 use gipmc_circuits::{Netlist, Verdict, exclusions, invariant_doubt};
 use gipsat_cnf::{Literal, SatSolver};
-use std::alloc::{AllocError, Allocator};
+use std::alloc::{AllocError, Global};
 
 /// Which of these literals are shown by an invariant to be false at every moment that the circuit reaches: a verdict on
 /// each, in their order. `invariant_doubt` and `exclusions` of `gipmc_circuits` are asked about the part that the
@@ -15,62 +15,62 @@ use std::alloc::{AllocError, Allocator};
 ///
 /// # Errors
 /// `AllocError` where memory is refused, or where two moments of the part would have more than 2^31 variables.
-pub fn certify_all<S: SatSolver<A> + Drop, A: Allocator + Copy>(
-    alloc: A,
-    whole: &Netlist<A>,
+pub fn certify_all<S: SatSolver + Drop>(
+    alloc: Global,
+    whole: &Netlist,
     bads: &[Literal],
-    invariant: &[Vec<Literal, A>],
+    invariant: &[Vec<Literal>],
     limit: usize,
-) -> Result<Vec<Verdict, A>, AllocError>
+) -> Result<Vec<Verdict>, AllocError>
     ensures count { IfOk result (λ verdicts. length verdicts.items ≡ length bads.now) }
     ensures safe { IfOk result
         (λ verdicts. AreSafeByClauses whole.now.circuit invariant.now bads.now verdicts.items) }
 {
     let literals = literals_of(alloc, bads, invariant)?;
     match Part::new(alloc, whole, &literals)? {
-        Some(part) => certify_by_part::<S, A>(alloc, whole, &part, bads, invariant, limit),
-        None => verdicts_on::<S, A>(alloc, whole, bads, invariant, limit),
+        Some(part) => certify_by_part::<S>(alloc, whole, &part, bads, invariant, limit),
+        None => verdicts_on::<S>(alloc, whole, bads, invariant, limit),
     }
 }
 
 // The same, by a part of the circuit.
-fn certify_by_part<S: SatSolver<A> + Drop, A: Allocator + Copy>(
-    alloc: A,
-    whole: &Netlist<A>,
-    part: &Part<A>,
+fn certify_by_part<S: SatSolver + Drop>(
+    alloc: Global,
+    whole: &Netlist,
+    part: &Part,
     bads: &[Literal],
-    invariant: &[Vec<Literal, A>],
+    invariant: &[Vec<Literal>],
     limit: usize,
-) -> Result<Vec<Verdict, A>, AllocError>
+) -> Result<Vec<Verdict>, AllocError>
     requires { IsPartOf part.now.names.names.items part.now.netlist.circuit whole.now.circuit }
     ensures count { IfOk result (λ verdicts. length verdicts.items ≡ length bads.now) }
     ensures safe { IfOk result
         (λ verdicts. AreSafeByClauses whole.now.circuit invariant.now bads.now verdicts.items) }
 {
     let Some(own) = part.names.literals(alloc, bads)? else {
-        return verdicts_on::<S, A>(alloc, whole, bads, invariant, limit);
+        return verdicts_on::<S>(alloc, whole, bads, invariant, limit);
     };
     let Some(clauses) = part.names.clauses(alloc, invariant)? else {
-        return verdicts_on::<S, A>(alloc, whole, bads, invariant, limit);
+        return verdicts_on::<S>(alloc, whole, bads, invariant, limit);
     };
-    verdicts_on::<S, A>(alloc, &part.netlist, &own, &clauses, limit)
+    verdicts_on::<S>(alloc, &part.netlist, &own, &clauses, limit)
 }
 
 // The same, of a circuit itself.
-fn verdicts_on<S: SatSolver<A> + Drop, A: Allocator + Copy>(
-    alloc: A,
-    netlist: &Netlist<A>,
+fn verdicts_on<S: SatSolver + Drop>(
+    alloc: Global,
+    netlist: &Netlist,
     bads: &[Literal],
-    invariant: &[Vec<Literal, A>],
+    invariant: &[Vec<Literal>],
     limit: usize,
-) -> Result<Vec<Verdict, A>, AllocError>
+) -> Result<Vec<Verdict>, AllocError>
     ensures count { IfOk result (λ verdicts. length verdicts.items ≡ length bads.now) }
     ensures safe { IfOk result
         (λ verdicts. AreSafeByClauses netlist.now.circuit invariant.now bads.now verdicts.items) }
 {
-    match invariant_doubt::<S, A>(alloc, netlist, invariant, limit)? {
+    match invariant_doubt::<S>(alloc, netlist, invariant, limit)? {
         Some(doubt) => Ok(vec![in alloc; doubted(doubt); bads.len()]?),
-        None => exclusions::<S, A>(alloc, netlist, bads, invariant, limit),
+        None => exclusions::<S>(alloc, netlist, bads, invariant, limit),
     }
 }
 
@@ -85,11 +85,11 @@ fn doubted(doubt: Verdict) -> Verdict
 }
 
 // The literals, and those of the clauses.
-fn literals_of<A: Allocator + Copy>(
-    alloc: A,
+fn literals_of(
+    alloc: Global,
     bads: &[Literal],
-    clauses: &[Vec<Literal, A>],
-) -> Result<Vec<Literal, A>, AllocError> {
+    clauses: &[Vec<Literal>],
+) -> Result<Vec<Literal>, AllocError> {
     let mut all = Vec::new(alloc);
     all.extend_from_slice(bads)?;
     for clause in clauses {

@@ -3,7 +3,7 @@
 use crate::places::Places;
 use gipmc_circuits::Circuit;
 use gipsat_cnf::Literal;
-use std::alloc::{AllocError, Allocator};
+use std::alloc::{AllocError, Global};
 
 // What gives a variable its value.
 #[derive(Clone, Copy)]
@@ -17,19 +17,25 @@ enum Definition {
 }
 
 /// Which variables are reached, by their places.
-#[derive(Drop)]
-pub(crate) struct Cone<A: Allocator> {
-    is_reached: Vec<bool, A>,
+pub(crate) struct Cone {
+    is_reached: Vec<bool>,
     // The places in the order in which they were reached.
-    places: Vec<usize, A>,
+    places: Vec<usize>,
 }
 
-impl<A: Allocator + Copy> Cone<A> {
+// One call in its owners' proofs, in place of one for each field.
+impl Drop for Cone {
+    fn drop(self) {
+        let Cone { is_reached, places } = self;
+    }
+}
+
+impl Cone {
     /// The cone of the constraints and of these literals.
     pub(crate) fn new(
-        alloc: A,
-        circuit: &Circuit<A>,
-        at: &Places<A>,
+        alloc: Global,
+        circuit: &Circuit,
+        at: &Places,
         literals: &[Literal],
     ) -> Result<Self, AllocError> {
         let definitions = definitions(alloc, circuit, at)?;
@@ -45,7 +51,7 @@ impl<A: Allocator + Copy> Cone<A> {
     }
 
     /// Whether a variable is reached.
-    pub(crate) fn has(&self, at: &Places<A>, variable: u32) -> bool {
+    pub(crate) fn has(&self, at: &Places, variable: u32) -> bool {
         match at.place(variable) {
             Some(place) => self.is_reached.get(place).copied().unwrap_or(false),
             None => false,
@@ -53,7 +59,7 @@ impl<A: Allocator + Copy> Cone<A> {
     }
 
     // Reaches the variables of some literals.
-    fn reach_all(&mut self, at: &Places<A>, literals: &[Literal]) -> Result<(), AllocError> {
+    fn reach_all(&mut self, at: &Places, literals: &[Literal]) -> Result<(), AllocError> {
         for l in literals {
             self.reach(at, *l)?;
         }
@@ -61,7 +67,7 @@ impl<A: Allocator + Copy> Cone<A> {
     }
 
     // Reaches the variable of a literal.
-    fn reach(&mut self, at: &Places<A>, l: Literal) -> Result<(), AllocError> {
+    fn reach(&mut self, at: &Places, l: Literal) -> Result<(), AllocError> {
         let Some(place) = at.place(l.variable()) else {
             return Ok(());
         };
@@ -79,8 +85,8 @@ impl<A: Allocator + Copy> Cone<A> {
     // Reaches all that those reached depend on.
     fn close(
         &mut self,
-        circuit: &Circuit<A>,
-        at: &Places<A>,
+        circuit: &Circuit,
+        at: &Places,
         definitions: &[Definition],
     ) -> Result<(), AllocError> {
         for next in 0..at.count() {
@@ -98,8 +104,8 @@ impl<A: Allocator + Copy> Cone<A> {
     // Reaches what a variable depends on.
     fn reach_operands(
         &mut self,
-        circuit: &Circuit<A>,
-        at: &Places<A>,
+        circuit: &Circuit,
+        at: &Places,
         definition: Definition,
     ) -> Result<(), AllocError> {
         match definition {
@@ -121,11 +127,11 @@ impl<A: Allocator + Copy> Cone<A> {
 }
 
 // What gives each variable its value, by its place.
-fn definitions<A: Allocator + Copy>(
-    alloc: A,
-    circuit: &Circuit<A>,
-    at: &Places<A>,
-) -> Result<Vec<Definition, A>, AllocError> {
+fn definitions(
+    alloc: Global,
+    circuit: &Circuit,
+    at: &Places,
+) -> Result<Vec<Definition>, AllocError> {
     let mut definitions = Vec::new(alloc);
     definitions.resize(at.count(), Definition::Free)?;
     for (place, latch) in circuit.latches.iter().enumerate() {
@@ -143,12 +149,7 @@ fn definitions<A: Allocator + Copy>(
 }
 
 // Notes what gives a variable its value.
-fn note<A: Allocator + Copy>(
-    definitions: &mut [Definition],
-    at: &Places<A>,
-    variable: u32,
-    by: Definition,
-) {
+fn note(definitions: &mut [Definition], at: &Places, variable: u32, by: Definition) {
     let Some(place) = at.place(variable) else {
         return;
     };

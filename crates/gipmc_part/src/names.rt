@@ -6,23 +6,33 @@ use crate::cone::Cone;
 use crate::places::Places;
 use gipmc_circuits::{And, Latch, Netlist};
 use gipsat_cnf::Literal;
-use std::alloc::{AllocError, Allocator, Global};
+use std::alloc::{AllocError, Global};
 
 /// The names of a part's variables, and their way back.
-#[derive(Drop)]
-pub struct Names<A: Allocator = Global> {
+pub struct Names {
     /// For each variable of the part, that of the whole circuit.
-    pub names: Vec<u32, A>,
-    places: Places<A>,
+    pub names: Vec<u32>,
+    places: Places,
     // By the place of a variable of the whole circuit, that of the part; 0 if it has none.
-    numbers: Vec<u32, A>,
+    numbers: Vec<u32>,
 }
 
-impl<A: Allocator + Copy> Names<A> {
+// One call in its owners' proofs, in place of one for each field.
+impl Drop for Names {
+    fn drop(self) {
+        let Names {
+            names,
+            places,
+            numbers,
+        } = self;
+    }
+}
+
+impl Names {
     // Names for the cone of the constraints and of these literals: first 0, then inputs, latches and gates, in order.
     pub(crate) fn new(
-        alloc: A,
-        netlist: &Netlist<A>,
+        alloc: Global,
+        netlist: &Netlist,
         literals: &[Literal],
     ) -> Result<Self, AllocError> {
         let places = Places::new(alloc, netlist)?;
@@ -41,7 +51,7 @@ impl<A: Allocator + Copy> Names<A> {
     }
 
     // Gives each variable of a cone a number.
-    fn give_all(&mut self, netlist: &Netlist<A>, cone: &Cone<A>) -> Result<(), AllocError> {
+    fn give_all(&mut self, netlist: &Netlist, cone: &Cone) -> Result<(), AllocError> {
         for input in &netlist.circuit.inputs {
             self.give(*input, cone)?;
         }
@@ -55,7 +65,7 @@ impl<A: Allocator + Copy> Names<A> {
     }
 
     // Gives a variable the next number, if the cone has it.
-    fn give(&mut self, variable: u32, cone: &Cone<A>) -> Result<(), AllocError> {
+    fn give(&mut self, variable: u32, cone: &Cone) -> Result<(), AllocError> {
         if !cone.has(&self.places, variable) {
             return Ok(());
         }
@@ -134,9 +144,9 @@ impl<A: Allocator + Copy> Names<A> {
     /// `AllocError` where memory is refused.
     pub fn literals(
         &self,
-        alloc: A,
+        alloc: Global,
         literals: &[Literal],
-    ) -> Result<Option<Vec<Literal, A>>, AllocError>
+    ) -> Result<Option<Vec<Literal>>, AllocError>
         ensures { IfOk result (λ made. IfSome made
             (λ own. map (literal_named self.now.names.items) own.items ≡ literals.now)) }
     {
@@ -156,9 +166,9 @@ impl<A: Allocator + Copy> Names<A> {
     /// `AllocError` where memory is refused.
     pub fn clauses(
         &self,
-        alloc: A,
-        clauses: &[Vec<Literal, A>],
-    ) -> Result<Option<Vec<Vec<Literal, A>, A>>, AllocError>
+        alloc: Global,
+        clauses: &[Vec<Literal>],
+    ) -> Result<Option<Vec<Vec<Literal>>>, AllocError>
         ensures { IfOk result (λ made. IfSome made
             (λ own. rows clauses.now ≡ rows_named self.now.names.items own.items)) }
     {
@@ -184,7 +194,7 @@ impl<A: Allocator + Copy> Names<A> {
     }
 
     // The literals that those of the part stand for.
-    fn literals_of(&self, alloc: A, literals: &[Literal]) -> Result<Vec<Literal, A>, AllocError>
+    fn literals_of(&self, alloc: Global, literals: &[Literal]) -> Result<Vec<Literal>, AllocError>
         ensures { IfOk result
             (λ named. named.items ≡ map (literal_named self.now.names.items) literals.now) }
     {
@@ -201,9 +211,9 @@ impl<A: Allocator + Copy> Names<A> {
     /// `AllocError` where memory is refused.
     pub fn clauses_of(
         &self,
-        alloc: A,
-        clauses: &[Vec<Literal, A>],
-    ) -> Result<Vec<Vec<Literal, A>, A>, AllocError>
+        alloc: Global,
+        clauses: &[Vec<Literal>],
+    ) -> Result<Vec<Vec<Literal>>, AllocError>
         ensures { IfOk result
             (λ named. rows named.items ≡ rows_named self.now.names.items clauses.now) }
     {

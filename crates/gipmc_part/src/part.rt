@@ -6,26 +6,26 @@ ghost use Rattle.gipmc_part.specs.Parts.{IsPartOf, gate_named, latch_named, lite
 use crate::names::Names;
 use gipmc_circuits::{And, Circuit, Latch, Netlist, Trace};
 use gipsat_cnf::Literal;
-use std::alloc::{AllocError, Allocator, Global};
+use std::alloc::{AllocError, Global};
 
 /// A part of a circuit: what some literals and all constraints depend on.
 #[derive(Drop)]
-pub struct Part<A: Allocator = Global> {
+pub struct Part {
     /// The part. Its bad literals stand for the literals that were asked for.
-    pub netlist: Netlist<A>,
+    pub netlist: Netlist,
     /// The variables of the whole circuit that its variables stand for.
-    pub names: Names<A>,
+    pub names: Names,
 }
 
-impl<A: Allocator + Copy> Part<A> {
+impl Part {
     /// The part of a circuit that these literals and the constraints depend on. None if one of the literals is of no
     /// variable of the circuit.
     ///
     /// # Errors
     /// `AllocError` where memory is refused.
     pub fn new(
-        alloc: A,
-        whole: &Netlist<A>,
+        alloc: Global,
+        whole: &Netlist,
         literals: &[Literal],
     ) -> Result<Option<Self>, AllocError>
         ensures part { IfOk result (λ made. IfSome made
@@ -53,10 +53,10 @@ impl<A: Allocator + Copy> Part<A> {
     /// `AllocError` where memory is refused.
     pub fn trace_of(
         &self,
-        alloc: A,
-        whole: &Netlist<A>,
-        trace: &Trace<A>,
-    ) -> Result<Trace<A>, AllocError> {
+        alloc: Global,
+        whole: &Netlist,
+        trace: &Trace,
+    ) -> Result<Trace, AllocError> {
         let circuit = &whole.circuit;
         let mut latches = Vec::with_capacity(alloc, circuit.latches.len())?;
         for latch in &circuit.latches {
@@ -81,7 +81,11 @@ impl<A: Allocator + Copy> Part<A> {
     }
 
     // For each of these inputs, its place among those of the part, if it is one.
-    fn input_places(&self, alloc: A, inputs: &[u32]) -> Result<Vec<Option<usize>, A>, AllocError> {
+    fn input_places(
+        &self,
+        alloc: Global,
+        inputs: &[u32],
+    ) -> Result<Vec<Option<usize>>, AllocError> {
         let mut places = Vec::with_capacity(alloc, inputs.len())?;
         for input in inputs {
             let number = self.names.number(*input).unwrap_or(0);
@@ -92,11 +96,11 @@ impl<A: Allocator + Copy> Part<A> {
 }
 
 // The values at these places, false where there is none.
-fn row_of<A: Allocator + Copy>(
-    alloc: A,
+fn row_of(
+    alloc: Global,
     places: &[Option<usize>],
     values: &[bool],
-) -> Result<Vec<bool, A>, AllocError> {
+) -> Result<Vec<bool>, AllocError> {
     let mut row = Vec::with_capacity(alloc, places.len())?;
     for place in places {
         let value = match place {
@@ -110,12 +114,12 @@ fn row_of<A: Allocator + Copy>(
 
 // The part of a circuit whose variables have these names, with these literals as its bad ones. None if one of them, or a
 // constraint, is of another variable.
-fn circuit_in<A: Allocator + Copy>(
-    alloc: A,
-    names: &Names<A>,
-    whole: &Circuit<A>,
+fn circuit_in(
+    alloc: Global,
+    names: &Names,
+    whole: &Circuit,
     literals: &[Literal],
-) -> Result<Option<Circuit<A>>, AllocError>
+) -> Result<Option<Circuit>, AllocError>
     ensures gates { IfOk result (λ made. IfSome made (λ c.
         All (λ g. Contains whole.now.gates.items (gate_named names.now.names.items g)) c.gates.items)) }
     ensures latches { IfOk result (λ made. IfSome made (λ c.
@@ -144,11 +148,7 @@ fn circuit_in<A: Allocator + Copy>(
 }
 
 // The inputs of the part.
-fn inputs_in<A: Allocator + Copy>(
-    alloc: A,
-    names: &Names<A>,
-    inputs: &[u32],
-) -> Result<Vec<u32, A>, AllocError> {
+fn inputs_in(alloc: Global, names: &Names, inputs: &[u32]) -> Result<Vec<u32>, AllocError> {
     let mut all = Vec::new(alloc);
     for input in inputs {
         if let Some(own) = names.number(*input) {
@@ -159,11 +159,7 @@ fn inputs_in<A: Allocator + Copy>(
 }
 
 // The latches of the part.
-fn latches_in<A: Allocator + Copy>(
-    alloc: A,
-    names: &Names<A>,
-    latches: &[Latch],
-) -> Result<Vec<Latch, A>, AllocError>
+fn latches_in(alloc: Global, names: &Names, latches: &[Latch]) -> Result<Vec<Latch>, AllocError>
     ensures { IfOk result (λ own.
         All (λ l. Contains latches.now (latch_named names.now.names.items l)) own.items) }
 {
@@ -178,11 +174,7 @@ fn latches_in<A: Allocator + Copy>(
 }
 
 // The gates of the part.
-fn gates_in<A: Allocator + Copy>(
-    alloc: A,
-    names: &Names<A>,
-    gates: &[And],
-) -> Result<Vec<And, A>, AllocError>
+fn gates_in(alloc: Global, names: &Names, gates: &[And]) -> Result<Vec<And>, AllocError>
     ensures { IfOk result (λ own.
         All (λ g. Contains gates.now (gate_named names.now.names.items g)) own.items) }
 {

@@ -1,23 +1,23 @@
 //! Where the variables of a circuit stand in tables, which are as long as the circuit and not as its greatest number.
 
 use gipmc_circuits::Netlist;
-use std::alloc::{AllocError, Allocator};
+use std::alloc::{AllocError, Global};
 
 // With so few numbers for each variable the number itself is the place.
 const NUMBERS: usize = 4;
 
 /// The places of a circuit's variables.
 #[derive(Drop)]
-pub(crate) enum Places<A: Allocator> {
+pub(crate) enum Places {
     /// The number itself, below this one.
     Numbers(usize),
     /// The place among these, which rise.
-    Sorted(Vec<u32, A>),
+    Sorted(Vec<u32>),
 }
 
-impl<A: Allocator + Copy> Places<A> {
+impl Places {
     /// Those of a circuit.
-    pub(crate) fn new(alloc: A, netlist: &Netlist<A>) -> Result<Self, AllocError> {
+    pub(crate) fn new(alloc: Global, netlist: &Netlist) -> Result<Self, AllocError> {
         let circuit = &netlist.circuit;
         let gates = circuit.gates.len();
         let sources = circuit.inputs.len().saturating_add(circuit.latches.len());
@@ -47,10 +47,7 @@ impl<A: Allocator + Copy> Places<A> {
 }
 
 // The variables of a circuit, rising.
-fn variables<A: Allocator + Copy>(
-    alloc: A,
-    netlist: &Netlist<A>,
-) -> Result<Vec<u32, A>, AllocError> {
+fn variables(alloc: Global, netlist: &Netlist) -> Result<Vec<u32>, AllocError> {
     let circuit = &netlist.circuit;
     let mut variables = Vec::new(alloc);
     variables.push(0)?;

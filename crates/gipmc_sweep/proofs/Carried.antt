@@ -1,5 +1,6 @@
 -- What holds of the smaller circuit holds of the whole one.
-use Rattle.std.proofs.Common.{◌≡◌, if◌then◌else◌, ℕ, zero, suc, ◌+◌, ◌<◌, ◌≤◌, ◌&&◌, Bool, true, false, not, List, [], ◌∷◌, map, IsTrue, Vec, arith, refl, sym, ap, subst, ◌∙◌}
+use Rattle.std.proofs.Common.{◌≡◌, if◌then◌else◌, ℕ, zero, suc, ◌+◌, ◌≤◌, ◌&&◌, Bool, true, false, not, List, [], ◌∷◌, map, IsTrue, Vec, arith, refl, sym, ap, subst, ◌∙◌}
+use Rattle.std.specs.declared.alloc.Global.{Global}
 use Rattle.std.specs.Bool.{beq}
 use Rattle.std.specs.List.{All, Contains, list_all}
 use Rattle.std.proofs.lemmas.Bool.{and_from, and_parts}
@@ -75,7 +76,7 @@ all_merged : {X : Type 0} (test : X → Bool) (change : X → X) (small whole : 
 all_merged test change small whole same within all =
     all_within test small (map change whole) within (subst IsTrue (sym (all_changed test change whole same)) all)
 
-pub is_moment-merged : {A B : Type 0} (merges : List Lit) (small : Circuit A) (whole : Circuit B) (a : Assignment)
+pub is_moment-merged : (merges : List Lit) (small whole : Circuit) (a : Assignment)
     → IsMergedOf merges small whole → Agrees merges a → IsTrue (is_moment whole a) → IsTrue (is_moment small a)
 is_moment-merged merges small whole a is agrees moment =
     let (valuation, constraints) = and_parts (is_valuation whole a) (makes_true a whole.constraints.items) moment in
@@ -86,27 +87,27 @@ is_moment-merged merges small whole a is agrees moment =
     (subst (λ ls. IsTrue (makes_true a ls)) (sym is.constraints)
     (subst IsTrue (sym (all_changed (is_true a) (merged merges) whole.constraints.items (λ l. is_true-merged merges a l agrees))) constraints))
 
-pub is_initial-merged : {A B : Type 0} (merges : List Lit) (small : Circuit A) (whole : Circuit B) (a : Assignment)
+pub is_initial-merged : (merges : List Lit) (small whole : Circuit) (a : Assignment)
     → IsMergedOf merges small whole → IsTrue (is_initial whole a) → IsTrue (is_initial small a)
 is_initial-merged merges small whole a is initial =
     all_merged (holds_reset a) (latch_merged merges) small.latches.items whole.latches.items (λ l. refl) is.latches initial
 
-pub is_transition-merged : {A B : Type 0} (merges : List Lit) (small : Circuit A) (whole : Circuit B) (a b : Assignment)
+pub is_transition-merged : (merges : List Lit) (small whole : Circuit) (a b : Assignment)
     → IsMergedOf merges small whole → Agrees merges a → IsTrue (is_transition whole a b) → IsTrue (is_transition small a b)
 is_transition-merged merges small whole a b is agrees transition =
     all_merged (holds_next a b) (latch_merged merges) small.latches.items whole.latches.items
     (λ l. holds_next-merged merges a b l agrees) is.latches transition
 
 -- where the clauses hold at a moment of the whole circuit, variables have the values of what stands for them
-agrees_at : {A B C : Type 0} (merges : List Lit) (invariant : List (Vec Lit A)) → (small : Circuit B) (whole : Circuit C)
-    → (a : Assignment) → IsSweptOf merges invariant small whole → IsTrue (is_moment whole a) → IsTrue (holds invariant a) → Agrees merges a
+agrees_at : (merges : List Lit) (invariant : List (Vec Lit Global)) (small whole : Circuit) (a : Assignment)
+    → IsSweptOf merges invariant small whole → IsTrue (is_moment whole a) → IsTrue (holds invariant a) → Agrees merges a
 agrees_at merges invariant small whole a is moment held =
     let (valuation, constraints) = and_parts (is_valuation whole a) (makes_true a whole.constraints.items) moment in
     let (none, gates) = and_parts (not (a 0)) (list_all (has_value a) whole.gates.items) valuation in
     is.implied a none held
 
 -- the clauses hold at each moment of a trace
-holds_along : {A B C : Type 0} (merges : List Lit) (invariant : List (Vec Lit A)) → (small : Circuit B) (whole : Circuit C) (n : ℕ)
+holds_along : (merges : List Lit) (invariant : List (Vec Lit Global)) (small whole : Circuit) (n : ℕ)
     → (t : ℕ → Assignment) → IsSweptOf merges invariant small whole → IsTrace whole n t → (i : ℕ) → i ≤ n → IsTrue (holds invariant (t i))
 holds_along merges invariant small whole n t is trace zero within = is.initiated (t 0) trace.initial (trace.moments 0 within)
 holds_along merges invariant small whole n t is trace (suc i) within =
@@ -117,7 +118,7 @@ holds_along merges invariant small whole n t is trace (suc i) within =
     (trace.moments (suc i) within)
 
 -- a trace of the whole circuit is one of the smaller circuit
-pub IsTrace-swept : {A B C : Type 0} (merges : List Lit) (invariant : List (Vec Lit A)) → (small : Circuit B) (whole : Circuit C) (n : ℕ)
+pub IsTrace-swept : (merges : List Lit) (invariant : List (Vec Lit Global)) (small whole : Circuit) (n : ℕ)
     → (t : ℕ → Assignment) → IsSweptOf merges invariant small whole → IsTrace whole n t → IsTrace small n t
 IsTrace-swept merges invariant small whole n t is trace = record {
   initial = is_initial-merged merges small whole (t 0) is.smaller trace.initial;
@@ -132,7 +133,7 @@ IsTrace-swept merges invariant small whole n t is trace = record {
         (holds_along merges invariant small whole n t is trace i within)
 
 -- if the whole circuit fails after n transitions, the smaller one does
-pub FailsAfter-swept : {A B C : Type 0} (merges : List Lit) (invariant : List (Vec Lit A)) → (small : Circuit B) (whole : Circuit C)
+pub FailsAfter-swept : (merges : List Lit) (invariant : List (Vec Lit Global)) (small whole : Circuit)
     → (bad : Lit) (n : ℕ) → IsSweptOf merges invariant small whole → FailsAfter whole bad n → FailsAfter small (merged merges bad) n
 FailsAfter-swept merges invariant small whole bad n is (t, trace, fails) =
     let here = trace.moments n (omega arith) in
@@ -143,14 +144,14 @@ FailsAfter-swept merges invariant small whole bad n is (t, trace, fails) =
     )
 
 -- if the smaller circuit is safe, the whole one is
-pub IsSafe-swept : {A B C : Type 0} (merges : List Lit) (invariant : List (Vec Lit A)) → (small : Circuit B) (whole : Circuit C)
-    → (bad : Lit) → IsSweptOf merges invariant small whole → IsSafe small (merged merges bad) → IsSafe whole bad
+pub IsSafe-swept : (merges : List Lit) (invariant : List (Vec Lit Global)) (small whole : Circuit) (bad : Lit)
+    → IsSweptOf merges invariant small whole → IsSafe small (merged merges bad) → IsSafe whole bad
 IsSafe-swept merges invariant small whole bad is safe n fails = safe n (FailsAfter-swept merges invariant small whole bad n is fails)
 
 -- an invariant of the smaller circuit, with the clauses of the merges, is one of the whole circuit
-pub IsSafeByClauses-swept : {A B C D E : Type 0} (merges : List Lit) (invariant : List (Vec Lit A)) → (small : Circuit B)
-    → (whole : Circuit C) (bad : Lit) (own : List (Vec Lit D)) (all : List (Vec Lit E)) → IsSweptOf merges invariant small whole
-    → HoldBoth all invariant own → IsSafeByClauses small own (merged merges bad) → IsSafeByClauses whole all bad
+pub IsSafeByClauses-swept : (merges : List Lit) (invariant : List (Vec Lit Global)) (small whole : Circuit) (bad : Lit)
+    → (own all : List (Vec Lit Global)) → IsSweptOf merges invariant small whole → HoldBoth all invariant own
+    → IsSafeByClauses small own (merged merges bad) → IsSafeByClauses whole all bad
 IsSafeByClauses-swept merges invariant small whole bad own all is both by = record {
   initiated = λ a initial moment.
       let held = is.initiated a initial moment in

@@ -1,6 +1,7 @@
 -- Clauses that say that variables have the values of literals.
-use Rattle.std.proofs.Common.{◌≡◌, ⊎_elim, ℕ, zero, suc, ◌+◌, ◌<◌, ◌≤◌, ◌&&◌, ◌||◌, Bool, true, false, not, List, [], ◌∷◌, ◌++◌, length, get_or, take, IsTrue, Vec, arith, refl, sym, ap, subst, ◌∙◌}
+use Rattle.std.proofs.Common.{◌≡◌, ⊎_elim, ℕ, zero, suc, ◌+◌, ◌<◌, ◌≤◌, ◌&&◌, Bool, true, false, not, List, [], ◌∷◌, ◌++◌, length, get_or, take, IsTrue, Vec, arith, refl, sym, ap, subst, ◌∙◌}
 use Rattle.std.specs.Prelude.{slice_index_or}
+use Rattle.std.specs.declared.alloc.Global.{Global}
 use Rattle.std.specs.Bool.{beq}
 use Rattle.std.proofs.Math.Seq.{take-suc}
 use Rattle.std.proofs.lemmas.Bool.{cases_lt}
@@ -14,7 +15,7 @@ together true y z = refl
 together false y z = refl
 
 -- one clause more
-pub AddsClause-push : {A : Type 0} (clauses : List (Vec Lit A)) (c : Vec Lit A) → AddsClause c.items clauses (clauses ++ c ∷ [])
+pub AddsClause-push : (clauses : List (Vec Lit Global)) (c : Vec Lit Global) → AddsClause c.items clauses (clauses ++ c ∷ [])
 AddsClause-push [] c a = refl_and (satisfies_clause a c.items)
   where
     refl_and : (x : Bool) → (x && true) ≡ x
@@ -34,11 +35,11 @@ own_value a v l same positive =
     is_same false = refl
 
 -- the clauses so far say that each variable below n has the value of what stands for it
-abbrev pub ImpliesBelow : {A : Type 0} → ℕ → List (Vec Lit A) → List Lit → Type 0
+abbrev pub ImpliesBelow : ℕ → List (Vec Lit Global) → List Lit → Type 0
 ImpliesBelow n clauses merges =
     (a : Assignment) → IsTrue (not (a 0)) → IsTrue (holds clauses a) → (v : ℕ) → v < n → a v ≡ is_true a (representative merges v)
 
-pub ImpliesBelow-more : {A : Type 0} (n : ℕ) (l : Lit) (old new : List (Vec Lit A)) (merges : List Lit)
+pub ImpliesBelow-more : (n : ℕ) (l : Lit) (old new : List (Vec Lit Global)) (merges : List Lit)
     → ImpliesBelow n old merges → l ≡ representative merges n → AddsEquality n l old new → ImpliesBelow (n + 1) new merges
 ImpliesBelow-more n l old new merges before same adds a none held v less =
     let (kept, value) = adds a none held in
@@ -54,7 +55,7 @@ past_end [] v d past = refl
 past_end (l ∷ merges) zero d past = absurd (omega (arith, past))
 past_end (l ∷ merges) (suc v) d past = past_end merges v d (omega (arith, past))
 
-pub ImpliesMerges-all : {A : Type 0} (clauses : List (Vec Lit A)) (merges : List Lit) → ImpliesBelow (length merges) clauses merges
+pub ImpliesMerges-all : (clauses : List (Vec Lit Global)) (merges : List Lit) → ImpliesBelow (length merges) clauses merges
     → ImpliesMerges clauses merges
 ImpliesMerges-all clauses merges below a none held v =
     ⊎_elim (λ less. below a none held v less)
@@ -65,8 +66,8 @@ ImpliesMerges-all clauses merges below a none held v =
     (cases_lt v (length merges))
 
 -- one clause more of those that are added
-pub HoldBoth-more : {A B C : Type 0} (old : List (Vec Lit A)) (mid new : List (Vec Lit B)) (others : List (Vec Lit C)) (k : ℕ)
-    → (c d : Vec Lit C) → HoldBoth mid old (take k others) → k < length others → c ≡ get_or others k d → AddsClause c.items mid new
+pub HoldBoth-more : (old : List (Vec Lit Global)) (mid new : List (Vec Lit Global)) (others : List (Vec Lit Global)) (k : ℕ)
+    → (c d : Vec Lit Global) → HoldBoth mid old (take k others) → k < length others → c ≡ get_or others k d → AddsClause c.items mid new
     → HoldBoth new old (take (k + 1) others)
 HoldBoth-more old mid new others k c d before less is adds a =
     adds a ∙ ap (λ x. x && satisfies_clause a c.items) (before a)

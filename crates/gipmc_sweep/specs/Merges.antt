@@ -1,5 +1,6 @@
 -- Circuits in which variables of equal value are merged.
-use Rattle.std.specs.Prelude.{◌≡◌, if◌then◌else◌, ℕ, ◌&&◌, Bool, true, not, List, Vec, map, slice_index_or, IsTrue}
+use Rattle.std.specs.Prelude.{◌≡◌, if◌then◌else◌, ℕ, ◌&&◌, true, not, List, Vec, map, slice_index_or, IsTrue}
+use Rattle.std.specs.declared.alloc.Global.{Global}
 use Rattle.std.specs.List.{All, Contains}
 use Rattle.gipsat_cnf.specs.Formulas.{Assignment, Clause, is_true, satisfies_clause}
 use Rattle.gipsat_cnf.specs.Literals.{Lit, negated}
@@ -25,7 +26,7 @@ abbrev pub latch_merged : List Lit → Latch → Latch
 latch_merged merges l = record { variable = l.variable; next = merged merges l.next; reset = l.reset }
 
 -- each gate, latch and constraint of the smaller circuit is one of the whole circuit, after the merges
-pub record IsMergedOf {A B : Type 0} (merges : List Lit) (small : Circuit A) (whole : Circuit B) : Type 0 where
+pub record IsMergedOf (merges : List Lit) (small whole : Circuit) : Type 0 where
   pub gates : All (Contains (map (gate_merged merges) whole.gates.items)) small.gates.items
   pub latches : All (Contains (map (latch_merged merges) whole.latches.items)) small.latches.items
   pub constraints : small.constraints.items ≡ map (merged merges) whole.constraints.items
@@ -35,27 +36,26 @@ abbrev pub Agrees : List Lit → Assignment → Type 0
 Agrees merges a = (v : ℕ) → a v ≡ is_true a (representative merges v)
 
 -- each variable has the value of what stands for it, where 0 is false and the clauses hold
-abbrev pub ImpliesMerges : {A : Type 0} → List (Vec Lit A) → List Lit → Type 0
+abbrev pub ImpliesMerges : List (Vec Lit Global) → List Lit → Type 0
 ImpliesMerges clauses merges =
     (a : Assignment) → IsTrue (not (a 0)) → IsTrue (holds clauses a) → Agrees merges a
 
 -- the new clauses hold where the old ones do, and this one
-abbrev pub AddsClause : {A : Type 0} → Clause → List (Vec Lit A) → List (Vec Lit A) → Type 0
+abbrev pub AddsClause : Clause → List (Vec Lit Global) → List (Vec Lit Global) → Type 0
 AddsClause clause old new = (a : Assignment) → holds new a ≡ (holds old a && satisfies_clause a clause)
 
 -- where 0 is false and the new clauses hold, the old ones do, and the variable has the value of the literal
-abbrev pub AddsEquality : {A : Type 0} → ℕ → Lit → List (Vec Lit A) → List (Vec Lit A) → Type 0
+abbrev pub AddsEquality : ℕ → Lit → List (Vec Lit Global) → List (Vec Lit Global) → Type 0
 AddsEquality v l old new =
     (a : Assignment) → IsTrue (not (a 0)) → IsTrue (holds new a) → IsTrue (holds old a) × (a v ≡ is_true a l)
 
 -- the clauses are an invariant of the whole circuit, by which the smaller one is that after the merges
-pub record IsSweptOf {A B C : Type 0} (merges : List Lit) (invariant : List (Vec Lit A)) (small : Circuit B) (whole : Circuit C)
-    : Type 0 where
+pub record IsSweptOf (merges : List Lit) (invariant : List (Vec Lit Global)) (small whole : Circuit) : Type 0 where
   pub smaller : IsMergedOf merges small whole
   pub implied : ImpliesMerges invariant merges
   pub initiated : IsInitiated whole invariant
   pub inductive : IsInductive whole invariant
 
 -- the clauses hold where the others do, both of them
-abbrev pub HoldBoth : {A B C : Type 0} → List (Vec Lit A) → List (Vec Lit B) → List (Vec Lit C) → Type 0
+abbrev pub HoldBoth : List (Vec Lit Global) → List (Vec Lit Global) → List (Vec Lit Global) → Type 0
 HoldBoth clauses first others = (a : Assignment) → holds clauses a ≡ (holds first a && holds others a)

@@ -4,7 +4,7 @@ use crate::merges::Merges;
 use crate::runs::{Runs, mixed};
 use gipmc_circuits::Netlist;
 use gipsat_cnf::Literal;
-use std::alloc::{AllocError, Allocator};
+use std::alloc::{AllocError, Global};
 
 // No variable.
 const NONE: u32 = u32::MAX;
@@ -16,30 +16,44 @@ fn number(place: usize) -> u32 {
 
 /// The classes. Each has a leader: the first of its variables, in the order of 0, latches, inputs and gates. Inputs join
 /// no class.
-#[derive(Drop)]
-pub(crate) struct Classes<A: Allocator> {
+pub(crate) struct Classes {
     // For each variable, a number for what it was so far.
-    signatures: Vec<u64, A>,
+    signatures: Vec<u64>,
     // For each variable, whether its opposite is looked at.
-    turned: Vec<bool, A>,
+    turned: Vec<bool>,
     // For each variable, whether its value at a moment is looked at before it is known that the constraints hold there:
     // where constraints depend on it, and where it is of no gate.
-    early: Vec<bool, A>,
+    early: Vec<bool>,
     // For each variable, the leader of its class.
-    leaders: Vec<u32, A>,
+    leaders: Vec<u32>,
     // Leaders, by their signatures.
-    table: Vec<u32, A>,
+    table: Vec<u32>,
     // Whether gates join classes.
     with_gates: bool,
     // The variables that may be in a class with others.
-    members: Vec<u32, A>,
+    members: Vec<u32>,
 }
 
-impl<A: Allocator + Copy> Classes<A> {
+// One call in its owners' proofs, in place of one for each field.
+impl Drop for Classes {
+    fn drop(self) {
+        let Classes {
+            signatures,
+            turned,
+            early,
+            leaders,
+            table,
+            with_gates: _,
+            members,
+        } = self;
+    }
+}
+
+impl Classes {
     /// One class of all.
     pub(crate) fn new(
-        alloc: A,
-        netlist: &Netlist<A>,
+        alloc: Global,
+        netlist: &Netlist,
         with_gates: bool,
     ) -> Result<Self, AllocError> {
         let count = netlist.variables;
@@ -77,7 +91,7 @@ impl<A: Allocator + Copy> Classes<A> {
     }
 
     /// Looks at the values of all variables.
-    pub(crate) fn note(&mut self, runs: &Runs<A>) {
+    pub(crate) fn note(&mut self, runs: &Runs) {
         if runs.alive == 0 {
             return;
         }
@@ -98,7 +112,7 @@ impl<A: Allocator + Copy> Classes<A> {
 
     /// Takes the opposites of the variables that are true in the first run from now on. This is asked once, before any
     /// values are looked at.
-    pub(crate) fn turn(&mut self, runs: &Runs<A>) {
+    pub(crate) fn turn(&mut self, runs: &Runs) {
         let first = runs.alive & runs.alive.wrapping_neg();
         for (variable, turned) in self.turned.iter_mut().enumerate() {
             *turned = runs.value(number(variable)) & first != 0;
@@ -113,7 +127,7 @@ impl<A: Allocator + Copy> Classes<A> {
     }
 
     /// Finds the leaders anew.
-    pub(crate) fn find_leaders(&mut self, netlist: &Netlist<A>) {
+    pub(crate) fn find_leaders(&mut self, netlist: &Netlist) {
         for slot in self.table.iter_mut() {
             *slot = NONE;
         }
@@ -196,7 +210,7 @@ impl<A: Allocator + Copy> Classes<A> {
     }
 
     /// The merges by which each variable is its leader.
-    pub(crate) fn merges(&self, alloc: A) -> Result<Merges<A>, AllocError> {
+    pub(crate) fn merges(&self, alloc: Global) -> Result<Merges, AllocError> {
         let mut literals = Vec::with_capacity(alloc, self.leaders.len())?;
         for variable in 0..number(self.leaders.len()) {
             literals.push(self.leader(variable))?;
@@ -206,11 +220,7 @@ impl<A: Allocator + Copy> Classes<A> {
 }
 
 // The variables that may be in a class with others: 0, latches and inputs, and gates if these are merged.
-fn members<A: Allocator + Copy>(
-    alloc: A,
-    netlist: &Netlist<A>,
-    with_gates: bool,
-) -> Result<Vec<u32, A>, AllocError> {
+fn members(alloc: Global, netlist: &Netlist, with_gates: bool) -> Result<Vec<u32>, AllocError> {
     let circuit = &netlist.circuit;
     let mut members = Vec::new(alloc);
     members.push(0)?;
@@ -227,7 +237,7 @@ fn members<A: Allocator + Copy>(
 }
 
 // The variables that are of no gate, and those that the constraints of a moment depend on.
-fn early<A: Allocator + Copy>(alloc: A, netlist: &Netlist<A>) -> Result<Vec<bool, A>, AllocError> {
+fn early(alloc: Global, netlist: &Netlist) -> Result<Vec<bool>, AllocError> {
     let circuit = &netlist.circuit;
     let mut early = Vec::new(alloc);
     early.resize(netlist.variables, true)?;

@@ -4,12 +4,12 @@ ghost use Rattle.gipmc_circuits.specs.Certificate.{holds};
 ghost use Rattle.gipmc_sweep.specs.Merges.{AddsClause, AddsEquality, HoldBoth};
 
 use gipsat_cnf::Literal;
-use std::alloc::{AllocError, Allocator};
+use std::alloc::{AllocError, Global};
 
 // Adds a clause.
-fn add_clause<A: Allocator + Copy>(
-    alloc: A,
-    clauses: &mut Vec<Vec<Literal, A>, A>,
+fn add_clause(
+    alloc: Global,
+    clauses: &mut Vec<Vec<Literal>>,
     clause: &[Literal],
 ) -> Result<(), AllocError>
     ensures { OnOk result (AddsClause clause.now clauses.old.items clauses.new.items) }
@@ -26,9 +26,9 @@ fn add_clause<A: Allocator + Copy>(
 ///
 /// # Errors
 /// `AllocError` where memory is refused, or where the variable is 2^31 or more. Some clauses may have been added.
-pub(crate) fn add_equal<A: Allocator + Copy>(
-    alloc: A,
-    clauses: &mut Vec<Vec<Literal, A>, A>,
+pub(crate) fn add_equal(
+    alloc: Global,
+    clauses: &mut Vec<Vec<Literal>>,
     variable: usize,
     l: Literal,
 ) -> Result<(), AllocError>
@@ -56,10 +56,10 @@ pub(crate) fn add_equal<A: Allocator + Copy>(
 ///
 /// # Errors
 /// `AllocError` where memory is refused. Some clauses may have been added.
-pub(crate) fn add_clauses<A: Allocator + Copy>(
-    alloc: A,
-    clauses: &mut Vec<Vec<Literal, A>, A>,
-    others: &[Vec<Literal, A>],
+pub(crate) fn add_clauses(
+    alloc: Global,
+    clauses: &mut Vec<Vec<Literal>>,
+    others: &[Vec<Literal>],
 ) -> Result<(), AllocError>
     ensures { OnOk result (HoldBoth clauses.new.items clauses.old.items others.now) }
 {

@@ -2,7 +2,7 @@
 
 use crate::runs::mixed;
 use gipsat_cnf::{AnswerUnder, Budget, Literal, SatSolver};
-use std::alloc::{AllocError, Allocator};
+use std::alloc::{AllocError, Global};
 
 // A gate of the solver. No gate has the output 0.
 #[derive(Clone, Copy)]
@@ -14,26 +14,38 @@ struct Gate {
 
 /// What is said of two literals.
 #[derive(Drop)]
-pub(crate) enum Said<A: Allocator> {
+pub(crate) enum Said {
     /// They are equal.
     Equal,
     /// They differ by these values.
-    Differ(Vec<bool, A>),
+    Differ(Vec<bool>),
     /// It was left open.
     Open,
 }
 
 /// The gates and the solver. Variable 0 is false.
-#[derive(Drop)]
-pub(crate) struct Graph<S: Drop, A: Allocator> {
+pub(crate) struct Graph<S: Drop> {
     solver: S,
     // How many variables it has.
     variables: u32,
-    table: Vec<Gate, A>,
+    table: Vec<Gate>,
     // How many gates it has.
     gates: usize,
     // What a question may do.
     budget: Budget,
+}
+
+// One call in its owners' proofs, in place of one for each field.
+impl<S: Drop> Drop for Graph<S> {
+    fn drop(self) {
+        let Graph {
+            solver,
+            variables: _,
+            table,
+            gates: _,
+            budget: _,
+        } = self;
+    }
 }
 
 /// The literal that is false.
@@ -46,9 +58,9 @@ pub(crate) fn is_same(l: Literal, m: Literal) -> bool {
     l.variable() == m.variable() && l.is_positive() == m.is_positive()
 }
 
-impl<S: SatSolver<A> + Drop, A: Allocator + Copy> Graph<S, A> {
+impl<S: SatSolver + Drop> Graph<S> {
     /// No gate, with room for about so many. Each question may do so much.
-    pub(crate) fn new(alloc: A, gates: usize, budget: Budget) -> Result<Self, AllocError> {
+    pub(crate) fn new(alloc: Global, gates: usize, budget: Budget) -> Result<Self, AllocError> {
         let mut solver = S::new(alloc);
         solver.add_clause(&[never().negated()])?;
         let mut table = Vec::new(alloc);
@@ -144,7 +156,7 @@ impl<S: SatSolver<A> + Drop, A: Allocator + Copy> Graph<S, A> {
     }
 
     /// Whether both are equal.
-    pub(crate) fn compare(&mut self, l: Literal, m: Literal) -> Result<Said<A>, AllocError> {
+    pub(crate) fn compare(&mut self, l: Literal, m: Literal) -> Result<Said, AllocError> {
         match self.ask(&[l, m.negated()])? {
             Said::Equal => self.ask(&[l.negated(), m]),
             said => Ok(said),
@@ -158,7 +170,7 @@ impl<S: SatSolver<A> + Drop, A: Allocator + Copy> Graph<S, A> {
     }
 
     // Whether not all of them can be true.
-    fn ask(&mut self, literals: &[Literal]) -> Result<Said<A>, AllocError> {
+    fn ask(&mut self, literals: &[Literal]) -> Result<Said, AllocError> {
         match self.solver.solve_limited(literals, self.budget)? {
             AnswerUnder::Sat(values) => Ok(Said::Differ(values)),
             AnswerUnder::Unsat(_) => Ok(Said::Equal),

@@ -6,18 +6,18 @@ ghost use Rattle.gipmc_sweep.specs.Merges.{IsMergedOf, gate_merged, latch_merged
 use crate::merges::Merges;
 use gipmc_circuits::{And, Circuit, Latch};
 use gipsat_cnf::Literal;
-use std::alloc::{AllocError, Allocator};
+use std::alloc::{AllocError, Global};
 
 /// The circuit without the latches and gates that others stand for, with these literals as its bad ones.
 ///
 /// # Errors
 /// `AllocError` where memory is refused.
-pub(crate) fn merged_circuit<A: Allocator + Copy>(
-    alloc: A,
-    merges: &Merges<A>,
-    whole: &Circuit<A>,
+pub(crate) fn merged_circuit(
+    alloc: Global,
+    merges: &Merges,
+    whole: &Circuit,
     bads: &[Literal],
-) -> Result<Circuit<A>, AllocError>
+) -> Result<Circuit, AllocError>
     ensures smaller { IfOk result (λ c. IsMergedOf merges.now.literals.items c whole.now) }
     ensures bads { IfOk result (λ c. c.bads.items ≡ map (merged merges.now.literals.items) bads.now) }
 {
@@ -37,11 +37,7 @@ pub(crate) fn merged_circuit<A: Allocator + Copy>(
 }
 
 // The latches that stand for themselves.
-fn latches_left<A: Allocator + Copy>(
-    alloc: A,
-    merges: &Merges<A>,
-    latches: &[Latch],
-) -> Result<Vec<Latch, A>, AllocError>
+fn latches_left(alloc: Global, merges: &Merges, latches: &[Latch]) -> Result<Vec<Latch>, AllocError>
     ensures { IfOk result (λ left.
         All (Contains (map (latch_merged merges.now.literals.items) latches.now)) left.items) }
 {
@@ -56,11 +52,7 @@ fn latches_left<A: Allocator + Copy>(
 }
 
 // The gates that stand for themselves.
-fn gates_left<A: Allocator + Copy>(
-    alloc: A,
-    merges: &Merges<A>,
-    gates: &[And],
-) -> Result<Vec<And, A>, AllocError>
+fn gates_left(alloc: Global, merges: &Merges, gates: &[And]) -> Result<Vec<And>, AllocError>
     ensures { IfOk result (λ left.
         All (Contains (map (gate_merged merges.now.literals.items) gates.now)) left.items) }
 {

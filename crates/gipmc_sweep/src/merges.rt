@@ -5,16 +5,16 @@ ghost use Rattle.gipmc_sweep.specs.Merges.{ImpliesMerges, gate_merged, latch_mer
 use crate::clauses::add_equal;
 use gipmc_circuits::{And, Latch};
 use gipsat_cnf::Literal;
-use std::alloc::{AllocError, Allocator, Global};
+use std::alloc::{AllocError, Global};
 
 /// The literals that stand for variables.
 #[derive(Drop)]
-pub struct Merges<A: Allocator = Global> {
+pub struct Merges {
     /// For each variable, the literal that stands for it. Past the end each variable stands for itself.
-    pub literals: Vec<Literal, A>,
+    pub literals: Vec<Literal>,
 }
 
-impl<A: Allocator + Copy> Merges<A> {
+impl Merges {
     /// The literal that stands for a literal.
     pub fn literal(&self, l: Literal) -> Literal
         ensures { result ≡ merged self.now.literals.items l }
@@ -64,9 +64,9 @@ impl<A: Allocator + Copy> Merges<A> {
     // The literals that stand for these.
     pub(crate) fn literals(
         &self,
-        alloc: A,
+        alloc: Global,
         literals: &[Literal],
-    ) -> Result<Vec<Literal, A>, AllocError>
+    ) -> Result<Vec<Literal>, AllocError>
         ensures { IfOk result (λ made. made.items ≡ map (merged self.now.literals.items) literals.now) }
     {
         let mut all = Vec::with_capacity(alloc, literals.len())?;
@@ -89,7 +89,7 @@ impl<A: Allocator + Copy> Merges<A> {
     ///
     /// # Errors
     /// `AllocError` where memory is refused, or where the table has more than 2^31 variables.
-    pub fn clauses(&self, alloc: A) -> Result<Vec<Vec<Literal, A>, A>, AllocError>
+    pub fn clauses(&self, alloc: Global) -> Result<Vec<Vec<Literal>>, AllocError>
         ensures { IfOk result (λ clauses. ImpliesMerges clauses.items self.now.literals.items) }
     {
         let mut all = Vec::new(alloc);

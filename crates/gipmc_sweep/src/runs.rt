@@ -2,7 +2,7 @@
 
 use gipmc_circuits::{Circuit, Netlist};
 use gipsat_cnf::Literal;
-use std::alloc::{AllocError, Allocator};
+use std::alloc::{AllocError, Global};
 
 /// Numbers that look like chance.
 #[derive(Drop)]
@@ -31,17 +31,27 @@ pub(crate) fn mixed(number: u64) -> u64 {
 }
 
 /// The values of all variables in 64 runs.
-#[derive(Drop)]
-pub(crate) struct Runs<A: Allocator> {
-    values: Vec<u64, A>,
-    next: Vec<u64, A>,
+pub(crate) struct Runs {
+    values: Vec<u64>,
+    next: Vec<u64>,
     /// The runs in which no constraint was false.
     pub(crate) alive: u64,
 }
 
-impl<A: Allocator + Copy> Runs<A> {
+// One call in its owners' proofs, in place of one for each field.
+impl Drop for Runs {
+    fn drop(self) {
+        let Runs {
+            values,
+            next,
+            alive: _,
+        } = self;
+    }
+}
+
+impl Runs {
     /// Runs of a circuit in which all is 0.
-    pub(crate) fn new(alloc: A, netlist: &Netlist<A>) -> Result<Self, AllocError> {
+    pub(crate) fn new(alloc: Global, netlist: &Netlist) -> Result<Self, AllocError> {
         let mut values = Vec::new(alloc);
         values.resize(netlist.variables, 0)?;
         let mut next = Vec::new(alloc);
@@ -72,7 +82,7 @@ impl<A: Allocator + Copy> Runs<A> {
     }
 
     /// Gives the latches what they hold at first.
-    pub(crate) fn begin(&mut self, circuit: &Circuit<A>, chance: &mut Chance) {
+    pub(crate) fn begin(&mut self, circuit: &Circuit, chance: &mut Chance) {
         self.alive = u64::MAX;
         for latch in circuit.latches.iter() {
             let value = match latch.reset {
@@ -85,14 +95,14 @@ impl<A: Allocator + Copy> Runs<A> {
     }
 
     /// Draws the inputs.
-    pub(crate) fn choose(&mut self, circuit: &Circuit<A>, chance: &mut Chance) {
+    pub(crate) fn choose(&mut self, circuit: &Circuit, chance: &mut Chance) {
         for input in circuit.inputs.iter() {
             self.put(*input, chance.next());
         }
     }
 
     /// Gives the gates their values, and ends the runs in which a constraint is false.
-    pub(crate) fn evaluate(&mut self, circuit: &Circuit<A>) {
+    pub(crate) fn evaluate(&mut self, circuit: &Circuit) {
         for gate in circuit.gates.iter() {
             let value = self.of(gate.left) & self.of(gate.right);
             self.put(gate.output, value);
@@ -104,7 +114,7 @@ impl<A: Allocator + Copy> Runs<A> {
     }
 
     /// Gives the latches what they hold at the next moment.
-    pub(crate) fn advance(&mut self, circuit: &Circuit<A>) {
+    pub(crate) fn advance(&mut self, circuit: &Circuit) {
         for (place, latch) in circuit.latches.iter().enumerate() {
             let value = self.of(latch.next);
             if let Some(held) = self.next.get_mut(place) {

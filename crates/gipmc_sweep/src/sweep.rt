@@ -9,29 +9,39 @@ use crate::merged::merged_circuit;
 use crate::merges::Merges;
 use gipmc_circuits::{Netlist, Trace, invariant_doubt};
 use gipsat_cnf::{Literal, SatSolver};
-use std::alloc::{AllocError, Allocator, Global};
+use std::alloc::{AllocError, Global};
 
 /// A circuit in which variables of equal value are merged.
-#[derive(Drop)]
-pub struct Sweep<A: Allocator = Global> {
+pub struct Sweep {
     /// The smaller circuit. Its variables are those of the whole circuit, and its bad literals stand for the literals
     /// that were asked for.
-    pub netlist: Netlist<A>,
+    pub netlist: Netlist,
     /// What stands for each variable of the whole circuit.
-    pub merges: Merges<A>,
+    pub merges: Merges,
     /// Clauses that say so. They are an invariant of the whole circuit.
-    pub invariant: Vec<Vec<Literal, A>, A>,
+    pub invariant: Vec<Vec<Literal>>,
 }
 
-impl<A: Allocator + Copy> Sweep<A> {
+// One call in its owners' proofs, in place of one for each field.
+impl Drop for Sweep {
+    fn drop(self) {
+        let Sweep {
+            netlist,
+            merges,
+            invariant,
+        } = self;
+    }
+}
+
+impl Sweep {
     /// Finds out which latches and gates are equal, each other's opposite or constant, and merges them. None if that
     /// was not found out within the bounds.
     ///
     /// # Errors
     /// `AllocError` where memory is refused, or where two moments would have more than 2^31 variables.
-    pub fn new<S: SatSolver<A> + Drop>(
-        alloc: A,
-        whole: &Netlist<A>,
+    pub fn new<S: SatSolver + Drop>(
+        alloc: Global,
+        whole: &Netlist,
         bads: &[Literal],
         bounds: Bounds,
     ) -> Result<Option<Self>, AllocError>
@@ -40,7 +50,7 @@ impl<A: Allocator + Copy> Sweep<A> {
         ensures bads { IfOk result (λ made. IfSome made
             (λ s. s.netlist.circuit.bads.items ≡ map (merged s.merges.literals.items) bads.now)) }
     {
-        let Some(merges) = guess::<S, A>(alloc, whole, bounds)? else {
+        let Some(merges) = guess::<S>(alloc, whole, bounds)? else {
             return Ok(None);
         };
         Self::by::<S>(alloc, whole, bads, merges, bounds.certificate)
@@ -51,11 +61,11 @@ impl<A: Allocator + Copy> Sweep<A> {
     ///
     /// # Errors
     /// `AllocError` where memory is refused, or where two moments would have more than 2^31 variables.
-    pub fn by<S: SatSolver<A> + Drop>(
-        alloc: A,
-        whole: &Netlist<A>,
+    pub fn by<S: SatSolver + Drop>(
+        alloc: Global,
+        whole: &Netlist,
         bads: &[Literal],
-        merges: Merges<A>,
+        merges: Merges,
         limit: usize,
     ) -> Result<Option<Self>, AllocError>
         ensures swept { IfOk result (λ made. IfSome made
@@ -64,7 +74,7 @@ impl<A: Allocator + Copy> Sweep<A> {
             (λ s. s.netlist.circuit.bads.items ≡ map (merged s.merges.literals.items) bads.now)) }
     {
         let invariant = merges.clauses(alloc)?;
-        match invariant_doubt::<S, A>(alloc, whole, &invariant, limit)? {
+        match invariant_doubt::<S>(alloc, whole, &invariant, limit)? {
             Some(_) => Ok(None),
             None => Self::with(alloc, whole, bads, merges, invariant),
         }
@@ -72,11 +82,11 @@ impl<A: Allocator + Copy> Sweep<A> {
 
     // The same by an invariant that says so. None if a variable would depend on itself.
     fn with(
-        alloc: A,
-        whole: &Netlist<A>,
+        alloc: Global,
+        whole: &Netlist,
         bads: &[Literal],
-        merges: Merges<A>,
-        invariant: Vec<Vec<Literal, A>, A>,
+        merges: Merges,
+        invariant: Vec<Vec<Literal>>,
     ) -> Result<Option<Self>, AllocError>
         requires implied { ImpliesMerges invariant.items merges.literals.items }
         requires initiated { IsInitiated whole.now.circuit invariant.items }
@@ -104,9 +114,9 @@ impl<A: Allocator + Copy> Sweep<A> {
     /// `AllocError` where memory is refused.
     pub fn clauses_of(
         &self,
-        alloc: A,
-        clauses: &[Vec<Literal, A>],
-    ) -> Result<Vec<Vec<Literal, A>, A>, AllocError>
+        alloc: Global,
+        clauses: &[Vec<Literal>],
+    ) -> Result<Vec<Vec<Literal>>, AllocError>
         ensures { IfOk result (λ all. HoldBoth all.items self.now.invariant.items clauses.now) }
     {
         let mut all = Vec::new(alloc);
@@ -122,10 +132,10 @@ impl<A: Allocator + Copy> Sweep<A> {
     /// `AllocError` where memory is refused.
     pub fn trace_of(
         &self,
-        alloc: A,
-        whole: &Netlist<A>,
-        trace: &Trace<A>,
-    ) -> Result<Trace<A>, AllocError> {
+        alloc: Global,
+        whole: &Netlist,
+        trace: &Trace,
+    ) -> Result<Trace, AllocError> {
         let values = self.first_values(alloc, trace)?;
         let mut latches = Vec::with_capacity(alloc, whole.circuit.latches.len())?;
         for latch in &whole.circuit.latches {
@@ -144,7 +154,7 @@ impl<A: Allocator + Copy> Sweep<A> {
     }
 
     // For each variable, what a latch of it begins with; false for others.
-    fn first_values(&self, alloc: A, trace: &Trace<A>) -> Result<Vec<bool, A>, AllocError> {
+    fn first_values(&self, alloc: Global, trace: &Trace) -> Result<Vec<bool>, AllocError> {
         let mut values = Vec::new(alloc);
         values.resize(self.netlist.variables, false)?;
         for (place, latch) in self.netlist.circuit.latches.iter().enumerate() {

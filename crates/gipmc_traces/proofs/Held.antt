@@ -1,6 +1,7 @@
 -- Rows of what latches hold, one more at a time.
 use Rattle.std.proofs.Common.{◌≡◌, ℕ, zero, suc, ◌+◌, ◌<◌, Bool, List, [], ◌∷◌, ◌++◌, Some, Vec, length, arith, refl, sym, ap, subst, ◌∙◌}
 use Rattle.std.specs.Prelude.{slice_get}
+use Rattle.std.specs.declared.alloc.Global.{Global}
 use Rattle.gipsat_cnf.specs.Formulas.{Assignment}
 use Rattle.gipsat_cnf.proofs.Places.{same_some}
 use Rattle.gipmc_circuits.proofs.Traces.{followed_by, followed_by-new, followed_by-old}
@@ -17,7 +18,7 @@ snoc-cases P (z ∷ xs) y x (suc i) at old new =
     snoc-cases P xs y x i at (λ less is. old (omega (arith, less)) is) (λ last is. new (omega (arith, last)) is)
 
 -- the row of the first moment
-pub held-first : {A B : Type 0} (c : Circuit A) (a : Assignment) (rows : List (Vec Bool B)) (row : Vec Bool B)
+pub held-first : (c : Circuit) (a : Assignment) (rows : List (Vec Bool Global)) (row : Vec Bool Global)
     → rows ≡ row ∷ [] → row.items ≡ held c a → AreHeld c (λ i. a) rows
 held-first c a rows row only is i other at =
     snoc-cases (other.items ≡ held c a) [] row other i (subst (λ rs. slice_get rs i ≡ Some other) only at)
@@ -25,8 +26,8 @@ held-first c a rows row only is i other at =
     (λ last same. subst (λ r. r.items ≡ held c a) same is)
 
 -- the row of one more moment
-pub held-more : {A B : Type 0} (c : Circuit A) (n : ℕ) (t : ℕ → Assignment) (b : Assignment)
-    (rows more : List (Vec Bool B)) (row : Vec Bool B)
+pub held-more : (c : Circuit) (n : ℕ) (t : ℕ → Assignment) (b : Assignment)
+    (rows more : List (Vec Bool Global)) (row : Vec Bool Global)
     → length rows ≡ n + 1 → AreHeld c t rows → more ≡ rows ++ row ∷ [] → row.items ≡ held c b
     → AreHeld c (followed_by b n t) more
 held-more c n t b rows more row all are with_row is i other at =

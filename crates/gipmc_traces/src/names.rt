@@ -1,7 +1,7 @@
 //! The names of a circuit's inputs, latches and properties, which its text has behind the gates.
 use gipmc_circuits::Circuit;
 use giputils_text::{number, split_line, split_once};
-use std::alloc::{AllocError, Allocator, Global};
+use std::alloc::{AllocError, Global};
 
 /// A property of a circuit, by its place among those of its kind.
 #[derive(Clone, Copy)]
@@ -13,24 +13,35 @@ pub enum Property {
 }
 
 /// The names of a circuit, as its text writes them. Where there is none, it is empty.
-#[derive(Drop)]
-pub struct Names<'a, A: Allocator = Global> {
+pub struct Names<'a> {
     /// Of the inputs.
-    pub inputs: Vec<&'a [u8], A>,
+    pub inputs: Vec<&'a [u8]>,
     /// Of the latches.
-    pub latches: Vec<&'a [u8], A>,
+    pub latches: Vec<&'a [u8]>,
     /// Of the bad literals.
-    pub bads: Vec<&'a [u8], A>,
+    pub bads: Vec<&'a [u8]>,
     /// Of the justice properties.
-    pub justice: Vec<&'a [u8], A>,
+    pub justice: Vec<&'a [u8]>,
 }
 
-impl<'a, A: Allocator + Copy> Names<'a, A> {
+// One call in its owners' proofs, in place of one for each field.
+impl Drop for Names<'_> {
+    fn drop(self) {
+        let Names {
+            inputs,
+            latches,
+            bads,
+            justice,
+        } = self;
+    }
+}
+
+impl<'a> Names<'a> {
     /// The names that the text of a circuit has. Where the outputs are taken for bad literals, their names are too.
     ///
     /// # Errors
     /// `AllocError` where memory is refused.
-    pub fn read(alloc: A, circuit: &Circuit<A>, text: &'a [u8]) -> Result<Self, AllocError> {
+    pub fn read(alloc: Global, circuit: &Circuit, text: &'a [u8]) -> Result<Self, AllocError> {
         let (first, rest) = split_line(text).unwrap_or((text, &[]));
         let header = Header::of(first);
         let mut names = Names {
@@ -93,7 +104,7 @@ fn begins_comment(line: &[u8]) -> bool {
 }
 
 // So many empty names.
-fn unnamed<'a, A: Allocator>(alloc: A, count: usize) -> Result<Vec<&'a [u8], A>, AllocError> {
+fn unnamed<'a>(alloc: Global, count: usize) -> Result<Vec<&'a [u8]>, AllocError> {
     let mut names = Vec::new(alloc);
     for _ in 0..count {
         let none: &'a [u8] = &[];

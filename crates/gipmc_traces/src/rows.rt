@@ -5,29 +5,29 @@ ghost use Rattle.gipmc_traces.specs.Rows.{Shows, held};
 
 use gipmc_circuits::trace::{advance, begin};
 use gipmc_circuits::{Circuit, Netlist, Trace};
-use std::alloc::{AllocError, Allocator};
+use std::alloc::{AllocError, Global};
 
 /// A row for each moment of a trace: what the latches hold, in the order of the circuit. None where the circuit has no
 /// such trace.
 ///
 /// # Errors
 /// `AllocError` where memory is refused.
-pub fn latch_rows<A: Allocator + Copy>(
-    alloc: A,
-    netlist: &Netlist<A>,
-    trace: &Trace<A>,
-) -> Result<Option<Vec<Vec<bool, A>, A>>, AllocError>
+pub fn latch_rows(
+    alloc: Global,
+    netlist: &Netlist,
+    trace: &Trace,
+) -> Result<Option<Vec<Vec<bool>>>, AllocError>
     ensures { IfOk result (λ found. IfSome found (λ rows. Shows netlist.now.circuit trace.now rows.items)) }
 {
     rows_of(alloc, &netlist.circuit, trace)
 }
 
 // A row for each moment of a trace.
-fn rows_of<A: Allocator + Copy>(
-    alloc: A,
-    circuit: &Circuit<A>,
-    trace: &Trace<A>,
-) -> Result<Option<Vec<Vec<bool, A>, A>>, AllocError>
+fn rows_of(
+    alloc: Global,
+    circuit: &Circuit,
+    trace: &Trace,
+) -> Result<Option<Vec<Vec<bool>>>, AllocError>
     ensures { IfOk result (λ found. IfSome found (λ rows. Shows circuit.now trace.now rows.items)) }
 {
     let Some((first, rest)) = trace.inputs.split_first() else {
@@ -49,11 +49,7 @@ fn rows_of<A: Allocator + Copy>(
 }
 
 // What the latches hold where the variables have these values.
-fn row_of<A: Allocator + Copy>(
-    alloc: A,
-    circuit: &Circuit<A>,
-    values: &[bool],
-) -> Result<Vec<bool, A>, AllocError>
+fn row_of(alloc: Global, circuit: &Circuit, values: &[bool]) -> Result<Vec<bool>, AllocError>
     ensures { IfOk result (λ row. row.items ≡ held circuit.now (assignment_in values.now)) }
 {
     circuit

@@ -2,18 +2,18 @@
 use crate::names::Names;
 use gipmc_circuits::Trace;
 use giputils_text::number;
-use std::alloc::{AllocError, Allocator, Global};
+use std::alloc::{AllocError, Global};
 use std::io::Write;
 
 /// A trace that is to be shown.
 #[derive(Clone, Copy)]
-pub struct Scene<'a, A: Allocator = Global> {
+pub struct Scene<'a> {
     /// The names in its circuit's text.
-    pub names: &'a Names<'a, A>,
+    pub names: &'a Names<'a>,
     /// The trace.
-    pub trace: &'a Trace<A>,
+    pub trace: &'a Trace,
     /// What the latches hold at each moment, as [`latch_rows`](crate::latch_rows) finds out.
-    pub latches: &'a [Vec<bool, A>],
+    pub latches: &'a [Vec<bool>],
     /// Of a lasso, the moment at which its loop begins: it follows the last moment again.
     pub start: Option<usize>,
 }
@@ -41,10 +41,7 @@ pub(crate) struct Signal<'a> {
 }
 
 // The signals of a circuit: inputs, and then latches.
-pub(crate) fn signals<'a, A: Allocator + Copy>(
-    alloc: A,
-    names: &Names<'a, A>,
-) -> Result<Vec<Signal<'a>, A>, AllocError> {
+pub(crate) fn signals<'a>(alloc: Global, names: &Names<'a>) -> Result<Vec<Signal<'a>>, AllocError> {
     let mut signals = Vec::new(alloc);
     gather(&mut signals, Kind::Input, &names.inputs)?;
     gather(&mut signals, Kind::Latch, &names.latches)?;
@@ -52,8 +49,8 @@ pub(crate) fn signals<'a, A: Allocator + Copy>(
 }
 
 // Adds the signals of these bits.
-fn gather<'a, A: Allocator>(
-    signals: &mut Vec<Signal<'a>, A>,
+fn gather<'a>(
+    signals: &mut Vec<Signal<'a>>,
     kind: Kind,
     names: &[&'a [u8]],
 ) -> Result<(), AllocError> {
@@ -121,7 +118,7 @@ impl<'a> Signal<'a> {
     }
 
     // The bits of its kind at a moment.
-    fn row<'s, A: Allocator>(&self, scene: &Scene<'s, A>, moment: usize) -> &'s [bool] {
+    fn row<'s>(&self, scene: &Scene<'s>, moment: usize) -> &'s [bool] {
         let rows = match self.kind {
             Kind::Input => scene.trace.inputs.get(moment),
             Kind::Latch => scene.latches.get(moment),
@@ -133,14 +130,14 @@ impl<'a> Signal<'a> {
     }
 
     // Its value at a moment, the bit of the first place first.
-    fn values<'s, A: Allocator>(&self, scene: &Scene<'s, A>, moment: usize) -> &'s [bool] {
+    fn values<'s>(&self, scene: &Scene<'s>, moment: usize) -> &'s [bool] {
         let row = self.row(scene, moment);
         let end = self.first.saturating_add(self.width);
         row.get(self.first..end).unwrap_or(&[])
     }
 
     // Whether its value at a moment is another one than at the moment before.
-    pub(crate) fn changes<A: Allocator>(&self, scene: &Scene<A>, moment: usize) -> bool {
+    pub(crate) fn changes(&self, scene: &Scene, moment: usize) -> bool {
         if moment == 0 {
             return true;
         }
@@ -148,11 +145,11 @@ impl<'a> Signal<'a> {
     }
 
     // Writes its value at a moment, the bit of the greatest index first.
-    pub(crate) fn write_value<A: Allocator>(
+    pub(crate) fn write_value(
         &self,
-        scene: &Scene<A>,
+        scene: &Scene,
         moment: usize,
-        text: &mut Vec<u8, A>,
+        text: &mut Vec<u8>,
     ) -> Result<(), AllocError> {
         let values = self.values(scene, moment);
         for place in 0..values.len() {
@@ -168,11 +165,7 @@ impl<'a> Signal<'a> {
 
     // Writes its name without an index, or its letter and place where it has none. A byte that a viewer may not take
     // becomes an underscore.
-    pub(crate) fn write_name<A: Allocator>(
-        &self,
-        name: &[u8],
-        text: &mut Vec<u8, A>,
-    ) -> Result<(), AllocError> {
+    pub(crate) fn write_name(&self, name: &[u8], text: &mut Vec<u8>) -> Result<(), AllocError> {
         if name.is_empty() {
             let letter = match self.kind {
                 Kind::Input => 'i',
@@ -188,10 +181,7 @@ impl<'a> Signal<'a> {
     }
 
     // Writes its index, or those of its bits, if it has some.
-    pub(crate) fn write_index<A: Allocator>(
-        &self,
-        text: &mut Vec<u8, A>,
-    ) -> Result<(), AllocError> {
+    pub(crate) fn write_index(&self, text: &mut Vec<u8>) -> Result<(), AllocError> {
         let Some(low) = self.low else {
             return Ok(());
         };

@@ -1,7 +1,7 @@
 //! What changes from moment to moment of a trace, in lines that a reader of witnesses passes over.
 use crate::names::{Names, Property};
 use crate::signals::{Scene, Signal, signals};
-use std::alloc::{AllocError, Allocator};
+use std::alloc::{AllocError, Global};
 use std::io::Write;
 
 /// The table of a trace by which a property fails: a line with the name of the property, then lines
@@ -10,11 +10,7 @@ use std::io::Write;
 ///
 /// # Errors
 /// `AllocError` where memory is refused.
-pub fn table_text<A: Allocator + Copy>(
-    alloc: A,
-    scene: &Scene<A>,
-    property: Property,
-) -> Result<Vec<u8, A>, AllocError> {
+pub fn table_text(alloc: Global, scene: &Scene, property: Property) -> Result<Vec<u8>, AllocError> {
     let signals = signals(alloc, scene.names)?;
     let mut text = Vec::new(alloc);
     write_title(&mut text, scene.names, property)?;
@@ -30,12 +26,12 @@ pub fn table_text<A: Allocator + Copy>(
 ///
 /// # Errors
 /// `AllocError` where memory is refused.
-pub fn known_text<A: Allocator + Copy>(
-    alloc: A,
-    names: &Names<A>,
+pub fn known_text(
+    alloc: Global,
+    names: &Names,
     property: Property,
     known: &[u8],
-) -> Result<Vec<u8, A>, AllocError> {
+) -> Result<Vec<u8>, AllocError> {
     let mut text = Vec::new(alloc);
     if names.of(property).is_empty() {
         return Ok(text);
@@ -48,11 +44,7 @@ pub fn known_text<A: Allocator + Copy>(
 }
 
 // Writes what names a property.
-fn write_title<A: Allocator + Copy>(
-    text: &mut Vec<u8, A>,
-    names: &Names<A>,
-    property: Property,
-) -> Result<(), AllocError> {
+fn write_title(text: &mut Vec<u8>, names: &Names, property: Property) -> Result<(), AllocError> {
     let (letter, place) = match property {
         Property::Bad(place) => ('b', place),
         Property::Justice(place) => ('j', place),
@@ -70,7 +62,7 @@ fn write_title<A: Allocator + Copy>(
 }
 
 // Writes where the loop of a lasso begins anew.
-fn write_loop<A: Allocator>(text: &mut Vec<u8, A>, scene: &Scene<A>) -> Result<(), AllocError> {
+fn write_loop(text: &mut Vec<u8>, scene: &Scene) -> Result<(), AllocError> {
     let Some(start) = scene.start else {
         return Ok(());
     };
@@ -79,9 +71,9 @@ fn write_loop<A: Allocator>(text: &mut Vec<u8, A>, scene: &Scene<A>) -> Result<(
 }
 
 // Writes the lines of a moment.
-fn write_changes<A: Allocator>(
-    text: &mut Vec<u8, A>,
-    scene: &Scene<A>,
+fn write_changes(
+    text: &mut Vec<u8>,
+    scene: &Scene,
     signals: &[Signal],
     moment: usize,
 ) -> Result<(), AllocError> {
@@ -94,9 +86,9 @@ fn write_changes<A: Allocator>(
 }
 
 // Writes what a signal is at a moment.
-fn write_change<A: Allocator>(
-    text: &mut Vec<u8, A>,
-    scene: &Scene<A>,
+fn write_change(
+    text: &mut Vec<u8>,
+    scene: &Scene,
     signal: &Signal,
     moment: usize,
 ) -> Result<(), AllocError> {

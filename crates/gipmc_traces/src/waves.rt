@@ -1,6 +1,6 @@
 //! Traces as value change dumps (VCD), which viewers of waves read.
 use crate::signals::{Kind, Scene, Signal, signals};
-use std::alloc::{AllocError, Allocator};
+use std::alloc::{AllocError, Global};
 use std::io::Write;
 
 /// The value change dump of a trace: a moment is a unit of time, and the last one lasts one unit too. A name `a.b.c` is
@@ -9,7 +9,7 @@ use std::io::Write;
 ///
 /// # Errors
 /// `AllocError` where memory is refused.
-pub fn vcd_text<A: Allocator + Copy>(alloc: A, scene: &Scene<A>) -> Result<Vec<u8, A>, AllocError> {
+pub fn vcd_text(alloc: Global, scene: &Scene) -> Result<Vec<u8>, AllocError> {
     let signals = signals(alloc, scene.names)?;
     let mut text = Vec::new(alloc);
     text.extend_from_slice(b"$timescale 1 ns $end\n$scope module circuit $end\n")?;
@@ -27,10 +27,7 @@ pub fn vcd_text<A: Allocator + Copy>(alloc: A, scene: &Scene<A>) -> Result<Vec<u
 }
 
 // Writes the variables in their scopes.
-fn write_variables<A: Allocator>(
-    text: &mut Vec<u8, A>,
-    signals: &[Signal],
-) -> Result<(), AllocError> {
+fn write_variables(text: &mut Vec<u8>, signals: &[Signal]) -> Result<(), AllocError> {
     let mut scope: &[u8] = &[];
     for (place, signal) in signals.iter().enumerate() {
         let (outer, name) = scoped(signal.name);
@@ -50,11 +47,7 @@ fn scoped(name: &[u8]) -> (&[u8], &[u8]) {
 }
 
 // Leaves one scope for another one.
-fn write_scopes<A: Allocator>(
-    text: &mut Vec<u8, A>,
-    last: &[u8],
-    next: &[u8],
-) -> Result<(), AllocError> {
+fn write_scopes(text: &mut Vec<u8>, last: &[u8], next: &[u8]) -> Result<(), AllocError> {
     if last == next {
         return Ok(());
     }
@@ -76,7 +69,7 @@ fn write_scopes<A: Allocator>(
 }
 
 // Enters a scope.
-fn write_scope<A: Allocator>(text: &mut Vec<u8, A>, name: &[u8]) -> Result<(), AllocError> {
+fn write_scope(text: &mut Vec<u8>, name: &[u8]) -> Result<(), AllocError> {
     text.extend_from_slice(b"$scope module ")?;
     for byte in name {
         text.push(if byte.is_ascii_graphic() { *byte } else { b'_' })?;
@@ -86,8 +79,8 @@ fn write_scope<A: Allocator>(text: &mut Vec<u8, A>, name: &[u8]) -> Result<(), A
 }
 
 // Writes what a variable is.
-fn write_variable<A: Allocator>(
-    text: &mut Vec<u8, A>,
+fn write_variable(
+    text: &mut Vec<u8>,
     place: usize,
     signal: &Signal,
     name: &[u8],
@@ -108,10 +101,7 @@ fn write_variable<A: Allocator>(
 }
 
 // Writes what the variable of a lasso's loop is, which stands at a place.
-fn write_lasso_variable<A: Allocator>(
-    text: &mut Vec<u8, A>,
-    place: usize,
-) -> Result<(), AllocError> {
+fn write_lasso_variable(text: &mut Vec<u8>, place: usize) -> Result<(), AllocError> {
     text.extend_from_slice(b"$scope module lasso $end\n$var wire 1 ")?;
     write_code(text, place)?;
     text.extend_from_slice(b" again  $end\n$upscope $end\n")?;
@@ -119,7 +109,7 @@ fn write_lasso_variable<A: Allocator>(
 }
 
 // Writes the code of the signal at a place: its digits to the base 94, the lowest first.
-fn write_code<A: Allocator>(text: &mut Vec<u8, A>, mut place: usize) -> Result<(), AllocError> {
+fn write_code(text: &mut Vec<u8>, mut place: usize) -> Result<(), AllocError> {
     while place >= 94 {
         text.push(b'!' + (place % 94) as u8)?;
         place /= 94;
@@ -129,9 +119,9 @@ fn write_code<A: Allocator>(text: &mut Vec<u8, A>, mut place: usize) -> Result<(
 }
 
 // Writes what changes at a moment.
-fn write_moment<A: Allocator>(
-    text: &mut Vec<u8, A>,
-    scene: &Scene<A>,
+fn write_moment(
+    text: &mut Vec<u8>,
+    scene: &Scene,
     signals: &[Signal],
     moment: usize,
 ) -> Result<(), AllocError> {
@@ -148,8 +138,8 @@ fn write_moment<A: Allocator>(
 }
 
 // Writes whether a moment is in the loop that begins at `start`, where that changes.
-fn write_lasso_change<A: Allocator>(
-    text: &mut Vec<u8, A>,
+fn write_lasso_change(
+    text: &mut Vec<u8>,
     place: usize,
     start: usize,
     moment: usize,
@@ -164,14 +154,14 @@ fn write_lasso_change<A: Allocator>(
 }
 
 // Writes the line of a moment.
-fn write_time<A: Allocator>(text: &mut Vec<u8, A>, moment: usize) -> Result<(), AllocError> {
+fn write_time(text: &mut Vec<u8>, moment: usize) -> Result<(), AllocError> {
     writeln!(text, "#{moment}").map_err(|_| AllocError)
 }
 
 // Writes what the signal at a place is at a moment.
-fn write_change<A: Allocator>(
-    text: &mut Vec<u8, A>,
-    scene: &Scene<A>,
+fn write_change(
+    text: &mut Vec<u8>,
+    scene: &Scene,
     place: usize,
     signal: &Signal,
     moment: usize,

@@ -6,7 +6,7 @@ use Rattle.gipmc_aiger.proofs.ClaimLoops.{claims_view-more, goes_on, passes}
 use Rattle.gipmc_aiger.proofs.claims.answered.Goals as goal
 
 pub loop-line-preserved-then-is_passed : goal.loop-line-preserved-then-is_passed
-loop-line-preserved-then-is_passed g c =
+loop-line-preserved-then-is_passed c =
     let first : said_lines c.loop-line.rest.now ≡ c.in-Some.line.now ∷ said_lines c.in-Some.after.now = search rules in
     let other : is_passed c.args.other c.in-Some.line.now (said_lines c.in-Some.after.now) ≡ true = search rules in
     passes (claims_view c.loop-line.claims.items) c.args.letter c.args.other c.args.latches c.args.inputs (said_lines c.loop-line.rest.now)
@@ -14,7 +14,7 @@ loop-line-preserved-then-is_passed g c =
     (said_lines c.in-Some.after.now) (said_lines c.behind-rest.result.now) first c.behind-rest.ensures.lines other
 
 pub loop-line-preserved : goal.loop-line-preserved
-loop-line-preserved g c =
+loop-line-preserved c =
     let first : said_lines c.loop-line.rest.now ≡ c.in-Some.line.now ∷ said_lines c.in-Some.after.now = search rules in
     let more : is_passed c.args.other c.in-Some.line.now (said_lines c.in-Some.after.now) ≡ false = search rules in
     rw (claims_view-more c.loop-line.claims.items c.push.new.self.items c.in_ok-claim.claim c.in_ok-push.ensures.items)

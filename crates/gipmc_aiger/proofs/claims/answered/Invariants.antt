@@ -6,9 +6,9 @@ use Rattle.gipmc_aiger.proofs.ClaimLoops.{with_front}
 use Rattle.gipmc_aiger.proofs.claims.answered.Given as goal
 
 abbrev pub invariant-loop-line : goal.invariant-loop-line
-invariant-loop-line g l =
+invariant-loop-line l =
     with_front (claims_view l.claims.items) (claims_from l.letter l.other l.latches l.inputs false (said_lines l.rest))
     ≡ claims_from l.letter l.other l.latches l.inputs false (said_lines l.text)
 
 abbrev pub decreases-loop-line : goal.decreases-loop-line
-decreases-loop-line g l = length l.rest
+decreases-loop-line l = length l.rest

@@ -6,8 +6,8 @@ use Rattle.gipmc_aiger.proofs.ClaimLoops.{with_front}
 use Rattle.gipmc_aiger.proofs.claims.places.Given as goal
 
 abbrev pub invariant-loop-places : goal.invariant-loop-places
-invariant-loop-places g l =
+invariant-loop-places l =
     with_front l.places.items (places_of (pieces l.letter l.rest)) ≡ places_of (pieces l.letter l.text)
 
 abbrev pub decreases-loop-places : goal.decreases-loop-places
-decreases-loop-places g l = length l.rest
+decreases-loop-places l = length l.rest

@@ -5,7 +5,7 @@ use Rattle.gipmc_aiger.proofs.Words.{clause_in-more}
 use Rattle.gipmc_aiger.proofs.invariant.clause.Goals as goal
 
 pub returns-in-Some-after : goal.returns-in-Some-after
-returns-in-Some-after g c =
+returns-in-Some-after c =
     let so_far = rw c.in-Some.is at c.loop-rest.invariant in
     let split = rw c.in-Some-after.is at c.split_once.ensures.parts in
     let ends = rw c.in_default-2.is at c.in_ok-l.ensures in

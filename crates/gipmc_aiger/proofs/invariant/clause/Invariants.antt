@@ -7,9 +7,9 @@ use Rattle.gipmc_aiger.proofs.Fronts.{with_items}
 use Rattle.gipmc_aiger.proofs.invariant.clause.Given as goal
 
 abbrev pub invariant-loop-rest : goal.invariant-loop-rest
-invariant-loop-rest g l =
+invariant-loop-rest l =
     with_items l.clause.items (clause_in l.latches (option_map_or (λ words. pieces space words.now) l.rest []))
     ≡ clause_in l.latches (pieces space l.line)
 
 abbrev pub decreases-loop-rest : goal.decreases-loop-rest
-decreases-loop-rest g l = option_map_or (λ words. suc (length words.now)) l.rest 0
+decreases-loop-rest l = option_map_or (λ words. suc (length words.now)) l.rest 0

@@ -4,5 +4,5 @@ use Rattle.gipmc_aiger.specs.Invariants.{over_variables}
 use Rattle.gipmc_aiger.proofs.invariant.clause_over_variables.Given as goal
 
 abbrev pub invariant-loop-l : goal.invariant-loop-l
-invariant-loop-l g l =
+invariant-loop-l l =
     l.moved.items ≡ map (over_variables (map (λ l. l.variable) l.latches)) (take l.l-index l.clause)

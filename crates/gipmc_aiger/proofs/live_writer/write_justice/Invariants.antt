@@ -4,6 +4,6 @@ use Rattle.gipmc_aiger.specs.LiveTexts.{justice_lines}
 use Rattle.gipmc_aiger.proofs.live_writer.write_justice.Given as goal
 
 abbrev pub invariant-loop-property : goal.invariant-loop-property
-invariant-loop-property g l =
+invariant-loop-property l =
     l.fn.text.items ++ justice_lines (map (λ property. property.items) l.fn.justice)
     ≡ l.text.items ++ justice_lines (map (λ property. property.items) (drop l.property-index l.fn.justice))

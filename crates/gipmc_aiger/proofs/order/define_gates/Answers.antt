@@ -9,7 +9,7 @@ use Rattle.gipmc_aiger.proofs.Tables.{defined_more, twice_at}
 use Rattle.gipmc_aiger.proofs.order.define_gates.Goals as goal
 
 pub returns-in_err-define-clause-defect : goal.returns-in_err-define-clause-defect
-returns-in_err-define-clause-defect g c =
+returns-in_err-define-clause-defect c =
     let p = err_from_is_err_and c.from_residual.result c.from_residual.ensures.1 in
     let i = c.loop-place.place in
     let within : i < length (map (λ (x : And). x.output) c.args.gates.now) = grind (arith, common_steps) in
@@ -21,7 +21,7 @@ returns-in_err-define-clause-defect g c =
     (grind (arith, common_steps))) c.loop-place.invariant c.in_err-define.field-0.0 c.in_err-define.ensures.defect)
 
 pub loop-place-preserved : goal.loop-place-preserved
-loop-place-preserved g c =
+loop-place-preserved c =
     let i = c.loop-place.place in
     let within : i < length (map (λ (x : And). x.output) c.args.gates.now) = grind (arith, common_steps) in
     defined_more (map (λ (x : And). x.output) c.args.gates.now) i

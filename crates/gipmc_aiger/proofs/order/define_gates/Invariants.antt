@@ -5,6 +5,6 @@ use Rattle.gipmc_aiger.specs.Defects.{defined_in}
 use Rattle.gipmc_aiger.proofs.order.define_gates.Given as goal
 
 abbrev pub invariant-loop-place : goal.invariant-loop-place
-invariant-loop-place g l =
+invariant-loop-place l =
     defined_in l.definitions.items
     ≡ with_variables (take l.place (map (λ g. g.output) l.fn.gates)) (defined_in l.fn.definitions.items)

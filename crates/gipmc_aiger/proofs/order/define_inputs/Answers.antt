@@ -6,7 +6,7 @@ use Rattle.gipmc_aiger.proofs.Tables.{defined_more, twice_at}
 use Rattle.gipmc_aiger.proofs.order.define_inputs.Goals as goal
 
 pub returns-in_err-define-clause-defect : goal.returns-in_err-define-clause-defect
-returns-in_err-define-clause-defect g c =
+returns-in_err-define-clause-defect c =
     let p = err_from_is_err_and c.from_residual.result c.from_residual.ensures.1 in
     let i = c.loop-input.input-index in
     let within : i < length (c.args.inputs.now) = c.loop-input-test.true in
@@ -16,7 +16,7 @@ returns-in_err-define-clause-defect g c =
     (refl) c.loop-input.invariant c.in_err-define.field-0.0 c.in_err-define.ensures.defect)
 
 pub loop-input-preserved : goal.loop-input-preserved
-loop-input-preserved g c =
+loop-input-preserved c =
     let i = c.loop-input.input-index in
     let within : i < length (c.args.inputs.now) = c.loop-input-test.true in
     defined_more (c.args.inputs.now) i (get_or c.args.inputs.now c.loop-input.input-index 0)

@@ -10,7 +10,7 @@ use Rattle.gipmc_aiger.proofs.Tables.{defined_first, defines_all, twice_input, t
 use Rattle.gipmc_aiger.proofs.order.definitions.Goals as goal
 
 pub returns-in_err-define_inputs-clause-defect : goal.returns-in_err-define_inputs-clause-defect
-returns-in_err-define_inputs-clause-defect g c =
+returns-in_err-define_inputs-clause-defect c =
     let p = err_from_is_err_and c.from_residual-in_err-define_inputs.result c.from_residual-in_err-define_inputs.ensures.1 in
     let circuit = c.args.circuit.now in
     let inputs = circuit.inputs.items in
@@ -24,7 +24,7 @@ returns-in_err-define_inputs-clause-defect g c =
     (twice_input inputs latches outputs (defined_in c.push.new.self.items) c.in_err-define_inputs.field-0.0 first said)
 
 pub returns-in_err-define_latches-clause-defect : goal.returns-in_err-define_latches-clause-defect
-returns-in_err-define_latches-clause-defect g c =
+returns-in_err-define_latches-clause-defect c =
     let p = err_from_is_err_and c.from_residual-in_err-define_latches.result c.from_residual-in_err-define_latches.ensures.1 in
     let circuit = c.args.circuit.now in
     let inputs = circuit.inputs.items in
@@ -40,7 +40,7 @@ returns-in_err-define_latches-clause-defect g c =
     (defined_in c.define_inputs.new.definitions.items) c.in_err-define_latches.field-0.0 first one said)
 
 pub returns-in_err-define_gates-clause-defect : goal.returns-in_err-define_gates-clause-defect
-returns-in_err-define_gates-clause-defect g c =
+returns-in_err-define_gates-clause-defect c =
     let p = err_from_is_err_and c.from_residual-in_err-define_gates.result c.from_residual-in_err-define_gates.ensures.1 in
     let circuit = c.args.circuit.now in
     let inputs = circuit.inputs.items in
@@ -58,7 +58,7 @@ returns-in_err-define_gates-clause-defect g c =
     c.in_err-define_gates.field-0.0 first one two said)
 
 pub returns-clause-ok : goal.returns-clause-ok
-returns-clause-ok g c =
+returns-clause-ok c =
     let circuit = c.args.circuit.now in
     let inputs = circuit.inputs.items in
     let latches = map (λ (l : Latch). l.variable) circuit.latches.items in

@@ -6,7 +6,7 @@ use Rattle.gipmc_aiger.proofs.Stacks.{meets, opened_both, uses_left, uses_right}
 use Rattle.gipmc_aiger.proofs.order.open.Goals as goal
 
 pub returns-in_err-wait-clause-defect : goal.returns-in_err-wait-clause-defect
-returns-in_err-wait-clause-defect g c =
+returns-in_err-wait-clause-defect c =
     let p = err_from_is_err_and c.from_residual-in_err-wait.result c.from_residual-in_err-wait.ensures.1 in
     let at : slice_get c.args.gates.now c.args.place ≡ Some c.in-Some.gate = sym c.gate_at.ensures ∙ c.in-Some.is in
     rw (p.1, p.2)
@@ -16,7 +16,7 @@ returns-in_err-wait-clause-defect g c =
     c.in_err-wait.ensures.defect))
 
 pub returns-in_err-wait-2-clause-defect : goal.returns-in_err-wait-2-clause-defect
-returns-in_err-wait-2-clause-defect g c =
+returns-in_err-wait-2-clause-defect c =
     let p = err_from_is_err_and c.from_residual-in_err-wait-2.result c.from_residual-in_err-wait-2.ensures.1 in
     let at : slice_get c.args.gates.now c.args.place ≡ Some c.in-Some.gate = sym c.gate_at.ensures ∙ c.in-Some.is in
     rw (p.1, p.2)
@@ -26,7 +26,7 @@ returns-in_err-wait-2-clause-defect g c =
     c.in_err-wait-2.ensures.defect))
 
 pub returns-clause-ok : goal.returns-clause-ok
-returns-clause-ok g c =
+returns-clause-ok c =
     let at : slice_get c.args.gates.now c.args.place ≡ Some c.in-Some.gate = sym c.gate_at.ensures ∙ c.in-Some.is in
     let one = subst (λ xs. AddsGateOf c.args.gates.now c.in-Some.gate.left.variable xs c.wait.new.waiting.items)
     c.in_ok-push.ensures.items c.in_ok-wait.ensures.ok in

@@ -3,4 +3,4 @@ use Rattle.gipmc_aiger.specs.Defects.{IsStack}
 use Rattle.gipmc_aiger.proofs.order.visit_all.Given as goal
 
 abbrev pub invariant-loop : goal.invariant-loop
-invariant-loop g l = IsStack l.gates l.visits l.waiting.items
+invariant-loop l = IsStack l.gates l.visits l.waiting.items

@@ -7,7 +7,7 @@ use Rattle.gipmc_aiger.proofs.Stacks.{begun, fresh, lent_back}
 use Rattle.gipmc_aiger.proofs.order.visits.Goals as goal
 
 pub visit_all-requires : goal.visit_all-requires
-visit_all-requires g c =
+visit_all-requires c =
     let gates = c.args.gates.now in
     let root = c.loop-root.root in
     let list : c.push.new.self.items ≡ root ∷ [] =
@@ -17,7 +17,7 @@ visit_all-requires g c =
     (begun gates c.loop-root.visits.items root c.loop-root.invariant.stack))
 
 pub loop-root-init : goal.loop-root-init
-loop-root-init g c =
+loop-root-init c =
     let gates = c.args.gates.now in
     let all : c.in_ok-visits.visits.items ≡ replicate (length gates) New =
     c.in_ok-visits.ensures.items_if_clones_equal (λ y e. e) in
@@ -27,7 +27,7 @@ loop-root-init g c =
     }
 
 pub loop-root-preserved : goal.loop-root-preserved
-loop-root-preserved g c =
+loop-root-preserved c =
     let same : length c.visit_all.new.visits ≡ length c.loop-root.visits.items = grind (arith, common_steps) in
     let len : c.loop-root.visits.len ≡ length c.loop-root.visits.items = grind (arith, common_steps) in
     record {

@@ -5,7 +5,7 @@ use Rattle.gipmc_aiger.proofs.Shared.{links_by_place-all, links_by_place-more}
 use Rattle.gipmc_aiger.proofs.sharing.push_by_place.Goals as goal
 
 pub loop-place-preserved : goal.loop-place-preserved
-loop-place-preserved g c =
+loop-place-preserved c =
     let own = c.args.own.now in
     let others = c.args.others.now in
     let here = c.loop-place.place in
@@ -16,7 +16,7 @@ loop-place-preserved g c =
     first second refl refl c.loop-place.invariant
 
 pub returns : goal.returns
-returns g c =
+returns c =
     let end : c.loop-place.place ≡ min (length c.args.own.now) (length c.args.others.now) = grind (arith, common_steps) in
     links_by_place-all c.args.own.now c.args.others.now c.args.links.now.items c.loop-place.links.items c.loop-place.place
     end c.loop-place.invariant

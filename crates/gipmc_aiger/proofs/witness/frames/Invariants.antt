@@ -5,9 +5,9 @@ use Rattle.gipmc_aiger.proofs.FrameLoops.{with_frames}
 use Rattle.gipmc_aiger.proofs.witness.frames.Given as goal
 
 abbrev pub invariant-loop-line : goal.invariant-loop-line
-invariant-loop-line g l =
+invariant-loop-line l =
     with_frames (frames_view l.frames.items) (frames_of l.count (said_lines l.rest))
     ≡ frames_of l.count (said_lines l.text)
 
 abbrev pub decreases-loop-line : goal.decreases-loop-line
-decreases-loop-line g l = length l.rest
+decreases-loop-line l = length l.rest

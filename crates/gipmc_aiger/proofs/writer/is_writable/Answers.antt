@@ -4,8 +4,8 @@ use Rattle.gipmc_aiger.proofs.Writable.{IsWritable-room, room-IsWritable}
 use Rattle.gipmc_aiger.proofs.writer.is_writable.Goals as goal
 
 pub returns-clause-yes : goal.returns-clause-yes
-returns-clause-yes g c is =
+returns-clause-yes c is =
     IsWritable-room c.args.netlist.now.circuit c.args.netlist.now.formed (sym c.has_room.ensures ∙ is)
 
 pub returns-clause-no : goal.returns-clause-no
-returns-clause-no g c is = room-IsWritable c.args.netlist.now.circuit (sym c.has_room.ensures ∙ is)
+returns-clause-no c is = room-IsWritable c.args.netlist.now.circuit (sym c.has_room.ensures ∙ is)

@@ -4,5 +4,5 @@ use Rattle.gipmc_aiger.specs.CircuitTexts.{latch_lines}
 use Rattle.gipmc_aiger.proofs.writer.write_latches.Given as goal
 
 abbrev pub invariant-loop-latch : goal.invariant-loop-latch
-invariant-loop-latch g l =
+invariant-loop-latch l =
     l.fn.text.items ++ latch_lines l.fn.latches ≡ l.text.items ++ latch_lines (drop l.latch-index l.fn.latches)

@@ -3,7 +3,7 @@ use Rattle.gipmc_builder.proofs.Numbers.{DigitsSoFar}
 use Rattle.gipmc_builder.proofs.build.digits.Given as goal
 
 abbrev pub invariant-loop-rest : goal.invariant-loop-rest
-invariant-loop-rest g l = DigitsSoFar l.n l.digits.items l.rest
+invariant-loop-rest l = DigitsSoFar l.n l.digits.items l.rest
 
 abbrev pub decreases-loop-rest : goal.decreases-loop-rest
-decreases-loop-rest g l = l.rest
+decreases-loop-rest l = l.rest

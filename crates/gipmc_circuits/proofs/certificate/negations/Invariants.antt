@@ -4,4 +4,4 @@ use Rattle.gipmc_circuits.specs.Encoding.{shifted}
 use Rattle.gipmc_circuits.proofs.certificate.negations.Given as goal
 
 abbrev pub invariant-loop-place : goal.invariant-loop-place
-invariant-loop-place g l = l.all.items ≡ map (λ x. negated (shifted l.offset x)) (take l.place l.clause)
+invariant-loop-place l = l.all.items ≡ map (λ x. negated (shifted l.offset x)) (take l.place l.clause)

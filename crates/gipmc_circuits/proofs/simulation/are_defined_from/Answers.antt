@@ -8,7 +8,7 @@ use Rattle.gipmc_circuits.proofs.Simulated.{defined_from}
 use Rattle.gipmc_circuits.proofs.simulation.are_defined_from.Goals as goal
 
 pub returns : goal.returns
-returns g c =
+returns c =
     let first : assignment_in c.define.new.defined.items ≡ is_constant = c.in_ok-define.ensures
     ∙ ap (λ xs. with_variable 0 (assignment_in xs)) c.new-defined.ensures.items ∙ defined_first in
     IfOk-weaker c.define_gates.result _ _

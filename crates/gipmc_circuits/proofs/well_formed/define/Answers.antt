@@ -6,6 +6,6 @@ use Rattle.gipmc_circuits.proofs.Defined.{defined_set}
 use Rattle.gipmc_circuits.proofs.well_formed.define.Goals as goal
 
 pub returns : goal.returns
-returns g c =
+returns c =
     let within : c.args.variable < length c.grow.new.defined.items = grind (arith, common_steps) in
     defined_set c.grow.new.defined.items c.args.variable within ∙ ap (with_variable c.args.variable) c.in_ok-grow.ensures.same

@@ -5,7 +5,7 @@ use Rattle.gipmc_circuits.specs.WellFormed.{are_in_order, with_variables}
 use Rattle.gipmc_circuits.proofs.well_formed.define_gates.Given as goal
 
 abbrev pub invariant-loop-gate : goal.invariant-loop-gate
-invariant-loop-gate g l =
+invariant-loop-gate l =
     (are_in_order l.fn.gates (assignment_in l.fn.defined.items) ≡ are_in_order (drop l.gate-index l.fn.gates) (assignment_in l.defined.items))
     × (with_variables (map (λ g. g.output) l.fn.gates) (assignment_in l.fn.defined.items)
     ≡ with_variables (map (λ g. g.output) (drop l.gate-index l.fn.gates)) (assignment_in l.defined.items))

@@ -5,5 +5,5 @@ use Rattle.gipmc_circuits.proofs.Defined.{defined_pushed}
 use Rattle.gipmc_circuits.proofs.well_formed.grow.Goals as goal
 
 pub loop-defined-preserved : goal.loop-defined-preserved
-loop-defined-preserved g c =
+loop-defined-preserved c =
     ap assignment_in c.in_ok-push.ensures.items ∙ defined_pushed c.loop-defined.defined.items ∙ c.loop-defined.invariant

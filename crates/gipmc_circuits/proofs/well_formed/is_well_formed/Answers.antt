@@ -6,14 +6,14 @@ use Rattle.gipmc_circuits.proofs.Defined.{defined_first, in_order_uses, not_in_o
 use Rattle.gipmc_circuits.proofs.well_formed.is_well_formed.Goals as goal
 
 pub returns-then-not-branch : goal.returns-then-not-branch
-returns-then-not-branch g c =
+returns-then-not-branch c =
     let first : assignment_in c.define.new.defined.items ≡ is_constant = c.in_ok-define.ensures
     ∙ ap (λ xs. with_variable 0 (assignment_in xs)) c.new-defined.ensures.items ∙ defined_first in
     let says = rw (c.deref.ensures.value) at c.in_ok-define_inputs.ensures.says in
     not_new_inputs c.args.circuit.now (assignment_in c.define.new.defined.items) first (sym says ∙ c.if-not-branch.true)
 
 pub returns-then-not-branch-2 : goal.returns-then-not-branch-2
-returns-then-not-branch-2 g c =
+returns-then-not-branch-2 c =
     let first : assignment_in c.define.new.defined.items ≡ is_constant = c.in_ok-define.ensures
     ∙ ap (λ xs. with_variable 0 (assignment_in xs)) c.new-defined.ensures.items ∙ defined_first in
     let says = rw (c.deref.ensures.value) at c.in_ok-define_inputs.ensures.says in
@@ -27,7 +27,7 @@ returns-then-not-branch-2 g c =
     (assignment_in c.define_inputs.new.defined.items) notes (sym says_latches ∙ c.if-not-branch-2.true)
 
 pub returns-then-not-branch-3 : goal.returns-then-not-branch-3
-returns-then-not-branch-3 g c =
+returns-then-not-branch-3 c =
     let first : assignment_in c.define.new.defined.items ≡ is_constant = c.in_ok-define.ensures
     ∙ ap (λ xs. with_variable 0 (assignment_in xs)) c.new-defined.ensures.items ∙ defined_first in
     let says = rw (c.deref.ensures.value) at c.in_ok-define_inputs.ensures.says in
@@ -43,7 +43,7 @@ returns-then-not-branch-3 g c =
     latches_are (sym says_gates ∙ c.if-not-branch-3.true)
 
 pub returns : goal.returns
-returns g c =
+returns c =
     let first : assignment_in c.define.new.defined.items ≡ is_constant = c.in_ok-define.ensures
     ∙ ap (λ xs. with_variable 0 (assignment_in xs)) c.new-defined.ensures.items ∙ defined_first in
     let says = rw (c.deref.ensures.value) at c.in_ok-define_inputs.ensures.says in

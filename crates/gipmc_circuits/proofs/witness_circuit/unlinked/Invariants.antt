@@ -5,6 +5,6 @@ use Rattle.gipsat_cnf.specs.Models.{assignment_in}
 use Rattle.gipmc_circuits.proofs.witness_circuit.unlinked.Given as goal
 
 abbrev pub invariant-loop-register : goal.invariant-loop-register
-invariant-loop-register g l =
+invariant-loop-register l =
     filter (λ r. not (assignment_in l.marks r.variable)) l.registers
     ≡ l.own.items ++ filter (λ r. not (assignment_in l.marks r.variable)) (drop l.register-index l.registers)

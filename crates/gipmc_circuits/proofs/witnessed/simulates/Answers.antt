@@ -4,7 +4,7 @@ use Rattle.gipmc_circuits.proofs.Simulated.{simulated}
 use Rattle.gipmc_circuits.proofs.witnessed.simulates.Goals as goal
 
 pub returns : goal.returns
-returns g c =
+returns c =
     IfOk-weaker c.goes_on.result _ _
     (λ does later is.
     let (order, permuted, first) = c.in_ok-begins.ensures c.if-not-branch.false in

@@ -6,4 +6,4 @@ use Rattle.gipmc_circuits.specs.Certificate.{holds}
 use Rattle.gipmc_circuits.proofs.witnessed.units.Given as goal
 
 abbrev pub invariant-loop-place : goal.invariant-loop-place
-invariant-loop-place g l = (a : Assignment) → holds l.rows.items a ≡ makes_true a (take l.place l.literals)
+invariant-loop-place l = (a : Assignment) → holds l.rows.items a ≡ makes_true a (take l.place l.literals)

@@ -3,4 +3,4 @@ use Rattle.gipmc_liveness.proofs.Stages.{StagesSoFar}
 use Rattle.gipmc_liveness.proofs.counter.add_stages.Given as goal
 
 abbrev pub invariant-loop-place : goal.invariant-loop-place
-invariant-loop-place g l = StagesSoFar l.fn.circuit l.circuit l.n l.stages l.place l.passed
+invariant-loop-place l = StagesSoFar l.fn.circuit l.circuit l.n l.stages l.place l.passed

@@ -8,7 +8,7 @@ use Rattle.gipmc_liveness.proofs.Counted.{CountsTo-counter, IsLive-counted}
 use Rattle.gipmc_liveness.proofs.counter.counting.Goals as goal
 
 pub returns-in-Some-clause-counter : goal.returns-in-Some-clause-counter
-returns-in-Some-clause-counter g c =
+returns-in-Some-clause-counter c =
     let circuit = c.args.netlist.now.circuit in
     let n = c.args.netlist.now.variables in
     let made = c.in_ok-circuit.circuit in
@@ -33,11 +33,11 @@ returns-in-Some-clause-counter g c =
     )
 
 pub returns-in-Some-clause-counts : goal.returns-in-Some-clause-counts
-returns-in-Some-clause-counts g c =
+returns-in-Some-clause-counts c =
     CountsTo-counter c.args.netlist.now.circuit (c.args.fairness.now ++ c.args.justice.now) c.args.k c.in-Some.made.circuit
-    c.in_ok-circuit.bad (returns-in-Some-clause-counter g c)
+    c.in_ok-circuit.bad (returns-in-Some-clause-counter c)
 
 pub returns-in-Some-clause-live : goal.returns-in-Some-clause-live
-returns-in-Some-clause-live g c =
+returns-in-Some-clause-live c =
     IsLive-counted c.args.netlist.now.circuit c.in-Some.made.circuit c.args.fairness.now c.args.justice.now c.args.k c.in_ok-circuit.bad
-    (returns-in-Some-clause-counts g c)
+    (returns-in-Some-clause-counts c)

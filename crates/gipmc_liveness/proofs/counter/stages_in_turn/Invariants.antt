@@ -4,4 +4,4 @@ use Rattle.gipmc_liveness.specs.Turns.{turns}
 use Rattle.gipmc_liveness.proofs.counter.stages_in_turn.Given as goal
 
 abbrev pub invariant-loop-place : goal.invariant-loop-place
-invariant-loop-place g l = l.stages.items ≡ turns l.literals l.place
+invariant-loop-place l = l.stages.items ≡ turns l.literals l.place

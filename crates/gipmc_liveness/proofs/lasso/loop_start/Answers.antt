@@ -4,13 +4,13 @@ use Rattle.gipmc_liveness.proofs.Replayed.{reached_first, reached_more}
 use Rattle.gipmc_liveness.proofs.lasso.loop_start.Goals as goal
 
 pub loop-place-init : goal.loop-place-init
-loop-place-init g c =
+loop-place-init c =
     let (initial, moment, latches, row) = rw (c.in-Some.is, c.deref.ensures.value, c.deref-2.ensures.value) at c.in_ok-begun.ensures in
     reached_first c.args.circuit.now c.args.trace.now (assignment_in c.in-Some.values.items) c.index.result.now
     c.index.ensures initial moment latches row
 
 pub loop-place-preserved : goal.loop-place-preserved
-loop-place-preserved g c =
+loop-place-preserved c =
     let (goes, moment, row) = rw (
       c.in-Some-2.is,
       c.deref-in-loop-place.ensures.value,

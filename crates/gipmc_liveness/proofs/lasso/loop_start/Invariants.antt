@@ -4,4 +4,4 @@ use Rattle.gipmc_liveness.specs.Lassos.{IsReachedBy}
 use Rattle.gipmc_liveness.proofs.lasso.loop_start.Given as goal
 
 abbrev pub invariant-loop-place : goal.invariant-loop-place
-invariant-loop-place g l = IsReachedBy l.circuit l.trace l.place (assignment_in l.values.items)
+invariant-loop-place l = IsReachedBy l.circuit l.trace l.place (assignment_in l.values.items)

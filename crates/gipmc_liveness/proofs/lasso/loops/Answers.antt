@@ -8,7 +8,7 @@ use Rattle.gipmc_liveness.proofs.Replayed.{LoopSoFar, loop_closed, loop_first, l
 use Rattle.gipmc_liveness.proofs.lasso.loops.Goals as goal
 
 pub loop-place-init : goal.loop-place-init
-loop-place-init g c =
+loop-place-init c =
     let first = assignment_in c.args.first.now in
     let same : c.extend_from_slice.new.self.items ≡ c.args.first.now =
     c.in_ok-extend_from_slice.ensures.items ∙ ap (λ values. values ++ c.args.first.now) c.new-values.ensures.items in
@@ -18,7 +18,7 @@ loop-place-init g c =
     (loop_first c.args.circuit.now c.args.literals.now c.in_ok-left.left.items (from c.args.trace.now c.args.start) first c.requires.reached c.in_ok-left.ensures)
 
 pub loop-place-preserved : goal.loop-place-preserved
-loop-place-preserved g c =
+loop-place-preserved c =
     let (goes, moment, row) = rw (c.in-Some.is, c.deref.ensures.value, c.deref-in-loop-place.ensures.value) at c.in_ok-now.ensures in
     let left = rw (c.deref-in-loop-place-2.ensures.value, c.deref-in-loop-place-3.ensures.value) at c.in_ok-left-2.ensures in
     loop_more c.args.circuit.now c.args.literals.now c.loop-place.left.items c.in_ok-left-2.left.items (from c.args.trace.now c.args.start)
@@ -26,7 +26,7 @@ loop-place-preserved g c =
     c.index.result.now c.loop-place.invariant c.loop-place.auto.place c.index.ensures goes moment row left
 
 pub returns : goal.returns
-returns g c is =
+returns c is =
     let rows : length c.args.trace.now.inputs.items ≡ c.loop-place.place + 1 = grind (arith, common_steps) in
     let (goes, moment, row) = rw (c.in-Some-again.is, c.deref-2.ensures.value, c.deref-3.ensures.value) at c.in_ok-again.ensures in
     let same : c.in-Some-again.again.items ≡ c.args.first.now =

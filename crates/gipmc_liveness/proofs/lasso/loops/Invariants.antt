@@ -5,5 +5,5 @@ use Rattle.gipmc_liveness.proofs.Replayed.{LoopSoFar}
 use Rattle.gipmc_liveness.proofs.lasso.loops.Given as goal
 
 abbrev pub invariant-loop-place : goal.invariant-loop-place
-invariant-loop-place g l =
+invariant-loop-place l =
     LoopSoFar l.circuit l.literals (from l.trace l.start) (assignment_in l.first) l.place (assignment_in l.values.items) l.left.items

@@ -6,6 +6,6 @@ use Rattle.gipsat_cnf.specs.Models.{assignment_in}
 use Rattle.gipmc_liveness.proofs.lasso.not_met.Given as goal
 
 abbrev pub invariant-loop-l : goal.invariant-loop-l
-invariant-loop-l g l =
+invariant-loop-l l =
     filter (λ m. not (is_true (assignment_in l.values) m)) l.literals
     ≡ l.left.items ++ filter (λ m. not (is_true (assignment_in l.values) m)) (drop l.l-index l.literals)

@@ -7,7 +7,7 @@ use Rattle.gipmc_liveness.proofs.Looped.{FailsForever-lasso}
 use Rattle.gipmc_liveness.proofs.lasso.replay_lasso.Goals as goal
 
 pub returns-clause-fails : goal.returns-clause-fails
-returns-clause-fails g c =
+returns-clause-fails c =
     let circuit = c.args.netlist.now.circuit in
     let fairness = c.args.fairness.now in
     let justice = c.args.justice.now in

@@ -4,14 +4,14 @@ use Rattle.gipmc_liveness.proofs.Saved.{FailsByLassos-saver, IsLive-saved}
 use Rattle.gipmc_liveness.proofs.safety.to_safety.Goals as goal
 
 pub returns-in-Some-clause-saver : goal.returns-in-Some-clause-saver
-returns-in-Some-clause-saver g c = search rules
+returns-in-Some-clause-saver c = search rules
 
 pub returns-in-Some-clause-fails : goal.returns-in-Some-clause-fails
-returns-in-Some-clause-fails g c =
+returns-in-Some-clause-fails c =
     FailsByLassos-saver c.args.netlist.now.circuit (c.args.fairness.now ++ c.args.justice.now) c.in-Some.made.circuit
-    c.in_ok-circuit.bad (returns-in-Some-clause-saver g c)
+    c.in_ok-circuit.bad (returns-in-Some-clause-saver c)
 
 pub returns-in-Some-clause-live : goal.returns-in-Some-clause-live
-returns-in-Some-clause-live g c =
+returns-in-Some-clause-live c =
     IsLive-saved c.args.netlist.now.circuit c.in-Some.made.circuit c.args.fairness.now c.args.justice.now c.in_ok-circuit.bad
-    (returns-in-Some-clause-fails g c)
+    (returns-in-Some-clause-fails c)

@@ -4,4 +4,4 @@ use Rattle.gipmc_part.specs.Parts.{gate_named}
 use Rattle.gipmc_part.proofs.part.gates_in.Given as goal
 
 abbrev pub invariant-loop-gate : goal.invariant-loop-gate
-invariant-loop-gate g l = All (λ x. Contains l.gates (gate_named l.names.names.items x)) l.all.items
+invariant-loop-gate l = All (λ x. Contains l.gates (gate_named l.names.names.items x)) l.all.items

@@ -5,7 +5,7 @@ use Rattle.gipmc_part.proofs.Renamed.{all_more}
 use Rattle.gipmc_part.proofs.part.latches_in.Goals as goal
 
 pub loop-latch-preserved : goal.loop-latch-preserved
-loop-latch-preserved g c =
+loop-latch-preserved c =
     rw (c.in_ok-push.ensures.items)
     (all_more (latch_named c.args.names.now.names.items) c.loop-latch.all.items c.args.latches.now c.in-Some.own c.loop-latch.latch-index
     c.latch-item.result c.loop-latch.invariant c.loop-latch-test.true (c.in-Some.ensures ∙ c.latch-item.is))

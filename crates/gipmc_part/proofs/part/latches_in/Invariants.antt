@@ -4,4 +4,4 @@ use Rattle.gipmc_part.specs.Parts.{latch_named}
 use Rattle.gipmc_part.proofs.part.latches_in.Given as goal
 
 abbrev pub invariant-loop-latch : goal.invariant-loop-latch
-invariant-loop-latch g l = All (λ x. Contains l.latches (latch_named l.names.names.items x)) l.all.items
+invariant-loop-latch l = All (λ x. Contains l.latches (latch_named l.names.names.items x)) l.all.items

@@ -5,4 +5,4 @@ use Rattle.gipmc_sweep.specs.Merges.{gate_merged}
 use Rattle.gipmc_sweep.proofs.merged.gates_left.Given as goal
 
 abbrev pub invariant-loop-gate : goal.invariant-loop-gate
-invariant-loop-gate g l = All (Contains (map (gate_merged l.merges.literals.items) l.gates)) l.all.items
+invariant-loop-gate l = All (Contains (map (gate_merged l.merges.literals.items) l.gates)) l.all.items

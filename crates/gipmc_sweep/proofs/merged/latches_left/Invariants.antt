@@ -5,4 +5,4 @@ use Rattle.gipmc_sweep.specs.Merges.{latch_merged}
 use Rattle.gipmc_sweep.proofs.merged.latches_left.Given as goal
 
 abbrev pub invariant-loop-latch : goal.invariant-loop-latch
-invariant-loop-latch g l = All (Contains (map (latch_merged l.merges.literals.items) l.latches)) l.all.items
+invariant-loop-latch l = All (Contains (map (latch_merged l.merges.literals.items) l.latches)) l.all.items

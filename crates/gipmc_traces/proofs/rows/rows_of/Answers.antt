@@ -11,7 +11,7 @@ use Rattle.gipmc_traces.proofs.Held.{held-first, held-more}
 use Rattle.gipmc_traces.proofs.rows.rows_of.Goals as goal
 
 pub loop-place-init : goal.loop-place-init
-loop-place-init g c =
+loop-place-init c =
     let (initial, moment, latches, row) = rw (c.in-Some-2.is, c.deref-2.ensures.value, c.deref-3.ensures.value) at c.in_ok-values.ensures in
     let a = assignment_in c.in-Some-2.values.items in
     let held = rw (c.deref-4.ensures.value) at c.in_ok-row_of.ensures in (
@@ -27,7 +27,7 @@ loop-place-init g c =
     )
 
 pub loop-place-preserved : goal.loop-place-preserved
-loop-place-preserved g c =
+loop-place-preserved c =
     let (t, is, last, latches, rows, all, are) = c.loop-place.invariant in
     let (goes, moment, row) = rw (
       c.in-Some-3.is,
@@ -50,7 +50,7 @@ loop-place-preserved g c =
     )
 
 pub returns : goal.returns
-returns g c =
+returns c =
     let (t, is, last, latches, rows, many, are) = c.loop-place.invariant in
     let all : length c.args.trace.now.inputs.items ≡ c.loop-place.place + 1 = grind (arith, common_steps) in (
       c.loop-place.place,

@@ -10,7 +10,7 @@ use Rattle.gipmc_traces.specs.Rows.{AreHeld}
 use Rattle.gipmc_traces.proofs.rows.rows_of.Given as goal
 
 abbrev pub invariant-loop-place : goal.invariant-loop-place
-invariant-loop-place g l =
+invariant-loop-place l =
     (t : ℕ → Assignment) × IsTrace l.circuit l.place t × (t l.place ≡ assignment_in l.values.items)
     × HoldsRow (t 0) (latch_variables l.circuit) l.trace.latches.items
     × HoldsRowsUpTo l.place t l.circuit.inputs.items l.trace.inputs.items

@@ -2,4 +2,4 @@
 use Rattle.gipmc_traces.proofs.waves.write_code.Given as goal
 
 abbrev pub decreases-loop-place : goal.decreases-loop-place
-decreases-loop-place g l = l.place
+decreases-loop-place l = l.place

@@ -6,7 +6,7 @@ use Rattle.gipmc_builder.proofs.Numbers.{SumSoFar, sum_all, sum_more}
 use Rattle.gipmc_builder.proofs.build.Builder.add.Goals as goal
 
 pub loop-place-preserved : goal.loop-place-preserved
-loop-place-preserved g c = (
+loop-place-preserved c = (
   keeps_then c.loop-place.invariant.0 c.add_bits.ensures.keeps,
   subst (λ zs. SumSoFar c.add_bits.new.self.circuit c.args.left.now c.args.right.now (c.loop-place.place + 1) zs c.in_ok-low.high)
       (sym c.in_ok-push.ensures.items)
@@ -16,7 +16,7 @@ loop-place-preserved g c = (
 )
 
 pub returns-clause-gives : goal.returns-clause-gives
-returns-clause-gives g c =
+returns-clause-gives c =
     subst (GivesSum c.loop-place.self.circuit c.args.left.now c.args.right.now) (sym c.in_ok-push-2.ensures.items)
     (sum_all c.loop-place.self.circuit c.args.left.now c.args.right.now c.loop-place.sum.items c.loop-place.place c.loop-place.carry
     c.loop-place.invariant.1 (omega (arith, c.width_of-width.ensures.left, c.loop-place-test.false))

@@ -4,5 +4,5 @@ use Rattle.gipmc_builder.proofs.Numbers.{SameSoFar}
 use Rattle.gipmc_builder.proofs.build.Builder.are_same.Given as goal
 
 abbrev pub invariant-loop-place : goal.invariant-loop-place
-invariant-loop-place g l =
+invariant-loop-place l =
     Keeps l.fn.self.circuit l.self.circuit × SameSoFar l.self.circuit l.left l.right l.place l.same

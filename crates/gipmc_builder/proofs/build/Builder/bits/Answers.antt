@@ -6,7 +6,7 @@ use Rattle.gipmc_builder.proofs.Built.{positive_pushed}
 use Rattle.gipmc_builder.proofs.build.Builder.bits.Goals as goal
 
 pub loop-self-preserved : goal.loop-self-preserved
-loop-self-preserved g c = (
+loop-self-preserved c = (
   c.bit.ensures.same ∙ c.loop-self.invariant.0,
   grind (arith, common_steps),
   subst (λ ls. IsTrue (are_positive ls)) (sym c.in_ok-push.ensures.items)

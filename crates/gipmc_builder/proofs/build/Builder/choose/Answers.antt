@@ -5,7 +5,7 @@ use Rattle.gipmc_builder.proofs.Numbers.{ChoiceSoFar, choice_all, choice_more}
 use Rattle.gipmc_builder.proofs.build.Builder.choose.Goals as goal
 
 pub loop-place-preserved : goal.loop-place-preserved
-loop-place-preserved g c = (
+loop-place-preserved c = (
   keeps_then c.loop-place.invariant.0 c.mux.ensures.keeps,
   subst (ChoiceSoFar c.mux.new.self.circuit c.args.selector c.args.left.now c.args.right.now (c.loop-place.place + 1))
       (sym c.in_ok-push.ensures.items)
@@ -15,7 +15,7 @@ loop-place-preserved g c = (
 )
 
 pub returns-clause-gives : goal.returns-clause-gives
-returns-clause-gives g c =
+returns-clause-gives c =
     choice_all c.loop-place.self.circuit c.args.selector c.args.left.now c.args.right.now c.loop-place.chosen.items
     c.loop-place.place c.loop-place.invariant.1 (omega (arith, c.width_of-width.ensures.left, c.loop-place-test.false))
     (omega (arith, c.width_of-width.ensures.right, c.loop-place-test.false))

@@ -6,7 +6,7 @@ use Rattle.gipmc_builder.proofs.Built.{adds_inputs_then, adds_no_inputs, positiv
 use Rattle.gipmc_builder.proofs.build.Builder.inputs.Goals as goal
 
 pub loop-self-init : goal.loop-self-init
-loop-self-init g c = (
+loop-self-init c = (
   subst (λ ls. AddsInputs c.args.self.now.circuit c.args.self.now.circuit (variables_of ls)) (sym c.in_ok-bits.ensures.items)
       (adds_no_inputs c.args.self.now.circuit),
   grind (arith, common_steps),
@@ -14,7 +14,7 @@ loop-self-init g c = (
 )
 
 pub loop-self-preserved : goal.loop-self-preserved
-loop-self-preserved g c = (
+loop-self-preserved c = (
   subst (λ ls. AddsInputs c.args.self.now.circuit c.input.new.self.circuit (variables_of ls)) (sym c.in_ok-push.ensures.items)
       (adds_inputs_then c.loop-self.bits.items c.in_ok-bit.bit c.loop-self.invariant.0 c.in_ok-bit.ensures.adds),
   grind (arith, common_steps),

@@ -4,7 +4,7 @@ use Rattle.gipmc_builder.proofs.Numbers.{register_more, starts_at, takes_next}
 use Rattle.gipmc_builder.proofs.build.Builder.register.Goals as goal
 
 pub loop-place-preserved : goal.loop-place-preserved
-loop-place-preserved g c = (
+loop-place-preserved c = (
   adds_latches_then c.loop-place.invariant.0 c.in_ok-latch.ensures.adds,
   register_more c.loop-place.self.circuit c.latch.new.self.circuit c.args.bits.now c.args.next.now c.args.start
       c.loop-place.place c.loop-place.rest c.index-bits-place.result c.bit_at.result c.loop-place.invariant.1
@@ -13,11 +13,11 @@ loop-place-preserved g c = (
 )
 
 pub returns-clause-starts : goal.returns-clause-starts
-returns-clause-starts g c =
+returns-clause-starts c =
     starts_at c.loop-place.self.circuit c.args.bits.now c.args.next.now c.args.start c.loop-place.place c.loop-place.rest
     c.loop-place.invariant.1 c.loop-place-test.false
 
 pub returns-clause-takes : goal.returns-clause-takes
-returns-clause-takes g c =
+returns-clause-takes c =
     takes_next c.loop-place.self.circuit c.args.bits.now c.args.next.now c.args.start c.loop-place.place c.loop-place.rest
     c.loop-place.invariant.1 c.loop-place-test.false

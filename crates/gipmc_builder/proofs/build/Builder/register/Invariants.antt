@@ -4,5 +4,5 @@ use Rattle.gipmc_builder.proofs.Numbers.{RegisterSoFar}
 use Rattle.gipmc_builder.proofs.build.Builder.register.Given as goal
 
 abbrev pub invariant-loop-place : goal.invariant-loop-place
-invariant-loop-place g l =
+invariant-loop-place l =
     AddsLatches l.fn.self.circuit l.self.circuit × RegisterSoFar l.self.circuit l.bits l.next l.start l.place l.rest

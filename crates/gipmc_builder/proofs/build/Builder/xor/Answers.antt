@@ -5,7 +5,7 @@ use Rattle.gipmc_builder.proofs.Built.{gives_xor}
 use Rattle.gipmc_builder.proofs.build.Builder.xor.Goals as goal
 
 pub returns-clause-gives : goal.returns-clause-gives
-returns-clause-gives g c =
+returns-clause-gives c =
     IfOk-weaker c.or.result (GivesOr c.or.new.self.circuit c.in_ok-only_left.only_left c.in_ok-only_right.only_right)
     (GivesXor c.or.new.self.circuit c.args.left c.args.right)
     (λ o either.

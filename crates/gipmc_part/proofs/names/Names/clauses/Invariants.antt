@@ -4,4 +4,4 @@ use Rattle.gipmc_part.specs.Parts.{rows, rows_named}
 use Rattle.gipmc_part.proofs.names.Names.clauses.Given as goal
 
 abbrev pub invariant-loop-clause : goal.invariant-loop-clause
-invariant-loop-clause g l = rows (take l.clause-index l.clauses) ≡ rows_named l.self.names.items l.all.items
+invariant-loop-clause l = rows (take l.clause-index l.clauses) ≡ rows_named l.self.names.items l.all.items

@@ -3,4 +3,4 @@ use Rattle.gipmc_sweep.proofs.Equalities.{ImpliesBelow}
 use Rattle.gipmc_sweep.proofs.merges.Merges.clauses.Given as goal
 
 abbrev pub invariant-loop-place : goal.invariant-loop-place
-invariant-loop-place g l = ImpliesBelow l.place l.all.items l.self.literals.items
+invariant-loop-place l = ImpliesBelow l.place l.all.items l.self.literals.items

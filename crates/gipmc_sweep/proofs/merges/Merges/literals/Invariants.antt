@@ -4,4 +4,4 @@ use Rattle.gipmc_sweep.specs.Merges.{merged}
 use Rattle.gipmc_sweep.proofs.merges.Merges.literals.Given as goal
 
 abbrev pub invariant-loop-l : goal.invariant-loop-l
-invariant-loop-l g l = l.all.items ≡ map (merged l.self.literals.items) (take l.l-index l.literals)
+invariant-loop-l l = l.all.items ≡ map (merged l.self.literals.items) (take l.l-index l.literals)

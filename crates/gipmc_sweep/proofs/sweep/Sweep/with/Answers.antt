@@ -4,7 +4,7 @@ use Rattle.gipmc_sweep.specs.Merges.{IsMergedOf}
 use Rattle.gipmc_sweep.proofs.sweep.Sweep.with.Goals as goal
 
 pub returns-in-Some-clause-swept : goal.returns-in-Some-clause-swept
-returns-in-Some-clause-swept g c =
+returns-in-Some-clause-swept c =
     let same : c.in-Some.netlist.circuit ≡ c.in_ok-circuit.circuit = rw (c.in-Some.is) at c.in_ok-netlist.ensures in
     record {
       smaller = subst (λ k. IsMergedOf c.args.merges.literals.items k c.args.whole.now.circuit) (sym same) c.in_ok-circuit.ensures.smaller;
