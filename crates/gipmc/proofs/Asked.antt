@@ -7,16 +7,16 @@ use Rattle.gipmc_justice.specs.Answers as justice
 use Rattle.gipmc_justice.specs.declared.answers.Answered as properties
 use Rattle.gipmc.specs.Asked.{AreBadsAnswered, AreBadsLeftOut, IsJusticeAnswered, IsJusticeLeftOut, outcome_of_bads, outcome_of_justice}
 
-pub bads_answered : {A : Type 0} (bytes : List ℕ) (bad asked : Option ℕ) (found : Option (Answered A))
+pub bads_answered : (bytes : List ℕ) (bad asked : Option ℕ) (found : Option Answered)
     → IfNone found (AreBadsLeftOut bytes bad asked)
-    → IfSome found (λ a. bads.Answers A bytes bad a.said.outcome a.said.text.items)
-    → AreBadsAnswered A bytes bad asked (outcome_of_bads found)
+    → IfSome found (λ a. bads.Answers bytes bad a.said.outcome a.said.text.items)
+    → AreBadsAnswered bytes bad asked (outcome_of_bads found)
 bads_answered bytes bad asked None left answers = inr (left, refl)
 bads_answered bytes bad asked (Some answer) left answers = inl (answer.said.text.items, answers)
 
-pub justice_answered : {A : Type 0} (bytes : List ℕ) (bad asked : Option ℕ) (found : Option (properties.Answered A))
+pub justice_answered : (bytes : List ℕ) (bad asked : Option ℕ) (found : Option properties.Answered)
     → IfNone found (IsJusticeLeftOut bytes bad asked)
-    → IfSome found (λ a. justice.Answers A bytes asked a.said.outcome a.said.text.items)
-    → IsJusticeAnswered A bytes bad asked (outcome_of_justice found)
+    → IfSome found (λ a. justice.Answers bytes asked a.said.outcome a.said.text.items)
+    → IsJusticeAnswered bytes bad asked (outcome_of_justice found)
 justice_answered bytes bad asked None left answers = inr (left, refl)
 justice_answered bytes bad asked (Some answer) left answers = inl (answer.said.text.items, answers)

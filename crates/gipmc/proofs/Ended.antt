@@ -2,8 +2,8 @@
 use Rattle.std.proofs.Common.{◌≡◌, Bool, true, false, Ok, Err, IsTrue, refl}
 use Rattle.std.specs.Prelude.{Result, IfOk}
 use Rattle.gipmc.specs.Statuses.{search_status, verified_status}
-use Rattle.gipmc_answers.specs.declared.answers.Outcome.{Outcome}
-use Rattle.gipmc_answers.specs.declared.answers.Outcome.TheVariants.{Fails, Safe, Open}
+use Rattle.gipmc_task.specs.declared.outcome.Outcome.{Outcome}
+use Rattle.gipmc_task.specs.declared.outcome.Outcome.TheVariants.{Fails, Safe, Open}
 
 -- a search ends with 20 only where the outcome is safe
 pub safe_ended : {E : Type 0} (P : Outcome → Type 0) (r : Result Outcome E) → IfOk r P → search_status r ≡ 20 → P Safe

@@ -6,19 +6,20 @@ use Rattle.gipmc_answers.specs.Answers as bads
 use Rattle.gipmc_answers.specs.Certificates as bads_certified
 use Rattle.gipmc_answers.specs.Witnesses as bads_replayed
 use Rattle.gipmc_answers.specs.declared.answers.Answered.{Answered}
-use Rattle.gipmc_answers.specs.declared.answers.Outcome.{Outcome}
-use Rattle.gipmc_answers.specs.declared.answers.Outcome.TheVariants.{Safe}
+use Rattle.gipmc_task.specs.Outcomes.{both}
+use Rattle.gipmc_task.specs.declared.outcome.Outcome.{Outcome}
+use Rattle.gipmc_task.specs.declared.outcome.Outcome.TheVariants.{Safe}
 use Rattle.gipmc_justice.specs.Answers as justice
 use Rattle.gipmc_justice.specs.Certificates as justice_certified
 use Rattle.gipmc_justice.specs.Witnesses as justice_replayed
 use Rattle.gipmc_justice.specs.declared.answers.Answered as properties
 
 -- what is known of what was asked about; of nothing, that it is safe
-abbrev pub outcome_of_bads : {A : Type 0} → Option (Answered A) → Outcome
+abbrev pub outcome_of_bads : Option Answered → Outcome
 outcome_of_bads None = Safe
 outcome_of_bads (Some answer) = answer.said.outcome
 
-abbrev pub outcome_of_justice : {A : Type 0} → Option (properties.Answered A) → Outcome
+abbrev pub outcome_of_justice : Option properties.Answered → Outcome
 outcome_of_justice None = Safe
 outcome_of_justice (Some answer) = answer.said.outcome
 
@@ -43,34 +44,34 @@ abbrev pub IsJusticeLeftOut : List ℕ → Option ℕ → Option ℕ → Type 0
 IsJusticeLeftOut bytes bad asked = (h : Header) × IsHeaderOf bytes h × (asks_of_justice h bad asked ≡ false)
 
 -- some text answers so about the bad literal that is asked for, or about all, or they are left out
-abbrev pub AreBadsAnswered : (A : Type 0) → List ℕ → Option ℕ → Option ℕ → Outcome → Type 0
-AreBadsAnswered A bytes bad asked outcome =
-    bads.IsAnswered A bytes bad outcome ⊎ (AreBadsLeftOut bytes bad asked × (outcome ≡ Safe))
+abbrev pub AreBadsAnswered : List ℕ → Option ℕ → Option ℕ → Outcome → Type 0
+AreBadsAnswered bytes bad asked outcome =
+    bads.IsAnswered bytes bad outcome ⊎ (AreBadsLeftOut bytes bad asked × (outcome ≡ Safe))
 
 -- and about the justice property, or about all
-abbrev pub IsJusticeAnswered : (A : Type 0) → List ℕ → Option ℕ → Option ℕ → Outcome → Type 0
-IsJusticeAnswered A bytes bad asked outcome =
-    ((text : List ℕ) × justice.Answers A bytes asked outcome text)
+abbrev pub IsJusticeAnswered : List ℕ → Option ℕ → Option ℕ → Outcome → Type 0
+IsJusticeAnswered bytes bad asked outcome =
+    ((text : List ℕ) × justice.Answers bytes asked outcome text)
     ⊎ (IsJusticeLeftOut bytes bad asked × (outcome ≡ Safe))
 
 -- both are, and this is known of all of them together
-abbrev pub IsAnsweredAsked : (A : Type 0) → List ℕ → Option ℕ → Option ℕ → Outcome → Type 0
-IsAnsweredAsked A bytes bad asked outcome =
-    (one : Outcome) × (other : Outcome) × AreBadsAnswered A bytes bad asked one
-    × IsJusticeAnswered A bytes bad asked other × (outcome ≡ bads.both one other)
+abbrev pub IsAnsweredAsked : List ℕ → Option ℕ → Option ℕ → Outcome → Type 0
+IsAnsweredAsked bytes bad asked outcome =
+    (one : Outcome) × (other : Outcome) × AreBadsAnswered bytes bad asked one
+    × IsJusticeAnswered bytes bad asked other × (outcome ≡ both one other)
 
 -- the text writes witnesses of bad literals, all of them right, or such of justice properties
-abbrev pub ReplaysEach : (A : Type 0) → List ℕ → List ℕ → Type 0
-ReplaysEach A bytes text = bads_replayed.Replays A bytes text None ⊎ justice_replayed.Replays A bytes text None
+abbrev pub ReplaysEach : List ℕ → List ℕ → Type 0
+ReplaysEach bytes text = bads_replayed.Replays bytes text None ⊎ justice_replayed.Replays bytes text None
 
 -- it writes witnesses of the bad literal or of the justice property that is asked for, or some witnesses
-abbrev pub ReplaysAsked : (A : Type 0) → List ℕ → List ℕ → Option ℕ → Option ℕ → Type 0
-ReplaysAsked A bytes text (Some bad) asked = bads_replayed.Replays A bytes text (Some bad)
-ReplaysAsked A bytes text None (Some asked) = justice_replayed.Replays A bytes text (Some asked)
-ReplaysAsked A bytes text None None = ReplaysEach A bytes text
+abbrev pub ReplaysAsked : List ℕ → List ℕ → Option ℕ → Option ℕ → Type 0
+ReplaysAsked bytes text (Some bad) asked = bads_replayed.Replays bytes text (Some bad)
+ReplaysAsked bytes text None (Some asked) = justice_replayed.Replays bytes text (Some asked)
+ReplaysAsked bytes text None None = ReplaysEach bytes text
 
 -- the text is a certificate as to the justice property that is asked for, or else as to the bad literal that is, or to
 -- all
-abbrev pub CertifiesAsked : (A : Type 0) → List ℕ → List ℕ → Option ℕ → Option ℕ → Type 0
-CertifiesAsked A bytes text bad None = bads_certified.Certifies A bytes text bad
-CertifiesAsked A bytes text bad (Some asked) = justice_certified.Certifies A bytes text asked
+abbrev pub CertifiesAsked : List ℕ → List ℕ → Option ℕ → Option ℕ → Type 0
+CertifiesAsked bytes text bad None = bads_certified.Certifies bytes text bad
+CertifiesAsked bytes text bad (Some asked) = justice_certified.Certifies bytes text asked

@@ -1,6 +1,3 @@
--- What a command line asks for, and how a run ends.
+-- What a run answers of what its command line asks for, and how it ends.
 pub mod Asked
-pub mod Misuses
-pub mod Options
 pub mod Statuses
-pub mod Words

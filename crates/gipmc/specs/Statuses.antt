@@ -1,8 +1,8 @@
 -- The status that a run ends with.
 use Rattle.std.specs.Prelude.{ℕ, Bool, Result, Ok, Err, if◌then◌else◌}
 use Rattle.gip_program.specs.Statuses.{refused_status}
-use Rattle.gipmc_answers.specs.declared.answers.Outcome.{Outcome}
-use Rattle.gipmc_answers.specs.declared.answers.Outcome.TheVariants.{Fails, Safe, Open}
+use Rattle.gipmc_task.specs.declared.outcome.Outcome.{Outcome}
+use Rattle.gipmc_task.specs.declared.outcome.Outcome.TheVariants.{Fails, Safe, Open}
 
 -- of an outcome
 abbrev pub outcome_status : Outcome → ℕ

@@ -1,6 +1,5 @@
 //! The program's work on justice properties.
 ghost use Rattle.std.specs.Prelude.{◌≡◌, IfNone, IfOk, IfSome};
-ghost use Rattle.std.specs.declared.alloc.Global.{Global};
 ghost use Rattle.gipmc_justice.specs.Answers.{Answers};
 ghost use Rattle.gipmc.specs.Asked.{IsJusticeLeftOut, outcome_of_justice};
 
@@ -8,13 +7,14 @@ use crate::errors::Failure;
 use crate::failure;
 use crate::files::write_whole;
 use crate::kinds::is_of_justice;
-use crate::options::Options;
 use crate::progress::Teller;
 use crate::traces::next_answer;
 use gip_program::NewFile;
-use gipmc_answers::{Outcome, Output};
+use gipmc_command::Options;
 use gipmc_justice::{Answered, Found, JusticeError, answer, certificate_of};
 use gipmc_liveness_engines::{Bounds, Means};
+use gipmc_task::{Outcome, Output};
+use gipsat_solver::Solver;
 use std::fmt::{self, Display};
 use std::io::Stdout;
 
@@ -44,14 +44,14 @@ pub fn search_justice<'a>(
     ensures none { IfOk result (λ found. IfNone found
         (IsJusticeLeftOut bytes.now options.now.bad options.now.justice)) }
     ensures answers { IfOk result (λ found. IfSome found
-        (λ a. Answers Global bytes.now options.now.justice a.said.outcome a.said.text.items)) }
+        (λ a. Answers bytes.now options.now.justice a.said.outcome a.said.text.items)) }
 {
     if !is_of_justice(options, bytes) {
         return Ok(None);
     }
     teller.go_on_with_justice();
     let bounds = Bounds::default();
-    match answer(rt.alloc(), bytes, options.justice, bounds, teller, output) {
+    match answer::<Solver, _, _>(rt.alloc(), bytes, options.justice, bounds, teller, output) {
         Ok(answer) => {
             if options.stats {
                 tell_decided(rt, &answer);
@@ -135,7 +135,7 @@ fn write_certificate<'a>(
     found: &Found,
     file: NewFile<'a>,
 ) -> Result<(), Failure<'a>> {
-    match certificate_of(
+    match certificate_of::<Solver>(
         rt.alloc(),
         &answer.netlist,
         &answer.liveness,

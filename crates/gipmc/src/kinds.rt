@@ -2,8 +2,8 @@
 ghost use Rattle.std.specs.Prelude.{◌≡◌, false};
 ghost use Rattle.gipmc.specs.Asked.{AreBadsLeftOut, IsJusticeLeftOut, asks_of_bads, asks_of_justice};
 
-use crate::options::Options;
 use gipmc_aiger::{Header, read_header};
+use gipmc_command::Options;
 
 /// Whether the bad literals of the circuit that the bytes write are asked about. They are where the bytes write none: a
 /// search tells that.

@@ -7,40 +7,37 @@
 
 ghost use Rattle.std.specs.Prelude.{◌≡◌, false, IfNone, IfOk, IfSome, IsTrue, None, Some};
 ghost use Rattle.std.specs.Process.{exit_status};
-ghost use Rattle.std.specs.declared.alloc.Global.{Global};
 ghost use Rattle.gipmc_answers.specs.Answers.{Answers, IsCircuitIn};
 ghost use Rattle.gipmc_answers.specs.Certificates.{Certifies};
 ghost use Rattle.gipmc_answers.specs.Witnesses.{Replays};
-ghost use Rattle.gipmc_answers.specs.declared.answers.Outcome.TheVariants.{Fails, Safe};
+ghost use Rattle.gipmc_task.specs.declared.outcome.Outcome.TheVariants.{Fails, Safe};
 ghost use Rattle.gipmc_justice.specs.Certificates as certificates;
 ghost use Rattle.gipmc_justice.specs.Witnesses as justice;
 ghost use Rattle.gipmc.specs.Asked.{AreBadsLeftOut, CertifiesAsked, IsAnsweredAsked, ReplaysAsked, ReplaysEach};
 ghost use Rattle.gipmc.specs.Asked.{outcome_of_bads};
 ghost use Rattle.gipmc.specs.Statuses.{outcome_status, search_status, verified_status};
 
-mod about;
 mod errors;
 mod files;
 mod justice;
 mod kinds;
-mod options;
 mod progress;
 mod settings;
 mod snapshot;
 mod traces;
 
-use about::ABOUT;
 use errors::Failure;
 use files::{bytes_of, new_file, write_out, write_whole};
 use gip_program::{Clock, NewFile, begin, explain, refuse, tell};
 use gipmc_answers::{
-    Answered, Outcome, Output, TaskError, answer, certificate_of, doubt_of, witness_circuit_of,
-    witness_doubt,
+    Answered, answer, certificate_of, doubt_of, witness_circuit_of, witness_doubt,
 };
-use gipmc_justice::{JusticeError, both, lasso_doubt};
+use gipmc_command::{ABOUT, Options, Task};
+use gipmc_justice::{JusticeError, lasso_doubt};
+use gipmc_task::{Outcome, Output, TaskError};
+use gipsat_solver::Solver;
 use justice::{justice_failure, keep_of_justice, outcome_of_justice, search_justice};
 use kinds::{has_justice, is_of_bads};
-use options::{Options, Task};
 use progress::Teller;
 use settings::{output_of, plan_of};
 use std::fmt::Display;
@@ -77,9 +74,9 @@ fn run_search(rt: &HostRuntime, options: &Options) -> ExitCode {
 // The status of a search in the circuit that the bytes write, of a program that began as the clock did.
 fn search_in(rt: &HostRuntime, options: &Options, clock: Clock, bytes: &[u8]) -> ExitCode
     ensures safe { exit_status result ≡ 20 →
-        IsAnsweredAsked Global bytes.now options.now.bad options.now.justice Safe }
+        IsAnsweredAsked bytes.now options.now.bad options.now.justice Safe }
     ensures fails { exit_status result ≡ 10 →
-        IsAnsweredAsked Global bytes.now options.now.bad options.now.justice Fails }
+        IsAnsweredAsked bytes.now options.now.bad options.now.justice Fails }
 {
     end_search(rt, search_circuit(rt, options, clock, bytes))
 }
@@ -101,7 +98,7 @@ fn replay_in(
     witness: &[u8],
 ) -> ExitCode
     ensures { exit_status result ≡ 0 →
-        ReplaysAsked Global bytes.now witness.now options.now.bad options.now.justice }
+        ReplaysAsked bytes.now witness.now options.now.bad options.now.justice }
 {
     end_check(rt, replay(rt, options, name, bytes, witness))
 }
@@ -123,7 +120,7 @@ fn certify_in(
     text: &[u8],
 ) -> ExitCode
     ensures { exit_status result ≡ 0 →
-        CertifiesAsked Global bytes.now text.now options.now.bad options.now.justice }
+        CertifiesAsked bytes.now text.now options.now.bad options.now.justice }
 {
     end_check(rt, certify(rt, options, name, bytes, text))
 }
@@ -192,7 +189,7 @@ fn search_circuit<'a>(
     clock: Clock,
     bytes: &[u8],
 ) -> Result<Outcome, Failure<'a>>
-    ensures { IfOk result (IsAnsweredAsked Global bytes.now options.now.bad options.now.justice) }
+    ensures { IfOk result (IsAnsweredAsked bytes.now options.now.bad options.now.justice) }
 {
     let certificate = certificate_file(rt, options)?;
     let wave = new_file(rt, options.vcd)?;
@@ -219,7 +216,7 @@ fn search_for<'a>(
     certificate: Option<NewFile<'a>>,
     wave: Option<NewFile<'a>>,
 ) -> Result<Outcome, Failure<'a>>
-    ensures { IfOk result (IsAnsweredAsked Global bytes.now options.now.bad options.now.justice) }
+    ensures { IfOk result (IsAnsweredAsked bytes.now options.now.bad options.now.justice) }
 {
     let mut output = output_of(rt, options);
     let found = search(rt, options, clock, bytes, &mut output)?;
@@ -286,12 +283,22 @@ fn keep_of_bads<'a>(
 
 // What is answered about a circuit: about its bad literals, where these are asked about, and about its justice
 // properties, where these are.
-#[derive(Drop)]
 pub(crate) struct Found {
     pub(crate) bads: Option<Answered>,
     pub(crate) justice: Option<gipmc_justice::Answered>,
     // What is known of all of them together.
     outcome: Outcome,
+}
+
+// One call in its owners' proofs, in place of one for each field.
+impl Drop for Found {
+    fn drop(self) {
+        let Found {
+            bads,
+            justice,
+            outcome: _,
+        } = self;
+    }
 }
 
 // Answers about a circuit, and writes each answer when it is found.
@@ -304,13 +311,13 @@ fn search<'a>(
 ) -> Result<Found, Failure<'a>>
     ensures circuit { IfOk result (λ f. IfSome f.bads (λ a. IsCircuitIn bytes.now a.netlist.circuit)) }
     ensures answers { IfOk result
-        (λ f. IsAnsweredAsked Global bytes.now options.now.bad options.now.justice f.outcome) }
+        (λ f. IsAnsweredAsked bytes.now options.now.bad options.now.justice f.outcome) }
 {
     let mut teller = Teller::new(rt, options, clock);
     let bads = search_bads(rt, options, bytes, &mut teller, output)?;
     let justice = search_justice(rt, options, bytes, &mut teller, output)?;
     teller.sum_up();
-    let outcome = both(outcome_of_bads(&bads), outcome_of_justice(&justice));
+    let outcome = outcome_of_bads(&bads).and(outcome_of_justice(&justice));
     Ok(Found {
         bads,
         justice,
@@ -340,13 +347,13 @@ fn search_bads<'a>(
         (AreBadsLeftOut bytes.now options.now.bad options.now.justice)) }
     ensures circuit { IfOk result (λ found. IfSome found (λ a. IsCircuitIn bytes.now a.netlist.circuit)) }
     ensures answers { IfOk result (λ found. IfSome found
-        (λ a. Answers Global bytes.now options.now.bad a.said.outcome a.said.text.items)) }
+        (λ a. Answers bytes.now options.now.bad a.said.outcome a.said.text.items)) }
 {
     if !is_of_bads(options, bytes) {
         return Ok(None);
     }
     let plan = plan_of(options);
-    match answer(rt.alloc(), bytes, options.bad, &plan, teller, output) {
+    match answer::<Solver, _, _>(rt.alloc(), bytes, options.bad, &plan, teller, output) {
         Ok(answer) => {
             tell_of_none(rt, options, &answer);
             Ok(Some(answer))
@@ -379,14 +386,14 @@ fn certificate_text(
     answer: &Answered,
 ) -> Result<Vec<u8>, TaskError>
     requires circuit { IsCircuitIn _bytes.now answer.now.netlist.circuit }
-    ensures { IfOk result (λ text. Certifies Global _bytes.now text.items options.now.bad) }
+    ensures { IfOk result (λ text. Certifies _bytes.now text.items options.now.bad) }
 {
     let invariant = &answer.said.invariant;
     let (alloc, netlist, limit) = (rt.alloc(), &answer.netlist, usize::MAX);
     if options.aiger {
-        return witness_circuit_of(alloc, netlist, invariant, options.bad, limit);
+        return witness_circuit_of::<Solver>(alloc, netlist, invariant, options.bad, limit);
     }
-    certificate_of(alloc, netlist, invariant, answer.said.k, options.bad, limit)
+    certificate_of::<Solver>(alloc, netlist, invariant, answer.said.k, options.bad, limit)
 }
 
 // Writes the certificate that was found for the circuit that the bytes write to the file.
@@ -418,7 +425,7 @@ fn replay<'a>(
     witness: &[u8],
 ) -> Result<bool, Failure<'a>>
     ensures { IfOk result (λ verified. IsTrue verified →
-        ReplaysAsked Global bytes.now witness.now options.now.bad options.now.justice) }
+        ReplaysAsked bytes.now witness.now options.now.bad options.now.justice) }
 {
     match options.bad {
         Some(bad) => replay_of_bads(rt, options, name, bytes, witness, Some(bad)),
@@ -435,7 +442,7 @@ fn replay_unless_bad<'a>(
     witness: &[u8],
 ) -> Result<bool, Failure<'a>>
     ensures { IfOk result (λ verified. IsTrue verified →
-        ReplaysAsked Global bytes.now witness.now None options.now.justice) }
+        ReplaysAsked bytes.now witness.now None options.now.justice) }
 {
     match options.justice {
         Some(place) => replay_of_justice(rt, options, name, bytes, witness, place),
@@ -451,7 +458,7 @@ fn replay_each<'a>(
     bytes: &[u8],
     witness: &[u8],
 ) -> Result<bool, Failure<'a>>
-    ensures { IfOk result (λ verified. IsTrue verified → ReplaysEach Global bytes.now witness.now) }
+    ensures { IfOk result (λ verified. IsTrue verified → ReplaysEach bytes.now witness.now) }
 {
     if !has_justice(bytes) {
         return replay_of_bads(rt, options, name, bytes, witness, None);
@@ -494,7 +501,7 @@ fn replay_of_justice<'a>(
     place: usize,
 ) -> Result<bool, Failure<'a>>
     ensures { IfOk result (λ verified. IsTrue verified →
-        justice.Replays Global bytes.now witness.now (Some place)) }
+        justice.Replays bytes.now witness.now (Some place)) }
 {
     match lasso_doubt(rt.alloc(), bytes, witness, Some(place)) {
         Ok(None) => verified_text(rt, true),
@@ -512,7 +519,7 @@ fn replay_of_bads<'a>(
     witness: &[u8],
     bad: Option<usize>,
 ) -> Result<bool, Failure<'a>>
-    ensures { IfOk result (λ verified. IsTrue verified → Replays Global bytes.now witness.now bad) }
+    ensures { IfOk result (λ verified. IsTrue verified → Replays bytes.now witness.now bad) }
 {
     match witness_doubt(rt.alloc(), bytes, witness, bad) {
         Ok(None) => verified_text(rt, true),
@@ -530,7 +537,7 @@ fn certify<'a>(
     text: &[u8],
 ) -> Result<bool, Failure<'a>>
     ensures { IfOk result (λ verified. IsTrue verified →
-        CertifiesAsked Global bytes.now text.now options.now.bad options.now.justice) }
+        CertifiesAsked bytes.now text.now options.now.bad options.now.justice) }
 {
     match options.justice {
         None => certify_bads(rt, options, name, bytes, text),
@@ -547,9 +554,9 @@ fn certify_property<'a>(
     text: &[u8],
     place: usize,
 ) -> Result<bool, Failure<'a>>
-    ensures { IfOk result (λ verified. IsTrue verified → certificates.Certifies Global bytes.now text.now place) }
+    ensures { IfOk result (λ verified. IsTrue verified → certificates.Certifies bytes.now text.now place) }
 {
-    match gipmc_justice::doubt_of(rt.alloc(), bytes, text, place, options.limit) {
+    match gipmc_justice::doubt_of::<Solver>(rt.alloc(), bytes, text, place, options.limit) {
         Ok(None) => verified_text(rt, true),
         Ok(Some(doubt)) => doubted(rt, name, &doubt),
         Err(error) => Err(justice_failure(options.file, name, error)),
@@ -564,9 +571,9 @@ fn certify_bads<'a>(
     bytes: &[u8],
     text: &[u8],
 ) -> Result<bool, Failure<'a>>
-    ensures { IfOk result (λ verified. IsTrue verified → Certifies Global bytes.now text.now options.now.bad) }
+    ensures { IfOk result (λ verified. IsTrue verified → Certifies bytes.now text.now options.now.bad) }
 {
-    match doubt_of(rt.alloc(), bytes, text, options.bad, options.limit) {
+    match doubt_of::<Solver>(rt.alloc(), bytes, text, options.bad, options.limit) {
         Ok(None) => {
             tell_left_out(rt, options, bytes);
             verified_text(rt, true)

@@ -1,10 +1,10 @@
 //! How far a search is, in lines on standard error.
-use crate::options::Options;
 use crate::snapshot::{Decided, Framed, Held, Inductive, Simulated, Snapshot, Unrolled};
 use gip_program::{Clock, Comments, Peak, Seconds, every_interval};
-use gipmc_answers::Listener;
+use gipmc_command::Options;
 use gipmc_engines::{Engine, Watch};
 use gipmc_ic3::Statistics;
+use gipmc_task::Listener;
 use giputils_stat::logger::IntervalLogger;
 use log::Level;
 use std::io::IsTerminal;
@@ -13,7 +13,6 @@ use std::time::Duration;
 
 /// Writes now and then how far a search is, where standard error is a terminal or that is asked for, and a summary of
 /// each, if that is wanted. It stops a search when the time is over.
-#[derive(Drop)]
 pub struct Teller<'a> {
     rt: &'a HostRuntime,
     // It began as the program did.
@@ -30,6 +29,23 @@ pub struct Teller<'a> {
     // It began with the search about this property. How far that is.
     begun: Clock<'a>,
     snapshot: Snapshot,
+}
+
+// One call in its owners' proofs, in place of one for each field.
+impl Drop for Teller<'_> {
+    fn drop(self) {
+        let Teller {
+            rt: _,
+            clock,
+            logger,
+            time: _,
+            is_told: _,
+            stats: _,
+            letter,
+            begun,
+            snapshot: _,
+        } = self;
+    }
 }
 
 impl<'a> Teller<'a> {

@@ -1,8 +1,8 @@
 //! What the options say of a search, and of where its answers are written.
 
-use crate::options::Options;
-use gipmc_answers::{Certifying, Lost, Output, Traces};
+use gipmc_command::Options;
 use gipmc_engines::{Bounds, Engine, Plan, Tries};
+use gipmc_task::{Certifying, Lost, Output, Traces};
 use std::io::{IsTerminal, Stdout};
 
 // How often simulation begins anew, and how many moments it has then.

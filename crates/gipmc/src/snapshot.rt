@@ -2,6 +2,7 @@
 
 use gipmc_engines::Engine;
 use gipmc_ic3::Statistics;
+use giputils_stat::decimal::Decimal;
 use std::fmt::{self, Display};
 
 // The decimals of an average.
@@ -152,11 +153,16 @@ struct Lemmas<'a>(&'a Statistics);
 
 impl Display for Lemmas<'_> {
     fn fmt<W: fmt::Write>(&self, f: &mut fmt::Formatter<W>) -> fmt::Result {
-        let lengths = &self.0.lengths;
-        match lengths.mean(PLACES) {
-            Some(mean) => write!(f, ", {mean} literals in each of {} lemmas", lengths.count()),
-            None => Ok(()),
+        let (lemmas, literals) = (self.0.lemmas, self.0.literals);
+        if lemmas == 0 {
+            return Ok(());
         }
+        let mean = Decimal {
+            numerator: u128::from(literals),
+            denominator: lemmas,
+            places: PLACES,
+        };
+        write!(f, ", {mean} literals in each of {lemmas} lemmas")
     }
 }
 

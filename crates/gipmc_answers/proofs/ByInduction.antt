@@ -9,14 +9,14 @@ use Rattle.gipmc_part.proofs.Carried.{FailsAfter-part, IsSafe-part, is_moment-re
 use Rattle.gipmc_unroll.specs.Induction.{IsKInductive, IsPath}
 
 -- a path of the whole circuit, read through the names, is one of the part
-IsPath-read : {A B : Type 0} (names : List ℕ) (part : Circuit A) (whole : Circuit B) (n : ℕ) (t : ℕ → Assignment)
+IsPath-read : (names : List ℕ) (part : Circuit) (whole : Circuit) (n : ℕ) (t : ℕ → Assignment)
     → IsPartOf names part whole → IsPath whole n t → IsPath part n (λ i. read names (t i))
 IsPath-read names part whole n t is path = record {
   moments = λ i within. is_moment-read names part whole (t i) is (path.moments i within);
   transitions = λ i less. is_transition-read names part whole (t i) (t (i + 1)) is (path.transitions i less);
 }
 
-IsKInductive-part : {A B : Type 0} (names : List ℕ) (part : Circuit A) (whole : Circuit B) (own : Lit) (k : ℕ)
+IsKInductive-part : (names : List ℕ) (part : Circuit) (whole : Circuit) (own : Lit) (k : ℕ)
     → IsPartOf names part whole → IsKInductive part own k → IsKInductive whole (literal_named names own) k
 IsKInductive-part names part whole own k is by = record {
   base = λ m less fails. by.base m less (FailsAfter-part names part whole own m is fails);
@@ -24,7 +24,7 @@ IsKInductive-part names part whole own k is by = record {
       by.step (λ i. read names (t i)) (IsPath-read names part whole k t is path) (λ i less true_. good i less true_) fails;
 }
 
-pub IsSafeByInduction-whole : {A B : Type 0} (names : List ℕ) (part : Circuit A) (whole : Circuit B) (own bad : Lit) (k : ℕ)
+pub IsSafeByInduction-whole : (names : List ℕ) (part : Circuit) (whole : Circuit) (own bad : Lit) (k : ℕ)
     → IsPartOf names part whole → literal_named names own ≡ bad → IsSafeByInduction part k own
     → IsSafeByInduction whole k bad
 IsSafeByInduction-whole names part whole own bad k is stands by =

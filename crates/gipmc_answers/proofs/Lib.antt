@@ -1,10 +1,8 @@
-pub mod Claimed
-pub mod Each
+mod Claimed
 mod ByInduction
 mod Depths
 mod Shown
 mod Told
 pub mod Witnessed
-pub mod Written
 mod OnWhole
 mod Words

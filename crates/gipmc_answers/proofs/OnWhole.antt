@@ -2,6 +2,7 @@
 use Rattle.std.proofs.Common.{◌≡◌, ◌∙◌, ℕ, ◌<◌, List, Vec, length, map, ap, get_or, sym, subst}
 use Rattle.std.specs.Option.{ForSome, option_map}
 use Rattle.std.specs.Prelude.{slice_get, Option, Some, None, IfSome}
+use Rattle.std.specs.declared.alloc.Global.{Global}
 use Rattle.std.proofs.lemmas.List.{length-map}
 use Rattle.std.proofs.lemmas.Option.{slice_get-get_or, slice_get-map, slice_get_within}
 use Rattle.gipsat_cnf.specs.Literals.{Lit}
@@ -22,7 +23,7 @@ item_made f xs ys k x y same at here =
     (sym (ap (option_map f) at) ∙ (sym (slice_get-map f xs k) ∙ (ap (λ items. slice_get items k) same ∙ here)))
 
 -- the literals of a part stand for those of the circuit
-pub StandFor-part : {A B : Type 0} (names : List ℕ) (part : Circuit A) (whole : Circuit B) (owns bads : List Lit)
+pub StandFor-part : (names : List ℕ) (part : Circuit) (whole : Circuit) (owns bads : List Lit)
     → IsPartOf names part whole → map (literal_named names) owns ≡ bads → StandFor part owns whole bads
 StandFor-part names part whole owns bads is same = record {
   count = sym (length-map owns (literal_named names)) ∙ ap length same;
@@ -32,7 +33,7 @@ StandFor-part names part whole owns bads is same = record {
 }
 
 -- what stands for the literals after merges
-pub StandFor-swept : {A B C : Type 0} (merges : List Lit) (invariant : List (Vec Lit A)) (small : Circuit B) (whole : Circuit C)
+pub StandFor-swept : (merges : List Lit) (invariant : List (Vec Lit Global)) (small : Circuit) (whole : Circuit)
     → (owns bads : List Lit) → IsSweptOf merges invariant small whole → owns ≡ map (merged merges) bads
     → StandFor small owns whole bads
 StandFor-swept merges invariant small whole owns bads is same = record {
@@ -43,8 +44,8 @@ StandFor-swept merges invariant small whole owns bads is same = record {
 }
 
 -- through a circuit between
-pub StandFor-through : {A B C : Type 0} (small : Circuit A) (owns : List Lit) (between : Circuit B) (mids : List Lit)
-    → (whole : Circuit C) (bads : List Lit) → StandFor small owns between mids → StandFor between mids whole bads
+pub StandFor-through : (small : Circuit) (owns : List Lit) (between : Circuit) (mids : List Lit)
+    → (whole : Circuit) (bads : List Lit) → StandFor small owns between mids → StandFor between mids whole bads
     → StandFor small owns whole bads
 StandFor-through small owns between mids whole bads lower upper = record {
   count = lower.count ∙ upper.count;

@@ -1,5 +1,6 @@
 -- What a certificate shows of bad literals.
 use Rattle.std.proofs.Common.{◌≡◌, ◌∙◌, ⊎_elim, ℕ, ◌+◌, ◌<◌, List, [], ◌∷◌, Vec, arith, length, slice_get, Some, refl, subst, sym}
+use Rattle.std.specs.declared.alloc.Global.{Global}
 use Rattle.std.proofs.lemmas.Bool.{cases_lt}
 use Rattle.std.proofs.lemmas.Option.{slice_get_within}
 use Rattle.gipsat_cnf.specs.Literals.{Lit}
@@ -13,7 +14,7 @@ use Rattle.gipmc_answers.specs.declared.certificates.Certificate.{Certificate}
 use Rattle.gipmc_answers.specs.declared.certificates.Certificate.TheVariants as certificate
 
 -- of one place more
-pub ShowsSafeAt-more : {A B : Type 0} (c : Circuit A) (shown : Certificate B) (n : ℕ)
+pub ShowsSafeAt-more : (c : Circuit) (shown : Certificate) (n : ℕ)
     → ((k : ℕ) → k < n → ShowsSafeAt c shown k) → ShowsSafeAt c shown n → (k : ℕ) → k < n + 1 → ShowsSafeAt c shown k
 ShowsSafeAt-more c shown n before now k less =
     ⊎_elim (λ old. before k old)
@@ -21,20 +22,20 @@ ShowsSafeAt-more c shown n before now k less =
     (cases_lt k n)
 
 -- of each literal, where it is shown at each place
-pub AreShownSafe-each : {A B : Type 0} (c : Circuit A) (shown : Certificate B)
+pub AreShownSafe-each : (c : Circuit) (shown : Certificate)
     → ((k : ℕ) → k < length c.bads.items → ShowsSafeAt c shown k) → AreShownSafe c shown c.bads.items
 AreShownSafe-each c shown each k bad at =
     let (l, here, shows) = each k (slice_get_within c.bads.items k bad at) in
     subst (λ b. ShowsSafe c shown b) (same_some l bad (sym here ∙ at)) shows
 
 -- at the place of the one literal of which it is shown
-pub ShowsSafeAt-one : {A B : Type 0} (c : Circuit A) (shown : Certificate B) (place : ℕ) (bad : Lit)
+pub ShowsSafeAt-one : (c : Circuit) (shown : Certificate) (place : ℕ) (bad : Lit)
     → slice_get c.bads.items place ≡ Some bad → ((k : ℕ) (l : Lit) → slice_get (bad ∷ []) k ≡ Some l → ShowsSafe c shown l)
     → ShowsSafeAt c shown place
 ShowsSafeAt-one c shown place bad here shows = (bad, here, shows 0 bad refl)
 
 -- by clauses, where each verdict is that they certify
-pub AreShownSafe-certified : {A B : Type 0} (c : Circuit A) (clauses : Vec (Vec Lit B) B) (bads : List Lit) (verdicts : List Verdict)
+pub AreShownSafe-certified : (c : Circuit) (clauses : Vec (Vec Lit Global) Global) (bads : List Lit) (verdicts : List Verdict)
     → length verdicts ≡ length bads → AreSafeByClauses c clauses.items bads verdicts
     → ((k : ℕ) → k < length verdicts → slice_get verdicts k ≡ Some Certified)
     → AreShownSafe c (certificate.Clauses clauses) bads

@@ -5,12 +5,13 @@ use Rattle.std.specs.Prelude.{slice_get, Option, None, Result, Ok, Err, IfOk, If
 use Rattle.gipsat_cnf.specs.Literals.{Lit}
 use Rattle.gipmc_circuits.specs.declared.circuit.Circuit.{Circuit}
 use Rattle.gipmc_engines.specs.Verdicts.{NeverFailsWithin}
-use Rattle.gipmc_answers.specs.Answers.{IsKnown, Tells, TellsBy, TellsDepths, TellsFirst, both, depth_text}
-use Rattle.gipmc_answers.specs.declared.answers.Outcome.{Outcome}
+use Rattle.gipmc_answers.specs.Answers.{IsKnown, Tells, TellsBy, TellsDepths, TellsFirst, depth_text}
+use Rattle.gipmc_task.specs.Outcomes.{both}
+use Rattle.gipmc_task.specs.declared.outcome.Outcome.{Outcome}
 use Rattle.gipmc_answers.specs.declared.known.Known.{Known}
 use Rattle.gipmc_answers.specs.declared.known.Known.TheVariants as known
 
-pub TellsFirst-more : {A : Type 0} (c : Circuit A) (n : ℕ) (one other : Outcome) (before last : List ℕ)
+pub TellsFirst-more : (c : Circuit) (n : ℕ) (one other : Outcome) (before last : List ℕ)
     → TellsFirst c n one before → Tells c n other last → TellsFirst c (n + 1) (both one other) (before ++ last)
 TellsFirst-more c n one other before last told tells =
     let next : suc n ≡ n + 1 = omega arith in
@@ -18,21 +19,21 @@ TellsFirst-more c n one other before last told tells =
     (one, other, before, last, told, tells, refl, refl)
 
 -- what is told of what is known, behind depths
-pub Tells-by : {A : Type 0} (c : Circuit A) (place : ℕ) (bad : Lit) (k : Known A) (outcome : Outcome) (front text : List ℕ)
+pub Tells-by : (c : Circuit) (place : ℕ) (bad : Lit) (k : Known) (outcome : Outcome) (front text : List ℕ)
     → slice_get c.bads.items place ≡ Some bad → TellsDepths c bad front → IsKnown c bad k → TellsBy place k outcome text
     → Tells c place outcome (front ++ text)
 Tells-by c place bad k outcome front text here depths right (is, said, small) =
     (bad, here, front, depths, k, right, ap (λ t. front ++ t) is, said, small)
 
 -- without depths
-pub Tells-alone : {A : Type 0} (c : Circuit A) (place : ℕ) (bad : Lit) (k : Known A) (outcome : Outcome) (text : List ℕ)
+pub Tells-alone : (c : Circuit) (place : ℕ) (bad : Lit) (k : Known) (outcome : Outcome) (text : List ℕ)
     → slice_get c.bads.items place ≡ Some bad → IsKnown c bad k → TellsBy place k outcome text
     → Tells c place outcome text
 Tells-alone c place bad k outcome text here right told =
     Tells-by c place bad k outcome [] text here ([], All-nil (NeverFailsWithin c bad), All-nil (λ n. n < 2 ^ 64), refl) right told
 
 -- one depth more
-pub TellsDepths-more : {A : Type 0} (c : Circuit A) (bad : Lit) (n : ℕ) (text : List ℕ) → TellsDepths c bad text
+pub TellsDepths-more : (c : Circuit) (bad : Lit) (n : ℕ) (text : List ℕ) → TellsDepths c bad text
     → NeverFailsWithin c bad n → n < 2 ^ 64 → TellsDepths c bad (text ++ depth_text n)
 TellsDepths-more c bad n text (depths, all, fit, is) never fits = (
   n ∷ depths,
@@ -42,11 +43,11 @@ TellsDepths-more c bad n text (depths, all, fit, is) never fits = (
 )
 
 -- nothing is told yet
-pub TellsDepths-none : {A : Type 0} (c : Circuit A) (bad : Lit) → TellsDepths c bad []
+pub TellsDepths-none : (c : Circuit) (bad : Lit) → TellsDepths c bad []
 TellsDepths-none c bad = ([], All-nil (NeverFailsWithin c bad), All-nil (λ n. n < 2 ^ 64), refl)
 
 -- if a depth is known, nothing fails up to it
-pub some_clear : {A B : Type 0} (r : Option ℕ) (v : Known B) (c : Circuit A) (bads : List Lit) (k : ℕ)
+pub some_clear : (r : Option ℕ) (v : Known) (c : Circuit) (bads : List Lit) (k : ℕ)
     → IfSome r (λ n. v ≡ known.NoFailureWithin n)
     → ((bad : Lit) → slice_get bads k ≡ Some bad → IsKnown c bad v)
     → IfSome r (λ n. (bad : Lit) → slice_get bads k ≡ Some bad → NeverFailsWithin c bad n)

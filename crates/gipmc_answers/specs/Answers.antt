@@ -9,8 +9,9 @@ use Rattle.gipmc_circuits.specs.Traces.{FailsBy}
 use Rattle.gipmc_circuits.specs.declared.circuit.Circuit.{Circuit}
 use Rattle.gipmc_circuits.specs.WellFormed.{is_well_formed}
 use Rattle.gipmc_engines.specs.Verdicts.{NeverFailsWithin}
-use Rattle.gipmc_answers.specs.declared.answers.Outcome.{Outcome}
-use Rattle.gipmc_answers.specs.declared.answers.Outcome.TheVariants.{Fails, Safe, Open}
+use Rattle.gipmc_task.specs.Outcomes.{both}
+use Rattle.gipmc_task.specs.declared.outcome.Outcome.{Outcome}
+use Rattle.gipmc_task.specs.declared.outcome.Outcome.TheVariants.{Fails, Safe, Open}
 use Rattle.gipmc_answers.specs.declared.known.Known.{Known}
 use Rattle.gipmc_answers.specs.declared.known.Known.TheVariants as known
 
@@ -19,7 +20,7 @@ abbrev pub named : ℕ → List ℕ
 named place = codes "\nb" ++ decimal place ++ codes "\n.\n"
 
 -- what is known of the bad literal holds
-abbrev pub IsKnown : {A B : Type 0} → Circuit A → Lit → Known B → Type 0
+abbrev pub IsKnown : Circuit → Lit → Known → Type 0
 IsKnown c bad (known.Fails trace) = FailsBy c bad trace
 IsKnown c bad known.Safe = IsSafe c bad
 IsKnown c bad (known.NoFailureWithin n) = NeverFailsWithin c bad n
@@ -27,7 +28,7 @@ IsKnown c bad known.Nothing = ⊤
 
 -- the text of what is known of the bad literal at a place: `1` and a witness, `0`, or `2`; before a `2`, behind a `u`, the
 -- most transitions up to which nothing fails
-abbrev pub known_text : {A : Type 0} → ℕ → Known A → List ℕ
+abbrev pub known_text : ℕ → Known → List ℕ
 known_text place (known.Fails trace) = witness_text place trace
 known_text place known.Safe = codes "0" ++ named place
 known_text place (known.NoFailureWithin n) = codes "u" ++ decimal n ++ codes "\n2" ++ named place
@@ -43,63 +44,55 @@ depths_text [] = []
 depths_text (n ∷ before) = depths_text before ++ depth_text n
 
 -- the text has such lines of depths up to which no trace fails
-abbrev pub TellsDepths : {A : Type 0} → Circuit A → Lit → List ℕ → Type 0
+abbrev pub TellsDepths : Circuit → Lit → List ℕ → Type 0
 TellsDepths c bad text =
     (depths : List ℕ) × All (NeverFailsWithin c bad) depths × All (λ n. n < 2 ^ 64) depths × (text ≡ depths_text depths)
 
 -- what is known of a literal, in a word
-abbrev pub outcome_of : {A : Type 0} → Known A → Outcome
+abbrev pub outcome_of : Known → Outcome
 outcome_of (known.Fails trace) = Fails
 outcome_of known.Safe = Safe
 outcome_of (known.NoFailureWithin n) = Open
 outcome_of known.Nothing = Open
 
--- of two: one fails, both are safe, or neither is known
-abbrev pub both : Outcome → Outcome → Outcome
-both Fails other = Fails
-both Safe other = other
-both Open Fails = Fails
-both Open Safe = Open
-both Open Open = Open
-
 -- the text and the outcome are those of what is known of the bad literal at a place, which a text may name
-abbrev pub TellsBy : {A : Type 0} → ℕ → Known A → Outcome → List ℕ → Type 0
+abbrev pub TellsBy : ℕ → Known → Outcome → List ℕ → Type 0
 TellsBy place k outcome text = (text ≡ known_text place k) × (outcome ≡ outcome_of k) × (place < 2 ^ 31)
 
 -- the text is that of what is known, and holds, of the bad literal at a place, which a text may name; before it there may be
 -- lines that tell up to which depths no trace fails
-abbrev pub Tells : {A : Type 0} → Circuit A → ℕ → Outcome → List ℕ → Type 0
-Tells {A} c place outcome text =
-    (bad : Lit) × (slice_get c.bads.items place ≡ Some bad) × (front : List ℕ) × TellsDepths c bad front × (k : Known A)
+abbrev pub Tells : Circuit → ℕ → Outcome → List ℕ → Type 0
+Tells c place outcome text =
+    (bad : Lit) × (slice_get c.bads.items place ≡ Some bad) × (front : List ℕ) × TellsDepths c bad front × (k : Known)
     × IsKnown c bad k × (text ≡ front ++ known_text place k) × (outcome ≡ outcome_of k) × (place < 2 ^ 31)
 
 -- the text tells of each of the first n bad literals in turn
-abbrev pub TellsFirst : {A : Type 0} → Circuit A → ℕ → Outcome → List ℕ → Type 0
+abbrev pub TellsFirst : Circuit → ℕ → Outcome → List ℕ → Type 0
 TellsFirst c zero outcome text = (outcome ≡ Safe) × (text ≡ [])
 TellsFirst c (suc n) outcome text =
     (one : Outcome) × (other : Outcome) × (before : List ℕ) × (last : List ℕ) × TellsFirst c n one before
     × Tells c n other last × (outcome ≡ both one other) × (text ≡ before ++ last)
 
 -- the text tells of the bad literal that is asked for, or of all
-abbrev pub TellsAsked : {A : Type 0} → Circuit A → Option ℕ → Outcome → List ℕ → Type 0
+abbrev pub TellsAsked : Circuit → Option ℕ → Outcome → List ℕ → Type 0
 TellsAsked c None outcome text = TellsFirst c (length c.bads.items) outcome text
 TellsAsked c (Some place) outcome text = Tells c place outcome text
 
 -- the literals are all bad ones of the circuit, or the first of them is the bad one that is asked for
-pub record AreAsked {A : Type 0} (c : Circuit A) (asked : Option ℕ) (bads : List Lit) : Type 0 where
+pub record AreAsked (c : Circuit) (asked : Option ℕ) (bads : List Lit) : Type 0 where
   pub all : asked ≡ None → bads ≡ c.bads.items
   pub within : (place : ℕ) → asked ≡ Some place → place < length c.bads.items
   pub first : (place : ℕ) → asked ≡ Some place → 0 < length bads
   pub same : (place : ℕ) → asked ≡ Some place → slice_get c.bads.items place ≡ slice_get bads 0
 
 -- the bytes write the circuit, and it is well-formed
-abbrev pub IsCircuitIn : {A : Type 0} → List ℕ → Circuit A → Type 0
+abbrev pub IsCircuitIn : List ℕ → Circuit → Type 0
 IsCircuitIn bytes c = Writes bytes c × IsTrue (is_well_formed c)
 
 -- the bytes write a circuit of which the text tells so
-abbrev pub Answers : (A : Type 0) → List ℕ → Option ℕ → Outcome → List ℕ → Type 0
-Answers A bytes asked outcome text = (c : Circuit A) × IsCircuitIn bytes c × TellsAsked c asked outcome text
+abbrev pub Answers : List ℕ → Option ℕ → Outcome → List ℕ → Type 0
+Answers bytes asked outcome text = (c : Circuit) × IsCircuitIn bytes c × TellsAsked c asked outcome text
 
 -- some text answers so about the circuit that the bytes write
-abbrev pub IsAnswered : (A : Type 0) → List ℕ → Option ℕ → Outcome → Type 0
-IsAnswered A bytes asked outcome = (text : List ℕ) × Answers A bytes asked outcome text
+abbrev pub IsAnswered : List ℕ → Option ℕ → Outcome → Type 0
+IsAnswered bytes asked outcome = (text : List ℕ) × Answers bytes asked outcome text

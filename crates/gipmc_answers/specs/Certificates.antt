@@ -31,49 +31,49 @@ abbrev pub BeginsWithK : List ℕ → ℕ → List ℕ → Type 0
 BeginsWithK text k rest = (line : List ℕ) × (text_lines text ≡ line ∷ text_lines rest) × (k_in line ≡ Some k)
 
 -- the clauses that stand behind a k: none where nothing comes there
-abbrev pub clauses_behind : {A : Type 0} → Circuit A → List ℕ → Option Formula
+abbrev pub clauses_behind : Circuit → List ℕ → Option Formula
 clauses_behind c rest = if length rest == 0 then Some [] else invariant_for c rest
 
 -- the text writes the certificate: clauses over the latches of the circuit, a k and clauses behind it, or another circuit
 -- that shares with it what the text says
-abbrev pub IsCertificateIn : {A B : Type 0} → Circuit A → List ℕ → Certificate B → Type 0
+abbrev pub IsCertificateIn : Circuit → List ℕ → Certificate → Type 0
 IsCertificateIn c text (certificate.Clauses clauses) = invariant_for c text ≡ Some (clauses_view clauses.items)
 IsCertificateIn c text (certificate.Induction k clauses) =
     (rest : List ℕ) × BeginsWithK text k rest × (clauses_behind c rest ≡ Some (clauses_view clauses.items))
 IsCertificateIn c text (certificate.Circuit other) = WritesWitness c text other
 
 -- by the other circuit it is safe as to the literal
-abbrev pub IsSafeByCircuit : {A B : Type 0} → Circuit A → WitnessCircuit B → Lit → Type 0
+abbrev pub IsSafeByCircuit : Circuit → WitnessCircuit → Lit → Type 0
 IsSafeByCircuit c other bad = IsCertifiedBy c bad other × IsSafe c bad
 
 -- by the certificate the circuit is safe as to the literal
-abbrev pub ShowsSafe : {A B : Type 0} → Circuit A → Certificate B → Lit → Type 0
+abbrev pub ShowsSafe : Circuit → Certificate → Lit → Type 0
 ShowsSafe c (certificate.Clauses clauses) bad = IsSafeByClauses c clauses.items bad
 ShowsSafe c (certificate.Induction k clauses) bad = IsSafeByClauses c clauses.items bad ⊎ IsSafeByInduction c k bad
 ShowsSafe c (certificate.Circuit other) bad = IsSafeByCircuit c other bad
 
 -- the circuit has a bad literal at the place, and by the certificate it is safe as to it
-abbrev pub ShowsSafeAt : {A B : Type 0} → Circuit A → Certificate B → ℕ → Type 0
+abbrev pub ShowsSafeAt : Circuit → Certificate → ℕ → Type 0
 ShowsSafeAt c shown place = (bad : Lit) × (slice_get c.bads.items place ≡ Some bad) × ShowsSafe c shown bad
 
 -- by the certificate the circuit is safe as to each of the literals
-abbrev pub AreShownSafe : {A B : Type 0} → Circuit A → Certificate B → List Lit → Type 0
+abbrev pub AreShownSafe : Circuit → Certificate → List Lit → Type 0
 AreShownSafe c shown bads = (k : ℕ) (bad : Lit) → slice_get bads k ≡ Some bad → ShowsSafe c shown bad
 
 -- the circuit has bad literals, and by the certificate it is safe as to each of them
-abbrev pub ShowsSafeAll : {A B : Type 0} → Circuit A → Certificate B → Type 0
+abbrev pub ShowsSafeAll : Circuit → Certificate → Type 0
 ShowsSafeAll c shown = (0 < length c.bads.items) × AreShownSafe c shown c.bads.items
 
 -- by the certificate it is safe as to the bad literal that is asked for, which it has, or as to all
-abbrev pub ShowsSafeAsked : {A B : Type 0} → Circuit A → Certificate B → Option ℕ → Type 0
+abbrev pub ShowsSafeAsked : Circuit → Certificate → Option ℕ → Type 0
 ShowsSafeAsked c shown None = ShowsSafeAll c shown
 ShowsSafeAsked c shown (Some place) = ShowsSafeAt c shown place
 
 -- the text writes a certificate by which the circuit is safe so
-abbrev pub CertifiesCircuit : {A : Type 0} → Circuit A → List ℕ → Option ℕ → Type 0
-CertifiesCircuit {A} c text asked =
-    (shown : Certificate A) × IsCertificateIn c text shown × ShowsSafeAsked c shown asked
+abbrev pub CertifiesCircuit : Circuit → List ℕ → Option ℕ → Type 0
+CertifiesCircuit c text asked =
+    (shown : Certificate) × IsCertificateIn c text shown × ShowsSafeAsked c shown asked
 
 -- the bytes write a circuit, and the text a certificate by which it is safe so
-abbrev pub Certifies : (A : Type 0) → List ℕ → List ℕ → Option ℕ → Type 0
-Certifies A bytes text asked = (c : Circuit A) × IsCircuitIn bytes c × CertifiesCircuit c text asked
+abbrev pub Certifies : List ℕ → List ℕ → Option ℕ → Type 0
+Certifies bytes text asked = (c : Circuit) × IsCircuitIn bytes c × CertifiesCircuit c text asked

@@ -5,11 +5,11 @@ use Rattle.gipmc_circuits.specs.Circuit.{FailsAfter}
 use Rattle.gipmc_circuits.specs.declared.circuit.Circuit.{Circuit}
 
 -- the whole circuit fails as to the bad literal only after as many transitions as the smaller one does as to its own
-abbrev pub StandsFor : {A B : Type 0} → Circuit A → Lit → Circuit B → Lit → Type 0
+abbrev pub StandsFor : Circuit → Lit → Circuit → Lit → Type 0
 StandsFor small own whole bad = (n : ℕ) → ¬ (FailsAfter small own n) → ¬ (FailsAfter whole bad n)
 
 -- each literal of the smaller circuit stands so for the one of the whole circuit at the same place
-pub record StandFor {A B : Type 0} (small : Circuit A) (owns : List Lit) (whole : Circuit B) (bads : List Lit) : Type 0 where
+pub record StandFor (small : Circuit) (owns : List Lit) (whole : Circuit) (bads : List Lit) : Type 0 where
   pub count : length owns ≡ length bads
   pub each : (k : ℕ) (own bad : Lit) → slice_get owns k ≡ Some own → slice_get bads k ≡ Some bad
       → StandsFor small own whole bad

@@ -2,5 +2,4 @@
 pub mod Answers
 pub mod Certificates
 pub mod Left
-pub mod Output
 pub mod Witnesses

@@ -10,7 +10,7 @@ use Rattle.gipmc_circuits.specs.declared.trace.Trace.{Trace}
 use Rattle.gipmc_answers.specs.Answers.{IsCircuitIn}
 
 -- the text writes witnesses for the circuit: the places of the bad literals that each names, and its trace
-abbrev pub AreWitnessesIn : {A B : Type 0} → Circuit A → List ℕ → List (List ℕ × Trace B) → Type 0
+abbrev pub AreWitnessesIn : Circuit → List ℕ → List (List ℕ × Trace) → Type 0
 AreWitnessesIn c text witnesses =
     claims_of (length c.latches.items) (length c.inputs.items) text ≡ Some (map (λ w. claim_by w.0 w.1) witnesses)
 
@@ -30,16 +30,16 @@ claimed names None = if length names == 0 then 0 ∷ [] else names
 claimed names (Some asked) = if names_place names asked then asked ∷ [] else []
 
 -- the circuit fails by the trace, at the bad literal at a place
-abbrev pub FailsAt : {A B : Type 0} → Circuit A → Trace B → ℕ → Type 0
+abbrev pub FailsAt : Circuit → Trace → ℕ → Type 0
 FailsAt c trace place = (bad : Lit) × (slice_get c.bads.items place ≡ Some bad) × FailsBy c bad trace
 
 -- a witness shows all that it has to
-abbrev pub IsRight : {A B : Type 0} → Circuit A → Option ℕ → List ℕ × Trace B → Type 0
+abbrev pub IsRight : Circuit → Option ℕ → List ℕ × Trace → Type 0
 IsRight c asked w = Every (FailsAt c w.1) (claimed w.0 asked)
 
 -- the bytes write a circuit, and the text witnesses for it, all of which are right, and of which one is one of what is
 -- asked for
-abbrev pub Replays : (A : Type 0) → List ℕ → List ℕ → Option ℕ → Type 0
-Replays A bytes text asked =
-    (c : Circuit A) × IsCircuitIn bytes c × (witnesses : List (List ℕ × Trace A)) × AreWitnessesIn c text witnesses
+abbrev pub Replays : List ℕ → List ℕ → Option ℕ → Type 0
+Replays bytes text asked =
+    (c : Circuit) × IsCircuitIn bytes c × (witnesses : List (List ℕ × Trace)) × AreWitnessesIn c text witnesses
     × IsTrue (list_any (λ w. names_asked w.0 asked) witnesses) × Every (IsRight c asked) witnesses

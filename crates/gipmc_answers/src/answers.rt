@@ -1,82 +1,62 @@
 //! Answers about a circuit, from the bytes of its text to those of the answers.
 ghost use Rattle.std.specs.Prelude.{◌≡◌, ℕ, ◌<◌, ◌^◌, ◌++◌, codes, length, map, slice_get, decimal, Some, IfOk, OnOk};
 ghost use Rattle.gipmc_answers.specs.Answers.{Answers, IsCircuitIn, Tells, TellsAsked, TellsBy, TellsDepths, TellsFirst};
-ghost use Rattle.gipmc_answers.specs.Answers.{AreAsked, both, depth_text, known_text, named, outcome_of};
+ghost use Rattle.gipmc_answers.specs.Answers.{AreAsked, depth_text, known_text, named, outcome_of};
 ghost use Rattle.gipmc_answers.specs.Left.{StandFor};
-ghost use Rattle.gipmc_answers.specs.Output.{IsWritten};
+ghost use Rattle.gipmc_task.specs.Output.{IsWritten};
 ghost use Rattle.gipmc_answers.specs.Witnesses.{Replays};
-ghost use Rattle.gipmc_answers.specs.declared.answers.Outcome.TheVariants.{Fails};
+ghost use Rattle.gipmc_task.specs.declared.outcome.Outcome.TheVariants.{Fails};
 
-use crate::error::TaskError;
 use crate::known::Known;
-use crate::listener::Listener;
-use crate::output::{Certifying, Output, Wanted};
 use crate::parted::{Parted, part_of};
 use crate::query::Query;
 use gipmc_aiger::{read_circuit, write_witness};
 use gipmc_circuits::Netlist;
 use gipmc_engines::{Engine, Plan};
 use gipmc_part::Part;
+use gipmc_task::{Certifying, Listener, Outcome, Output, TaskError, Wanted};
 use gipsat_cnf::{Literal, SatSolver};
-use gipsat_solver::Solver;
-use std::alloc::{AllocError, Allocator, Global};
+use std::alloc::{AllocError, Global};
 use std::io::Write;
-
-/// What is known of some bad literals together.
-#[derive(Clone, Copy, PartialEq, Eq)]
-pub enum Outcome {
-    /// One of them is reachable, and a counterexample shows it.
-    Fails,
-    /// It is safe as to each of them.
-    Safe,
-    /// Neither is known.
-    Open,
-}
-
-impl Outcome {
-    // What is known of these and of the other one.
-    fn and(self, other: Outcome) -> Outcome
-        ensures { result ≡ both self other }
-    {
-        match self {
-            Outcome::Fails => Outcome::Fails,
-            Outcome::Safe => other,
-            Outcome::Open => match other {
-                Outcome::Fails => Outcome::Fails,
-                Outcome::Safe => Outcome::Open,
-                Outcome::Open => Outcome::Open,
-            },
-        }
-    }
-}
 
 // What is told of some bad literals.
 #[derive(Drop)]
-struct Told<A: Allocator> {
-    text: Vec<u8, A>,
+struct Told {
+    text: Vec<u8>,
     outcome: Outcome,
 }
 
 /// What is said of some bad literals.
-#[derive(Drop)]
-pub struct Said<A: Allocator = Global> {
+pub struct Said {
     /// The text.
-    pub text: Vec<u8, A>,
+    pub text: Vec<u8>,
     /// What it says of all of them.
     pub outcome: Outcome,
     /// The clauses of the invariant that was found, over the circuit's variables.
-    pub invariant: Vec<Vec<Literal, A>, A>,
+    pub invariant: Vec<Vec<Literal>>,
     /// The greatest k for which a literal was found to be k-inductive, if one was. Each that was is so for it too.
     pub k: Option<usize>,
 }
 
+// One call in its owners' proofs, in place of one for each field.
+impl Drop for Said {
+    fn drop(self) {
+        let Said {
+            text,
+            outcome: _,
+            invariant,
+            k: _,
+        } = self;
+    }
+}
+
 /// A circuit, and what is said of it.
 #[derive(Drop)]
-pub struct Answered<A: Allocator = Global> {
+pub struct Answered {
     /// The circuit.
-    pub netlist: Netlist<A>,
+    pub netlist: Netlist,
     /// What is said of its bad literals.
-    pub said: Said<A>,
+    pub said: Said,
 }
 
 /// Answers about the circuit that a text writes: about the bad literal at the place that is asked for, or about all.
@@ -88,31 +68,28 @@ pub struct Answered<A: Allocator = Global> {
 /// - [`TaskError::NoBad`] where there is no bad literal at the place.
 /// - [`TaskError::Memory`] where memory is refused for the circuit or a text. A search that is refused memory leaves the
 ///   literals open that are not decided.
-pub fn answer<A: Allocator + Copy, L: Listener, W: Write>(
-    alloc: A,
+pub fn answer<S: SatSolver + Drop, L: Listener, W: Write>(
+    alloc: Global,
     bytes: &[u8],
     asked: Option<usize>,
     plan: &Plan,
     listener: &mut L,
     output: &mut Output<W>,
-) -> Result<Answered<A>, TaskError>
+) -> Result<Answered, TaskError>
     ensures circuit { IfOk result (λ a. IsCircuitIn bytes.now a.netlist.circuit) }
-    ensures answers { IfOk result (λ a. Answers A bytes.now asked a.said.outcome a.said.text.items) }
+    ensures answers { IfOk result (λ a. Answers bytes.now asked a.said.outcome a.said.text.items) }
     ensures witness { (place : ℕ) → asked ≡ Some place →
-        IfOk result (λ a. a.said.outcome ≡ Fails → Replays A bytes.now a.said.text.items asked) }
+        IfOk result (λ a. a.said.outcome ≡ Fails → Replays bytes.now a.said.text.items asked) }
     ensures written { IfOk result (λ a. IsWritten output.old.failure output.new.failure
         (W.contents output.old.writer) (W.contents output.new.writer) a.said.text.items) }
 {
     let netlist = netlist_in(alloc, bytes)?;
-    let said = answer_asked(alloc, &netlist, asked, plan, listener, output)?;
+    let said = answer_asked::<S, _, _>(alloc, &netlist, asked, plan, listener, output)?;
     Ok(Answered { netlist, said })
 }
 
 // The circuit that a text writes.
-pub(crate) fn netlist_in<A: Allocator + Copy>(
-    alloc: A,
-    bytes: &[u8],
-) -> Result<Netlist<A>, TaskError>
+pub(crate) fn netlist_in(alloc: Global, bytes: &[u8]) -> Result<Netlist, TaskError>
     ensures { IfOk result (λ n. IsCircuitIn bytes.now n.circuit) }
 {
     match read_circuit(alloc, bytes) {
@@ -122,14 +99,14 @@ pub(crate) fn netlist_in<A: Allocator + Copy>(
 }
 
 // Answers about a circuit.
-fn answer_asked<A: Allocator + Copy, L: Listener, W: Write>(
-    alloc: A,
-    netlist: &Netlist<A>,
+fn answer_asked<S: SatSolver + Drop, L: Listener, W: Write>(
+    alloc: Global,
+    netlist: &Netlist,
     asked: Option<usize>,
     plan: &Plan,
     listener: &mut L,
     output: &mut Output<W>,
-) -> Result<Said<A>, TaskError>
+) -> Result<Said, TaskError>
     ensures tells { IfOk result (λ said. TellsAsked netlist.now.circuit asked said.outcome said.text.items) }
     ensures written { IfOk result (λ said. IsWritten output.old.failure output.new.failure
         (W.contents output.old.writer) (W.contents output.new.writer) said.text.items) }
@@ -137,43 +114,33 @@ fn answer_asked<A: Allocator + Copy, L: Listener, W: Write>(
     match asked {
         None => {
             let bads = &netlist.circuit.bads;
-            Ok(answer_about::<Solver<A>, _, _, _>(
-                alloc, netlist, bads, None, plan, listener, output,
-            )?)
+            Ok(answer_about::<S, _, _>(alloc, netlist, bads, None, plan, listener, output)?)
         }
         Some(place) if place < netlist.circuit.bads.len() => {
             let bads = [netlist.circuit.bads[place]];
-            Ok(answer_about::<Solver<A>, _, _, _>(
-                alloc,
-                netlist,
-                &bads,
-                Some(place),
-                plan,
-                listener,
-                output,
-            )?)
+            Ok(answer_about::<S, _, _>(alloc, netlist, &bads, Some(place), plan, listener, output)?)
         }
         Some(place) => Err(TaskError::NoBad(place, netlist.circuit.bads.len())),
     }
 }
 
 // Answers about the bad literals that are asked for: these.
-fn answer_about<S: SatSolver<A> + Drop, A: Allocator + Copy, L: Listener, W: Write>(
-    alloc: A,
-    netlist: &Netlist<A>,
+fn answer_about<S: SatSolver + Drop, L: Listener, W: Write>(
+    alloc: Global,
+    netlist: &Netlist,
     bads: &[Literal],
     asked: Option<usize>,
     plan: &Plan,
     listener: &mut L,
     output: &mut Output<W>,
-) -> Result<Said<A>, AllocError>
+) -> Result<Said, AllocError>
     requires { AreAsked netlist.now.circuit asked bads.now }
     ensures tells { IfOk result (λ said. TellsAsked netlist.now.circuit asked said.outcome said.text.items) }
     ensures written { IfOk result (λ said. IsWritten output.old.failure output.new.failure
         (W.contents output.old.writer) (W.contents output.new.writer) said.text.items) }
 {
     match part_of(alloc, netlist, bads) {
-        Some(part) => answer_by::<S, _, _, _>(
+        Some(part) => answer_by::<S, _, _>(
             alloc, netlist, bads, asked, &part, plan, listener, output,
         ),
         None => leave(alloc, netlist, asked, listener, output),
@@ -181,16 +148,16 @@ fn answer_about<S: SatSolver<A> + Drop, A: Allocator + Copy, L: Listener, W: Wri
 }
 
 // The same, by the part of the circuit that they depend on.
-fn answer_by<S: SatSolver<A> + Drop, A: Allocator + Copy, L: Listener, W: Write>(
-    alloc: A,
-    netlist: &Netlist<A>,
+fn answer_by<S: SatSolver + Drop, L: Listener, W: Write>(
+    alloc: Global,
+    netlist: &Netlist,
     bads: &[Literal],
     asked: Option<usize>,
-    part: &Part<A>,
+    part: &Part,
     plan: &Plan,
     listener: &mut L,
     output: &mut Output<W>,
-) -> Result<Said<A>, AllocError>
+) -> Result<Said, AllocError>
     requires asked { AreAsked netlist.now.circuit asked bads.now }
     requires part { StandFor part.now.netlist.circuit part.now.netlist.circuit.bads.items
         netlist.now.circuit bads.now }
@@ -198,7 +165,7 @@ fn answer_by<S: SatSolver<A> + Drop, A: Allocator + Copy, L: Listener, W: Write>
     ensures written { IfOk result (λ said. IsWritten output.old.failure output.new.failure
         (W.contents output.old.writer) (W.contents output.new.writer) said.text.items) }
 {
-    match Parted::<S, A>::new(alloc, netlist, bads, part, plan) {
+    match Parted::<S>::new(alloc, netlist, bads, part, plan) {
         Ok(parted) => answer_with(alloc, parted, asked, plan, listener, output),
         Err(_) => leave(alloc, netlist, asked, listener, output),
     }
@@ -206,14 +173,14 @@ fn answer_by<S: SatSolver<A> + Drop, A: Allocator + Copy, L: Listener, W: Write>
 
 // The same, by a search in that part: in what is left of it where equal variables are merged, if that is much smaller and no
 // certificate is wanted.
-fn answer_with<S: SatSolver<A> + Drop, A: Allocator + Copy, L: Listener, W: Write>(
-    alloc: A,
-    mut parted: Parted<'_, S, A>,
+fn answer_with<S: SatSolver + Drop, L: Listener, W: Write>(
+    alloc: Global,
+    mut parted: Parted<'_, S>,
     asked: Option<usize>,
     plan: &Plan,
     listener: &mut L,
     output: &mut Output<W>,
-) -> Result<Said<A>, AllocError>
+) -> Result<Said, AllocError>
     requires { AreAsked parted.whole.now.circuit asked parted.bads.now }
     ensures tells { IfOk result
         (λ said. TellsAsked parted.entry.whole.now.circuit asked said.outcome said.text.items) }
@@ -228,8 +195,8 @@ fn answer_with<S: SatSolver<A> + Drop, A: Allocator + Copy, L: Listener, W: Writ
 }
 
 // What is to be found out of the first literal of a search, if it has one.
-fn first_wanted<S: SatSolver<A> + Drop, A: Allocator + Copy, L: Listener>(
-    parted: &Parted<'_, S, A>,
+fn first_wanted<S: SatSolver + Drop, L: Listener>(
+    parted: &Parted<'_, S>,
     asked: Option<usize>,
     wanted: Wanted,
     listener: &mut L,
@@ -249,13 +216,13 @@ fn merges(engine: Engine, certifying: Certifying) -> bool {
 }
 
 // Says what is told of the literals that are asked for, about which a search is.
-fn say<S: SatSolver<A> + Drop, A: Allocator + Copy, L: Listener, W: Write>(
-    alloc: A,
-    query: &mut Query<'_, S, A>,
+fn say<S: SatSolver + Drop, L: Listener, W: Write>(
+    alloc: Global,
+    query: &mut Query<'_, S>,
     asked: Option<usize>,
     listener: &mut L,
     output: &mut Output<W>,
-) -> Result<Said<A>, AllocError>
+) -> Result<Said, AllocError>
     requires { AreAsked query.old.whole.now.circuit asked query.old.bads.now }
     ensures tells { IfOk result
         (λ said. TellsAsked query.old.whole.now.circuit asked said.outcome said.text.items) }
@@ -269,12 +236,12 @@ fn say<S: SatSolver<A> + Drop, A: Allocator + Copy, L: Listener, W: Write>(
 }
 
 // Says what is told of all literals that a search is about, those of its circuit.
-fn say_all<S: SatSolver<A> + Drop, A: Allocator + Copy, L: Listener, W: Write>(
-    alloc: A,
-    query: &mut Query<'_, S, A>,
+fn say_all<S: SatSolver + Drop, L: Listener, W: Write>(
+    alloc: Global,
+    query: &mut Query<'_, S>,
     listener: &mut L,
     output: &mut Output<W>,
-) -> Result<Said<A>, AllocError>
+) -> Result<Said, AllocError>
     requires { query.old.bads.now ≡ query.old.whole.now.circuit.bads.items }
     ensures tells { IfOk result (λ said.
         TellsFirst query.old.whole.now.circuit (length query.old.bads.now) said.outcome said.text.items) }
@@ -286,13 +253,13 @@ fn say_all<S: SatSolver<A> + Drop, A: Allocator + Copy, L: Listener, W: Write>(
 }
 
 // Says what is told of the only literal that a search is about, the bad one at a place of its circuit.
-fn say_one<S: SatSolver<A> + Drop, A: Allocator + Copy, L: Listener, W: Write>(
-    alloc: A,
-    query: &mut Query<'_, S, A>,
+fn say_one<S: SatSolver + Drop, L: Listener, W: Write>(
+    alloc: Global,
+    query: &mut Query<'_, S>,
     place: usize,
     listener: &mut L,
     output: &mut Output<W>,
-) -> Result<Said<A>, AllocError>
+) -> Result<Said, AllocError>
     requires within { 0 < length query.old.bads.now }
     requires same { slice_get query.old.whole.now.circuit.bads.items place ≡ slice_get query.old.bads.now 0 }
     ensures tells { IfOk result (λ said. Tells query.old.whole.now.circuit place said.outcome said.text.items) }
@@ -304,11 +271,7 @@ fn say_one<S: SatSolver<A> + Drop, A: Allocator + Copy, L: Listener, W: Write>(
 }
 
 // What is told, with an invariant and a k.
-fn made_of<A: Allocator>(
-    told: Told<A>,
-    invariant: Vec<Vec<Literal, A>, A>,
-    k: Option<usize>,
-) -> Said<A>
+fn made_of(told: Told, invariant: Vec<Vec<Literal>>, k: Option<usize>) -> Said
     ensures outcome { result.outcome ≡ told.outcome }
     ensures text { result.text.items ≡ told.text.items }
 {
@@ -321,12 +284,12 @@ fn made_of<A: Allocator>(
 }
 
 // Tells of all literals that a search is about, those of its circuit.
-fn tell_all<S: SatSolver<A> + Drop, A: Allocator + Copy, L: Listener, W: Write>(
-    alloc: A,
-    query: &mut Query<'_, S, A>,
+fn tell_all<S: SatSolver + Drop, L: Listener, W: Write>(
+    alloc: Global,
+    query: &mut Query<'_, S>,
     listener: &mut L,
     output: &mut Output<W>,
-) -> Result<Told<A>, AllocError>
+) -> Result<Told, AllocError>
     requires { query.old.bads.now ≡ query.old.whole.now.circuit.bads.items }
     ensures tells { IfOk result (λ told.
         TellsFirst query.old.whole.now.circuit (length query.old.bads.now) told.outcome told.text.items) }
@@ -344,14 +307,14 @@ fn tell_all<S: SatSolver<A> + Drop, A: Allocator + Copy, L: Listener, W: Write>(
 }
 
 // Tells of the literal at one of a search's places, which is the bad one at a place of the circuit.
-fn tell_at<S: SatSolver<A> + Drop, A: Allocator + Copy, L: Listener, W: Write>(
-    alloc: A,
-    query: &mut Query<'_, S, A>,
+fn tell_at<S: SatSolver + Drop, L: Listener, W: Write>(
+    alloc: Global,
+    query: &mut Query<'_, S>,
     at: usize,
     place: usize,
     listener: &mut L,
     output: &mut Output<W>,
-) -> Result<Told<A>, AllocError>
+) -> Result<Told, AllocError>
     requires within { at < length query.old.bads.now }
     requires same { slice_get query.old.whole.now.circuit.bads.items place ≡ slice_get query.old.bads.now at }
     ensures whole { query.new.whole ≡ query.old.whole }
@@ -373,8 +336,8 @@ fn tell_at<S: SatSolver<A> + Drop, A: Allocator + Copy, L: Listener, W: Write>(
 }
 
 // What is to be found out of the literal at one of a search's places, which is the bad one at a place of the circuit.
-fn wanted_of<S: SatSolver<A> + Drop, A: Allocator + Copy, L: Listener>(
-    query: &Query<'_, S, A>,
+fn wanted_of<S: SatSolver + Drop, L: Listener>(
+    query: &Query<'_, S>,
     at: usize,
     place: usize,
     wanted: Wanted,
@@ -399,15 +362,15 @@ const DOUBLINGS: usize = 64;
 
 // Goes on with the search about the literal at one of its places, if progress is to be written, and tells up to which
 // depths nothing fails, each of which is more than twice the one before.
-fn tell_depths<S: SatSolver<A> + Drop, A: Allocator + Copy, L: Listener, W: Write>(
-    alloc: A,
-    query: &mut Query<'_, S, A>,
+fn tell_depths<S: SatSolver + Drop, L: Listener, W: Write>(
+    alloc: Global,
+    query: &mut Query<'_, S>,
     at: usize,
     bad: Literal,
     wanted: Wanted,
     listener: &mut L,
     output: &mut Output<W>,
-) -> Result<Vec<u8, A>, AllocError>
+) -> Result<Vec<u8>, AllocError>
     requires { slice_get query.old.bads.now at ≡ Some bad }
     ensures whole { query.new.whole ≡ query.old.whole }
     ensures bads { query.new.bads ≡ query.old.bads }
@@ -432,10 +395,10 @@ fn tell_depths<S: SatSolver<A> + Drop, A: Allocator + Copy, L: Listener, W: Writ
 }
 
 // Tells of a depth.
-fn tell_depth<A: Allocator + Copy, W: Write>(
-    alloc: A,
+fn tell_depth<W: Write>(
+    alloc: Global,
     depth: usize,
-    text: &mut Vec<u8, A>,
+    text: &mut Vec<u8>,
     output: &mut Output<W>,
 ) -> Result<(), AllocError>
     ensures text { OnOk result (text.new.items ≡ text.old.items ++ depth_text depth) }
@@ -449,7 +412,7 @@ fn tell_depth<A: Allocator + Copy, W: Write>(
 }
 
 // The line that tells a depth.
-fn depth_text<A: Allocator + Copy>(alloc: A, depth: usize) -> Result<Vec<u8, A>, AllocError>
+fn depth_text(alloc: Global, depth: usize) -> Result<Vec<u8>, AllocError>
     ensures { IfOk result (λ text. text.items ≡ depth_text depth) }
 {
     let mut text = Vec::new(alloc);
@@ -460,13 +423,13 @@ fn depth_text<A: Allocator + Copy>(alloc: A, depth: usize) -> Result<Vec<u8, A>,
 }
 
 // Leaves the bad literals that are asked for open: there is no memory for a search.
-fn leave<A: Allocator + Copy, L: Listener, W: Write>(
-    alloc: A,
-    netlist: &Netlist<A>,
+fn leave<L: Listener, W: Write>(
+    alloc: Global,
+    netlist: &Netlist,
     asked: Option<usize>,
     listener: &mut L,
     output: &mut Output<W>,
-) -> Result<Said<A>, AllocError>
+) -> Result<Said, AllocError>
     requires { (place : ℕ) → asked ≡ Some place → place < length netlist.now.circuit.bads.items }
     ensures tells { IfOk result (λ said. TellsAsked netlist.now.circuit asked said.outcome said.text.items) }
     ensures written { IfOk result (λ said. IsWritten output.old.failure output.new.failure
@@ -479,12 +442,12 @@ fn leave<A: Allocator + Copy, L: Listener, W: Write>(
 }
 
 // Leaves all of them open.
-fn leave_all<A: Allocator + Copy, L: Listener, W: Write>(
-    alloc: A,
-    netlist: &Netlist<A>,
+fn leave_all<L: Listener, W: Write>(
+    alloc: Global,
+    netlist: &Netlist,
     listener: &mut L,
     output: &mut Output<W>,
-) -> Result<Said<A>, AllocError>
+) -> Result<Said, AllocError>
     ensures tells { IfOk result (λ said.
         TellsFirst netlist.now.circuit (length netlist.now.circuit.bads.items) said.outcome said.text.items) }
     ensures written { IfOk result (λ said. IsWritten output.old.failure output.new.failure
@@ -501,13 +464,13 @@ fn leave_all<A: Allocator + Copy, L: Listener, W: Write>(
 }
 
 // Leaves one of them open.
-fn leave_one<A: Allocator + Copy, L: Listener, W: Write>(
-    alloc: A,
-    netlist: &Netlist<A>,
+fn leave_one<L: Listener, W: Write>(
+    alloc: Global,
+    netlist: &Netlist,
     place: usize,
     listener: &mut L,
     output: &mut Output<W>,
-) -> Result<Said<A>, AllocError>
+) -> Result<Said, AllocError>
     requires { place < length netlist.now.circuit.bads.items }
     ensures tells { IfOk result (λ said. Tells netlist.now.circuit place said.outcome said.text.items) }
     ensures written { IfOk result (λ said. IsWritten output.old.failure output.new.failure
@@ -518,13 +481,13 @@ fn leave_one<A: Allocator + Copy, L: Listener, W: Write>(
 }
 
 // Tells that one of them is open.
-fn leave_at<A: Allocator + Copy, L: Listener, W: Write>(
-    alloc: A,
-    netlist: &Netlist<A>,
+fn leave_at<L: Listener, W: Write>(
+    alloc: Global,
+    netlist: &Netlist,
     place: usize,
     listener: &mut L,
     output: &mut Output<W>,
-) -> Result<Told<A>, AllocError>
+) -> Result<Told, AllocError>
     requires { place < length netlist.now.circuit.bads.items }
     ensures tells { IfOk result (λ told. Tells netlist.now.circuit place told.outcome told.text.items) }
     ensures written { IfOk result (λ told. IsWritten output.old.failure output.new.failure
@@ -544,12 +507,12 @@ fn note_refused<L: Listener>(place: usize, is_over: bool, listener: &mut L) {
 }
 
 // Tells what is known of the bad literal at a place.
-fn tell<A: Allocator + Copy, W: Write>(
-    alloc: A,
+fn tell<W: Write>(
+    alloc: Global,
     place: usize,
-    known: &Known<A>,
+    known: &Known,
     output: &mut Output<W>,
-) -> Result<Told<A>, AllocError>
+) -> Result<Told, AllocError>
     ensures tells { IfOk result (λ told. TellsBy place known.now told.outcome told.text.items) }
     ensures written { IfOk result (λ told. IsWritten output.old.failure output.new.failure
         (W.contents output.old.writer) (W.contents output.new.writer) told.text.items) }
@@ -563,7 +526,7 @@ fn tell<A: Allocator + Copy, W: Write>(
 }
 
 // What is known of a literal, in a word.
-fn outcome_of<A: Allocator>(known: &Known<A>) -> Outcome
+fn outcome_of(known: &Known) -> Outcome
     ensures { result ≡ outcome_of known.now }
 {
     match known {
@@ -575,11 +538,7 @@ fn outcome_of<A: Allocator>(known: &Known<A>) -> Outcome
 }
 
 // The text of what is known of the bad literal at a place.
-fn known_text<A: Allocator + Copy>(
-    alloc: A,
-    place: usize,
-    known: &Known<A>,
-) -> Result<Vec<u8, A>, AllocError>
+fn known_text(alloc: Global, place: usize, known: &Known) -> Result<Vec<u8>, AllocError>
     ensures text { IfOk result (λ text. text.items ≡ known_text place known.now) }
     ensures small { IfOk result (λ text. place < 2 ^ 31) }
 {
@@ -599,7 +558,7 @@ fn known_text<A: Allocator + Copy>(
 const GREATEST: usize = 2_147_483_647;
 
 // A status, and the lines that name the literal.
-fn named<A: Allocator + Copy>(alloc: A, status: &[u8], place: u32) -> Result<Vec<u8, A>, AllocError>
+fn named(alloc: Global, status: &[u8], place: u32) -> Result<Vec<u8>, AllocError>
     ensures { IfOk result (λ text. text.items ≡ status.now ++ named place) }
 {
     let mut text = Vec::new(alloc);
@@ -609,7 +568,7 @@ fn named<A: Allocator + Copy>(alloc: A, status: &[u8], place: u32) -> Result<Vec
 }
 
 // The text where nothing fails up to a depth.
-fn within<A: Allocator + Copy>(alloc: A, depth: usize, place: u32) -> Result<Vec<u8, A>, AllocError>
+fn within(alloc: Global, depth: usize, place: u32) -> Result<Vec<u8>, AllocError>
     ensures { IfOk result (λ text. text.items ≡ codes "u" ++ decimal depth ++ codes "\n2" ++ named place) }
 {
     let mut text = Vec::new(alloc);
@@ -621,7 +580,7 @@ fn within<A: Allocator + Copy>(alloc: A, depth: usize, place: u32) -> Result<Vec
 }
 
 // Writes the lines that name a bad literal.
-fn write_named<A: Allocator>(text: &mut Vec<u8, A>, place: u32) -> Result<(), AllocError>
+fn write_named(text: &mut Vec<u8>, place: u32) -> Result<(), AllocError>
     ensures { OnOk result (text.new.items ≡ text.old.items ++ named place) }
 {
     text.extend_from_slice(b"\nb")?;
@@ -631,7 +590,7 @@ fn write_named<A: Allocator>(text: &mut Vec<u8, A>, place: u32) -> Result<(), Al
 }
 
 // Writes a number.
-fn write_number<A: Allocator>(text: &mut Vec<u8, A>, number: u64) -> Result<(), AllocError>
+fn write_number(text: &mut Vec<u8>, number: u64) -> Result<(), AllocError>
     ensures { OnOk result (text.new.items ≡ text.old.items ++ decimal number) }
 {
     write!(text, "{number}").map_err(|_| AllocError)

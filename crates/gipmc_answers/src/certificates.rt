@@ -7,7 +7,6 @@ ghost use Rattle.gipmc_answers.specs.Certificates.{ShowsSafeAll, ShowsSafeAsked,
 ghost use Rattle.gipmc_answers.specs.declared.certificates.Certificate.TheVariants as certificate;
 
 use crate::answers::netlist_in;
-use crate::error::TaskError;
 use crate::induction::{InductionDoubt, behind_k, unless_certified};
 use crate::strengthened::strengthened;
 use gipmc_aiger::{
@@ -16,21 +15,21 @@ use gipmc_aiger::{
 use gipmc_circuits::certificate::Verdict;
 use gipmc_circuits::{Circuit, Netlist, WitnessCircuit, certify_by};
 use gipmc_part::certify_all;
-use gipsat_cnf::Literal;
-use gipsat_solver::Solver;
-use std::alloc::{AllocError, Allocator};
+use gipmc_task::TaskError;
+use gipsat_cnf::{Literal, SatSolver};
+use std::alloc::{AllocError, Global};
 use std::fmt::{self, Display};
 
 /// What may show that a circuit is safe.
 #[derive(Drop)]
-pub enum Certificate<A: Allocator> {
+pub enum Certificate {
     /// The clauses of an invariant, over the circuit's variables.
-    Clauses(Vec<Vec<Literal, A>, A>),
+    Clauses(Vec<Vec<Literal>>),
     /// A number k, and the clauses of an invariant, if there are some: each bad literal is k-inductive, or the invariant
     /// excludes it.
-    Induction(usize, Vec<Vec<Literal, A>, A>),
+    Induction(usize, Vec<Vec<Literal>>),
     /// A circuit that tells where an invariant of both holds.
-    Circuit(WitnessCircuit<A>),
+    Circuit(WitnessCircuit),
 }
 
 /// Why a certificate is not known to show that a circuit is safe.
@@ -89,16 +88,16 @@ fn write_verdict<W: fmt::Write>(f: &mut fmt::Formatter<W>, verdict: Verdict) -> 
 ///
 /// # Errors
 /// Those of [`doubt_of`].
-pub fn certifies<A: Allocator + Copy>(
-    alloc: A,
+pub fn certifies<S: SatSolver + Drop>(
+    alloc: Global,
     bytes: &[u8],
     text: &[u8],
     asked: Option<usize>,
     limit: usize,
 ) -> Result<bool, TaskError>
-    ensures { IfOk result (λ safe. IsTrue safe → Certifies A bytes.now text.now asked) }
+    ensures { IfOk result (λ safe. IsTrue safe → Certifies bytes.now text.now asked) }
 {
-    match doubt_of(alloc, bytes, text, asked, limit)? {
+    match doubt_of::<S>(alloc, bytes, text, asked, limit)? {
         None => Ok(true),
         Some(_) => Ok(false),
     }
@@ -114,23 +113,23 @@ pub fn certifies<A: Allocator + Copy>(
 /// - [`TaskError::NoBad`] where there is no bad literal at the place.
 /// - [`TaskError::NoBads`] where there is none at all.
 /// - [`TaskError::Memory`] where memory is refused.
-pub fn doubt_of<A: Allocator + Copy>(
-    alloc: A,
+pub fn doubt_of<S: SatSolver + Drop>(
+    alloc: Global,
     bytes: &[u8],
     text: &[u8],
     asked: Option<usize>,
     limit: usize,
 ) -> Result<Option<Doubt>, TaskError>
-    ensures { IfOk result (λ doubt. IfNone doubt (Certifies A bytes.now text.now asked)) }
+    ensures { IfOk result (λ doubt. IfNone doubt (Certifies bytes.now text.now asked)) }
 {
     let netlist = netlist_in(alloc, bytes)?;
-    certifies_circuit(alloc, &netlist, text, asked, limit)
+    certifies_circuit::<S>(alloc, &netlist, text, asked, limit)
 }
 
 // Why the certificate that a text writes is not known to show that the circuit is safe. None if it shows it.
-fn certifies_circuit<A: Allocator + Copy>(
-    alloc: A,
-    netlist: &Netlist<A>,
+fn certifies_circuit<S: SatSolver + Drop>(
+    alloc: Global,
+    netlist: &Netlist,
     text: &[u8],
     asked: Option<usize>,
     limit: usize,
@@ -138,7 +137,7 @@ fn certifies_circuit<A: Allocator + Copy>(
     ensures { IfOk result (λ doubt. IfNone doubt (CertifiesCircuit netlist.now.circuit text.now asked)) }
 {
     let certificate = certificate_in(alloc, &netlist.circuit, text)?;
-    certifies_asked(alloc, netlist, &certificate, asked, limit)
+    certifies_asked::<S>(alloc, netlist, &certificate, asked, limit)
 }
 
 /// The text of a certificate that the circuit is safe: as to the bad literal at the place that is asked for, or as to
@@ -148,18 +147,18 @@ fn certifies_circuit<A: Allocator + Copy>(
 /// # Errors
 /// - [`TaskError::Uncertified`] where they do not show it.
 /// - Those of [`certifies`].
-pub fn certificate_of<A: Allocator + Copy>(
-    alloc: A,
-    netlist: &Netlist<A>,
-    invariant: &[Vec<Literal, A>],
+pub fn certificate_of<S: SatSolver + Drop>(
+    alloc: Global,
+    netlist: &Netlist,
+    invariant: &[Vec<Literal>],
     k: Option<usize>,
     asked: Option<usize>,
     limit: usize,
-) -> Result<Vec<u8, A>, TaskError>
+) -> Result<Vec<u8>, TaskError>
     ensures { IfOk result (λ text. CertifiesCircuit netlist.now.circuit text.items asked) }
 {
     let text = claims_text(alloc, netlist, invariant, k)?;
-    if let Some(_) = certifies_circuit(alloc, netlist, &text, asked, limit)? {
+    if let Some(_) = certifies_circuit::<S>(alloc, netlist, &text, asked, limit)? {
         return Err(TaskError::Uncertified);
     }
     Ok(text)
@@ -172,40 +171,40 @@ pub fn certificate_of<A: Allocator + Copy>(
 /// # Errors
 /// - [`TaskError::Uncertified`] where the clauses do not show it.
 /// - Those of [`certifies`].
-pub fn witness_circuit_of<A: Allocator + Copy>(
-    alloc: A,
-    netlist: &Netlist<A>,
-    invariant: &[Vec<Literal, A>],
+pub fn witness_circuit_of<S: SatSolver + Drop>(
+    alloc: Global,
+    netlist: &Netlist,
+    invariant: &[Vec<Literal>],
     asked: Option<usize>,
     limit: usize,
-) -> Result<Vec<u8, A>, TaskError>
+) -> Result<Vec<u8>, TaskError>
     ensures { IfOk result (λ text. CertifiesCircuit netlist.now.circuit text.items asked) }
 {
     let text = strengthened_text(alloc, netlist, invariant, asked)?;
-    if let Some(_) = certifies_circuit(alloc, netlist, &text, asked, limit)? {
+    if let Some(_) = certifies_circuit::<S>(alloc, netlist, &text, asked, limit)? {
         return Err(TaskError::Uncertified);
     }
     Ok(text)
 }
 
 // The text of the circuit whose property is strengthened by the clauses.
-fn strengthened_text<A: Allocator + Copy>(
-    alloc: A,
-    netlist: &Netlist<A>,
-    invariant: &[Vec<Literal, A>],
+fn strengthened_text(
+    alloc: Global,
+    netlist: &Netlist,
+    invariant: &[Vec<Literal>],
     asked: Option<usize>,
-) -> Result<Vec<u8, A>, AllocError> {
+) -> Result<Vec<u8>, AllocError> {
     let circuit = strengthened(alloc, netlist, invariant, asked)?;
     write_aag(alloc, &circuit)
 }
 
 // The text of a k, if there is one, and of some clauses over the latches of the circuit.
-fn claims_text<A: Allocator + Copy>(
-    alloc: A,
-    netlist: &Netlist<A>,
-    invariant: &[Vec<Literal, A>],
+fn claims_text(
+    alloc: Global,
+    netlist: &Netlist,
+    invariant: &[Vec<Literal>],
     k: Option<usize>,
-) -> Result<Vec<u8, A>, TaskError> {
+) -> Result<Vec<u8>, TaskError> {
     let Some(k) = k else {
         return invariant_text(alloc, netlist, invariant);
     };
@@ -218,11 +217,11 @@ fn claims_text<A: Allocator + Copy>(
 }
 
 // The text of some clauses over the latches of the circuit.
-fn invariant_text<A: Allocator + Copy>(
-    alloc: A,
-    netlist: &Netlist<A>,
-    invariant: &[Vec<Literal, A>],
-) -> Result<Vec<u8, A>, TaskError> {
+fn invariant_text(
+    alloc: Global,
+    netlist: &Netlist,
+    invariant: &[Vec<Literal>],
+) -> Result<Vec<u8>, TaskError> {
     let places = places_of(alloc, &netlist.circuit)?;
     let mut clauses = Vec::new(alloc);
     for clause in invariant {
@@ -234,10 +233,7 @@ fn invariant_text<A: Allocator + Copy>(
 }
 
 // The variables of the latches, rising, each with the place of its latch.
-fn places_of<A: Allocator + Copy>(
-    alloc: A,
-    circuit: &Circuit<A>,
-) -> Result<Vec<(u32, u32), A>, AllocError> {
+fn places_of(alloc: Global, circuit: &Circuit) -> Result<Vec<(u32, u32)>, AllocError> {
     let mut places = Vec::with_capacity(alloc, circuit.latches.len())?;
     for (place, latch) in circuit.latches.iter().enumerate() {
         let place = u32::try_from(place).map_err(|_| AllocError)?;
@@ -260,11 +256,11 @@ fn place_of(places: &[(u32, u32)], variable: u32) -> Option<u32> {
 }
 
 // A clause over variables of latches, over their places.
-fn over_places<A: Allocator + Copy>(
-    alloc: A,
+fn over_places(
+    alloc: Global,
     places: &[(u32, u32)],
     clause: &[Literal],
-) -> Result<Vec<Literal, A>, TaskError> {
+) -> Result<Vec<Literal>, TaskError> {
     let mut moved = Vec::new(alloc);
     for l in clause {
         match place_of(places, l.variable()) {
@@ -282,29 +278,29 @@ fn over_places<A: Allocator + Copy>(
 const LATCHES: u32 = 2_147_483_647;
 
 // Why the circuit is not known to be safe by a certificate. None if it is, here and below.
-fn certifies_asked<A: Allocator + Copy>(
-    alloc: A,
-    netlist: &Netlist<A>,
-    certificate: &Certificate<A>,
+fn certifies_asked<S: SatSolver + Drop>(
+    alloc: Global,
+    netlist: &Netlist,
+    certificate: &Certificate,
     asked: Option<usize>,
     limit: usize,
 ) -> Result<Option<Doubt>, TaskError>
     ensures { IfOk result (λ doubt. IfNone doubt (ShowsSafeAsked netlist.now.circuit certificate.now asked)) }
 {
     match asked {
-        None => certifies_all(alloc, netlist, certificate, limit),
+        None => certifies_all::<S>(alloc, netlist, certificate, limit),
         Some(place) if place < netlist.circuit.bads.len() => {
-            certifies_at(alloc, netlist, certificate, place, limit)
+            certifies_at::<S>(alloc, netlist, certificate, place, limit)
         }
         Some(place) => Err(TaskError::NoBad(place, netlist.circuit.bads.len())),
     }
 }
 
 // Why the circuit is not known to be safe as to all its bad literals, of which it has to have one.
-fn certifies_all<A: Allocator + Copy>(
-    alloc: A,
-    netlist: &Netlist<A>,
-    certificate: &Certificate<A>,
+fn certifies_all<S: SatSolver + Drop>(
+    alloc: Global,
+    netlist: &Netlist,
+    certificate: &Certificate,
     limit: usize,
 ) -> Result<Option<Doubt>, TaskError>
     ensures { IfOk result (λ doubt. IfNone doubt (ShowsSafeAll netlist.now.circuit certificate.now)) }
@@ -314,20 +310,20 @@ fn certifies_all<A: Allocator + Copy>(
     }
     match certificate {
         Certificate::Clauses(clauses) => {
-            by_clauses(alloc, netlist, clauses, &netlist.circuit.bads, 0, limit)
+            by_clauses::<S>(alloc, netlist, clauses, &netlist.circuit.bads, 0, limit)
         }
         Certificate::Induction(k, clauses) => {
-            by_induction(alloc, netlist, *k, clauses, &netlist.circuit.bads, 0, limit)
+            by_induction::<S>(alloc, netlist, *k, clauses, &netlist.circuit.bads, 0, limit)
         }
-        Certificate::Circuit(other) => all_by_circuit(alloc, netlist, other, limit),
+        Certificate::Circuit(other) => all_by_circuit::<S>(alloc, netlist, other, limit),
     }
 }
 
 // Why the circuit is not known to be safe as to the bad literal at a place.
-fn certifies_at<A: Allocator + Copy>(
-    alloc: A,
-    netlist: &Netlist<A>,
-    certificate: &Certificate<A>,
+fn certifies_at<S: SatSolver + Drop>(
+    alloc: Global,
+    netlist: &Netlist,
+    certificate: &Certificate,
     place: usize,
     limit: usize,
 ) -> Result<Option<Doubt>, TaskError>
@@ -337,22 +333,22 @@ fn certifies_at<A: Allocator + Copy>(
     match certificate {
         Certificate::Clauses(clauses) => {
             let bad = netlist.circuit.bads[place];
-            by_clauses(alloc, netlist, clauses, &[bad], place, limit)
+            by_clauses::<S>(alloc, netlist, clauses, &[bad], place, limit)
         }
         Certificate::Induction(k, clauses) => {
             let bad = netlist.circuit.bads[place];
-            by_induction(alloc, netlist, *k, clauses, &[bad], place, limit)
+            by_induction::<S>(alloc, netlist, *k, clauses, &[bad], place, limit)
         }
-        Certificate::Circuit(other) => by_circuit(alloc, netlist, other, place, limit),
+        Certificate::Circuit(other) => by_circuit::<S>(alloc, netlist, other, place, limit),
     }
 }
 
 // Why the circuit is not known to be safe by the clauses of an invariant as to these literals: the bad literal at a
 // place, and those behind it.
-fn by_clauses<A: Allocator + Copy>(
-    alloc: A,
-    netlist: &Netlist<A>,
-    clauses: &Vec<Vec<Literal, A>, A>,
+fn by_clauses<S: SatSolver + Drop>(
+    alloc: Global,
+    netlist: &Netlist,
+    clauses: &Vec<Vec<Literal>>,
     bads: &[Literal],
     place: usize,
     limit: usize,
@@ -360,7 +356,7 @@ fn by_clauses<A: Allocator + Copy>(
     ensures { IfOk result (λ doubt. IfNone doubt
         (AreShownSafe netlist.now.circuit (certificate.Clauses clauses.now) bads.now)) }
 {
-    let verdicts = certify_all::<Solver<A>, A>(alloc, netlist, bads, clauses, limit)?;
+    let verdicts = certify_all::<S>(alloc, netlist, bads, clauses, limit)?;
     Ok(first_doubt(&verdicts, place))
 }
 
@@ -386,11 +382,11 @@ fn first_doubt(verdicts: &[Verdict], place: usize) -> Option<Doubt>
 
 // Why the circuit is not known to be safe by a k, or by the clauses of an invariant, as to these literals: the bad
 // literal at a place, and those behind it.
-fn by_induction<A: Allocator + Copy>(
-    alloc: A,
-    netlist: &Netlist<A>,
+fn by_induction<S: SatSolver + Drop>(
+    alloc: Global,
+    netlist: &Netlist,
     k: usize,
-    clauses: &Vec<Vec<Literal, A>, A>,
+    clauses: &Vec<Vec<Literal>>,
     bads: &[Literal],
     place: usize,
     limit: usize,
@@ -398,10 +394,10 @@ fn by_induction<A: Allocator + Copy>(
     ensures { IfOk result (λ doubt. IfNone doubt
         (AreShownSafe netlist.now.circuit (certificate.Induction k clauses.now) bads.now)) }
 {
-    let verdicts = certify_all::<Solver<A>, A>(alloc, netlist, bads, clauses, limit)?;
+    let verdicts = certify_all::<S>(alloc, netlist, bads, clauses, limit)?;
     for further in 0..bads.len() {
         let verdict = verdicts[further];
-        let doubt = unless_certified(alloc, netlist, bads[further], verdict, k, limit)?;
+        let doubt = unless_certified::<S>(alloc, netlist, bads[further], verdict, k, limit)?;
         if doubt.is_some() {
             return Ok(Some(Doubt {
                 bad: place.saturating_add(further),
@@ -414,17 +410,17 @@ fn by_induction<A: Allocator + Copy>(
 }
 
 // Why the circuit is not known to be safe as to all its bad literals by another one.
-fn all_by_circuit<A: Allocator + Copy>(
-    alloc: A,
-    netlist: &Netlist<A>,
-    other: &WitnessCircuit<A>,
+fn all_by_circuit<S: SatSolver + Drop>(
+    alloc: Global,
+    netlist: &Netlist,
+    other: &WitnessCircuit,
     limit: usize,
 ) -> Result<Option<Doubt>, TaskError>
     ensures { IfOk result (λ doubt. IfNone doubt
         (AreShownSafe netlist.now.circuit (certificate.Circuit other.now) netlist.now.circuit.bads.items)) }
 {
     for place in 0..netlist.circuit.bads.len() {
-        if let Some(doubt) = by_circuit(alloc, netlist, other, place, limit)? {
+        if let Some(doubt) = by_circuit::<S>(alloc, netlist, other, place, limit)? {
             return Ok(Some(doubt));
         }
     }
@@ -432,10 +428,10 @@ fn all_by_circuit<A: Allocator + Copy>(
 }
 
 // Why the circuit is not known to be safe by another one.
-fn by_circuit<A: Allocator + Copy>(
-    alloc: A,
-    netlist: &Netlist<A>,
-    other: &WitnessCircuit<A>,
+fn by_circuit<S: SatSolver + Drop>(
+    alloc: Global,
+    netlist: &Netlist,
+    other: &WitnessCircuit,
     place: usize,
     limit: usize,
 ) -> Result<Option<Doubt>, TaskError>
@@ -443,13 +439,7 @@ fn by_circuit<A: Allocator + Copy>(
     ensures { IfOk result (λ doubt. IfNone doubt
         (ShowsSafeAt netlist.now.circuit (certificate.Circuit other.now) place)) }
 {
-    let said = certify_by::<Solver<A>, _>(
-        alloc,
-        netlist,
-        netlist.circuit.bads[place],
-        other,
-        limit,
-    )?;
+    let said = certify_by::<S>(alloc, netlist, netlist.circuit.bads[place], other, limit)?;
     let Some(verdict) = said else {
         return Err(TaskError::NoSimulation);
     };
@@ -464,11 +454,7 @@ fn by_circuit<A: Allocator + Copy>(
 }
 
 // The certificate that a text writes for a circuit: another circuit, or clauses.
-fn certificate_in<A: Allocator + Copy>(
-    alloc: A,
-    circuit: &Circuit<A>,
-    text: &[u8],
-) -> Result<Certificate<A>, TaskError>
+fn certificate_in(alloc: Global, circuit: &Circuit, text: &[u8]) -> Result<Certificate, TaskError>
     ensures { IfOk result (IsCertificateIn circuit.now text.now) }
 {
     if begins_as_circuit(text) {
@@ -487,11 +473,7 @@ fn certificate_in<A: Allocator + Copy>(
 }
 
 // The clauses that a text writes for a circuit.
-fn clauses_in<A: Allocator + Copy>(
-    alloc: A,
-    circuit: &Circuit<A>,
-    text: &[u8],
-) -> Result<Vec<Vec<Literal, A>, A>, TaskError>
+fn clauses_in(alloc: Global, circuit: &Circuit, text: &[u8]) -> Result<Vec<Vec<Literal>>, TaskError>
     ensures { IfOk result (λ clauses. invariant_for circuit.now text.now ≡ Some (clauses_view clauses.items)) }
 {
     match read_invariant_for(alloc, circuit, text) {
@@ -501,11 +483,11 @@ fn clauses_in<A: Allocator + Copy>(
 }
 
 // The clauses that stand behind the line of a k: none where nothing comes there.
-fn clauses_behind<A: Allocator + Copy>(
-    alloc: A,
-    circuit: &Circuit<A>,
+fn clauses_behind(
+    alloc: Global,
+    circuit: &Circuit,
     rest: &[u8],
-) -> Result<Vec<Vec<Literal, A>, A>, TaskError>
+) -> Result<Vec<Vec<Literal>>, TaskError>
     ensures { IfOk result (λ clauses. clauses_behind circuit.now rest.now ≡ Some (clauses_view clauses.items)) }
 {
     if rest.is_empty() {

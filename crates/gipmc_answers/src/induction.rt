@@ -9,10 +9,9 @@ use gipmc_circuits::Netlist;
 use gipmc_circuits::certificate::Verdict as ClauseVerdict;
 use gipmc_part::Part;
 use gipmc_unroll::{Verdict, certify_by_induction};
-use gipsat_cnf::Literal;
-use gipsat_solver::Solver;
+use gipsat_cnf::{Literal, SatSolver};
 use giputils_text::{number, split_line, split_once};
-use std::alloc::{AllocError, Allocator};
+use std::alloc::{AllocError, Global};
 use std::fmt::{self, Display};
 
 /// Why a bad literal is not known to be k-inductive.
@@ -56,9 +55,9 @@ fn plural(count: usize) -> &'static str {
 
 // Why a bad literal is not known to be safe: it is not certified by clauses, on which this is the verdict, and it is not
 // known to be k-inductive. None if it is one of both.
-pub(crate) fn unless_certified<A: Allocator + Copy>(
-    alloc: A,
-    whole: &Netlist<A>,
+pub(crate) fn unless_certified<S: SatSolver + Drop>(
+    alloc: Global,
+    whole: &Netlist,
     bad: Literal,
     verdict: ClauseVerdict,
     k: usize,
@@ -69,15 +68,15 @@ pub(crate) fn unless_certified<A: Allocator + Copy>(
 {
     match verdict {
         ClauseVerdict::Certified => Ok(None),
-        _ => induction_doubt(alloc, whole, bad, k, limit),
+        _ => induction_doubt::<S>(alloc, whole, bad, k, limit),
     }
 }
 
 // Why a bad literal is not known to be k-inductive. None if it is. The questions are about the part of the circuit that
 // it depends on, or about the circuit itself where the literal is of no variable of it.
-fn induction_doubt<A: Allocator + Copy>(
-    alloc: A,
-    whole: &Netlist<A>,
+fn induction_doubt<S: SatSolver + Drop>(
+    alloc: Global,
+    whole: &Netlist,
     bad: Literal,
     k: usize,
     limit: usize,
@@ -85,16 +84,16 @@ fn induction_doubt<A: Allocator + Copy>(
     ensures { IfOk result (λ doubt. IfNone doubt (IsSafeByInduction whole.now.circuit k bad)) }
 {
     match Part::new(alloc, whole, &[bad])? {
-        Some(part) => doubt_by_part(alloc, whole, &part, bad, k, limit),
-        None => doubt_on(alloc, whole, bad, k, limit),
+        Some(part) => doubt_by_part::<S>(alloc, whole, &part, bad, k, limit),
+        None => doubt_on::<S>(alloc, whole, bad, k, limit),
     }
 }
 
 // The same, by a part of the circuit.
-fn doubt_by_part<A: Allocator + Copy>(
-    alloc: A,
-    whole: &Netlist<A>,
-    part: &Part<A>,
+fn doubt_by_part<S: SatSolver + Drop>(
+    alloc: Global,
+    whole: &Netlist,
+    part: &Part,
     bad: Literal,
     k: usize,
     limit: usize,
@@ -103,22 +102,22 @@ fn doubt_by_part<A: Allocator + Copy>(
     ensures { IfOk result (λ doubt. IfNone doubt (IsSafeByInduction whole.now.circuit k bad)) }
 {
     let Some(own) = part.names.literal(bad) else {
-        return doubt_on(alloc, whole, bad, k, limit);
+        return doubt_on::<S>(alloc, whole, bad, k, limit);
     };
-    doubt_on(alloc, &part.netlist, own, k, limit)
+    doubt_on::<S>(alloc, &part.netlist, own, k, limit)
 }
 
 // The same, of a circuit itself.
-fn doubt_on<A: Allocator + Copy>(
-    alloc: A,
-    netlist: &Netlist<A>,
+fn doubt_on<S: SatSolver + Drop>(
+    alloc: Global,
+    netlist: &Netlist,
     bad: Literal,
     k: usize,
     limit: usize,
 ) -> Result<Option<InductionDoubt>, AllocError>
     ensures { IfOk result (λ doubt. IfNone doubt (IsSafeByInduction netlist.now.circuit k bad)) }
 {
-    match certify_by_induction::<Solver<A>, _>(alloc, netlist, bad, k, limit)? {
+    match certify_by_induction::<S>(alloc, netlist, bad, k, limit)? {
         Verdict::Certified => Ok(None),
         verdict => Ok(Some(InductionDoubt { k, verdict })),
     }

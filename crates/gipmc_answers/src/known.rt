@@ -1,13 +1,12 @@
 //! What is known of a bad literal.
 
 use gipmc_circuits::Trace;
-use std::alloc::{Allocator, Global};
 
 /// What is known of a bad literal, without the invariant or the induction that showed it.
 #[derive(Drop)]
-pub enum Known<A: Allocator = Global> {
+pub enum Known {
     /// This trace is a counterexample.
-    Fails(Trace<A>),
+    Fails(Trace),
     /// No trace fails.
     Safe,
     /// No trace of at most so many transitions fails.

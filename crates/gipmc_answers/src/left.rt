@@ -8,23 +8,19 @@ use gipmc_circuits::{Netlist, Trace};
 use gipmc_part::Part;
 use gipmc_sweep::{Bounds, Sweep};
 use gipsat_cnf::SatSolver;
-use std::alloc::{AllocError, Allocator};
+use std::alloc::{AllocError, Global};
 
 /// What is left of a circuit.
 #[derive(Drop)]
-pub(crate) struct Left<A: Allocator> {
-    sweep: Sweep<A>,
+pub(crate) struct Left {
+    sweep: Sweep,
     /// The part of that which its bad literals depend on.
-    pub(crate) part: Part<A>,
+    pub(crate) part: Part,
 }
 
-impl<A: Allocator + Copy> Left<A> {
+impl Left {
     /// What is left of a circuit. None where that was not found out by so much work, or where memory is refused.
-    pub(crate) fn of<S: SatSolver<A> + Drop>(
-        alloc: A,
-        whole: &Netlist<A>,
-        work: u64,
-    ) -> Option<Self>
+    pub(crate) fn of<S: SatSolver + Drop>(alloc: Global, whole: &Netlist, work: u64) -> Option<Self>
         ensures { IfSome result (λ left. StandFor left.part.netlist.circuit left.part.netlist.circuit.bads.items
             whole.now.circuit whole.now.circuit.bads.items) }
     {
@@ -39,7 +35,7 @@ impl<A: Allocator + Copy> Left<A> {
     }
 
     // The same, by a sweep.
-    fn in_part(alloc: A, sweep: Sweep<A>) -> Option<Self>
+    fn in_part(alloc: Global, sweep: Sweep) -> Option<Self>
         ensures { IfSome result (λ left. StandFor left.part.netlist.circuit left.part.netlist.circuit.bads.items
             sweep.netlist.circuit sweep.netlist.circuit.bads.items) }
     {
@@ -50,7 +46,7 @@ impl<A: Allocator + Copy> Left<A> {
     }
 
     /// Whether a tenth of the latches of the circuit is gone, or more. Where only gates are, a search has as many states.
-    pub(crate) fn is_small(&self, whole: &Netlist<A>) -> bool {
+    pub(crate) fn is_small(&self, whole: &Netlist) -> bool {
         let left = self.part.netlist.circuit.latches.len();
         left.saturating_mul(10) <= whole.circuit.latches.len().saturating_mul(9)
     }
@@ -58,10 +54,10 @@ impl<A: Allocator + Copy> Left<A> {
     /// The trace of the circuit that goes on as one of what is left does. A replay tells whether it is one.
     pub(crate) fn trace_of(
         &self,
-        alloc: A,
-        whole: &Netlist<A>,
-        trace: &Trace<A>,
-    ) -> Result<Trace<A>, AllocError> {
+        alloc: Global,
+        whole: &Netlist,
+        trace: &Trace,
+    ) -> Result<Trace, AllocError> {
         let trace = self.part.trace_of(alloc, &self.sweep.netlist, trace)?;
         self.sweep.trace_of(alloc, whole, &trace)
     }

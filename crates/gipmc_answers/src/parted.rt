@@ -10,14 +10,13 @@ ghost use Rattle.gipmc_part.specs.Parts.{IsPartOf, literal_named};
 
 use crate::known::Known;
 use crate::left::Left;
-use crate::listener::Listener;
 use crate::meter::Meter;
-use crate::output::Wanted;
 use gipmc_circuits::{Netlist, Trace, replay};
 use gipmc_engines::{Bounds, Finding, Joint, Plan, Tries, Verdict, search};
 use gipmc_part::Part;
+use gipmc_task::{Listener, Wanted};
 use gipsat_cnf::{Literal, SatSolver};
-use std::alloc::{AllocError, Allocator};
+use std::alloc::{AllocError, Global};
 
 // How many literals IC3 propagates before what is left is looked for.
 const FIRST: u64 = 200_000;
@@ -33,11 +32,7 @@ const SHARE: u64 = 2;
 
 /// The part of a circuit that some of its literals depend on. None where memory is refused, or where one of them is of no
 /// variable of the circuit.
-pub(crate) fn part_of<A: Allocator + Copy>(
-    alloc: A,
-    whole: &Netlist<A>,
-    bads: &[Literal],
-) -> Option<Part<A>>
+pub(crate) fn part_of(alloc: Global, whole: &Netlist, bads: &[Literal]) -> Option<Part>
     ensures part { IfSome result (λ p. IsPartOf p.names.names.items p.netlist.circuit whole.now.circuit) }
     ensures bads { IfSome result
         (λ p. map (literal_named p.names.names.items) p.netlist.circuit.bads.items ≡ bads.now) }
@@ -50,17 +45,17 @@ pub(crate) fn part_of<A: Allocator + Copy>(
 
 /// One search about some literals of a circuit, in a part of it or in what is left of that.
 #[derive(Drop)]
-pub(crate) struct Parted<'a, S: SatSolver<A> + Drop, A: Allocator> {
+pub(crate) struct Parted<'a, S: SatSolver + Drop> {
     /// The whole circuit.
-    pub(crate) whole: &'a Netlist<A>,
+    pub(crate) whole: &'a Netlist,
     /// Its literals.
     pub(crate) bads: &'a [Literal],
     /// The part.
-    pub(crate) part: &'a Part<A>,
+    pub(crate) part: &'a Part,
     // What is left of it, if the search is about that.
-    left: Option<&'a Left<A>>,
+    left: Option<&'a Left>,
     // The search about the literals that stand for those of the circuit.
-    joint: Joint<'a, S, A>,
+    joint: Joint<'a, S>,
     // How many clauses a question about shorter traces may learn.
     limit: usize,
     pub ghost part_stands: { StandFor part.now.netlist.circuit part.now.netlist.circuit.bads.items
@@ -68,16 +63,16 @@ pub(crate) struct Parted<'a, S: SatSolver<A> + Drop, A: Allocator> {
     pub ghost stand: { StandFor joint.findings.netlist.now.circuit joint.findings.bads.now whole.now.circuit bads.now },
 }
 
-impl<'a, S: SatSolver<A> + Drop, A: Allocator + Copy> Parted<'a, S, A> {
+impl<'a, S: SatSolver + Drop> Parted<'a, S> {
     /// Before the search in a part.
     ///
     /// # Errors
     /// `AllocError` where memory is refused.
     pub(crate) fn new(
-        alloc: A,
-        whole: &'a Netlist<A>,
+        alloc: Global,
+        whole: &'a Netlist,
         bads: &'a [Literal],
-        part: &'a Part<A>,
+        part: &'a Part,
         plan: &Plan,
     ) -> Result<Self, AllocError>
         requires { StandFor part.now.netlist.circuit part.now.netlist.circuit.bads.items whole.now.circuit bads.now }
@@ -100,11 +95,11 @@ impl<'a, S: SatSolver<A> + Drop, A: Allocator + Copy> Parted<'a, S, A> {
     /// # Errors
     /// `AllocError` where memory is refused.
     pub(crate) fn in_left(
-        alloc: A,
-        whole: &'a Netlist<A>,
+        alloc: Global,
+        whole: &'a Netlist,
         bads: &'a [Literal],
-        part: &'a Part<A>,
-        left: &'a Left<A>,
+        part: &'a Part,
+        left: &'a Left,
         plan: &Plan,
     ) -> Result<Self, AllocError>
         requires part { StandFor part.now.netlist.circuit part.now.netlist.circuit.bads.items
@@ -136,10 +131,10 @@ impl<'a, S: SatSolver<A> + Drop, A: Allocator + Copy> Parted<'a, S, A> {
     /// where that work does not suffice.
     pub(crate) fn find_left<L: Listener>(
         &mut self,
-        alloc: A,
+        alloc: Global,
         merges: bool,
         listener: &mut L,
-    ) -> Option<Left<A>>
+    ) -> Option<Left>
         ensures whole { self.new.whole ≡ self.old.whole }
         ensures bads { self.new.bads ≡ self.old.bads }
         ensures left { IfSome result (λ left. StandFor left.part.netlist.circuit
@@ -161,7 +156,7 @@ impl<'a, S: SatSolver<A> + Drop, A: Allocator + Copy> Parted<'a, S, A> {
     }
 
     // What is left of the part, if so much work suffices to find that out.
-    fn sweep(&self, alloc: A, work: u64) -> Option<Left<A>>
+    fn sweep(&self, alloc: Global, work: u64) -> Option<Left>
         ensures { IfSome result (λ left. StandFor left.part.netlist.circuit
             left.part.netlist.circuit.bads.items self.now.whole.now.circuit self.now.bads.now) }
     {
@@ -195,11 +190,11 @@ impl<'a, S: SatSolver<A> + Drop, A: Allocator + Copy> Parted<'a, S, A> {
     /// where that is wanted and found. A search that is over does not go on.
     pub(crate) fn find_out<L: Listener>(
         &mut self,
-        alloc: A,
+        alloc: Global,
         at: usize,
         wanted: Wanted,
         listener: &mut L,
-    ) -> Known<A>
+    ) -> Known
         requires { at < length self.old.bads.now }
         ensures whole { self.new.whole ≡ self.old.whole }
         ensures bads { self.new.bads ≡ self.old.bads }
@@ -220,7 +215,7 @@ impl<'a, S: SatSolver<A> + Drop, A: Allocator + Copy> Parted<'a, S, A> {
     /// and answers up to how many it is known. None where the literal is decided, or the search cannot go on.
     pub(crate) fn clear<L: Listener>(
         &mut self,
-        alloc: A,
+        alloc: Global,
         at: usize,
         depth: usize,
         listener: &mut L,
@@ -250,7 +245,7 @@ impl<'a, S: SatSolver<A> + Drop, A: Allocator + Copy> Parted<'a, S, A> {
 
     // What is told of the literal at a place: what is known, and where that is a trace, a shortest one if that is wanted and
     // found.
-    fn told<L: Listener>(&self, alloc: A, at: usize, wanted: Wanted, listener: &mut L) -> Known<A>
+    fn told<L: Listener>(&self, alloc: Global, at: usize, wanted: Wanted, listener: &mut L) -> Known
         requires { at < length self.now.bads.now }
         ensures { (bad : Lit) → slice_get self.now.bads.now at ≡ Some bad →
             IsKnown self.now.whole.now.circuit bad result }
@@ -272,11 +267,11 @@ impl<'a, S: SatSolver<A> + Drop, A: Allocator + Copy> Parted<'a, S, A> {
     // than so many. The listener is told whether there is known to be none that is shorter still.
     fn shorter<L: Listener>(
         &self,
-        alloc: A,
+        alloc: Global,
         at: usize,
         moments: usize,
         listener: &mut L,
-    ) -> Option<Known<A>>
+    ) -> Option<Known>
         requires { at < length self.now.bads.now }
         ensures { IfSome result (λ known. (bad : Lit) → slice_get self.now.bads.now at ≡ Some bad →
             IsKnown self.now.whole.now.circuit bad known) }
@@ -300,11 +295,11 @@ impl<'a, S: SatSolver<A> + Drop, A: Allocator + Copy> Parted<'a, S, A> {
     // moments than so many, and whether there is known to be none that is shorter still.
     fn shorter_trace<L: Listener>(
         &self,
-        alloc: A,
+        alloc: Global,
         at: usize,
         moments: usize,
         listener: &mut L,
-    ) -> (Option<Trace<A>>, bool) {
+    ) -> (Option<Trace>, bool) {
         let Some(depth) = moments.checked_sub(2) else {
             return (None, true);
         };
@@ -316,7 +311,7 @@ impl<'a, S: SatSolver<A> + Drop, A: Allocator + Copy> Parted<'a, S, A> {
             limit: self.limit,
             ..Bounds::default()
         };
-        match search::<S, A, L>(alloc, self.joint.findings.netlist, own, bounds, listener) {
+        match search::<S, L>(alloc, self.joint.findings.netlist, own, bounds, listener) {
             Ok(Verdict::Fails(trace)) => (Some(trace), true),
             Ok(Verdict::NoFailureWithin(cleared)) => (None, cleared >= depth),
             _ => (None, false),
@@ -324,7 +319,7 @@ impl<'a, S: SatSolver<A> + Drop, A: Allocator + Copy> Parted<'a, S, A> {
     }
 
     // Whether a literal is left open since memory was refused.
-    fn is_refused(&self, at: usize, known: &Known<A>) -> bool {
+    fn is_refused(&self, at: usize, known: &Known) -> bool {
         let is_lost = self.joint.is_refused || !self.joint.findings.is_open(at);
         match known {
             Known::Fails(_) => false,
@@ -335,7 +330,7 @@ impl<'a, S: SatSolver<A> + Drop, A: Allocator + Copy> Parted<'a, S, A> {
     }
 
     /// What is known of the literal at a place: nothing where memory is refused.
-    pub(crate) fn known(&self, alloc: A, at: usize) -> Known<A>
+    pub(crate) fn known(&self, alloc: Global, at: usize) -> Known
         requires { at < length self.now.bads.now }
         ensures { (bad : Lit) → slice_get self.now.bads.now at ≡ Some bad →
             IsKnown self.now.whole.now.circuit bad result }
@@ -347,7 +342,7 @@ impl<'a, S: SatSolver<A> + Drop, A: Allocator + Copy> Parted<'a, S, A> {
     }
 
     // What the finding about the literal at a place says of the whole circuit.
-    fn carried(&self, alloc: A, at: usize) -> Result<Known<A>, AllocError>
+    fn carried(&self, alloc: Global, at: usize) -> Result<Known, AllocError>
         requires within { at < length self.now.bads.now }
         requires own { at < length self.now.joint.findings.bads.now }
         ensures { IfOk result (λ known. (bad : Lit) → slice_get self.now.bads.now at ≡ Some bad →
@@ -367,7 +362,7 @@ impl<'a, S: SatSolver<A> + Drop, A: Allocator + Copy> Parted<'a, S, A> {
     }
 
     // That the whole circuit fails, where a trace of the one that is searched, carried to it, is a counterexample.
-    fn fails_by(&self, alloc: A, bad: Literal, trace: &Trace<A>) -> Result<Known<A>, AllocError>
+    fn fails_by(&self, alloc: Global, bad: Literal, trace: &Trace) -> Result<Known, AllocError>
         ensures { IfOk result (IsKnown self.now.whole.now.circuit bad) }
     {
         let trace = self.trace_of(alloc, trace)?;
@@ -379,7 +374,7 @@ impl<'a, S: SatSolver<A> + Drop, A: Allocator + Copy> Parted<'a, S, A> {
     }
 
     // The trace of the whole circuit that goes on as one of the circuit that is searched does.
-    fn trace_of(&self, alloc: A, trace: &Trace<A>) -> Result<Trace<A>, AllocError> {
+    fn trace_of(&self, alloc: Global, trace: &Trace) -> Result<Trace, AllocError> {
         match self.left {
             Some(left) => {
                 let trace = left.trace_of(alloc, &self.part.netlist, trace)?;
@@ -390,7 +385,7 @@ impl<'a, S: SatSolver<A> + Drop, A: Allocator + Copy> Parted<'a, S, A> {
     }
 
     // What a finding about the literal that stands for the bad one says of the whole circuit.
-    fn on_whole(&self, bad: Literal, own: Literal, finding: &Finding<A>) -> Known<A>
+    fn on_whole(&self, bad: Literal, own: Literal, finding: &Finding) -> Known
         requires stands { StandsFor self.now.joint.findings.netlist.now.circuit own self.now.whole.now.circuit bad }
         requires right { IsRightVerdict self.now.joint.findings.netlist.now.circuit own
             (verdict_by self.now.joint.findings.invariant finding.now) }
@@ -408,7 +403,7 @@ impl<'a, S: SatSolver<A> + Drop, A: Allocator + Copy> Parted<'a, S, A> {
 
     /// The clauses of the invariant that was found in the part, over the variables of the whole circuit; none where memory is
     /// refused.
-    pub(crate) fn invariant(&self, alloc: A) -> Vec<Vec<Literal, A>, A> {
+    pub(crate) fn invariant(&self, alloc: Global) -> Vec<Vec<Literal>> {
         let clauses = &self.joint.findings.invariant;
         match self.part.names.clauses_of(alloc, clauses) {
             Ok(clauses) => clauses,
@@ -427,7 +422,7 @@ impl<'a, S: SatSolver<A> + Drop, A: Allocator + Copy> Parted<'a, S, A> {
 }
 
 // The greater one of a k and that of a finding, if there is one.
-fn greater<A: Allocator>(greatest: Option<usize>, finding: &Finding<A>) -> Option<usize> {
+fn greater(greatest: Option<usize>, finding: &Finding) -> Option<usize> {
     let Finding::Inductive(k) = finding else {
         return greatest;
     };
@@ -435,7 +430,7 @@ fn greater<A: Allocator>(greatest: Option<usize>, finding: &Finding<A>) -> Optio
 }
 
 // How many moments a trace has that is known.
-fn moments_of<A: Allocator>(known: &Known<A>) -> Option<usize> {
+fn moments_of(known: &Known) -> Option<usize> {
     match known {
         Known::Fails(trace) => Some(trace.inputs.len()),
         _ => None,
@@ -443,7 +438,7 @@ fn moments_of<A: Allocator>(known: &Known<A>) -> Option<usize> {
 }
 
 // Up to how many transitions it is known that nothing fails, if that is all.
-fn depth_of<A: Allocator>(known: &Known<A>) -> Option<usize>
+fn depth_of(known: &Known) -> Option<usize>
     ensures { IfSome result (λ n. known.now ≡ NoFailureWithin n) }
 {
     match known {

@@ -8,39 +8,50 @@ ghost use Rattle.gipmc_engines.specs.Verdicts.{NeverFailsWithin};
 
 use crate::known::Known;
 use crate::left::Left;
-use crate::listener::Listener;
-use crate::output::Wanted;
 use crate::parted::Parted;
 use gipmc_circuits::Netlist;
 use gipmc_engines::Plan;
+use gipmc_task::{Listener, Wanted};
 use gipsat_cnf::{Literal, SatSolver};
-use std::alloc::Allocator;
+use std::alloc::Global;
 
 /// One search about some literals of a circuit. What is open goes on in what is left of the circuit, if something is merged.
-#[derive(Drop)]
-pub(crate) struct Query<'a, S: SatSolver<A> + Drop, A: Allocator> {
+pub(crate) struct Query<'a, S: SatSolver + Drop> {
     /// The circuit.
-    pub(crate) whole: &'a Netlist<A>,
+    pub(crate) whole: &'a Netlist,
     /// Its literals.
     pub(crate) bads: &'a [Literal],
     /// What is wanted of the first one, about which the search has begun.
     pub(crate) first: Wanted,
     // The search in the circuit itself.
-    parted: Parted<'a, S, A>,
+    parted: Parted<'a, S>,
     // That in what is left of it.
-    left: Option<Parted<'a, S, A>>,
+    left: Option<Parted<'a, S>>,
     pub ghost same: { parted.whole.now ≡ whole.now },
     pub ghost same_bads: { parted.bads.now ≡ bads.now },
     pub ghost about: { ForSome left (λ p. p.whole.now ≡ whole.now) },
     pub ghost about_bads: { ForSome left (λ p. p.bads.now ≡ bads.now) },
 }
 
-impl<'a, S: SatSolver<A> + Drop, A: Allocator + Copy> Query<'a, S, A> {
+// One call in its owners' proofs, in place of one for each field.
+impl<S: SatSolver + Drop> Drop for Query<'_, S> {
+    fn drop(self) {
+        let Query {
+            whole: _,
+            bads: _,
+            first: _,
+            parted,
+            left,
+        } = self;
+    }
+}
+
+impl<'a, S: SatSolver + Drop> Query<'a, S> {
     /// The search, which has begun with its first literal, of which so much is wanted.
     pub(crate) fn new(
-        alloc: A,
-        parted: Parted<'a, S, A>,
-        left: &'a Option<Left<A>>,
+        alloc: Global,
+        parted: Parted<'a, S>,
+        left: &'a Option<Left>,
         plan: &Plan,
         first: Wanted,
     ) -> Self
@@ -64,11 +75,11 @@ impl<'a, S: SatSolver<A> + Drop, A: Allocator + Copy> Query<'a, S, A> {
     /// where that is wanted and found. A search that is over does not go on.
     pub(crate) fn find_out<L: Listener>(
         &mut self,
-        alloc: A,
+        alloc: Global,
         at: usize,
         wanted: Wanted,
         listener: &mut L,
-    ) -> Known<A>
+    ) -> Known
         requires { at < length self.old.bads.now }
         ensures whole { self.new.whole ≡ self.old.whole }
         ensures bads { self.new.bads ≡ self.old.bads }
@@ -94,7 +105,7 @@ impl<'a, S: SatSolver<A> + Drop, A: Allocator + Copy> Query<'a, S, A> {
     /// and answers up to how many it is known. None where the literal is decided, or the search cannot go on.
     pub(crate) fn clear<L: Listener>(
         &mut self,
-        alloc: A,
+        alloc: Global,
         at: usize,
         depth: usize,
         listener: &mut L,
@@ -115,7 +126,7 @@ impl<'a, S: SatSolver<A> + Drop, A: Allocator + Copy> Query<'a, S, A> {
     }
 
     /// The clauses of the invariant that was found in the circuit itself; none where memory is refused.
-    pub(crate) fn invariant(&self, alloc: A) -> Vec<Vec<Literal, A>, A> {
+    pub(crate) fn invariant(&self, alloc: Global) -> Vec<Vec<Literal>> {
         self.parted.invariant(alloc)
     }
 
@@ -126,12 +137,12 @@ impl<'a, S: SatSolver<A> + Drop, A: Allocator + Copy> Query<'a, S, A> {
 }
 
 // The search in what is left, if something is merged, much is gone, and memory is not refused.
-fn beside<'a, S: SatSolver<A> + Drop, A: Allocator + Copy>(
-    alloc: A,
-    parted: &Parted<'a, S, A>,
-    left: &'a Option<Left<A>>,
+fn beside<'a, S: SatSolver + Drop>(
+    alloc: Global,
+    parted: &Parted<'a, S>,
+    left: &'a Option<Left>,
     plan: &Plan,
-) -> Option<Parted<'a, S, A>>
+) -> Option<Parted<'a, S>>
     requires { IfSome left.now (λ l. StandFor l.part.netlist.circuit l.part.netlist.circuit.bads.items
         parted.now.whole.now.circuit parted.now.bads.now) }
     ensures whole { IfSome result (λ p. p.whole.now ≡ parted.now.whole.now) }
@@ -151,7 +162,7 @@ fn beside<'a, S: SatSolver<A> + Drop, A: Allocator + Copy>(
 }
 
 // Whether the one is a depth up to which nothing fails, and the other one says less.
-fn is_more<A: Allocator>(one: &Known<A>, other: &Known<A>) -> bool {
+fn is_more(one: &Known, other: &Known) -> bool {
     let Known::NoFailureWithin(depth) = one else {
         return false;
     };

@@ -2,16 +2,16 @@
 
 use gipmc_circuits::{And, Circuit, Netlist};
 use gipsat_cnf::Literal;
-use std::alloc::{AllocError, Allocator};
+use std::alloc::{AllocError, Global};
 
 // Gates, and the variable of the next one.
 #[derive(Drop)]
-struct Gates<A: Allocator> {
-    gates: Vec<And, A>,
+struct Gates {
+    gates: Vec<And>,
     next: usize,
 }
 
-impl<A: Allocator> Gates<A> {
+impl Gates {
     // The literal that is true where both are.
     fn and(&mut self, left: Literal, right: Literal) -> Result<Literal, AllocError> {
         let output = u32::try_from(self.next).map_err(|_| AllocError)?;
@@ -39,12 +39,12 @@ impl<A: Allocator> Gates<A> {
 
 /// The circuit with one bad literal, which is true where the bad literal that is asked for is, or one of all, and where
 /// a clause of the invariant is false.
-pub(crate) fn strengthened<A: Allocator + Copy>(
-    alloc: A,
-    netlist: &Netlist<A>,
-    invariant: &[Vec<Literal, A>],
+pub(crate) fn strengthened(
+    alloc: Global,
+    netlist: &Netlist,
+    invariant: &[Vec<Literal>],
     asked: Option<usize>,
-) -> Result<Circuit<A>, AllocError> {
+) -> Result<Circuit, AllocError> {
     let circuit = &netlist.circuit;
     let mut gates = Gates {
         gates: circuit.gates.to_vec(alloc)?,

@@ -5,11 +5,11 @@ ghost use Rattle.gipmc_aiger.specs.Lists.{Every};
 ghost use Rattle.gipmc_answers.specs.Witnesses.{AreWitnessesIn, FailsAt, IsRight, Replays, claimed, names_asked, names_place};
 
 use crate::answers::netlist_in;
-use crate::error::TaskError;
 use gipmc_aiger::{Claim, read_claims};
 use gipmc_circuits::{Netlist, Trace, TraceDoubt, replay, trace_doubt};
+use gipmc_task::TaskError;
 use gipsat_cnf::Literal;
-use std::alloc::{AllocError, Allocator};
+use std::alloc::{AllocError, Global};
 use std::fmt::{self, Display};
 
 /// Why a witness is no counterexample.
@@ -35,13 +35,13 @@ impl Display for WitnessDoubt {
 ///
 /// # Errors
 /// Those of [`witness_doubt`].
-pub fn replays<A: Allocator + Copy>(
-    alloc: A,
+pub fn replays(
+    alloc: Global,
     bytes: &[u8],
     text: &[u8],
     asked: Option<usize>,
 ) -> Result<bool, TaskError>
-    ensures { IfOk result (λ fails. IsTrue fails → Replays A bytes.now text.now asked) }
+    ensures { IfOk result (λ fails. IsTrue fails → Replays bytes.now text.now asked) }
 {
     match witness_doubt(alloc, bytes, text, asked)? {
         None => Ok(true),
@@ -60,13 +60,13 @@ pub fn replays<A: Allocator + Copy>(
 /// - [`TaskError::NoWitness`] and [`TaskError::NoWitnessOf`] where the text has no witness, or none of what is asked for.
 /// - [`TaskError::OtherBad`] where the circuit has not the bad literal that a witness names.
 /// - [`TaskError::Memory`] where memory is refused.
-pub fn witness_doubt<A: Allocator + Copy>(
-    alloc: A,
+pub fn witness_doubt(
+    alloc: Global,
     bytes: &[u8],
     text: &[u8],
     asked: Option<usize>,
 ) -> Result<Option<WitnessDoubt>, TaskError>
-    ensures { IfOk result (λ doubt. IfNone doubt (Replays A bytes.now text.now asked)) }
+    ensures { IfOk result (λ doubt. IfNone doubt (Replays bytes.now text.now asked)) }
 {
     let netlist = netlist_in(alloc, bytes)?;
     has_asked(&netlist, asked)?;
@@ -78,7 +78,7 @@ pub fn witness_doubt<A: Allocator + Copy>(
 }
 
 // Tests that the circuit has the bad literal that is asked for, or one at all.
-fn has_asked<A: Allocator>(netlist: &Netlist<A>, asked: Option<usize>) -> Result<(), TaskError> {
+fn has_asked(netlist: &Netlist, asked: Option<usize>) -> Result<(), TaskError> {
     let count = netlist.circuit.bads.len();
     match asked {
         None if count == 0 => Err(TaskError::NoBads),
@@ -96,11 +96,7 @@ fn unnamed(asked: Option<usize>) -> TaskError {
 }
 
 // What the witnesses of a text claim of a circuit.
-fn claims_in<A: Allocator + Copy>(
-    alloc: A,
-    netlist: &Netlist<A>,
-    text: &[u8],
-) -> Result<Vec<Claim<A>, A>, TaskError>
+fn claims_in(alloc: Global, netlist: &Netlist, text: &[u8]) -> Result<Vec<Claim>, TaskError>
     ensures { IfOk result (λ claims.
         AreWitnessesIn netlist.now.circuit text.now (map (λ x. (x.properties.items, x.trace)) claims.items)) }
 {
@@ -112,7 +108,7 @@ fn claims_in<A: Allocator + Copy>(
 }
 
 // Whether a witness is one of what is asked for.
-fn name_asked<A: Allocator>(claims: &[Claim<A>], asked: Option<usize>) -> bool
+fn name_asked(claims: &[Claim], asked: Option<usize>) -> bool
     ensures { result ≡ list_any (λ x. names_asked x.properties.items asked) claims.now }
 {
     claims
@@ -145,10 +141,10 @@ fn is_one_of(places: &[u32], place: usize) -> bool
 }
 
 // Why one of some witnesses is no counterexample. None if all are, here and below.
-fn first_doubt<A: Allocator + Copy>(
-    alloc: A,
-    netlist: &Netlist<A>,
-    claims: &[Claim<A>],
+fn first_doubt(
+    alloc: Global,
+    netlist: &Netlist,
+    claims: &[Claim],
     asked: Option<usize>,
 ) -> Result<Option<WitnessDoubt>, TaskError>
     ensures { IfOk result (λ doubt. IfNone doubt
@@ -164,10 +160,10 @@ fn first_doubt<A: Allocator + Copy>(
 }
 
 // Why a witness is no counterexample, as the first one of its text.
-fn claim_doubt<A: Allocator + Copy>(
-    alloc: A,
-    netlist: &Netlist<A>,
-    claim: &Claim<A>,
+fn claim_doubt(
+    alloc: Global,
+    netlist: &Netlist,
+    claim: &Claim,
     asked: Option<usize>,
 ) -> Result<Option<WitnessDoubt>, TaskError>
     ensures { IfOk result (λ doubt. IfNone doubt
@@ -180,11 +176,11 @@ fn claim_doubt<A: Allocator + Copy>(
 }
 
 // Why a trace is no counterexample, at the bad literals that a witness of these names has to show.
-fn doubt_at_named<A: Allocator + Copy>(
-    alloc: A,
-    netlist: &Netlist<A>,
+fn doubt_at_named(
+    alloc: Global,
+    netlist: &Netlist,
     names: &[u32],
-    trace: &Trace<A>,
+    trace: &Trace,
 ) -> Result<Option<WitnessDoubt>, TaskError>
     ensures { IfOk result (λ doubt. IfNone doubt
         (Every (FailsAt netlist.now.circuit trace.now) (claimed names.now None))) }
@@ -196,12 +192,12 @@ fn doubt_at_named<A: Allocator + Copy>(
 }
 
 // The same where this one is asked for.
-fn doubt_at_asked<A: Allocator + Copy>(
-    alloc: A,
-    netlist: &Netlist<A>,
+fn doubt_at_asked(
+    alloc: Global,
+    netlist: &Netlist,
     names: &[u32],
     asked: usize,
-    trace: &Trace<A>,
+    trace: &Trace,
 ) -> Result<Option<WitnessDoubt>, TaskError>
     ensures { IfOk result (λ doubt. IfNone doubt
         (Every (FailsAt netlist.now.circuit trace.now) (claimed names.now (Some asked)))) }
@@ -213,11 +209,11 @@ fn doubt_at_asked<A: Allocator + Copy>(
 }
 
 // Why a trace is no counterexample, at one of the bad literals at these places.
-fn doubt_at_each<A: Allocator + Copy>(
-    alloc: A,
-    netlist: &Netlist<A>,
+fn doubt_at_each(
+    alloc: Global,
+    netlist: &Netlist,
     places: &[u32],
-    trace: &Trace<A>,
+    trace: &Trace,
 ) -> Result<Option<WitnessDoubt>, TaskError>
     ensures { IfOk result (λ doubt. IfNone doubt (Every (FailsAt netlist.now.circuit trace.now) places.now)) }
 {
@@ -230,11 +226,11 @@ fn doubt_at_each<A: Allocator + Copy>(
 }
 
 // Why a trace is no counterexample, at the bad literal at a place.
-fn doubt_at<A: Allocator + Copy>(
-    alloc: A,
-    netlist: &Netlist<A>,
+fn doubt_at(
+    alloc: Global,
+    netlist: &Netlist,
     place: usize,
-    trace: &Trace<A>,
+    trace: &Trace,
 ) -> Result<Option<WitnessDoubt>, TaskError>
     ensures { IfOk result (λ doubt. IfNone doubt (Every (FailsAt netlist.now.circuit trace.now) (place ∷ []))) }
 {
@@ -245,11 +241,11 @@ fn doubt_at<A: Allocator + Copy>(
 }
 
 // The same, at one that the circuit has.
-fn doubt_below<A: Allocator + Copy>(
-    alloc: A,
-    netlist: &Netlist<A>,
+fn doubt_below(
+    alloc: Global,
+    netlist: &Netlist,
     place: usize,
-    trace: &Trace<A>,
+    trace: &Trace,
 ) -> Result<Option<WitnessDoubt>, AllocError>
     requires { place < length netlist.now.circuit.bads.items }
     ensures { IfOk result (λ doubt. IfNone doubt (Every (FailsAt netlist.now.circuit trace.now) (place ∷ []))) }
@@ -267,11 +263,11 @@ fn doubt_below<A: Allocator + Copy>(
 }
 
 // What is wrong with a trace that was not replayed.
-fn defect_of<A: Allocator + Copy>(
-    alloc: A,
-    netlist: &Netlist<A>,
+fn defect_of(
+    alloc: Global,
+    netlist: &Netlist,
     bad: Literal,
-    trace: &Trace<A>,
+    trace: &Trace,
 ) -> Result<TraceDoubt, AllocError> {
     match trace_doubt(alloc, netlist, bad, trace)? {
         Some(doubt) => Ok(doubt),

@@ -3,15 +3,15 @@
 use gipmc_circuits::trace::{advance, begin};
 use gipmc_circuits::{Circuit, Trace};
 use gipsat_cnf::Literal;
-use std::alloc::{AllocError, Allocator};
+use std::alloc::{AllocError, Global};
 
 // At how many transitions each literal becomes true first, as far as the trace is one of the circuit.
-pub(crate) fn first_hits<A: Allocator + Copy>(
-    alloc: A,
-    circuit: &Circuit<A>,
+pub(crate) fn first_hits(
+    alloc: Global,
+    circuit: &Circuit,
     literals: &[Literal],
-    trace: &Trace<A>,
-) -> Result<Vec<Option<usize>, A>, AllocError> {
+    trace: &Trace,
+) -> Result<Vec<Option<usize>>, AllocError> {
     let mut hits = Vec::new(alloc);
     hits.resize(literals.len(), None)?;
     let mut last = Vec::new(alloc);
@@ -41,11 +41,11 @@ fn note_hits(hits: &mut [Option<usize>], literals: &[Literal], values: &[bool], 
 }
 
 // A copy of the first moments of a trace, behind so many transitions the last one.
-pub(crate) fn beginning<A: Allocator + Copy>(
-    alloc: A,
-    trace: &Trace<A>,
+pub(crate) fn beginning(
+    alloc: Global,
+    trace: &Trace,
     transitions: usize,
-) -> Result<Trace<A>, AllocError> {
+) -> Result<Trace, AllocError> {
     let mut inputs = Vec::new(alloc);
     for row in trace.inputs.iter().take(transitions.saturating_add(1)) {
         let row = row.to_vec(alloc)?;

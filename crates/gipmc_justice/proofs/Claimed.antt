@@ -4,14 +4,14 @@ use Rattle.std.specs.List.{list_any}
 use Rattle.std.specs.Prelude.{map}
 use Rattle.gipmc_aiger.specs.Claims.{Claimed, claims_view, lassos_of}
 use Rattle.gipmc_aiger.specs.declared.claims.Claim.{Claim}
-use Rattle.gipmc_answers.proofs.Claimed.{claims_of_witnesses, witness_by}
-use Rattle.gipmc_answers.proofs.Each.{any_view}
+use Rattle.gipmc_task.proofs.Claimed.{claims_of_witnesses, witness_by}
+use Rattle.gipmc_task.proofs.Each.{any_view}
 use Rattle.gipmc_circuits.specs.declared.circuit.Circuit.{Circuit}
 use Rattle.gipmc_circuits.specs.declared.trace.Trace.{Trace}
 use Rattle.gipmc_justice.specs.Witnesses.{AreLassosIn, names_asked}
 
 -- lassos that were read for so many latches and inputs as the circuit has
-pub are_lassos : {A B : Type 0} (c : Circuit B) (latches inputs : ℕ) (text : List ℕ) (claims : List (Claim A))
+pub are_lassos : (c : Circuit) (latches inputs : ℕ) (text : List ℕ) (claims : List Claim)
     → latches ≡ length c.latches.items → inputs ≡ length c.inputs.items
     → lassos_of latches inputs text ≡ Some (claims_view claims) → AreLassosIn c text (map witness_by claims)
 are_lassos c latches inputs text claims as_latches as_inputs read =
@@ -20,7 +20,7 @@ are_lassos c latches inputs text claims as_latches as_inputs read =
     ∙ ap (λ (cs : List Claimed). Some cs) (sym (claims_of_witnesses claims))))
 
 -- one of them is one of what is asked for alike
-pub asked_of_lassos : {A : Type 0} (asked : Option ℕ) (claims : List (Claim A))
-    → list_any (λ (w : List ℕ × Trace A). names_asked w.0 asked) (map witness_by claims)
-    ≡ list_any (λ (x : Claim A). names_asked x.properties.items asked) claims
-asked_of_lassos {A} asked claims = any_view (λ (w : List ℕ × Trace A). names_asked w.0 asked) witness_by claims
+pub asked_of_lassos : (asked : Option ℕ) (claims : List Claim)
+    → list_any (λ (w : List ℕ × Trace). names_asked w.0 asked) (map witness_by claims)
+    ≡ list_any (λ (x : Claim). names_asked x.properties.items asked) claims
+asked_of_lassos asked claims = any_view (λ (w : List ℕ × Trace). names_asked w.0 asked) witness_by claims

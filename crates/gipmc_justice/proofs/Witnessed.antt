@@ -1,13 +1,14 @@
 -- The text of an answer that a property fails is a witness that replays.
 use Rattle.std.proofs.Common.{rules, ◌≡◌, ℕ, ◌<◌, ◌^◌, true, List, [], ◌∷◌, Some, Vec, length, refl}
 use Rattle.std.specs.Prelude.{◌==◌, slice_get}
+use Rattle.std.specs.declared.alloc.Global.{Global}
 use Rattle.std.specs.List.{list_any}
 use Rattle.std.proofs.lemmas.Bool.{and_parts}
 use Rattle.gipsat_cnf.specs.Literals.{Lit}
 use Rattle.gipmc_aiger.specs.declared.liveness.Liveness.{Liveness}
 use Rattle.gipmc_aiger.proofs.WitnessRereads.{lassos_reread}
-use Rattle.gipmc_answers.proofs.Witnessed.{every_row, same_of_test}
-use Rattle.gipmc_answers.specs.declared.answers.Outcome.TheVariants.{Fails}
+use Rattle.gipmc_task.proofs.Widths.{every_row, same_of_test}
+use Rattle.gipmc_task.specs.declared.outcome.Outcome.TheVariants.{Fails}
 use Rattle.gipmc_circuits.specs.declared.circuit.Circuit.{Circuit}
 use Rattle.gipmc_circuits.specs.Traces.{have_width}
 use Rattle.gipmc_liveness.proofs.Looped.{FailsForever-lasso}
@@ -18,10 +19,10 @@ use Rattle.gipmc_justice.specs.Answers.{IsPropertiesIn, Tells, outcome_of, verdi
 use Rattle.gipmc_justice.specs.Witnesses.{Replays}
 
 -- of a right verdict whose text says so
-replays_by : {A : Type 0} (bytes text : List ℕ) (c : Circuit A) (l : Liveness A) (place : ℕ) (justice : Vec Lit A) (v : Verdict A)
+replays_by : (bytes text : List ℕ) (c : Circuit) (l : Liveness) (place : ℕ) (justice : Vec Lit Global) (v : Verdict)
     → IsPropertiesIn bytes c l → slice_get l.justice.items place ≡ Some justice → place < 2 ^ 31 → text ≡ verdict_text place v
-    → Fails ≡ outcome_of v → IsRightVerdict c l.fairness.items justice.items v → Replays A bytes text (Some place)
-replays_by {A} bytes text c l place justice (verdict.Fails lasso) written here small is outcome right =
+    → Fails ≡ outcome_of v → IsRightVerdict c l.fairness.items justice.items v → Replays bytes text (Some place)
+replays_by bytes text c l place justice (verdict.Fails lasso) written here small is outcome right =
     let (latches, rows) = and_parts (length lasso.trace.latches.items == length c.latches.items)
     (have_width (length c.inputs.items) lasso.trace.inputs.items) right.0 in
     let rereads = lassos_reread (length c.latches.items) (length c.inputs.items) place lasso.trace small
@@ -40,7 +41,7 @@ replays_by {A} bytes text c l place justice (verdict.Fails lasso) written here s
 replays_by bytes text c l place justice (verdict.Live means invariant) written here small is outcome right = absurd cc
 replays_by bytes text c l place justice verdict.Unknown written here small is outcome right = absurd cc
 
-pub Replays-told : {A : Type 0} (bytes text : List ℕ) (c : Circuit A) (l : Liveness A) (place : ℕ) → IsPropertiesIn bytes c l
-    → Tells c l place Fails text → Replays A bytes text (Some place)
+pub Replays-told : (bytes text : List ℕ) (c : Circuit) (l : Liveness) (place : ℕ) → IsPropertiesIn bytes c l
+    → Tells c l place Fails text → Replays bytes text (Some place)
 Replays-told bytes text c l place written (justice, here, (v, right, is, outcome, small)) =
     replays_by bytes text c l place justice v written here small is outcome right

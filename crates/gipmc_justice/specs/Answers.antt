@@ -1,14 +1,15 @@
 -- Texts of answers about justice properties, and when they are right.
 use Rattle.std.specs.Prelude.{◌≡◌, ℕ, zero, suc, ◌<◌, ◌^◌, List, [], ◌++◌, Vec, length, slice_get, codes, decimal, Option, Some, None, IsTrue}
+use Rattle.std.specs.declared.alloc.Global.{Global}
 use Rattle.gipsat_cnf.specs.Literals.{Lit}
 use Rattle.gipmc_aiger.specs.LiveCircuits.{WritesLive}
 use Rattle.gipmc_aiger.specs.Traces.{lasso_text}
 use Rattle.gipmc_aiger.specs.declared.liveness.Liveness.{Liveness}
 use Rattle.gipmc_circuits.specs.declared.circuit.Circuit.{Circuit}
 use Rattle.gipmc_circuits.specs.WellFormed.{is_well_formed}
-use Rattle.gipmc_answers.specs.Answers.{both}
-use Rattle.gipmc_answers.specs.declared.answers.Outcome.{Outcome}
-use Rattle.gipmc_answers.specs.declared.answers.Outcome.TheVariants.{Fails, Safe, Open}
+use Rattle.gipmc_task.specs.Outcomes.{both}
+use Rattle.gipmc_task.specs.declared.outcome.Outcome.{Outcome}
+use Rattle.gipmc_task.specs.declared.outcome.Outcome.TheVariants.{Fails, Safe, Open}
 use Rattle.gipmc_liveness_engines.specs.Verdicts.{IsRightVerdict}
 use Rattle.gipmc_liveness_engines.specs.declared.verdict.Verdict.{Verdict}
 use Rattle.gipmc_liveness_engines.specs.declared.verdict.Verdict.TheVariants as verdict
@@ -18,46 +19,46 @@ abbrev pub named : ℕ → List ℕ
 named place = codes "\nj" ++ decimal place ++ codes "\n.\n"
 
 -- the text of a verdict on the property at a place: `1` and a lasso as a witness, `0`, or `2`
-abbrev pub verdict_text : {A : Type 0} → ℕ → Verdict A → List ℕ
+abbrev pub verdict_text : ℕ → Verdict → List ℕ
 verdict_text place (verdict.Fails lasso) = lasso_text place lasso.trace
 verdict_text place (verdict.Live means invariant) = codes "0" ++ named place
 verdict_text place verdict.Unknown = codes "2" ++ named place
 
 -- what a verdict says of its property; a live circuit is safe as to it
-abbrev pub outcome_of : {A : Type 0} → Verdict A → Outcome
+abbrev pub outcome_of : Verdict → Outcome
 outcome_of (verdict.Fails lasso) = Fails
 outcome_of (verdict.Live means invariant) = Safe
 outcome_of verdict.Unknown = Open
 
 -- the text is that of a right verdict on a property, at a place which a text may name
-abbrev pub TellsOf : {A B : Type 0} → Circuit A → Liveness B → List Lit → ℕ → Outcome → List ℕ → Type 0
-TellsOf {B = B} c l justice place outcome text =
-    (v : Verdict B) × IsRightVerdict c l.fairness.items justice v × (text ≡ verdict_text place v)
+abbrev pub TellsOf : Circuit → Liveness → List Lit → ℕ → Outcome → List ℕ → Type 0
+TellsOf c l justice place outcome text =
+    (v : Verdict) × IsRightVerdict c l.fairness.items justice v × (text ≡ verdict_text place v)
     × (outcome ≡ outcome_of v) × (place < 2 ^ 31)
 
 -- it is one on the property at this place
-abbrev pub Tells : {A B : Type 0} → Circuit A → Liveness B → ℕ → Outcome → List ℕ → Type 0
-Tells {B = B} c l place outcome text =
-    (justice : Vec Lit B) × (slice_get l.justice.items place ≡ Some justice)
+abbrev pub Tells : Circuit → Liveness → ℕ → Outcome → List ℕ → Type 0
+Tells c l place outcome text =
+    (justice : Vec Lit Global) × (slice_get l.justice.items place ≡ Some justice)
     × TellsOf c l justice.items place outcome text
 
 -- the text tells of each of the first n properties in turn
-abbrev pub TellsFirst : {A B : Type 0} → Circuit A → Liveness B → ℕ → Outcome → List ℕ → Type 0
+abbrev pub TellsFirst : Circuit → Liveness → ℕ → Outcome → List ℕ → Type 0
 TellsFirst c l zero outcome text = (outcome ≡ Safe) × (text ≡ [])
 TellsFirst c l (suc n) outcome text =
     (one : Outcome) × (other : Outcome) × (before : List ℕ) × (last : List ℕ) × TellsFirst c l n one before
     × Tells c l n other last × (outcome ≡ both one other) × (text ≡ before ++ last)
 
 -- the text tells of the property that is asked for, or of all
-abbrev pub TellsAsked : {A B : Type 0} → Circuit A → Liveness B → Option ℕ → Outcome → List ℕ → Type 0
+abbrev pub TellsAsked : Circuit → Liveness → Option ℕ → Outcome → List ℕ → Type 0
 TellsAsked c l None outcome text = TellsFirst c l (length l.justice.items) outcome text
 TellsAsked c l (Some place) outcome text = Tells c l place outcome text
 
 -- the bytes write the circuit with its justice properties and fairness constraints, and it is well-formed
-abbrev pub IsPropertiesIn : {A B : Type 0} → List ℕ → Circuit A → Liveness B → Type 0
+abbrev pub IsPropertiesIn : List ℕ → Circuit → Liveness → Type 0
 IsPropertiesIn bytes c l = WritesLive bytes c l × IsTrue (is_well_formed c)
 
 -- the bytes write a circuit of whose properties the text tells so
-abbrev pub Answers : (A : Type 0) → List ℕ → Option ℕ → Outcome → List ℕ → Type 0
-Answers A bytes asked outcome text =
-    (c : Circuit A) × (l : Liveness A) × IsPropertiesIn bytes c l × TellsAsked c l asked outcome text
+abbrev pub Answers : List ℕ → Option ℕ → Outcome → List ℕ → Type 0
+Answers bytes asked outcome text =
+    (c : Circuit) × (l : Liveness) × IsPropertiesIn bytes c l × TellsAsked c l asked outcome text

@@ -1,5 +1,6 @@
 -- Lassos that show that justice properties fail, as texts.
 use Rattle.std.specs.Prelude.{◌≡◌, ◌==◌, ℕ, Bool, true, List, [], ◌∷◌, Vec, length, map, slice_get, if◌then◌else◌, Option, Some, None, IsTrue}
+use Rattle.std.specs.declared.alloc.Global.{Global}
 use Rattle.std.specs.List.{list_any}
 use Rattle.gipsat_cnf.specs.Literals.{Lit}
 use Rattle.gipmc_aiger.specs.Claims.{claim_by, lassos_of}
@@ -12,19 +13,19 @@ use Rattle.gipmc_liveness.specs.Liveness.{FailsForever}
 use Rattle.gipmc_justice.specs.Answers.{IsPropertiesIn}
 
 -- the text writes witnesses for the circuit: the places of the justice properties that each names, and its trace
-abbrev pub AreLassosIn : {A B : Type 0} → Circuit A → List ℕ → List (List ℕ × Trace B) → Type 0
+abbrev pub AreLassosIn : Circuit → List ℕ → List (List ℕ × Trace) → Type 0
 AreLassosIn c text witnesses =
     lassos_of (length c.latches.items) (length c.inputs.items) text ≡ Some (map (λ w. claim_by w.0 w.1) witnesses)
 
 -- the trace leads back to one of its moments, and so is a lasso
-abbrev pub IsLassoBy : {A B : Type 0} → Circuit A → List Lit → List Lit → Trace B → Type 0
+abbrev pub IsLassoBy : Circuit → List Lit → List Lit → Trace → Type 0
 IsLassoBy c fairness justice trace = (start : ℕ) × IsLasso c fairness justice (record { trace = trace; start = start })
 
 -- by the trace the circuit fails the property at a place: it is a lasso, and so a run is one on which each of its literals
 -- and each fairness constraint recurs
-abbrev pub FailsAt : {A B C : Type 0} → Circuit A → Liveness B → Trace C → ℕ → Type 0
-FailsAt {B = B} c l trace place =
-    (justice : Vec Lit B) × (slice_get l.justice.items place ≡ Some justice)
+abbrev pub FailsAt : Circuit → Liveness → Trace → ℕ → Type 0
+FailsAt c l trace place =
+    (justice : Vec Lit Global) × (slice_get l.justice.items place ≡ Some justice)
     × IsLassoBy c l.fairness.items justice.items trace × FailsForever c l.fairness.items justice.items
 
 -- a witness of these names is one of the property that is asked for, if one is
@@ -38,13 +39,13 @@ claimed names None = names
 claimed names (Some asked) = if list_any (λ name. name == asked) names then asked ∷ [] else []
 
 -- a witness shows all that it has to
-abbrev pub IsRight : {A B C : Type 0} → Circuit A → Liveness B → Option ℕ → List ℕ × Trace C → Type 0
+abbrev pub IsRight : Circuit → Liveness → Option ℕ → List ℕ × Trace → Type 0
 IsRight c l asked w = Every (FailsAt c l w.1) (claimed w.0 asked)
 
 -- the bytes write a circuit with properties, and the text witnesses for it, all of which are right, and of which one is
 -- one of what is asked for
-abbrev pub Replays : (A : Type 0) → List ℕ → List ℕ → Option ℕ → Type 0
-Replays A bytes text asked =
-    (c : Circuit A) × (l : Liveness A) × IsPropertiesIn bytes c l × (witnesses : List (List ℕ × Trace A))
+abbrev pub Replays : List ℕ → List ℕ → Option ℕ → Type 0
+Replays bytes text asked =
+    (c : Circuit) × (l : Liveness) × IsPropertiesIn bytes c l × (witnesses : List (List ℕ × Trace))
     × AreLassosIn c text witnesses × IsTrue (list_any (λ w. names_asked w.0 asked) witnesses)
     × Every (IsRight c l asked) witnesses

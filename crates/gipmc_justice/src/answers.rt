@@ -1,8 +1,7 @@
 //! Answers about justice properties, from the bytes of a circuit's text to those of the answers.
 ghost use Rattle.std.specs.Prelude.{◌≡◌, ℕ, ◌<◌, ◌^◌, ◌++◌, codes, length, decimal, Some, IfOk, OnOk};
-ghost use Rattle.gipmc_answers.specs.Answers.{both};
-ghost use Rattle.gipmc_answers.specs.Output.{IsWritten};
-ghost use Rattle.gipmc_answers.specs.declared.answers.Outcome.TheVariants.{Fails};
+ghost use Rattle.gipmc_task.specs.Output.{IsWritten};
+ghost use Rattle.gipmc_task.specs.declared.outcome.Outcome.TheVariants.{Fails};
 ghost use Rattle.gipmc_justice.specs.Answers.{Answers, IsPropertiesIn, Tells, TellsAsked, TellsFirst, TellsOf};
 ghost use Rattle.gipmc_justice.specs.Answers.{named, outcome_of, verdict_text};
 ghost use Rattle.gipmc_justice.specs.Witnesses.{Replays};
@@ -10,45 +9,64 @@ ghost use Rattle.gipmc_liveness_engines.specs.Verdicts.{IsRightVerdict};
 
 use crate::error::JusticeError;
 use gipmc_aiger::{Liveness, read_liveness, write_lasso};
-use gipmc_answers::{Listener, Outcome, Output};
 use gipmc_circuits::Netlist;
 use gipmc_liveness_engines::{Bounds, Means, Verdict, decide_live};
-use gipsat_cnf::Literal;
-use gipsat_solver::Solver;
-use std::alloc::{AllocError, Allocator, Global};
+use gipmc_task::{Listener, Outcome, Output};
+use gipsat_cnf::{Literal, SatSolver};
+use std::alloc::{AllocError, Global};
 use std::io::Write;
 
 /// What shows that a property holds: clauses of an invariant of a longer circuit.
 #[derive(Drop)]
-pub struct Found<A: Allocator = Global> {
+pub struct Found {
     /// The place of the property.
     pub place: usize,
     /// The longer circuit.
     pub means: Means,
     /// The clauses, over its variables.
-    pub invariant: Vec<Vec<Literal, A>, A>,
+    pub invariant: Vec<Vec<Literal>>,
 }
 
 /// What is said of some justice properties.
-#[derive(Drop)]
-pub struct Said<A: Allocator = Global> {
+pub struct Said {
     /// The text.
-    pub text: Vec<u8, A>,
+    pub text: Vec<u8>,
     /// What it says of all of them: one fails, all hold, or neither is known.
     pub outcome: Outcome,
     /// What shows that they hold, of each that does.
-    pub found: Vec<Found<A>, A>,
+    pub found: Vec<Found>,
+}
+
+// One call in its owners' proofs, in place of one for each field.
+impl Drop for Said {
+    fn drop(self) {
+        let Said {
+            text,
+            outcome: _,
+            found,
+        } = self;
+    }
 }
 
 /// A circuit with its properties, and what is said of them.
-#[derive(Drop)]
-pub struct Answered<A: Allocator = Global> {
+pub struct Answered {
     /// The circuit.
-    pub netlist: Netlist<A>,
+    pub netlist: Netlist,
     /// Its justice properties and fairness constraints.
-    pub liveness: Liveness<A>,
+    pub liveness: Liveness,
     /// What is said of its justice properties.
-    pub said: Said<A>,
+    pub said: Said,
+}
+
+// One call in its owners' proofs, in place of one for each field.
+impl Drop for Answered {
+    fn drop(self) {
+        let Answered {
+            netlist,
+            liveness,
+            said: _,
+        } = self;
+    }
 }
 
 /// Answers about the circuit that a text writes: about the justice property at the place that is asked for, or about all,
@@ -59,23 +77,23 @@ pub struct Answered<A: Allocator = Global> {
 /// - [`JusticeError::Task`] where the text writes no circuit, or memory is refused for it or for a text. A search that is
 ///   refused memory leaves its property open.
 /// - [`JusticeError::NoProperty`] where there is no justice property at the place.
-pub fn answer<A: Allocator + Copy, L: Listener, W: Write>(
-    alloc: A,
+pub fn answer<S: SatSolver + Drop, L: Listener, W: Write>(
+    alloc: Global,
     bytes: &[u8],
     asked: Option<usize>,
     bounds: Bounds,
     listener: &mut L,
     output: &mut Output<W>,
-) -> Result<Answered<A>, JusticeError>
+) -> Result<Answered, JusticeError>
     ensures circuit { IfOk result (λ a. IsPropertiesIn bytes.now a.netlist.circuit a.liveness) }
-    ensures answers { IfOk result (λ a. Answers A bytes.now asked a.said.outcome a.said.text.items) }
+    ensures answers { IfOk result (λ a. Answers bytes.now asked a.said.outcome a.said.text.items) }
     ensures witness { (place : ℕ) → asked ≡ Some place →
-        IfOk result (λ a. a.said.outcome ≡ Fails → Replays A bytes.now a.said.text.items asked) }
+        IfOk result (λ a. a.said.outcome ≡ Fails → Replays bytes.now a.said.text.items asked) }
     ensures written { IfOk result (λ a. IsWritten output.old.failure output.new.failure
         (W.contents output.old.writer) (W.contents output.new.writer) a.said.text.items) }
 {
     let read = properties_in(alloc, bytes)?;
-    let said = answer_asked(alloc, &read.0, &read.1, asked, bounds, listener, output)?;
+    let said = answer_asked::<S, _, _>(alloc, &read.0, &read.1, asked, bounds, listener, output)?;
     let (netlist, liveness) = read;
     Ok(Answered {
         netlist,
@@ -85,10 +103,10 @@ pub fn answer<A: Allocator + Copy, L: Listener, W: Write>(
 }
 
 // The circuit that a text writes, with its properties.
-pub(crate) fn properties_in<A: Allocator + Copy>(
-    alloc: A,
+pub(crate) fn properties_in(
+    alloc: Global,
     bytes: &[u8],
-) -> Result<(Netlist<A>, Liveness<A>), JusticeError>
+) -> Result<(Netlist, Liveness), JusticeError>
     ensures { IfOk result (λ read. IsPropertiesIn bytes.now read.0.circuit read.1) }
 {
     match read_liveness(alloc, bytes) {
@@ -98,38 +116,38 @@ pub(crate) fn properties_in<A: Allocator + Copy>(
 }
 
 // Answers about the properties of a circuit.
-fn answer_asked<A: Allocator + Copy, L: Listener, W: Write>(
-    alloc: A,
-    netlist: &Netlist<A>,
-    liveness: &Liveness<A>,
+fn answer_asked<S: SatSolver + Drop, L: Listener, W: Write>(
+    alloc: Global,
+    netlist: &Netlist,
+    liveness: &Liveness,
     asked: Option<usize>,
     bounds: Bounds,
     listener: &mut L,
     output: &mut Output<W>,
-) -> Result<Said<A>, JusticeError>
+) -> Result<Said, JusticeError>
     ensures tells { IfOk result (λ said.
         TellsAsked netlist.now.circuit liveness.now asked said.outcome said.text.items) }
     ensures written { IfOk result (λ said. IsWritten output.old.failure output.new.failure
         (W.contents output.old.writer) (W.contents output.new.writer) said.text.items) }
 {
     match asked {
-        None => Ok(answer_all(alloc, netlist, liveness, bounds, listener, output)?),
+        None => Ok(answer_all::<S, _, _>(alloc, netlist, liveness, bounds, listener, output)?),
         Some(place) if place < liveness.justice.len() => {
-            Ok(answer_at(alloc, netlist, liveness, place, bounds, listener, output)?)
+            Ok(answer_at::<S, _, _>(alloc, netlist, liveness, place, bounds, listener, output)?)
         }
         Some(place) => Err(JusticeError::NoProperty(place, liveness.justice.len())),
     }
 }
 
 // Answers about all properties of a circuit.
-fn answer_all<A: Allocator + Copy, L: Listener, W: Write>(
-    alloc: A,
-    netlist: &Netlist<A>,
-    liveness: &Liveness<A>,
+fn answer_all<S: SatSolver + Drop, L: Listener, W: Write>(
+    alloc: Global,
+    netlist: &Netlist,
+    liveness: &Liveness,
     bounds: Bounds,
     listener: &mut L,
     output: &mut Output<W>,
-) -> Result<Said<A>, AllocError>
+) -> Result<Said, AllocError>
     ensures tells { IfOk result (λ said. TellsFirst netlist.now.circuit liveness.now
         (length liveness.now.justice.items) said.outcome said.text.items) }
     ensures written { IfOk result (λ said. IsWritten output.old.failure output.new.failure
@@ -139,9 +157,11 @@ fn answer_all<A: Allocator + Copy, L: Listener, W: Write>(
     let mut outcome = Outcome::Safe;
     let mut found = Vec::new(alloc);
     for place in 0..liveness.justice.len() {
-        let mut said = answer_at(alloc, netlist, liveness, place, bounds, listener, output)?;
+        let mut said = answer_at::<S, _, _>(
+            alloc, netlist, liveness, place, bounds, listener, output,
+        )?;
         text.extend_from_slice(&said.text)?;
-        outcome = both(outcome, said.outcome);
+        outcome = outcome.and(said.outcome);
         found.append(&mut said.found)?;
     }
     Ok(Said {
@@ -151,53 +171,38 @@ fn answer_all<A: Allocator + Copy, L: Listener, W: Write>(
     })
 }
 
-/// What is known of some properties together, by what is known of some of them and of the others.
-pub fn both(one: Outcome, other: Outcome) -> Outcome
-    ensures { result ≡ both one other }
-{
-    match one {
-        Outcome::Fails => Outcome::Fails,
-        Outcome::Safe => other,
-        Outcome::Open => match other {
-            Outcome::Fails => Outcome::Fails,
-            Outcome::Safe => Outcome::Open,
-            Outcome::Open => Outcome::Open,
-        },
-    }
-}
-
 // Answers about the property at a place.
-fn answer_at<A: Allocator + Copy, L: Listener, W: Write>(
-    alloc: A,
-    netlist: &Netlist<A>,
-    liveness: &Liveness<A>,
+fn answer_at<S: SatSolver + Drop, L: Listener, W: Write>(
+    alloc: Global,
+    netlist: &Netlist,
+    liveness: &Liveness,
     place: usize,
     bounds: Bounds,
     listener: &mut L,
     output: &mut Output<W>,
-) -> Result<Said<A>, AllocError>
+) -> Result<Said, AllocError>
     requires { place < length liveness.now.justice.items }
     ensures tells { IfOk result (λ said. Tells netlist.now.circuit liveness.now place said.outcome said.text.items) }
     ensures written { IfOk result (λ said. IsWritten output.old.failure output.new.failure
         (W.contents output.old.writer) (W.contents output.new.writer) said.text.items) }
 {
     let property = &liveness.justice[place];
-    answer_about(
+    answer_about::<S, _, _>(
         alloc, netlist, liveness, place, property, bounds, listener, output,
     )
 }
 
 // Answers about this property, which stands at a place.
-fn answer_about<A: Allocator + Copy, L: Listener, W: Write>(
-    alloc: A,
-    netlist: &Netlist<A>,
-    liveness: &Liveness<A>,
+fn answer_about<S: SatSolver + Drop, L: Listener, W: Write>(
+    alloc: Global,
+    netlist: &Netlist,
+    liveness: &Liveness,
     place: usize,
     property: &[Literal],
     bounds: Bounds,
     listener: &mut L,
     output: &mut Output<W>,
-) -> Result<Said<A>, AllocError>
+) -> Result<Said, AllocError>
     ensures tells { IfOk result (λ said.
         TellsOf netlist.now.circuit liveness.now property.now place said.outcome said.text.items) }
     ensures written { IfOk result (λ said. IsWritten output.old.failure output.new.failure
@@ -206,7 +211,7 @@ fn answer_about<A: Allocator + Copy, L: Listener, W: Write>(
     let verdict = if output.is_over() {
         Verdict::Unknown
     } else {
-        find_out(alloc, netlist, liveness, place, property, bounds, listener)
+        find_out::<S, _>(alloc, netlist, liveness, place, property, bounds, listener)
     };
     let text = verdict_text(alloc, place, &verdict)?;
     output.tell(&text);
@@ -219,22 +224,22 @@ fn answer_about<A: Allocator + Copy, L: Listener, W: Write>(
 }
 
 // What is found out about the property at a place: nothing where the time is over, or memory is refused.
-fn find_out<A: Allocator + Copy, L: Listener>(
-    alloc: A,
-    netlist: &Netlist<A>,
-    liveness: &Liveness<A>,
+fn find_out<S: SatSolver + Drop, L: Listener>(
+    alloc: Global,
+    netlist: &Netlist,
+    liveness: &Liveness,
     place: usize,
     property: &[Literal],
     bounds: Bounds,
     listener: &mut L,
-) -> Verdict<A>
+) -> Verdict
     ensures { IsRightVerdict netlist.now.circuit liveness.now.fairness.items property.now result }
 {
     if listener.begin(place).is_break() {
         return Verdict::Unknown;
     }
     let fairness = &liveness.fairness;
-    match decide_live::<Solver<A>, _, _>(alloc, netlist, fairness, property, bounds, listener) {
+    match decide_live::<S, _>(alloc, netlist, fairness, property, bounds, listener) {
         Ok(verdict) => {
             listener.end(false);
             verdict
@@ -247,7 +252,7 @@ fn find_out<A: Allocator + Copy, L: Listener>(
 }
 
 // What a verdict says of its property.
-fn outcome_of<A: Allocator>(verdict: &Verdict<A>) -> Outcome
+fn outcome_of(verdict: &Verdict) -> Outcome
     ensures { result ≡ outcome_of verdict.now }
 {
     match verdict {
@@ -258,11 +263,7 @@ fn outcome_of<A: Allocator>(verdict: &Verdict<A>) -> Outcome
 }
 
 // What a verdict on the property at a place has to show that it holds.
-fn found_in<A: Allocator + Copy>(
-    alloc: A,
-    place: usize,
-    verdict: Verdict<A>,
-) -> Result<Vec<Found<A>, A>, AllocError> {
+fn found_in(alloc: Global, place: usize, verdict: Verdict) -> Result<Vec<Found>, AllocError> {
     let mut found = Vec::new(alloc);
     if let Verdict::Live(means, invariant) = verdict {
         found.reserve(1)?;
@@ -276,11 +277,7 @@ fn found_in<A: Allocator + Copy>(
 }
 
 // The text of a verdict on the property at a place.
-fn verdict_text<A: Allocator + Copy>(
-    alloc: A,
-    place: usize,
-    verdict: &Verdict<A>,
-) -> Result<Vec<u8, A>, AllocError>
+fn verdict_text(alloc: Global, place: usize, verdict: &Verdict) -> Result<Vec<u8>, AllocError>
     ensures text { IfOk result (λ text. text.items ≡ verdict_text place verdict.now) }
     ensures small { IfOk result (λ text. place < 2 ^ 31) }
 {
@@ -299,7 +296,7 @@ fn verdict_text<A: Allocator + Copy>(
 const GREATEST: usize = 2_147_483_647;
 
 // A status, and the lines that name the property.
-fn named<A: Allocator + Copy>(alloc: A, status: &[u8], place: u32) -> Result<Vec<u8, A>, AllocError>
+fn named(alloc: Global, status: &[u8], place: u32) -> Result<Vec<u8>, AllocError>
     ensures { IfOk result (λ text. text.items ≡ status.now ++ named place) }
 {
     let mut text = Vec::new(alloc);
@@ -311,7 +308,7 @@ fn named<A: Allocator + Copy>(alloc: A, status: &[u8], place: u32) -> Result<Vec
 }
 
 // Writes a number.
-fn write_number<A: Allocator>(text: &mut Vec<u8, A>, number: u64) -> Result<(), AllocError>
+fn write_number(text: &mut Vec<u8>, number: u64) -> Result<(), AllocError>
     ensures { OnOk result (text.new.items ≡ text.old.items ++ decimal number) }
 {
     write!(text, "{number}").map_err(|_| AllocError)

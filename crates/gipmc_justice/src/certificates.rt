@@ -11,16 +11,15 @@ ghost use Rattle.gipmc_liveness_engines.specs.Verdicts.{IsMadeBy};
 use crate::answers::{Found, properties_in};
 use crate::error::JusticeError;
 use gipmc_aiger::{Liveness, read_invariant_for, write_invariant};
-use gipmc_answers::TaskError;
 use gipmc_circuits::certificate::Verdict;
 use gipmc_circuits::{Circuit, Netlist};
 use gipmc_liveness::{counting, to_safety};
 use gipmc_liveness_engines::Means;
 use gipmc_part::certify_all;
-use gipsat_cnf::Literal;
-use gipsat_solver::Solver;
+use gipmc_task::TaskError;
+use gipsat_cnf::{Literal, SatSolver};
 use giputils_text::{number, split_line};
-use std::alloc::{AllocError, Allocator};
+use std::alloc::{AllocError, Global};
 use std::fmt::{self, Display};
 
 /// Why a certificate is not known to show that a justice property holds.
@@ -62,16 +61,16 @@ impl Display for JusticeDoubt {
 ///
 /// # Errors
 /// Those of [`doubt_of`].
-pub fn certifies<A: Allocator + Copy>(
-    alloc: A,
+pub fn certifies<S: SatSolver + Drop>(
+    alloc: Global,
     bytes: &[u8],
     text: &[u8],
     place: usize,
     limit: usize,
 ) -> Result<bool, JusticeError>
-    ensures { IfOk result (λ live. IsTrue live → Certifies A bytes.now text.now place) }
+    ensures { IfOk result (λ live. IsTrue live → Certifies bytes.now text.now place) }
 {
-    match doubt_of(alloc, bytes, text, place, limit)? {
+    match doubt_of::<S>(alloc, bytes, text, place, limit)? {
         None => Ok(true),
         Some(_) => Ok(false),
     }
@@ -88,27 +87,27 @@ pub fn certifies<A: Allocator + Copy>(
 /// - [`JusticeError::Task`] where a text has another form, where the clauses are over fewer latches than the circuit has,
 ///   or where memory is refused.
 /// - [`JusticeError::NoProperty`] where there is no justice property at the place.
-pub fn doubt_of<A: Allocator + Copy>(
-    alloc: A,
+pub fn doubt_of<S: SatSolver + Drop>(
+    alloc: Global,
     bytes: &[u8],
     text: &[u8],
     place: usize,
     limit: usize,
 ) -> Result<Option<JusticeDoubt>, JusticeError>
-    ensures { IfOk result (λ doubt. IfNone doubt (Certifies A bytes.now text.now place)) }
+    ensures { IfOk result (λ doubt. IfNone doubt (Certifies bytes.now text.now place)) }
 {
     let read = properties_in(alloc, bytes)?;
     if place >= read.1.justice.len() {
         return Err(JusticeError::NoProperty(place, read.1.justice.len()));
     }
-    certifies_at(alloc, &read.0, &read.1, text, place, limit)
+    certifies_at::<S>(alloc, &read.0, &read.1, text, place, limit)
 }
 
 // Why the certificate that a text writes is not known to show that the property at a place holds. None if it shows it.
-fn certifies_at<A: Allocator + Copy>(
-    alloc: A,
-    netlist: &Netlist<A>,
-    liveness: &Liveness<A>,
+fn certifies_at<S: SatSolver + Drop>(
+    alloc: Global,
+    netlist: &Netlist,
+    liveness: &Liveness,
     text: &[u8],
     place: usize,
     limit: usize,
@@ -118,7 +117,7 @@ fn certifies_at<A: Allocator + Copy>(
 {
     let (fairness, justice) = (&liveness.fairness, &liveness.justice[place]);
     let means = means_in(&netlist.circuit, text);
-    match shown_by(alloc, netlist, fairness, justice, means, text, limit)? {
+    match shown_by::<S>(alloc, netlist, fairness, justice, means, text, limit)? {
         Verdict::Certified => Ok(None),
         verdict => Ok(Some(JusticeDoubt {
             property: place,
@@ -129,9 +128,9 @@ fn certifies_at<A: Allocator + Copy>(
 }
 
 // What the clauses of a text show of a longer circuit.
-fn shown_by<A: Allocator + Copy>(
-    alloc: A,
-    netlist: &Netlist<A>,
+fn shown_by<S: SatSolver + Drop>(
+    alloc: Global,
+    netlist: &Netlist,
     fairness: &[Literal],
     justice: &[Literal],
     means: Means,
@@ -145,18 +144,18 @@ fn shown_by<A: Allocator + Copy>(
         return Ok(Verdict::Unknown);
     };
     let clauses = clauses_in(alloc, &made.circuit, text)?;
-    let verdicts = certify_all::<Solver<A>, A>(alloc, &made, &[bad], &clauses, limit)?;
+    let verdicts = certify_all::<S>(alloc, &made, &[bad], &clauses, limit)?;
     Ok(verdicts[0])
 }
 
 // The longer circuit, and its literal, which is never true only if the circuit is live.
-fn made_by<A: Allocator + Copy>(
-    alloc: A,
-    netlist: &Netlist<A>,
+fn made_by(
+    alloc: Global,
+    netlist: &Netlist,
     fairness: &[Literal],
     justice: &[Literal],
     means: Means,
-) -> Result<Option<(Netlist<A>, Literal)>, AllocError>
+) -> Result<Option<(Netlist, Literal)>, AllocError>
     ensures made { IfOk result (λ made. IfSome made
         (λ m. IsMadeBy netlist.now.circuit (fairness.now ++ justice.now) means m.0.circuit m.1)) }
     ensures live { IfOk result (λ made. IfSome made
@@ -169,11 +168,11 @@ fn made_by<A: Allocator + Copy>(
 }
 
 // The clauses that a text writes over the latches of a circuit.
-fn clauses_in<A: Allocator + Copy>(
-    alloc: A,
-    circuit: &Circuit<A>,
+fn clauses_in(
+    alloc: Global,
+    circuit: &Circuit,
     text: &[u8],
-) -> Result<Vec<Vec<Literal, A>, A>, JusticeError>
+) -> Result<Vec<Vec<Literal>>, JusticeError>
     ensures { IfOk result (λ clauses. invariant_for circuit.now text.now ≡ Some (clauses_view clauses.items)) }
 {
     match read_invariant_for(alloc, circuit, text) {
@@ -186,7 +185,7 @@ fn clauses_in<A: Allocator + Copy>(
 const NO_LASSO: &[u8] = b"c no lasso";
 
 // The longer circuit that a text is about. It counts as far as the text names more latches than the circuit has.
-fn means_in<A: Allocator>(circuit: &Circuit<A>, text: &[u8]) -> Means {
+fn means_in(circuit: &Circuit, text: &[u8]) -> Means {
     let mut rest = text;
     while let Some((line, after)) = split_line(rest) {
         if line == NO_LASSO {
@@ -215,13 +214,13 @@ fn latches_in(counts: &[u8]) -> Option<usize> {
 /// - [`JusticeError::Task`] with [`TaskError::Uncertified`] where the clauses do not show it, and with
 ///   [`TaskError::Memory`] where memory is refused.
 /// - [`JusticeError::NoProperty`] where there is no justice property at the place.
-pub fn certificate_of<A: Allocator + Copy>(
-    alloc: A,
-    netlist: &Netlist<A>,
-    liveness: &Liveness<A>,
-    found: &Found<A>,
+pub fn certificate_of<S: SatSolver + Drop>(
+    alloc: Global,
+    netlist: &Netlist,
+    liveness: &Liveness,
+    found: &Found,
     limit: usize,
-) -> Result<Vec<u8, A>, JusticeError>
+) -> Result<Vec<u8>, JusticeError>
     ensures { IfOk result (λ text. CertifiesAt netlist.now.circuit liveness.now text.items found.now.place) }
 {
     let place = found.place;
@@ -229,19 +228,19 @@ pub fn certificate_of<A: Allocator + Copy>(
         return Err(JusticeError::NoProperty(place, liveness.justice.len()));
     }
     let text = text_of(alloc, netlist, liveness, found)?;
-    if let Some(_) = certifies_at(alloc, netlist, liveness, &text, place, limit)? {
+    if let Some(_) = certifies_at::<S>(alloc, netlist, liveness, &text, place, limit)? {
         return Err(JusticeError::Task(TaskError::Uncertified));
     }
     Ok(text)
 }
 
 // The text of the clauses that were found, over the latches of the longer circuit.
-fn text_of<A: Allocator + Copy>(
-    alloc: A,
-    netlist: &Netlist<A>,
-    liveness: &Liveness<A>,
-    found: &Found<A>,
-) -> Result<Vec<u8, A>, JusticeError> {
+fn text_of(
+    alloc: Global,
+    netlist: &Netlist,
+    liveness: &Liveness,
+    found: &Found,
+) -> Result<Vec<u8>, JusticeError> {
     let justice: &[Literal] = match liveness.justice.get(found.place) {
         Some(justice) => justice,
         None => &[],
@@ -262,11 +261,7 @@ fn text_of<A: Allocator + Copy>(
 }
 
 // The text of the clauses, and before it the line that says of which circuit they are.
-fn told_of<A: Allocator + Copy>(
-    alloc: A,
-    means: Means,
-    written: Vec<u8, A>,
-) -> Result<Vec<u8, A>, AllocError> {
+fn told_of(alloc: Global, means: Means, written: Vec<u8>) -> Result<Vec<u8>, AllocError> {
     match means {
         Means::Counting(_) => Ok(written),
         Means::Saving => {
@@ -280,10 +275,7 @@ fn told_of<A: Allocator + Copy>(
 }
 
 // The place of the latch of each variable that is a latch's.
-fn places_of<A: Allocator + Copy>(
-    alloc: A,
-    netlist: &Netlist<A>,
-) -> Result<Vec<Option<u32>, A>, AllocError> {
+fn places_of(alloc: Global, netlist: &Netlist) -> Result<Vec<Option<u32>>, AllocError> {
     let mut places = Vec::new(alloc);
     places.resize(netlist.variables, None)?;
     for (place, latch) in netlist.circuit.latches.iter().enumerate() {
@@ -298,11 +290,11 @@ fn places_of<A: Allocator + Copy>(
 const LATCHES: u32 = 2_147_483_647;
 
 // A clause over variables of latches, over their places.
-fn over_places<A: Allocator + Copy>(
-    alloc: A,
+fn over_places(
+    alloc: Global,
     places: &[Option<u32>],
     clause: &[Literal],
-) -> Result<Vec<Literal, A>, JusticeError> {
+) -> Result<Vec<Literal>, JusticeError> {
     let mut moved = Vec::new(alloc);
     for l in clause {
         match places.get(l.variable() as usize) {

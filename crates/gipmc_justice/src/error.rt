@@ -1,6 +1,6 @@
 //! Why a task on justice properties is not done.
 use gipmc_aiger::AigerError;
-use gipmc_answers::TaskError;
+use gipmc_task::TaskError;
 use std::alloc::AllocError;
 use thiserror::Error;
 
@@ -30,26 +30,17 @@ pub enum JusticeError {
 impl JusticeError {
     // Why no circuit was read.
     pub(crate) fn of_circuit(error: AigerError) -> Self {
-        match error {
-            AigerError::Memory => JusticeError::Task(TaskError::Memory),
-            _ => JusticeError::Task(TaskError::Circuit(error)),
-        }
+        JusticeError::Task(TaskError::of_circuit(error))
     }
 
     // Why no witness was read.
     pub(crate) fn of_witness(error: AigerError) -> Self {
-        match error {
-            AigerError::Memory => JusticeError::Task(TaskError::Memory),
-            _ => JusticeError::Task(TaskError::Witness(error)),
-        }
+        JusticeError::Task(TaskError::of_witness(error))
     }
 
     // Why no certificate was read.
     pub(crate) fn of_certificate(error: AigerError) -> Self {
-        match error {
-            AigerError::Memory => JusticeError::Task(TaskError::Memory),
-            _ => JusticeError::Task(TaskError::Certificate(error)),
-        }
+        JusticeError::Task(TaskError::of_certificate(error))
     }
 }
 

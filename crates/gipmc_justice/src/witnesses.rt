@@ -10,7 +10,7 @@ use gipmc_aiger::{Claim, Liveness, read_lassos};
 use gipmc_circuits::{Circuit, Netlist, Trace, TraceDoubt, trace_doubt};
 use gipmc_liveness::closed;
 use gipsat_cnf::Literal;
-use std::alloc::{AllocError, Allocator};
+use std::alloc::{AllocError, Global};
 use std::fmt::{self, Display};
 
 /// Why a trace is no lasso of a justice property. Moments, literals and constraints are counted from 0.
@@ -73,13 +73,13 @@ impl Display for LassoDoubt {
 ///
 /// # Errors
 /// Those of [`lasso_doubt`].
-pub fn replays<A: Allocator + Copy>(
-    alloc: A,
+pub fn replays(
+    alloc: Global,
     bytes: &[u8],
     text: &[u8],
     asked: Option<usize>,
 ) -> Result<bool, JusticeError>
-    ensures { IfOk result (λ fails. IsTrue fails → Replays A bytes.now text.now asked) }
+    ensures { IfOk result (λ fails. IsTrue fails → Replays bytes.now text.now asked) }
 {
     match lasso_doubt(alloc, bytes, text, asked)? {
         None => Ok(true),
@@ -97,13 +97,13 @@ pub fn replays<A: Allocator + Copy>(
 /// - [`JusticeError::NoWitness`] and [`JusticeError::NoWitnessOf`] where the text has no witness, or none of what is asked
 ///   for.
 /// - [`JusticeError::OtherProperty`] where the circuit has not the property that a witness names.
-pub fn lasso_doubt<A: Allocator + Copy>(
-    alloc: A,
+pub fn lasso_doubt(
+    alloc: Global,
     bytes: &[u8],
     text: &[u8],
     asked: Option<usize>,
 ) -> Result<Option<LassoDoubt>, JusticeError>
-    ensures { IfOk result (λ doubt. IfNone doubt (Replays A bytes.now text.now asked)) }
+    ensures { IfOk result (λ doubt. IfNone doubt (Replays bytes.now text.now asked)) }
 {
     let read = properties_in(alloc, bytes)?;
     has_asked(&read.1, asked)?;
@@ -115,10 +115,7 @@ pub fn lasso_doubt<A: Allocator + Copy>(
 }
 
 // Tests that the circuit has the property that is asked for, or one at all.
-fn has_asked<A: Allocator>(
-    liveness: &Liveness<A>,
-    asked: Option<usize>,
-) -> Result<(), JusticeError> {
+fn has_asked(liveness: &Liveness, asked: Option<usize>) -> Result<(), JusticeError> {
     let count = liveness.justice.len();
     match asked {
         None if count == 0 => Err(JusticeError::NoProperties),
@@ -136,11 +133,7 @@ fn unnamed(asked: Option<usize>) -> JusticeError {
 }
 
 // What the witnesses of a text claim of a circuit's properties.
-fn claims_in<A: Allocator + Copy>(
-    alloc: A,
-    circuit: &Circuit<A>,
-    text: &[u8],
-) -> Result<Vec<Claim<A>, A>, JusticeError>
+fn claims_in(alloc: Global, circuit: &Circuit, text: &[u8]) -> Result<Vec<Claim>, JusticeError>
     ensures { IfOk result (λ claims.
         AreLassosIn circuit.now text.now (map (λ x. (x.properties.items, x.trace)) claims.items)) }
 {
@@ -151,7 +144,7 @@ fn claims_in<A: Allocator + Copy>(
 }
 
 // Whether a witness is one of what is asked for.
-fn name_asked<A: Allocator>(claims: &[Claim<A>], asked: Option<usize>) -> bool
+fn name_asked(claims: &[Claim], asked: Option<usize>) -> bool
     ensures { result ≡ list_any (λ x. names_asked x.properties.items asked) claims.now }
 {
     claims
@@ -177,11 +170,11 @@ fn is_one_of(places: &[u32], place: usize) -> bool
 }
 
 // Which of some witnesses shows no failure. None if all do, here and below.
-fn first_doubt<A: Allocator + Copy>(
-    alloc: A,
-    netlist: &Netlist<A>,
-    liveness: &Liveness<A>,
-    claims: &[Claim<A>],
+fn first_doubt(
+    alloc: Global,
+    netlist: &Netlist,
+    liveness: &Liveness,
+    claims: &[Claim],
     asked: Option<usize>,
 ) -> Result<Option<LassoDoubt>, JusticeError>
     ensures { IfOk result (λ doubt. IfNone doubt
@@ -201,11 +194,11 @@ fn first_doubt<A: Allocator + Copy>(
 }
 
 // The place of a property whose failure a witness does not show.
-fn claim_doubt<A: Allocator + Copy>(
-    alloc: A,
-    netlist: &Netlist<A>,
-    liveness: &Liveness<A>,
-    claim: &Claim<A>,
+fn claim_doubt(
+    alloc: Global,
+    netlist: &Netlist,
+    liveness: &Liveness,
+    claim: &Claim,
     asked: Option<usize>,
 ) -> Result<Option<usize>, JusticeError>
     ensures { IfOk result (λ doubt. IfNone doubt
@@ -225,13 +218,13 @@ fn claim_doubt<A: Allocator + Copy>(
 }
 
 // The same where this one is asked for.
-fn doubt_at_asked<A: Allocator + Copy>(
-    alloc: A,
-    netlist: &Netlist<A>,
-    liveness: &Liveness<A>,
+fn doubt_at_asked(
+    alloc: Global,
+    netlist: &Netlist,
+    liveness: &Liveness,
     names: &[u32],
     asked: usize,
-    trace: &Trace<A>,
+    trace: &Trace,
 ) -> Result<Option<usize>, JusticeError>
     ensures { IfOk result (λ doubt. IfNone doubt
         (Every (FailsAt netlist.now.circuit liveness.now trace.now) (claimed names.now (Some asked)))) }
@@ -243,12 +236,12 @@ fn doubt_at_asked<A: Allocator + Copy>(
 }
 
 // The place of one of these properties that does not fail by the trace.
-fn doubt_at_each<A: Allocator + Copy>(
-    alloc: A,
-    netlist: &Netlist<A>,
-    liveness: &Liveness<A>,
+fn doubt_at_each(
+    alloc: Global,
+    netlist: &Netlist,
+    liveness: &Liveness,
     places: &[u32],
-    trace: &Trace<A>,
+    trace: &Trace,
 ) -> Result<Option<usize>, JusticeError>
     ensures { IfOk result (λ doubt. IfNone doubt
         (Every (FailsAt netlist.now.circuit liveness.now trace.now) places.now)) }
@@ -262,12 +255,12 @@ fn doubt_at_each<A: Allocator + Copy>(
 }
 
 // The place, if the property there does not fail by the trace.
-fn doubt_at<A: Allocator + Copy>(
-    alloc: A,
-    netlist: &Netlist<A>,
-    liveness: &Liveness<A>,
+fn doubt_at(
+    alloc: Global,
+    netlist: &Netlist,
+    liveness: &Liveness,
     place: usize,
-    trace: &Trace<A>,
+    trace: &Trace,
 ) -> Result<Option<usize>, JusticeError>
     ensures { IfOk result (λ doubt. IfNone doubt
         (Every (FailsAt netlist.now.circuit liveness.now trace.now) (place ∷ []))) }
@@ -283,12 +276,12 @@ fn doubt_at<A: Allocator + Copy>(
 }
 
 // Whether the property at a place fails by the trace.
-fn fails_at<A: Allocator + Copy>(
-    alloc: A,
-    netlist: &Netlist<A>,
-    liveness: &Liveness<A>,
+fn fails_at(
+    alloc: Global,
+    netlist: &Netlist,
+    liveness: &Liveness,
     place: usize,
-    trace: &Trace<A>,
+    trace: &Trace,
 ) -> Result<bool, AllocError>
     requires { place < length liveness.now.justice.items }
     ensures { IfOk result (λ fails. IsTrue fails → FailsAt netlist.now.circuit liveness.now trace.now place) }
@@ -301,12 +294,12 @@ fn fails_at<A: Allocator + Copy>(
 }
 
 // Why the trace is no lasso of the property at a place, where it is none.
-fn reason_of<A: Allocator + Copy>(
-    alloc: A,
-    netlist: &Netlist<A>,
-    liveness: &Liveness<A>,
+fn reason_of(
+    alloc: Global,
+    netlist: &Netlist,
+    liveness: &Liveness,
     place: usize,
-    trace: &Trace<A>,
+    trace: &Trace,
 ) -> Result<LassoReason, AllocError> {
     let always = Literal::new(0, false);
     if let Some(doubt) = trace_doubt(alloc, netlist, always, trace)? {
@@ -325,11 +318,11 @@ fn reason_of<A: Allocator + Copy>(
 }
 
 // The first of the literals that is true at no moment of the loop.
-fn unmet_in<A: Allocator + Copy>(
-    alloc: A,
-    netlist: &Netlist<A>,
+fn unmet_in(
+    alloc: Global,
+    netlist: &Netlist,
     literals: &[Literal],
-    trace: &Trace<A>,
+    trace: &Trace,
 ) -> Result<Option<usize>, AllocError> {
     for (place, l) in literals.iter().enumerate() {
         if closed(alloc, netlist, &[], &[*l], trace)?.is_none() {

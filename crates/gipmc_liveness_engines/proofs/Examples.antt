@@ -21,13 +21,13 @@ not_both true is_false is_true = false≢true is_false
 not_both false is_false is_true = false≢true is_true
 
 -- a literal that is never true is not met once
-never_met : {A : Type 0} (c : Circuit A) → NeverMeetsMore c (never ∷ []) 0
+never_met : (c : Circuit) → NeverMeetsMore c (never ∷ []) 0
 never_met c n (t, trace, met, is) =
     let valuation = (and_parts (is_valuation c (t n)) (makes_true (t n) c.constraints.items) (trace.moments n (le_refl n))).0 in
     not_both (t n 0) (and_parts (not (t n 0)) (list_all (has_value (t n)) c.gates.items) valuation).0 is
 
 -- nor is it behind another one: at most one literal is met in turn
-stops_at_never : {A : Type 0} (c : Circuit A) → NeverMeetsMore c (always ∷ never ∷ []) 1
+stops_at_never : (c : Circuit) → NeverMeetsMore c (always ∷ never ∷ []) 1
 stops_at_never c n (t, trace, met, is) =
     let valuation = (and_parts (is_valuation c (t n)) (makes_true (t n) c.constraints.items) (trace.moments n (le_refl n))).0 in
     not_both (t n 0) (and_parts (not (t n 0)) (list_all (has_value (t n)) c.gates.items) valuation).0 is

@@ -2,7 +2,6 @@
 
 use gipmc_liveness::Lasso;
 use gipsat_cnf::Literal;
-use std::alloc::{Allocator, Global};
 
 /// The longer circuit whose invariant shows that a circuit is live.
 #[derive(Clone, Copy, Debug, PartialEq, Eq)]
@@ -15,11 +14,11 @@ pub enum Means {
 
 /// What is found out about a justice property.
 #[derive(Drop)]
-pub enum Verdict<A: Allocator = Global> {
+pub enum Verdict {
     /// This lasso, which was replayed, is a counterexample.
-    Fails(Lasso<A>),
+    Fails(Lasso),
     /// The circuit is live, as these clauses show: an invariant of the longer circuit.
-    Live(Means, Vec<Vec<Literal, A>, A>),
+    Live(Means, Vec<Vec<Literal>>),
     /// Nothing was found out.
     Unknown,
 }

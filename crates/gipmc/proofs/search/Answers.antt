@@ -1,6 +1,6 @@
 -- What is answered or left out of both kinds.
 use Rattle.std.proofs.Common.{◌≡◌}
-use Rattle.gipmc_answers.specs.Answers.{both}
+use Rattle.gipmc_task.specs.Outcomes.{both}
 use Rattle.gipmc.specs.Asked.{outcome_of_bads, outcome_of_justice}
 use Rattle.gipmc.proofs.Asked.{bads_answered, justice_answered}
 use Rattle.gipmc.proofs.search.Goals as goal
@@ -12,7 +12,7 @@ returns-clause-answers c =
     let asked = c.args.options.now.justice in
     let bads = c.in_ok-bads in
     let justice = c.in_ok-justice in
-    let same : c.both-outcome.result ≡ both (outcome_of_bads bads.bads) (outcome_of_justice justice.justice) = cc in (
+    let same : c.and-outcome.result ≡ both (outcome_of_bads bads.bads) (outcome_of_justice justice.justice) = cc in (
       outcome_of_bads bads.bads,
       outcome_of_justice justice.justice,
       bads_answered bytes bad asked bads.bads bads.ensures.none bads.ensures.answers,

@@ -1,6 +1,6 @@
 -- The text tells of each place so far, and was written if no write has failed.
 use Rattle.gipmc_answers.specs.Answers.{TellsFirst}
-use Rattle.gipmc_answers.specs.Output.{IsWritten}
+use Rattle.gipmc_task.specs.Output.{IsWritten}
 use Rattle.gipmc_answers.proofs.answers.leave_all.Given as goal
 
 abbrev pub invariant-loop-place : goal.invariant-loop-place

@@ -3,7 +3,7 @@ use Rattle.std.proofs.Common.{◌≡◌, ◌∙◌, length, arith, subst}
 use Rattle.std.proofs.lemmas.Grind.{common_steps}
 use Rattle.gipmc_answers.specs.Answers.{Tells}
 use Rattle.gipmc_answers.proofs.Told.{TellsFirst-more}
-use Rattle.gipmc_answers.proofs.Written.{IsWritten-more}
+use Rattle.gipmc_task.proofs.Written.{IsWritten-more}
 use Rattle.gipmc_answers.proofs.answers.tell_all.Goals as goal
 
 pub loop-place-preserved : goal.loop-place-preserved

@@ -1,7 +1,7 @@
 -- The text tells of each place so far, and was written if no write has failed. The circuit and the literals stay.
 use Rattle.std.proofs.Common.{◌≡◌}
 use Rattle.gipmc_answers.specs.Answers.{TellsFirst}
-use Rattle.gipmc_answers.specs.Output.{IsWritten}
+use Rattle.gipmc_task.specs.Output.{IsWritten}
 use Rattle.gipmc_answers.proofs.answers.tell_all.Given as goal
 
 abbrev pub invariant-loop-place : goal.invariant-loop-place

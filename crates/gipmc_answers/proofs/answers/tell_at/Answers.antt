@@ -4,7 +4,7 @@ use Rattle.std.specs.Prelude.{slice_get}
 use Rattle.std.proofs.lemmas.Option.{slice_get-get_or}
 use Rattle.gipmc_answers.specs.Answers.{IsKnown}
 use Rattle.gipmc_answers.proofs.Told.{Tells-by}
-use Rattle.gipmc_answers.proofs.Written.{IsWritten-more}
+use Rattle.gipmc_task.proofs.Written.{IsWritten-more}
 use Rattle.gipmc_answers.proofs.answers.tell_at.Goals as goal
 
 pub returns-clause-tells : goal.returns-clause-tells

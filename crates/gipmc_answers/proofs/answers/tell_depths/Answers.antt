@@ -3,7 +3,7 @@ use Rattle.std.proofs.Common.{rules, ◌≡◌, ◌∙◌, ◌<◌, ◌^◌, Som
 use Rattle.std.specs.Prelude.{slice_get}
 use Rattle.gipmc_engines.specs.Verdicts.{NeverFailsWithin}
 use Rattle.gipmc_answers.proofs.Told.{TellsDepths-more}
-use Rattle.gipmc_answers.proofs.Written.{IsWritten-more}
+use Rattle.gipmc_task.proofs.Written.{IsWritten-more}
 use Rattle.gipmc_answers.proofs.answers.tell_depths.Goals as goal
 
 pub loop-preserved : goal.loop-preserved

@@ -1,7 +1,7 @@
 -- The text tells of depths so far, and was written if no write has failed. The circuit and the literals stay.
 use Rattle.std.proofs.Common.{◌≡◌}
 use Rattle.gipmc_answers.specs.Answers.{TellsDepths}
-use Rattle.gipmc_answers.specs.Output.{IsWritten}
+use Rattle.gipmc_task.specs.Output.{IsWritten}
 use Rattle.gipmc_answers.proofs.answers.tell_depths.Given as goal
 
 abbrev pub invariant-loop : goal.invariant-loop

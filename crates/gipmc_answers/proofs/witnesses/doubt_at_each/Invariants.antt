@@ -5,5 +5,5 @@ use Rattle.gipmc_answers.specs.Witnesses.{FailsAt}
 use Rattle.gipmc_answers.proofs.witnesses.doubt_at_each.Given as goal
 
 abbrev pub invariant-loop-k : goal.invariant-loop-k
-invariant-loop-k g l =
+invariant-loop-k l =
     Every (FailsAt l.netlist.circuit l.trace) (drop l.k l.places) → Every (FailsAt l.netlist.circuit l.trace) l.places

@@ -5,6 +5,6 @@ use Rattle.gipmc_answers.specs.Witnesses.{IsRight}
 use Rattle.gipmc_answers.proofs.witnesses.first_doubt.Given as goal
 
 abbrev pub invariant-loop-place : goal.invariant-loop-place
-invariant-loop-place g l =
+invariant-loop-place l =
     Every (λ x. IsRight l.netlist.circuit l.asked (x.properties.items, x.trace)) (drop l.place l.claims)
     → Every (λ x. IsRight l.netlist.circuit l.asked (x.properties.items, x.trace)) l.claims

@@ -4,12 +4,13 @@ use Rattle.std.specs.List.{list_any}
 use Rattle.std.proofs.lemmas.Result.{IfOk-weaker}
 use Rattle.gipsat_cnf.proofs.Places.{IfNone-more}
 use Rattle.gipmc_answers.specs.Witnesses.{IsRight, names_asked}
-use Rattle.gipmc_answers.proofs.Claimed.{asked_of_witnesses, witness_by}
-use Rattle.gipmc_answers.proofs.Each.{every_view}
+use Rattle.gipmc_answers.proofs.Claimed.{asked_of_witnesses}
+use Rattle.gipmc_task.proofs.Claimed.{witness_by}
+use Rattle.gipmc_task.proofs.Each.{every_view}
 use Rattle.gipmc_answers.proofs.witnesses.witness_doubt.Goals as goal
 
 pub returns : goal.returns
-returns g c =
+returns c =
     let named : list_any (λ x. names_asked x.properties.items c.args.asked) c.in_ok-claims.claims.items ≡ true =
     search rules in
     IfOk-weaker c.first_doubt.result _ _

@@ -1,13 +1,13 @@
 -- One more place is told of.
 use Rattle.std.proofs.Common.{◌≡◌, length, arith}
 use Rattle.std.proofs.lemmas.Grind.{common_steps}
-use Rattle.gipmc_answers.proofs.Written.{IsWritten-more}
+use Rattle.gipmc_task.proofs.Written.{IsWritten-more}
 use Rattle.gipmc_justice.proofs.Told.{TellsFirst-more}
 use Rattle.gipmc_justice.proofs.answers.answer_all.Goals as goal
 
 pub loop-place-preserved : goal.loop-place-preserved
 loop-place-preserved g c = record {
-  tells = rw (c.in_ok-extend_from_slice.ensures.items, c.deref.ensures.value, c.both-outcome.ensures)
+  tells = rw (c.in_ok-extend_from_slice.ensures.items, c.deref.ensures.value, c.and-outcome.ensures)
       (TellsFirst-more c.args.netlist.now.circuit c.args.liveness.now c.loop-place.place _ _ _ _ c.loop-place.invariant.tells
       c.in_ok-said.ensures.tells);
   written = rw (c.in_ok-extend_from_slice.ensures.items, c.deref.ensures.value)

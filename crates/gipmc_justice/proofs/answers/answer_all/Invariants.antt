@@ -1,5 +1,5 @@
 -- The text tells of each place so far, and was written if no write has failed.
-use Rattle.gipmc_answers.specs.Output.{IsWritten}
+use Rattle.gipmc_task.specs.Output.{IsWritten}
 use Rattle.gipmc_justice.specs.Answers.{TellsFirst}
 use Rattle.gipmc_justice.proofs.answers.answer_all.Given as goal
 

@@ -3,4 +3,4 @@ use Rattle.std.proofs.Common.{length}
 use Rattle.gipmc_justice.proofs.certificates.means_in.Given as goal
 
 abbrev pub decreases-loop-line : goal.decreases-loop-line
-decreases-loop-line g l = length l.rest
+decreases-loop-line l = length l.rest

@@ -5,6 +5,6 @@ use Rattle.gipmc_justice.specs.Witnesses.{FailsAt}
 use Rattle.gipmc_justice.proofs.witnesses.doubt_at_each.Given as goal
 
 abbrev pub invariant-loop-k : goal.invariant-loop-k
-invariant-loop-k g l =
+invariant-loop-k l =
     Every (FailsAt l.netlist.circuit l.liveness l.trace) (drop l.k l.places)
     → Every (FailsAt l.netlist.circuit l.liveness l.trace) l.places

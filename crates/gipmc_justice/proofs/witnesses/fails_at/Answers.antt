@@ -6,7 +6,7 @@ use Rattle.gipmc_liveness.proofs.Looped.{FailsForever-lasso}
 use Rattle.gipmc_justice.proofs.witnesses.fails_at.Goals as goal
 
 pub returns-in-Some : goal.returns-in-Some
-returns-in-Some g c fails =
+returns-in-Some c fails =
     let properties = c.args.liveness.now.justice.items in
     let here = slice_get_read properties (length properties) c.args.place c.index-justice.result.now refl c.requires c.index-justice.ensures in
     let circuit = c.args.netlist.now.circuit in

@@ -1,12 +1,12 @@
 -- One witness more is left behind, and none at the end.
 use Rattle.std.proofs.Common.{◌<◌, ◌≤◌, length, arith, subst}
 use Rattle.std.proofs.lemmas.Grind.{common_steps}
-use Rattle.gipmc_answers.proofs.Each.{every_last, every_next}
+use Rattle.gipmc_task.proofs.Each.{every_last, every_next}
 use Rattle.gipmc_justice.specs.Witnesses.{IsRight}
 use Rattle.gipmc_justice.proofs.witnesses.first_doubt.Goals as goal
 
 pub loop-place-preserved : goal.loop-place-preserved
-loop-place-preserved g c =
+loop-place-preserved c =
     let less : c.loop-place.place < length c.args.claims.now = grind (arith, common_steps) in
     let here = rw (c.in_default.is) at c.in_ok-property.ensures in
     λ rest. c.loop-place.invariant
@@ -16,7 +16,7 @@ loop-place-preserved g c =
     c.index-claims-place.is here) rest)
 
 pub returns : goal.returns
-returns g c =
+returns c =
     let past : length c.args.claims.now ≤ c.loop-place.place = grind (arith, common_steps) in
     c.loop-place.invariant
     (every_last (λ x. IsRight c.args.netlist.now.circuit c.args.liveness.now c.args.asked (x.properties.items, x.trace))

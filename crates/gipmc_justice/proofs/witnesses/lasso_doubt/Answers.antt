@@ -3,14 +3,14 @@ use Rattle.std.proofs.Common.{◌≡◌, ◌∙◌, map, sym, true}
 use Rattle.std.specs.List.{list_any}
 use Rattle.std.proofs.lemmas.Result.{IfOk-weaker}
 use Rattle.gipsat_cnf.proofs.Places.{IfNone-more}
-use Rattle.gipmc_answers.proofs.Claimed.{witness_by}
-use Rattle.gipmc_answers.proofs.Each.{every_view}
+use Rattle.gipmc_task.proofs.Claimed.{witness_by}
+use Rattle.gipmc_task.proofs.Each.{every_view}
 use Rattle.gipmc_justice.specs.Witnesses.{IsRight, names_asked}
 use Rattle.gipmc_justice.proofs.Claimed.{asked_of_lassos}
 use Rattle.gipmc_justice.proofs.witnesses.lasso_doubt.Goals as goal
 
 pub returns : goal.returns
-returns g c =
+returns c =
     let named : list_any (λ x. names_asked x.properties.items c.args.asked) c.in_ok-claims.claims.items ≡ true =
     sym (rw (c.deref.ensures.value) at c.name_asked.ensures) ∙ c.if-not-name_asked.false in
     IfOk-weaker c.first_doubt.result _ _

@@ -4,7 +4,7 @@ use Rattle.gipmc_answers.proofs.OnWhole.{StandFor-part}
 use Rattle.gipmc_answers.proofs.left.Left.in_part.Goals as goal
 
 pub returns-in-Some : goal.returns-in-Some
-returns-in-Some g c =
+returns-in-Some c =
     let part = c.in-Some.part in
     let left = c.args.sweep.netlist.circuit in
     StandFor-part part.names.names.items part.netlist.circuit left part.netlist.circuit.bads.items left.bads.items

@@ -5,13 +5,13 @@ use Rattle.std.specs.Str.{bytes_eq}
 use Rattle.gipmc_engines.specs.declared.engines.Engine as engines
 use Rattle.gipmc_engines.specs.declared.engines.Engine.TheVariants.{Simulation, Bounded, Ic3, Induction, All}
 use Rattle.gip_program.specs.Options.{Entry, number, switch, text}
-use Rattle.gipmc.specs.declared.about.Number.{Number}
-use Rattle.gipmc.specs.declared.about.Number.TheVariants.{Bad, Depth, Justice, Limit, Seed, Time}
-use Rattle.gipmc.specs.declared.about.Switch.{Switch}
-use Rattle.gipmc.specs.declared.about.Switch.TheVariants.{Aiger, Names, Quiet, Shortest, Stats, Verbose}
-use Rattle.gipmc.specs.declared.about.Text.{Text}
-use Rattle.gipmc.specs.declared.about.Text.TheVariants.{Certificate, Certify, Engine, Replay, Vcd, Witness}
-use Rattle.gipmc.specs.declared.options.Options.{Options}
+use Rattle.gipmc_command.specs.declared.about.Number.{Number}
+use Rattle.gipmc_command.specs.declared.about.Number.TheVariants.{Bad, Depth, Justice, Limit, Seed, Time}
+use Rattle.gipmc_command.specs.declared.about.Switch.{Switch}
+use Rattle.gipmc_command.specs.declared.about.Switch.TheVariants.{Aiger, Names, Quiet, Shortest, Stats, Verbose}
+use Rattle.gipmc_command.specs.declared.about.Text.{Text}
+use Rattle.gipmc_command.specs.declared.about.Text.TheVariants.{Certificate, Certify, Engine, Replay, Vcd, Witness}
+use Rattle.gipmc_command.specs.declared.options.Options.{Options}
 
 -- the options, each with its long and its short name
 abbrev pub table : List (Entry Switch Number Text)

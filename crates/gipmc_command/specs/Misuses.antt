@@ -1,8 +1,8 @@
 -- Why the words of a command line have no meaning.
 use Rattle.std.specs.Prelude.{ℕ, List}
 use Rattle.gip_program.specs.Items as items
-use Rattle.gipmc.specs.declared.errors.UsageError.{UsageError}
-use Rattle.gipmc.specs.declared.errors.UsageError.TheVariants as error
+use Rattle.gipmc_command.specs.declared.misuse.UsageError.{UsageError}
+use Rattle.gipmc_command.specs.declared.misuse.UsageError.TheVariants as error
 
 -- words that no options have, one that is no engine, a second file, a witness beside a certificate, an option of a search
 -- beside one of these, a limit beside a witness, standard input as both the circuit and the answer, and standard output

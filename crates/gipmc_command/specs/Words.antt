@@ -5,19 +5,19 @@ use Rattle.std.specs.Result.{result_and, result_map_both}
 use Rattle.std.specs.Str.{bytes_eq}
 use Rattle.gip_program.specs.Items.{Any, Counted, File, Given, Misused, Said, Told, Turned, items_said}
 use Rattle.gip_program.specs.declared.items.Info.{Info}
-use Rattle.gipmc.specs.Misuses.{Misuse, Words, NoEngine, ExtraFile, TwoTasks, NoSearch, NoLimit, InputTwice, OutputTwice}
-use Rattle.gipmc.specs.Options.{Request, counted, engine_of, no_request, request_of, switched, table}
-use Rattle.gipmc.specs.declared.about.Number.{Number}
-use Rattle.gipmc.specs.declared.about.Number.TheVariants as number
-use Rattle.gipmc.specs.declared.about.Switch.{Switch}
-use Rattle.gipmc.specs.declared.about.Switch.TheVariants as switch
-use Rattle.gipmc.specs.declared.about.Text.{Text}
-use Rattle.gipmc.specs.declared.about.Text.TheVariants as text
-use Rattle.gipmc.specs.declared.options.Asked.{Asked}
-use Rattle.gipmc.specs.declared.options.Scope.{Scope}
-use Rattle.gipmc.specs.declared.options.Scope.TheVariants.{Each, Search, Limit}
-use Rattle.gipmc.specs.declared.options.Task.{Task}
-use Rattle.gipmc.specs.declared.options.Task.TheVariants as task
+use Rattle.gipmc_command.specs.Misuses.{Misuse, Words, NoEngine, ExtraFile, TwoTasks, NoSearch, NoLimit, InputTwice, OutputTwice}
+use Rattle.gipmc_command.specs.Options.{Request, counted, engine_of, no_request, request_of, switched, table}
+use Rattle.gipmc_command.specs.declared.about.Number.{Number}
+use Rattle.gipmc_command.specs.declared.about.Number.TheVariants as number
+use Rattle.gipmc_command.specs.declared.about.Switch.{Switch}
+use Rattle.gipmc_command.specs.declared.about.Switch.TheVariants as switch
+use Rattle.gipmc_command.specs.declared.about.Text.{Text}
+use Rattle.gipmc_command.specs.declared.about.Text.TheVariants as text
+use Rattle.gipmc_command.specs.declared.options.Asked.{Asked}
+use Rattle.gipmc_command.specs.declared.options.Scope.{Scope}
+use Rattle.gipmc_command.specs.declared.options.Scope.TheVariants.{Each, Search, Limit}
+use Rattle.gipmc_command.specs.declared.options.Task.{Task}
+use Rattle.gipmc_command.specs.declared.options.Task.TheVariants as task
 
 -- what the words so far ask of a search, what they ask to be told, the last options of a search alone and of a limit,
 -- and the files of a witness to be replayed and of a certificate to be checked

@@ -1,8 +1,8 @@
 -- What the items that are left lead to is what all lead to.
 use Rattle.std.proofs.Common.{◌≡◌, length}
 use Rattle.gip_program.specs.Items.{left_said}
-use Rattle.gipmc.specs.Words.{state_of, work_said}
-use Rattle.gipmc.proofs.options.Asked.end_after.Given as goal
+use Rattle.gipmc_command.specs.Words.{state_of, work_said}
+use Rattle.gipmc_command.proofs.options.Asked.end_after.Given as goal
 
 abbrev pub invariant-loop-item : goal.invariant-loop-item
 invariant-loop-item l =

@@ -3,9 +3,9 @@ use Rattle.std.proofs.Common.{◌≡◌, [], ◌∷◌, refl, codes, Some, None,
 use Rattle.gipmc_engines.specs.declared.engines.Engine.TheVariants.{Simulation, Bounded, Ic3}
 use Rattle.gip_program.specs.Items.{UnknownOption, NoValue, NoNumber}
 use Rattle.gip_program.specs.declared.items.Info.TheVariants as info
-use Rattle.gipmc.specs.Misuses.{Words, NoEngine, ExtraFile, TwoTasks, NoSearch, NoLimit, InputTwice, OutputTwice}
-use Rattle.gipmc.specs.Options.{no_request}
-use Rattle.gipmc.specs.Words.{work_asked, Tell, Answer, Replay, Certify}
+use Rattle.gipmc_command.specs.Misuses.{Words, NoEngine, ExtraFile, TwoTasks, NoSearch, NoLimit, InputTwice, OutputTwice}
+use Rattle.gipmc_command.specs.Options.{no_request}
+use Rattle.gipmc_command.specs.Words.{work_asked, Tell, Answer, Replay, Certify}
 
 nothing : work_asked [] ≡ Ok (Answer no_request)
 nothing = refl

@@ -2,7 +2,7 @@
 use Rattle.std.proofs.Common.{ℕ, List, ◌++◌}
 use Rattle.std.specs.Prelude.{Option}
 use Rattle.std.proofs.KnownBytes.{Appends-trans}
-use Rattle.gipmc_answers.specs.Output.{IsWritten}
+use Rattle.gipmc_task.specs.Output.{IsWritten}
 
 pub IsWritten-more : {E : Type 0} (one two three : Option E) (old mid new : Option (List ℕ)) (before last : List ℕ)
     → IsWritten one two old mid before → IsWritten two three mid new last → IsWritten one three old new (before ++ last)

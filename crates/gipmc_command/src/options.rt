@@ -4,14 +4,14 @@ ghost use Rattle.std.specs.Option.{ok_or, option_map};
 ghost use Rattle.std.specs.Result.{result_map_both};
 ghost use Rattle.gip_program.specs.Items.{left_said, said_of};
 ghost use Rattle.gip_program.specs.Options.{entry_of};
-ghost use Rattle.gipmc.specs.Misuses.{misuse_of, NoEngine};
-ghost use Rattle.gipmc.specs.Options.{counted, engine_of, no_request, request_of, switched, table};
-ghost use Rattle.gipmc.specs.Words.{after, after_file, answer_of, asked_for, given, heeded, input_of, no_words, noted};
-ghost use Rattle.gipmc.specs.Words.{output_of, scope_of_number, scope_of_switch, scope_of_text, state_of, task_asked};
-ghost use Rattle.gipmc.specs.Words.{work_asked, work_of, work_said};
+ghost use Rattle.gipmc_command.specs.Misuses.{misuse_of, NoEngine};
+ghost use Rattle.gipmc_command.specs.Options.{counted, engine_of, no_request, request_of, switched, table};
+ghost use Rattle.gipmc_command.specs.Words.{after, after_file, answer_of, asked_for, given, heeded, input_of, no_words, noted};
+ghost use Rattle.gipmc_command.specs.Words.{output_of, scope_of_number, scope_of_switch, scope_of_text, state_of, task_asked};
+ghost use Rattle.gipmc_command.specs.Words.{work_asked, work_of, work_said};
 
 use crate::about::{Number, OPTIONS, Switch, Text};
-use crate::errors::UsageError;
+use crate::misuse::UsageError;
 use gip_program::{Info, Item, Items, Opt};
 use gipmc_engines::Engine;
 

@@ -43,24 +43,24 @@ pub enum TaskError {
 }
 
 impl TaskError {
-    // Why no circuit was read.
-    pub(crate) fn of_circuit(error: AigerError) -> Self {
+    /// Why no circuit was read.
+    pub fn of_circuit(error: AigerError) -> Self {
         match error {
             AigerError::Memory => TaskError::Memory,
             _ => TaskError::Circuit(error),
         }
     }
 
-    // Why no witness was read.
-    pub(crate) fn of_witness(error: AigerError) -> Self {
+    /// Why no witness was read.
+    pub fn of_witness(error: AigerError) -> Self {
         match error {
             AigerError::Memory => TaskError::Memory,
             _ => TaskError::Witness(error),
         }
     }
 
-    // Why no certificate was read.
-    pub(crate) fn of_certificate(error: AigerError) -> Self {
+    /// Why no certificate was read.
+    pub fn of_certificate(error: AigerError) -> Self {
         match error {
             AigerError::Memory => TaskError::Memory,
             _ => TaskError::Certificate(error),

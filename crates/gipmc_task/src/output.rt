@@ -1,5 +1,5 @@
 //! Where answers are written as they are found.
-ghost use Rattle.gipmc_answers.specs.Output.{IsWritten};
+ghost use Rattle.gipmc_task.specs.Output.{IsWritten};
 
 use std::io::{self, Write};
 
@@ -24,28 +24,27 @@ pub enum Traces {
 /// What a certificate is made of that shows what is safe.
 #[derive(Clone, Copy, PartialEq, Eq)]
 pub enum Certifying {
-    /// Clauses over latches, as [`certificate_of`](crate::certificate_of) takes them, or a k.
+    /// Clauses over latches, as `certificate_of` of gipmc_answers takes them, or a k.
     Clauses,
-    /// A circuit, as [`witness_circuit_of`](crate::witness_circuit_of) makes it.
+    /// A circuit, as its `witness_circuit_of` makes it.
     Circuit,
     /// No certificate is wanted. Equal latches and gates may be merged in a search that takes long, and what is shown of the
     /// rest makes no certificate of the circuit.
     Nothing,
 }
 
-// What a search is to find out.
+/// What a search is to find out.
 #[derive(Clone, Copy, PartialEq, Eq)]
-pub(crate) enum Wanted {
-    // Nothing more: it is over.
+pub enum Wanted {
+    /// Nothing more: it is over.
     Nothing,
-    // Verdicts.
+    /// Verdicts.
     Verdicts,
-    // Verdicts, with shortest traces.
+    /// Verdicts, with shortest traces.
     Shortest,
 }
 
 /// A writer, and why it failed first. After that it takes nothing more.
-#[derive(Drop)]
 pub struct Output<W: Write> {
     /// Where texts are written.
     pub writer: W,
@@ -60,6 +59,20 @@ pub struct Output<W: Write> {
     /// Whether a line `u N` is written before an answer each time that nothing is known to fail within more than twice as
     /// many transitions.
     pub progress: bool,
+}
+
+// One call in its owners' proofs, in place of one for each field.
+impl<W: Write + Drop> Drop for Output<W> {
+    fn drop(self) {
+        let Output {
+            writer,
+            failure,
+            lost: _,
+            traces: _,
+            certifying: _,
+            progress: _,
+        } = self;
+    }
 }
 
 impl<W: Write> Output<W> {
@@ -81,8 +94,8 @@ impl<W: Write> Output<W> {
         self.failure.is_some() && self.lost == Lost::Stop
     }
 
-    // What a search is to find out yet.
-    pub(crate) fn wanted(&self) -> Wanted {
+    /// What a search is to find out yet.
+    pub fn wanted(&self) -> Wanted {
         if self.is_over() {
             return Wanted::Nothing;
         }

@@ -1,0 +1,3 @@
+-- What tasks on properties share.
+pub mod Outcomes
+pub mod Output
