@@ -420,19 +420,24 @@ endless=(--engine bmc --depth 999999999)
 printf '%b' "$kept" > kept.aag
 rm -f cert
 "$gipmc" "${endless[@]}" -t 2 --certificate cert kept.aag > out 2> err &
-sleep 1
-[ ! -e cert ]
-told "a certificate has no name before it is whole" $?
+await has_lines '^u' out 1 && [ ! -e cert ]
+told "a certificate has no name while it is searched for" $?
 wait $!
 status=$?
 [ "$status" = 0 ] && [ ! -e cert ] && [ ! -s err ]
 told "no certificate where the time is over" $?
-# Standard output is a pipe that is full, so the certificate waits behind the answer.
+# Standard output is a pipe that is full, so the certificate waits behind the answer. The other file comes when the program
+# is writing that.
+rm -f pid
+is_writing() {
+    grep -q '^1 0x1 ' "/proc/$(cat pid)/syscall"
+}
 {
     head -c 65536 /dev/zero
+    echo "$BASHPID" > pid
     exec "$gipmc" --bad 0 --certificate cert two.aag 2> err
 } | {
-    sleep 2
+    await is_writing
     echo precious > cert
     tr -d '\0' > out
 }
@@ -443,37 +448,49 @@ status=${PIPESTATUS[0]}
 told "a file that came meanwhile stays" $?
 rm -f cert cert.*.part
 try "a certificate of an empty name" 1 ": cannot be made: no such file" "" "" --certificate "" two.aag
-timeout -s KILL 1 "$gipmc" "${endless[@]}" --certificate killed kept.aag > out 2> err
-[ -z "$(ls killed* 2> /dev/null)" ]
+"$gipmc" "${endless[@]}" --certificate killed kept.aag > out 2> err &
+await has_lines '^u' out 1
+is_begun=$?
+kill -KILL $!
+wait $! 2> /dev/null
+[ "$is_begun" = 0 ] && [ -z "$(ls killed* 2> /dev/null)" ]
 told "a run that is killed leaves no file" $?
 
 # Answers are written as they are found, also where a later one is not: for want of time, or of memory.
 printf '%b' 'aag 3 1 2 0 0 2\n2\n4 4\n6 2\n6\n4\n' > swapped.aag
 first=$(printf '1\nb0\n00\n1\n0\n.')
-timeout -s KILL 2 "$gipmc" "${endless[@]}" swapped.aag > out 2> err
-[ "$(answers out)" = "$first" ]
+"$gipmc" "${endless[@]}" swapped.aag > out 2> err &
+is_first() {
+    [ "$(answers out)" = "$first" ]
+}
+await is_first
 told "an answer is written when it is found" $?
+kill -KILL $!
+wait $! 2> /dev/null
 SECONDS=0
 "$gipmc" "${endless[@]}" --time 1 swapped.aag > out 2> err
 status=$?
 [ "$status" = 10 ] && [ "$SECONDS" -lt 20 ] && [ "$(answers out | head -n 6)" = "$first" ] && [ ! -s err ] &&
     [ "$(answers out | sed 1,6d | tr '\n' '#' | sed 's/u[0-9]*/u/')" = 'u#2#b1#.#' ]
 told "an answer before the time is over" $?
-# A latch that keeps 0, and a chain of two million gates behind it. A round of simulation takes many seconds of a processor.
+# A latch that keeps 0, and a chain of two million gates behind it. A round of simulation has 64 moments, and takes many
+# seconds of a processor.
 gates=2000000
 {
     printf 'aig %s 4 1 0 %s 1\n10\n%s\n' $((gates + 5)) "$gates" $((2 * gates + 10))
     head -c $((2 * gates)) /dev/zero | tr '\0' '\2'
 } > chain.aig
 rm -f cert
-sim=(--engine sim --time 6 --verbose --stats --certificate cert)
-used=$(TIMEFORMAT=%0U; { time "$gipmc" "${sim[@]}" chain.aig > out 2> err; } 2>&1)
-status=$?
 within='^c b0: \(round 1; \)\?[0-9]* moments of round [12]; [0-9]*[.][0-9][0-9][0-9] s$'
-[ "$status" = 0 ] && [ "$(cat out)" = "$(printf '2\nb0\n.')" ] && [ ! -e cert ] && [ "$used" -lt 9 ]
+"$gipmc" --engine sim --time 6 --stats --certificate cert chain.aig > out 2> err
+status=$?
+[ "$status" = 0 ] && [ "$(cat out)" = "$(printf '2\nb0\n.')" ] && [ ! -e cert ] && has_lines "$within" err 1
 told "the time is over within a round of simulation" $?
-[ "$(grep -c "$within" err)" = 2 ] && [ "$(wc -l < err)" = 3 ]
+"$gipmc" --engine sim --verbose chain.aig > out 2> err &
+await has_lines "$within" err 1
 told "progress within a round of simulation" $?
+kill -KILL $!
+wait $! 2> /dev/null
 rm chain.aig
 (ulimit -v 200000; exec "$gipmc" "${endless[@]}" swapped.aag) > out 2> err
 status=$?
@@ -484,9 +501,11 @@ told "an answer before memory is refused" $?
 status=$?
 [ "$status" = 0 ] && [ "$(answers out)" = "$(printf '2\nb0\n.\n2\nb1\n.')" ]
 told "no time" $?
-"$gipmc" "${endless[@]}" -v -t 12 kept.aag > out 2> err
-[ "$(grep -c '^c b0: depth [0-9]*, [0-9]* clauses kept, [0-9]* learned; [0-9]*[.][0-9][0-9][0-9] s$' err)" -ge 2 ]
+"$gipmc" "${endless[@]}" -v kept.aag > out 2> err &
+await has_lines '^c b0: depth [0-9]*, [0-9]* clauses kept, [0-9]* learned; [0-9]*[.][0-9][0-9][0-9] s$' err 2
 told "progress in a file, every five seconds" $?
+kill -KILL $!
+wait $! 2> /dev/null
 
 # Lines that tell before an answer how far the search is: where it is no terminal, and also there by --verbose.
 deep=(--engine bmc --depth 7 kept.aag)
@@ -623,6 +642,32 @@ printf '%b' 'aag 2 1 1 0 0 1\r\n2\r\n4 2\r\n4\r\n' > returns.aag
 try "a circuit with carriage returns" 10 "" "$fails" "" --engine bmc returns.aag
 witness '1\r\nb0\r\n0\r\n1\r\n0\r\n.\r\n'
 try "a witness with carriage returns" 0 "" "s VERIFIED" "$held" --replay wit
+
+# Two bits count 0, 1, 2, 0. The base of k = 1 is that no trace without a transition fails.
+printf 'aag 5 0 2 0 3 3\n2 6\n4 8\n10\n4\n2\n6 5 3\n8 5 2\n10 4 2\n' > three.aag
+"$gipmc" --engine induction --depth 0 three.aag > out 2> err
+status=$?
+[ "$status" = 0 ] && [ ! -s err ] && [ "$(answers out | tr '\n' ' ')" = "0 b0 . u0 2 b1 . u0 2 b2 . " ]
+told "induction within 0" $?
+# A register of 20 bits that goes through very many states, and a latch that stays.
+{
+    printf 'aag 43 0 21 0 22 2\n2 49 1\n'
+    for ((n = 2; n <= 20; n++)); do echo "$((2 * n)) $((2 * n - 2))"; done
+    printf '42 42\n42\n86\n'
+    printf '44 40 35\n46 41 34\n48 45 47\n'
+    for ((n = 25; n <= 43; n++)); do echo "$((2 * n)) $((n == 25 ? 2 : 2 * n - 2)) $((2 * n - 46))"; done
+} > hard.aag
+timeout -s KILL 60 "$gipmc" --engine ic3 -t 5 hard.aag > out 2> err
+[ "$(answers out | head -n 3)" = "$safe" ]
+told "a literal that is safe beside a hard one, by IC3" $?
+sed '/^42$/d; s/^86$/&\n42/' hard.aag > hard_first.aag
+timeout -s KILL 60 "$gipmc" --engine ic3 -t 5 hard_first.aag > out 2> err
+[ "$(answers out | tail -n 3)" = "$(printf '0\nb1\n.')" ]
+told "a literal that is safe behind a hard one, by IC3" $?
+timeout -s KILL 60 "$gipmc" --quiet --bad 1 -t 2 hard.aag > out 2> err
+status=$?
+[ "$status" = 0 ] && [ ! -s err ] && [ "$(tr '\n' '#' < out | sed 's/^u[1-9][0-9]*#/u#/')" = 'u#2#b1#.#' ]
+told "how far all engines came by turns" $?
 
 # Standard streams that are closed. No file that is opened takes their place.
 unheard='<stdout>: cannot be written: closed, or open the other way alone'
@@ -825,6 +870,270 @@ try "a variable that is defined twice" 1 "<stdin>: variable 1 is defined twice" 
 try "a gate that depends on itself" 1 \
     "<stdin>: the gate of variable 1 depends on itself" "" 'aag 1 0 0 0 1 1\n2\n2 2 2\n'
 
+# What is judged, line by line: NAME|CIRCUIT|TEXT|ARGUMENTS|SAID, of a circuit of this name. Nothing is said of what is
+# verified; behind `!` stands why a text is not judged at all.
+
+# KIND OPTION: judges each line's text, which the option reads.
+judge() {
+    local name circuit text arguments said verdict
+    while IFS='|' read -r name circuit text arguments said; do
+        printf '%b' "$text" > text
+        case $said in
+            '') verdict="s VERIFIED" ;;
+            '!'*) verdict="" ;;
+            *) verdict="s NOT VERIFIED" ;;
+        esac
+        # shellcheck disable=SC2086
+        try "$1: $name" $((${#said} > 0)) "${said#!}" "$verdict" "${circuits[$circuit]}" "$2" text $arguments
+    done
+}
+
+declare -A circuits=(
+    [kept]='aag 1 0 1 0 0 1\n2 2\n2\n'
+    [held]='aag 2 1 1 0 0 1\n2\n4 2\n4\n'
+    [two]='aag 3 1 2 0 0 2\n2\n4 4\n6 2\n4\n6\n'
+    [falling]='aag 9 1 2 0 1 2\n2\n18 18\n6 6\n18\n6\n8 2 18\n'
+    [three]='aag 5 0 2 0 3 3\n2 6\n4 8\n10\n4\n2\n6 5 3\n8 5 2\n10 4 2\n'
+    [chain]='aag 2 0 2 0 0 1\n2 2\n4 2\n4\n'
+    [gated]='aag 4 1 2 0 1 1 1\n2\n4 2\n6 6 6\n8\n7\n8 4 6\n'
+    [gated_input]='aag 4 1 2 0 1 1 1\n2\n4 2\n6 6 6\n2\n7\n8 4 6\n'
+    [gated0]='aag 4 1 2 0 1 1\n2\n4 2\n6 6 6\n8\n8 4 6\n'
+    [gated3]='aag 4 1 2 0 1 1 1\n2\n4 2\n6 6 6\n8\n3\n8 4 6\n'
+    [gated5]='aag 4 1 2 0 1 1 1\n2\n4 2\n6 6 6\n8\n5\n8 4 6\n'
+    [gated6]='aag 4 1 2 0 1 1 1\n2\n4 2\n6 6 6\n8\n6\n8 4 6\n'
+    [changes]='aag 1 0 1 0 0 1 0 1\n2 3\n0\n2\n2\n3\n'
+    [starves]='aag 3 0 2 0 1 0 0 1\n2 2\n4 6 1\n1\n4\n6 4 3\n'
+    [either]='aag 1 0 1 0 0 0 0 1\n2 2 2\n1\n2\n'
+    [granted]='aag 3 1 1 0 1 0 0 2 1\n2\n4 6 1\n1\n1\n5\n4\n2\n6 4 3\n'
+    [none]='aag 1 0 1 0 0 1\n2 2\n2\n'
+    [fair]='aag 3 0 2 0 1 0 0 1\n2 3\n4 6 1\n1\n4\n6 4 3\n'
+    [once]='aag 4 1 1 0 2 0 0 1\n2\n4 9\n1\n6\n6 5 2\n8 5 3\n'
+    [once_up]='aag 4 1 1 0 2 0 0 1\n2\n4 9\n1\n4\n6 5 2\n8 5 3\n'
+    [once_input]='aag 4 1 1 0 2 0 0 1\n2\n4 9\n1\n2\n6 5 2\n8 5 3\n'
+)
+judge "a trace" --replay << 'END'
+a latch that begins at 1 by choice|gated0|1\nb0\n01\n1\n0\n.\n||
+a latch that begins at 0 by choice|gated0|1\nb0\n00\n1\n0\n.\n||text: witness 1, b0: the bad literal is false at the last moment, 1
+a latch that does not begin at its reset|gated0|1\nb0\n11\n0\n.\n||text: witness 1, b0: latch 0 does not begin at its reset
+no moment|gated0|1\nb0\n01\n.\n||text: witness 1, b0: no moment
+a constraint that is false at the first moment|gated3|1\nb0\n01\n1\n0\n.\n||text: witness 1, b0: constraint 0 is false at moment 0
+a constraint that is false at the last moment|gated5|1\nb0\n01\n1\n0\n.\n||text: witness 1, b0: constraint 0 is false at moment 1
+a constraint that holds|gated6|1\nb0\n01\n1\n0\n.\n||
+END
+judge "a certificate" --certify << 'END'
+clauses that stay|kept|p cnf 1 1\n-1 0\n||
+a circuit of the first literal|kept|aag 1 0 1 0 0 1\n2 2\n2\n|--bad 0|
+clauses that do not stay|held|p cnf 1 1\n-1 0\n||text: b0: clause 1 is not kept by a transition
+clauses of the first of two|two|p cnf 2 1\n-1 0\n|--bad 0|
+clauses of the first of two, asked about both|two|p cnf 2 1\n-1 0\n||text: b1: the clauses allow a bad moment
+clauses of the first of two, asked about the second|two|p cnf 2 1\n-1 0\n|--bad 1|text: b1: the clauses allow a bad moment
+no clause|two|p cnf 2 0\n||text: b0: the clauses allow a bad moment
+a second clause that does not stay|two|p cnf 2 2\n-1 0\n-2 0\n||text: b0: clause 2 is not kept by a transition
+a second clause that does not stay, asked about the second|two|p cnf 2 2\n-1 0\n-2 0\n|--bad 1|text: b1: clause 2 is not kept by a transition
+a second clause that does not begin|falling|p cnf 2 2\n1 -1 0\n1 0\n||text: b0: clause 2 is false at an initial moment
+latches that change places by their names|two|aag 2 0 2 0 0 1\n2 2\n4 4\n4\nl0 = 6\nl1 = 4\n|--bad 0|
+latches that change places, asked about the second|two|aag 2 0 2 0 0 1\n2 2\n4 4\n4\nl0 = 6\nl1 = 4\n|--bad 1|text: b1: the clauses allow a bad moment
+a latch that begins as another one|two|aag 3 0 3 0 0 2\n2 2\n4 4 6\n6 6 2\n2\n4\nl0 = 4\n|--bad 0|
+fewer latches|two|aag 1 0 1 0 0 1\n2 2\n2\n|--bad 0|
+gates in another order|kept|aag 3 0 1 0 2 1\n2 2\n6\n6 4 2\n4 2 2\n||
+k = 1|kept|k 1\n||
+k = 0|kept|k 0\n||text: b0: not 0-inductive: a path of 0 transitions ends where it is true for the first time
+k = 1 of what rises|held|k 1\n||text: b0: not 1-inductive: a path of 1 transition ends where it is true for the first time
+k = 2 of what rises|held|k 2\n||text: b0: not 2-inductive: a trace of 1 transition ends where it is true
+k = 1 of the first of two|two|k 1\n|--bad 0|
+k = 1 of the second of two|two|k 1\n|--bad 1|text: b1: not 1-inductive: a path of 1 transition ends where it is true for the first time
+k = 1 of two|two|k 1\n||text: b1: not 1-inductive: a path of 1 transition ends where it is true for the first time
+k = 0 of a counter that goes from 2 to 0|three|k 0\n|--bad 0|text: b0: not 0-inductive: a path of 0 transitions ends where it is true for the first time
+k = 1 of this counter|three|k 1\n|--bad 0|
+k = 9 of this counter|three|k 9\n|--bad 0|
+k = 9 of its high digit|three|k 9\n|--bad 1|text: b1: not 9-inductive: a trace of 2 transitions ends where it is true
+k = 1 of a chain of two|chain|k 1\n||text: b0: not 1-inductive: a path of 1 transition ends where it is true for the first time
+k = 2 of a chain of two|chain|k 2\n||
+k = 1 of falling numbers|falling|k 1\n||
+a clause of the first beside k = 0|falling|k 0\np cnf 2 1\n-1 0\n|--bad 0|
+a clause of the first beside k = 0, asked about both|falling|k 0\np cnf 2 1\n-1 0\n||text: b1: the clauses allow a bad moment; not 0-inductive: a path of 0 transitions ends where it is true for the first time
+a clause that says nothing beside k = 1|falling|k 1\np cnf 2 1\n1 -1 0\n||
+clauses of falling numbers|falling|p cnf 2 2\n-1 0\n-2 0\n||
+a clause of falling numbers|falling|p cnf 2 1\n-1 0\n|--bad 0|
+a clause of falling numbers, asked about the second|falling|p cnf 2 1\n-1 0\n|--bad 1|text: b1: the clauses allow a bad moment
+a clause by the constraint|gated|p cnf 2 1\n-2 0\n||
+a clause that does not begin|gated|p cnf 2 1\n1 0\n||text: b0: clause 1 is false at an initial moment
+a clause that does not stay under a constraint|gated|p cnf 2 1\n-1 0\n||text: b0: clause 1 is not kept by a transition
+a clause that leaves the input open|gated_input|p cnf 2 1\n1 -1 0\n||text: b0: the clauses allow a bad moment
+a circuit: both latches are not 1|gated|aag 4 0 2 0 2 1\n2 2\n4 4\n8\n6 4 2\n8 6 2\nl0 = 4\nl1 = 6\n||
+a circuit: the first without the second|gated|aag 4 0 2 0 2 1\n2 2\n4 4\n8\n6 5 2\n8 6 2\nl0 = 4\nl1 = 6\n||text: b0: clause 1 is not kept by a transition
+a circuit: the second without the first|gated|aag 4 0 2 0 2 1\n2 2\n4 4\n8\n6 5 2\n8 6 2\nl0 = 6\nl1 = 4\n||
+a circuit with a constraint|gated|aag 4 0 2 0 2 1 1\n2 2\n4 4\n8\n2\n6 4 2\n8 6 2\nl0 = 4\nl1 = 6\n||text: b0: clause 2 is false at an initial moment
+a circuit of own latches: one begins as the other|gated|aag 5 1 2 0 2 1\n2\n4 4 6\n6 6 6\n10\n8 7 4\n10 8 4\ni0 = 2\n||
+a circuit of own latches: one begins as the negation|gated|aag 5 1 2 0 2 1\n2\n4 4 7\n6 6 6\n10\n8 7 4\n10 8 4\ni0 = 2\n||text: b0: clause 1 is false at an initial moment
+a circuit of own latches: both begin at any value|gated|aag 5 1 2 0 2 1\n2\n4 4 4\n6 6 6\n10\n8 7 4\n10 8 4\ni0 = 2\n||text: b0: clause 1 is false at an initial moment
+a circuit of an own latch that changes|gated|aag 4 1 1 0 2 1\n2\n4 5 0\n8\n6 4 4\n8 6 4\ni0 = 2\n||text: b0: clause 1 is not kept by a transition
+a circuit of resets in a circle|gated|aag 5 1 2 0 2 1\n2\n4 4 6\n6 6 4\n10\n8 7 4\n10 8 4\ni0 = 2\n||!text: a reset that depends on itself, or a name `= n` that does not fit
+a circuit of a latch that begins at its negation|gated|aag 4 1 1 0 2 1\n2\n4 4 5\n8\n6 4 4\n8 6 4\ni0 = 2\n||!text: a reset that depends on itself, or a name `= n` that does not fit
+a circuit of a latch with two names|gated|aag 4 0 2 0 2 1\n2 2\n4 4\n8\n6 4 2\n8 6 2\nl0 = 4\nl0 = 6\n||!text: a reset that depends on itself, or a name `= n` that does not fit
+a circuit of a name that nothing has|gated|aag 4 0 2 0 2 1\n2 2\n4 4\n8\n6 4 2\n8 6 2\nl0 = 4\nl1 = 18\n||!text: a reset that depends on itself, or a name `= n` that does not fit
+a circuit of an operand that nothing defines|gated|aag 4 0 1 0 2 1\n2 2\n8\n6 4 2\n8 6 2\nl0 = 4\n||!text: variable 2 is not defined
+END
+# Certificates that are found of these circuits: of latches whose numbers fall, and of the second of two properties.
+printf '%b' "${circuits[falling]}" > falling.aag
+for form in "" --aiger; do
+    for asked in "" "--bad 1"; do
+        rm -f cert
+        # shellcheck disable=SC2086
+        "$gipmc" $asked --certificate cert $form falling.aag > out 2> err
+        status=$?
+        # shellcheck disable=SC2086
+        [ "$status" = 20 ] && [ ! -s err ] && [ "$("$gipmc" --certify cert $asked falling.aag)" = "s VERIFIED" ]
+        told "a certificate of latches whose numbers fall, arguments $asked $form" $?
+    done
+done
+rm -f cert
+try "a certificate of the second of two justice properties" 20 "" "$(printf '0\nj1\n.')" "${circuits[granted]}" \
+    --justice 1 --certificate cert
+try "it certifies the second property" 0 "" "s VERIFIED" "${circuits[granted]}" --certify cert --justice 1
+rm -f cert
+judge "a lasso" --replay << 'END'
+a loop of two moments|changes|1\nj0\n0\n\n\n.\n|--justice 0|
+the same loop twice|changes|1\nj0\n0\n\n\n\n\n.\n|--justice 0|
+the same loop behind a moment|changes|1\nj0\n0\n\n\n\n.\n|--justice 0|
+a loop of one moment behind two|starves|1\nj0\n01\n\n\n\n.\n|--justice 0|
+a loop of a latch that begins at either value|either|1\nj0\n1\n\n.\n|--justice 0|
+the other value of this latch|either|1\nj0\n0\n\n.\n|--justice 0|text: witness 1, j0: literal 0 is false from moment 0 on, where the loop begins
+a grant in the loop|granted|1\nj0\n1\n1\n1\n.\n|--justice 0|
+a grant at the end of the loop|granted|1\nj0\n1\n0\n1\n0\n1\n.\n|--justice 0|
+a grant in the longer one of two loops|granted|1\nj0\n1\n1\n1\n0\n.\n|--justice 0|
+a grant outside the loop|granted|1\nj0\n1\n1\n0\n.\n|--justice 0|text: witness 1, j0: fairness constraint 0 is false from moment 1 on, where the loop begins
+the stem of it alone|changes|1\nj0\n0\n\n.\n|--justice 0|text: witness 1, j0: behind the last moment the latches hold what they held at none before
+a property that is not there|starves|1\nj2\n01\n\n.\n||!text: it names justice property 2, and the circuit has 1
+the other of two properties|granted|1\nj0\n1\n1\n1\n.\n|--justice 1|!text: no witness of justice property 1, which '--justice' asks for
+no lasso|starves|0\nj0\n.\n|--justice 0|!text: no witness of justice property 0, which '--justice' asks for
+a lasso beside no property|none|1\nj0\n01\n\n.\n|--justice 0|!<stdin>: no justice property 0, of 0
+END
+judge "a certificate of a justice property" --certify << 'END'
+a count of fewer latches|fair|p cnf 1 0\n|--justice 0|!text:1: no header `p cnf LATCHES CLAUSES` that says what follows
+a count of nothing|fair|p cnf 2 0\n|--justice 0|text: j0: the clauses allow one literal more to be met
+a count of a property that is not there|fair|p cnf 3 0\n|--justice 3|!<stdin>: no justice property 3, of 1
+no lasso where something happens once|once|c no lasso\np cnf 4 4\n-2 -3 1 0\n-4 2 0\n-4 -3 0\n-4 1 0\n|--justice 0|
+the same clauses as a count|once|p cnf 4 4\n-2 -3 1 0\n-4 2 0\n-4 -3 0\n-4 1 0\n|--justice 0|text: j0: clause 3 is not kept by a transition
+without the last of these clauses|once|c no lasso\np cnf 4 3\n-2 -3 1 0\n-4 2 0\n-4 -3 0\n|--justice 0|text: j0: the clauses allow a lasso
+without the first of these clauses|once|c no lasso\np cnf 4 3\n-4 2 0\n-4 -3 0\n-4 1 0\n|--justice 0|text: j0: clause 2 is not kept by a transition
+without the second of these clauses|once|c no lasso\np cnf 4 3\n-2 -3 1 0\n-4 -3 0\n-4 1 0\n|--justice 0|text: j0: clause 2 is not kept by a transition
+without the third of these clauses|once|c no lasso\np cnf 4 3\n-2 -3 1 0\n-4 2 0\n-4 1 0\n|--justice 0|text: j0: the clauses allow a lasso
+these clauses of a latch that stays|once_up|c no lasso\np cnf 4 4\n-2 -3 1 0\n-4 2 0\n-4 -3 0\n-4 1 0\n|--justice 0|text: j0: clause 3 is not kept by a transition
+these clauses of an input|once_input|c no lasso\np cnf 4 4\n-2 -3 1 0\n-4 2 0\n-4 -3 0\n-4 1 0\n|--justice 0|text: j0: clause 3 is not kept by a transition
+fewer latches than the circuit has that saves|once|c no lasso\np cnf 3 0\n|--justice 0|!text:2: no header `p cnf LATCHES CLAUSES` that says what follows
+END
+
+# Texts that are refused, each with the place and the reason.
+
+# KIND [OPTION CIRCUIT]: each line is a text, `|` and what is said of it, of a circuit or of what the option reads beside one.
+refuse() {
+    local kind=$1 text said
+    while IFS='|' read -r text said; do
+        if [ $# = 1 ]; then
+            try "$kind that is refused: $text" 1 "<stdin>:$said" "" "$text" --engine bmc --depth 0
+        else
+            printf '%b' "$text" > text
+            try "$kind that is refused: $text" 1 "text:$said" "" "$3" "$2" text
+        fi
+    done
+}
+
+refuse "a circuit" << 'END'
+|1: no header `aag` or `aig`
+abg 0 0 0 0 0\n|1: no header `aag` or `aig`
+aag 0 0 0 0\n|1: not a space or a line end where one is wanted
+aag  0 0 0 0 0\n|1: not a number
+aag 0 0 0 0 x\n|1: not a number
+aag 2147483648 0 0 0 0\n|1: a number that is too great
+aag 0 0 0 0 0 0 0 0 1\n|2: not a number
+aag 0 0 0 0 0 1 0 1\n1\n|3: not a number
+aag 0 0 0 0 0 1 0 2\n1\n1\n2\n0\n1\n|7: not a number
+aag 0 0 0 0 0 1 0 0 1\n1\n2\n|3: a number that is too great
+aag 0 0 0 0 0 1 0 1\n1\n1\n0\nj1 x\n|5: neither a symbol nor a comment behind the gates
+aag 0 0 0 0 0 0 0 0 0 0\n|1: not a space or a line end where one is wanted
+aag 0 0 0 0 0|1: not a space or a line end where one is wanted
+aag 0 1 0 0 0\n2\n|1: the header's variables are not its inputs, latches and gates
+aig 2 1 0 0 0\n|1: the header's variables are not its inputs, latches and gates
+aag 1 1 0 0 0\n3\n|2: a negated or constant literal in front of an input, a latch or a gate
+aag 1 1 0 0 0\n0\n|2: a negated or constant literal in front of an input, a latch or a gate
+aag 1 1 0 1 0\n2\n4\n|3: a number that is too great
+aag 1 1 0 1 0\n2\n|3: not a number
+aag 1 0 1 0 0\n2\n|2: not a space or a line end where one is wanted
+aag 1 0 1 0 0\n2 2 3\n|2: a reset that is neither 0, nor 1, nor the latch itself
+aag 1 0 1 0 0\n2 2 \n|2: not a number
+aag 2 1 0 0 1\n2\n4 2\n|3: not a space or a line end where one is wanted
+aag 2 1 0 0 1\n2\n4 2 2 2\n|3: not a space or a line end where one is wanted
+aag 1 1 0 0 0\n2\ni1 a\n|3: neither a symbol nor a comment behind the gates
+aag 1 1 0 0 0\n2\n4 2 2\n|3: neither a symbol nor a comment behind the gates
+aag 1 1 0 0 0\n2\n\n|3: neither a symbol nor a comment behind the gates
+aag 2 2 0 0 0\n2\n2\n| variable 1 is defined twice
+aag 2 1 0 1 0\n2\n4\n| variable 2 is not defined
+aag 2 0 1 0 0\n2 4\n| variable 2 is not defined
+aag 2 0 0 0 1\n2 4 0\n| variable 2 is not defined
+aag 1 0 0 0 1\n2 2 0\n| the gate of variable 1 depends on itself
+aag 2 0 0 0 2\n2 4 4\n4 2 2\n| the gate of variable 1 depends on itself
+aig 1 0 0 0 1\n\x00\x00| byte 14: a gate whose operands are not below it, the greater first
+aig 1 0 0 0 1\n\x03\x00| byte 14: a gate whose operands are not below it, the greater first
+aig 1 0 0 0 1\n\x02| byte 15: no number in groups of 7 bits
+aig 1 0 0 0 1\n\xff\xff\xff\xff\xff\x01| byte 19: no number in groups of 7 bits
+aag 0 0 0 0 0 0 0 1\n|2: not a number
+aag 1 1 0 0 0 0 0 1\n2\n2147483647\n2\n|5: not a number
+aag 1 1 0 0 0 0 0 1\n2\n2147483648\n2\n|3: a number that is too great
+aag 1 1 0 0 0 0 0 1\n2\n1\n4\n|4: a number that is too great
+aag 0 0 0 0 0 0 0 1\n0\nj1 x\n|3: neither a symbol nor a comment behind the gates
+aag 2 1 0 0 0 0 0 1\n2\n1\n4\n| variable 2 is not defined
+aag 2 2 0 0 0 0 0 1\n2\n2\n0\n| variable 1 is defined twice
+aag 1 0 0 0 1 0 0 1\n1\n2\n2 2 0\n| the gate of variable 1 depends on itself
+aag 2 1 0 0 0 0 0 1 1\n2\n0\n5\n| variable 2 is not defined
+END
+refuse "a witness" --replay 'aag 3 2 1 0 0 1\n2\n4\n6 6\n6\n' << 'END'
+1\nb0 \n0\n00\n.\n|2: no line `b` with the number of a bad literal
+1\nb\n0\n00\n.\n|2: not a number
+1\nb0\n00\n00\n.\n|3: more or fewer values than the circuit has latches or inputs
+1\nb0\n0\n0\n.\n|4: more or fewer values than the circuit has latches or inputs
+1\nb0\n0\n02\n.\n|4: a value that is neither 0, nor 1, nor x
+1\nb0\n0\n00\n|5: the text ends too early
+u0\n\n1\n|2: no line `1`, with which a witness begins
+1\nb0\nc\nc\n00\n.\n|5: more or fewer values than the circuit has latches or inputs
+1\nb0\nc\n2\n.\n|4: a value that is neither 0, nor 1, nor x
+1\nb0\n0\n00\nu1\nc\n0\n.\n|7: more or fewer values than the circuit has latches or inputs
+1\nb0\n0\nc\n\n|5: more or fewer values than the circuit has latches or inputs
+1\nb0\n0\nc\n0x2|5: more or fewer values than the circuit has latches or inputs
+1\nj0\n1\n1\n1\n.\n1\nb0\n0\n0\n.\n|10: more or fewer values than the circuit has latches or inputs
+3\nb0\n.\n|1: no line `1`, with which a witness begins
+0\nb0\n.\n1\n0\n0\n|5: no line `b` with the number of a bad literal
+2\nb0\n.\n1\nb0b\n0\n00\n.\n|5: not a number
+1\nb0\n0\n00\n.\n1\nb1\n0\n0\n.\n|9: more or fewer values than the circuit has latches or inputs
+1\nb0\n0\n00\n.\n1\nb1\n0\n00\n|10: the text ends too early
+00\n00# DONE\n|1: more or fewer values than the circuit has latches or inputs
+0\n00\n0# DONE\n|3: more or fewer values than the circuit has latches or inputs
+0# DONE\n|1: more or fewer values than the circuit has latches or inputs
+END
+refuse "a lasso" --replay 'aag 3 2 1 0 0 0 0 1\n2\n4\n6 6\n1\n6\n' << 'END'
+1\nj\n0\n00\n.\n|2: not a number
+1\nj0b1\n0\n00\n.\n|2: no line `b` with the number of a bad literal
+1\nb0\n0\n00\n.\n1\nj0\n0\n0\n.\n|9: more or fewer values than the circuit has latches or inputs
+1\nj0\n0\n00# DONE\n|4: more or fewer values than the circuit has latches or inputs
+END
+refuse "an invariant" --certify 'aag 2 0 2 0 0 1\n2 2\n4 4\n2\n' << 'END'
+|1: no header `p cnf LATCHES CLAUSES` that says what follows
+1 0\n|1: no header `p cnf LATCHES CLAUSES` that says what follows
+p cnf 1 0\n|1: no header `p cnf LATCHES CLAUSES` that says what follows
+p cnf 2 2\n1 0\n|3: no header `p cnf LATCHES CLAUSES` that says what follows
+p cnf 2 1\n3 0\n|2: a number that is too great
+p cnf 2 1\nx 0\n|2: not a number
+p cnf 2 1\n1\n|2: not a space or a line end where one is wanted
+p cnf 2 1\n1 0 2\n|2: not a space or a line end where one is wanted
+c\np cnf 2 x\n|2: no header `p cnf LATCHES CLAUSES` that says what follows
+p cnf 2 0 0\n|1: no header `p cnf LATCHES CLAUSES` that says what follows
+p cnf 2 1\n1 0\n2 0\n|4: no header `p cnf LATCHES CLAUSES` that says what follows
+p cnf 2 1\nc\n1  0\n|3: not a number
+p cnf 2 1\n- 0\n|2: not a number
+p cnf 2 1\n-3 0\n|2: a number that is too great
+p cnf 2 1\n1 2147483648 0\n|2: a number that is too great
+END
+
 # Data that are compressed, told by their first bytes.
 for data in 'gzip \037\213' 'xz \375\067zXZ' 'bzip2 BZh'; do
     printf '%b' "${data#* }9" > packed
@@ -982,37 +1291,140 @@ status=$?
 [ "$status" = 20 ] && [ ! -s err ]
 told "no word on standard error" $?
 
-# Small circuits whose reachable states were enumerated. A trace of bounded model checking is a shortest one. A check of
-# each trace and of each invariant agrees.
-while read -r name said depth text; do
-    printf '%s' "$text" | tr ';' '\n' > row.aag
-    "$gipmc" --engine bmc --depth 64 row.aag > out 2> err
+# Small circuits, of whose states or runs it was enumerated what holds of each property: `tools/circuits.py` tells the
+# words. Each is asked of each engine. A trace of bounded model checking is a shortest one, and so is one of IC3 on the
+# circuits that have no number in their names. Each trace is replayed.
+
+# FILE: of each property what is answered: `0`, `2`, or `1:N` where a trace of N moments fails, with commas between.
+statuses() {
+    awk '/^u/ { next }
+        line == 0 { status = $0; line = 1; next }
+        line == 1 { line = 2; rows = 0; next }
+        $0 == "." { printf "%s%s%s", comma, status, status == "1" ? ":" rows - 1 : ""; comma = ","; line = 0; next }
+        { rows++ }' "$1"
+}
+
+# ENGINE [ARGUMENT..]: asks about row.aag, and expects what the row says of each property.
+ask() {
+    local by=$1 wanted='' wanted_status=20 word one
+    shift
+    for word in ${said//,/ }; do
+        case $by,$word in
+            bmc,fails:* | shortest,fails:* | known*,fails:*) one=1:$((${word#*:} + 1)) ;;
+            sim,fails:*) one='@(2|1:+([0-9]))' ;;
+            *,fails:* | *,lasso) one='1:+([0-9])' ;;
+            bmc,safe:* | sim,safe:* | induction,safe:-) one=2 ;;
+            *) one=0 ;;
+        esac
+        wanted+=,$one
+        case $one in
+            1*) wanted_status=10 ;;
+            *) [ "$one" = 0 ] || [ "$wanted_status" = 10 ] || wanted_status=0 ;;
+        esac
+    done
+    "$gipmc" "$@" row.aag > out 2> err
     status=$?
-    if [ "$said" = safe ]; then
-        [ "$status" = 0 ] && [ "$(answers out)" = "$(open 64)" ]
+    # shellcheck disable=SC2053
+    [[ ,$(statuses out) == $wanted ]] && [ ! -s err ] &&
+        { [ "$by" != bmc ] || [ "$(answers out | grep -c -x 2)" = "$(answers out | grep -c -x u64)" ]; } &&
+        { [ "$status" = "$wanted_status" ] || [ "$by,$status" = sim,10 ]; } &&
+        { [ "$status" != 10 ] || [ "$("$gipmc" --replay out row.aag)" = "s VERIFIED" ]; }
+    told "$name $said, by $by" $?
+}
+
+# K STATUS ERROR: puts it to row.aag that its bad literal is K-inductive.
+put() {
+    echo "k $1" > inv
+    "$gipmc" --certify inv row.aag > out 2> err
+    status=$?
+    # shellcheck disable=SC2053
+    [ "$status" = "$2" ] && [[ $(cat err) == $3 ]]
+    told "$name $said, for k = $1" $?
+}
+
+# HOW [ARGUMENT..]: expects a certificate of row.aag where all is safe, and shown so, and else none.
+certify() {
+    local how=$1 wanted=20
+    case $how,$said in
+        *fails*) wanted=10 ;;
+        "by induction",*safe:-*) wanted=0 ;;
+    esac
+    shift
+    "$gipmc" "$@" row.aag > out 2> err
+    status=$?
+    if [ "$wanted" = 20 ]; then
+        [ "$status" = 20 ] && [ ! -s err ] && [ "$("$gipmc" --certify cert row.aag)" = "s VERIFIED" ]
     else
-        [ "$status" = 10 ] && [ "$(answers out | wc -l)" = $((depth + 5)) ] &&
-            [ "$("$gipmc" --replay out row.aag)" = "s VERIFIED" ]
+        [ "$status" = "$wanted" ] && [ ! -e cert ]
     fi
-    told "$name $said $depth" $?
+    told "$name $said, a certificate $how" $?
     rm -f cert
-    "$gipmc" --certificate cert row.aag > out 2> err
-    status=$?
-    if [ "$said" = safe ]; then
-        [ "$status" = 20 ] && [ "$(answers out)" = "$safe" ] &&
-            [ "$("$gipmc" --certify cert row.aag)" = "s VERIFIED" ]
-    else
-        [ "$status" = 10 ] && [ "$("$gipmc" --replay out row.aag)" = "s VERIFIED" ]
-    fi
-    told "$name $said $depth, by all engines" $?
-    if [ "$said" != safe ]; then
-        "$gipmc" --shortest row.aag > out 2> err
+}
+
+shopt -s extglob
+base='inv: b0: not +([0-9])-inductive'
+path="$base: a path of +([0-9]) transition?(s) ends where it is true for the first time"
+asked=0
+while read -r name said text; do
+    asked=$((asked + 1))
+    printf '%s' "$text" | tr ';' '\n' > row.aag
+    rm -f cert
+    if [[ $said == *live* || $said == *lasso* ]]; then
+        ask "all engines"
+        "$gipmc" --justice 0 --certificate cert row.aag > out 2> err
         status=$?
-        [ "$status" = 10 ] && [ ! -s err ] && [ "$(answers out | wc -l)" = $((depth + 5)) ] &&
-            [ "$("$gipmc" --replay out row.aag)" = "s VERIFIED" ]
-        told "$name $said $depth, the shortest" $?
+        if [ "$(tr , '\n' <<< "$said" | grep -m 1 '^l')" = lasso ]; then
+            [ "$status" = 10 ] && [ ! -e cert ]
+        else
+            [ "$status" = 20 ] && [ "$("$gipmc" --certify cert --justice 0 row.aag)" = "s VERIFIED" ]
+        fi
+        told "$name $said, a certificate" $?
+        continue
     fi
+    ask bmc --engine bmc --depth 64
+    if [[ $name == *[0-9] ]]; then
+        ask ic3 --engine ic3
+        # Where no certificate is wanted, latches and gates that are equal are merged.
+        [[ $name != several-* ]] || ask "all engines, uncertified"
+    else
+        ask "known to ic3" --engine ic3
+        ask "known to ic3 over latches" --engine ic3 --certificate cert
+        rm -f cert
+        ask "all engines, uncertified"
+        certify "as a circuit" --certificate cert --aiger
+        certify "by induction" --certificate cert --engine induction --depth 64
+    fi
+    ask induction --engine induction --depth 64
+    [[ $said != *fails* ]] || ask sim --engine sim
+    [[ $said != *fails* ]] || ask shortest --shortest
+    ask "all engines" --certificate cert
+    if [[ $said != *fails* ]]; then
+        [ "$("$gipmc" --certify cert row.aag)" = "s VERIFIED" ]
+        told "$name $said, a certificate" $?
+    fi
+    [[ $said != *,* ]] || continue
+    # Each k up to 5 and to one more than the number of the row, and one that is far greater.
+    least=${said#*:}
+    for k in $(seq 0 $((${least/-/0} > 4 ? least + 1 : 5))) 30; do
+        if [ "$least" = - ] || [ "$k" -lt "$least" ]; then
+            put "$k" 1 "$path"
+        elif [[ $said == safe:* ]]; then
+            put "$k" 0 ""
+        elif [ "$k" = "$least" ]; then
+            put "$k" 1 "$path"
+        else
+            put "$k" 1 "$base: a trace of $least transition?(s) ends where it is true"
+        fi
+    done
 done < "$rows"
+[ "$asked" -gt 0 ] && [ "$asked" = "$(wc -l < "$rows")" ]
+told "all rows of circuits" $?
+
+# Circuits with justice properties beside the stored ones: their runs are enumerated now.
+"$top/tools/circuits.py" --justice 500 "$gipmc" > out 2> err
+status=$?
+[ "$status" = 0 ] && grep -q '^500 passed, 0 failed; ' out
+told "justice properties of 500 more circuits" $?
 
 echo "$passed passed, $failed failed"
 [ "$failed" = 0 ]

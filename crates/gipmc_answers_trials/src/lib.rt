@@ -1,15 +1,22 @@
-//! Tests of answers about circuits: what is written, and when a write, time or memory ends it; witnesses and
-//! certificates; and why a task is not done.
+//! Tests of circuits, witnesses and invariants as texts, where what is written is read again; of answers, which a lost write
+//! or a listener ends; and examples.
 #![tactic(auto)]
 
 #[cfg(test)]
-mod answers;
+mod again;
 #[cfg(test)]
-mod certificates;
-#[cfg(test)]
-mod circuits;
+mod converted;
 pub mod example;
+pub mod justice;
 #[cfg(test)]
 mod listeners;
 #[cfg(test)]
+mod live;
+#[cfg(test)]
+mod lost;
+#[cfg(test)]
+mod numbered;
+#[cfg(test)]
 mod refused;
+#[cfg(test)]
+mod written;

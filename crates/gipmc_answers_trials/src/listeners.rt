@@ -1,11 +1,15 @@
 //! What a listener is told, and what it stops.
 
-use crate::circuits::SWAPPED;
-use gipmc_answers::{Listener, Lost, Outcome, Output, TaskError, answer};
+use gipmc_answers::answer;
 use gipmc_engines::{Plan, Watch};
 use gipmc_ic3::Statistics;
+use gipmc_task::{Listener, Lost, Outcome, Output, TaskError};
+use gipsat_plain::Plain;
 use std::alloc::Global;
 use std::ops::ControlFlow;
+
+/// A latch that holds next what the input was, and one that stays 0. Both are bad.
+pub const SWAPPED: &[u8] = b"aag 3 1 2 0 0 2\n2\n4 4\n6 2\n6\n4\n";
 
 // Lets no search begin about the bad literal at a place, and counts those that began and ended.
 #[derive(Clone, Copy, PartialEq, Eq)]
@@ -52,7 +56,7 @@ fn said(alloc: Global, place: usize) -> Result<(Outcome, bool, usize, usize), Ta
         ended: 0,
     };
     let mut output = Output::new(Vec::new(alloc), Lost::GoOn);
-    let answered = answer(
+    let answered = answer::<Plain, _, _>(
         alloc,
         SWAPPED,
         None,
@@ -60,7 +64,7 @@ fn said(alloc: Global, place: usize) -> Result<(Outcome, bool, usize, usize), Ta
         &mut stopper,
         &mut output,
     )?;
-    let said = answered.said;
+    let said = &answered.said;
     let is_open = said.text.ends_with(b"2\nb1\n.\n");
     Ok((said.outcome, is_open, stopper.begun, stopper.ended))
 }

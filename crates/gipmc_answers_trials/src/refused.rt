@@ -1,102 +1,86 @@
-//! Why a task is not done.
+//! Texts that a reader refuses where the program `gipmc` reads them by another one, or reads on.
 
-use crate::circuits::{HELD, KEPT, NONE, RISES, TWO};
-use gipmc_aiger::{AigerError, Place, Reason};
-use gipmc_answers::{Lost, Outcome, Output, TaskError, answer, certifies, replays};
-use gipmc_engines::Plan;
+use gipmc_aiger::{AigerError, Place, Reason, read_circuit, read_liveness, read_witness};
+use gipmc_justice::{JusticeError, replays};
 use std::alloc::Global;
 
-// A question about the circuit of a text.
-#[derive(Clone, Copy)]
-enum Question<'a> {
-    Answer(Option<usize>),
-    Replay(&'a [u8], Option<usize>),
-    Certify(&'a [u8], Option<usize>),
+// How a text of a circuit is refused; None where it is read.
+fn refusal(alloc: Global, text: &[u8]) -> Option<AigerError> {
+    read_circuit(alloc, text).err()
 }
 
-impl Question<'_> {
-    // Whether it answers that the circuit is safe, that the witness replays, or that the certificate shows it.
-    fn holds(self, alloc: Global, circuit: &[u8]) -> Result<bool, TaskError> {
-        match self {
-            Question::Answer(asked) => {
-                let mut output = Output::new(Vec::new(alloc), Lost::GoOn);
-                let answered = answer(
-                    alloc,
-                    circuit,
-                    asked,
-                    &Plan::default(),
-                    &mut (),
-                    &mut output,
-                )?;
-                Ok(answered.said.outcome == Outcome::Safe)
-            }
-            Question::Replay(witness, asked) => replays(alloc, circuit, witness, asked),
-            Question::Certify(text, asked) => certifies(alloc, circuit, text, asked, 100),
-        }
-    }
+// How a text of a witness with one latch and two inputs is refused.
+fn witness_refusal(alloc: Global, text: &[u8]) -> Option<AigerError> {
+    read_witness(alloc, 1, 2, text).err()
 }
 
-const QUESTIONS: &[(&[u8], Question<'static>, Result<bool, TaskError>)] = &[
-    (KEPT, Question::Answer(None), Ok(true)),
-    (TWO, Question::Answer(Some(2)), Err(TaskError::NoBad(2, 2))),
+// A circuit with justice properties alone, and one whose lines end by two bytes.
+const CIRCUITS: [(&[u8], AigerError); 2] = [
     (
-        b"abg",
-        Question::Answer(None),
-        Err(TaskError::Circuit(AigerError::Refused(Place::Line(1), Reason::Format))),
-    ),
-    (HELD, Question::Replay(RISES, None), Ok(true)),
-    (HELD, Question::Replay(RISES, Some(0)), Ok(true)),
-    (
-        HELD,
-        Question::Replay(RISES, Some(1)),
-        Err(TaskError::NoBad(1, 1)),
+        b"aag 0 0 0 0 0 0 0 1\n0\n",
+        AigerError::Refused(Place::Line(1), Reason::Liveness),
     ),
     (
-        TWO,
-        Question::Replay(b"1\nb1\n00\n1\n0\n.\n", Some(0)),
-        Err(TaskError::NoWitnessOf(0)),
+        b"aag 1 1 0 0 0\r\n2\r\n",
+        AigerError::Refused(Place::Line(1), Reason::Separator),
+    ),
+];
+
+const WITNESSES: [(&[u8], AigerError); 6] = [
+    (b"", AigerError::Refused(Place::Line(1), Reason::End)),
+    (
+        b"0\nb0\n.\n",
+        AigerError::Refused(Place::Line(1), Reason::Status),
     ),
     (
-        HELD,
-        Question::Replay(b"2\nb0\n.\n", None),
-        Err(TaskError::NoWitness),
-    ),
-    (NONE, Question::Replay(RISES, None), Err(TaskError::NoBads)),
-    (
-        HELD,
-        Question::Replay(b"1\nb3\n0\n1\n0\n.\n", None),
-        Err(TaskError::OtherBad(3, 1)),
+        b"2\nb0\n.\n",
+        AigerError::Refused(Place::Line(1), Reason::Status),
     ),
     (
-        HELD,
-        Question::Replay(b"3\n", None),
-        Err(TaskError::Witness(AigerError::Refused(Place::Line(1), Reason::Status))),
+        b"1\nj0\n.\n",
+        AigerError::Refused(Place::Line(2), Reason::Property),
     ),
     (
-        NONE,
-        Question::Certify(b"p cnf 1 0\n", None),
-        Err(TaskError::NoBads),
+        b"c\nu0\n0\n",
+        AigerError::Refused(Place::Line(3), Reason::Status),
     ),
     (
-        TWO,
-        Question::Certify(b"p cnf 2 0\n", Some(9)),
-        Err(TaskError::NoBad(9, 2)),
-    ),
-    (
-        KEPT,
-        Question::Certify(b"aag 3 0 3 0 0 1\n2 2\n4 4 6\n6 6 4\n2\n", None),
-        Err(TaskError::NoSimulation),
-    ),
-    (
-        KEPT,
-        Question::Certify(b"p cnf 9 0\n", None),
-        Err(TaskError::Certificate(AigerError::Refused(Place::Line(1), Reason::Clauses))),
+        b"1\nc\nj0",
+        AigerError::Refused(Place::Line(3), Reason::Property),
     ),
 ];
 
 #[test]
-fn questions_are_refused_for_their_reasons(rt: HostRuntime) {
-    for &(circuit, question, wanted) in QUESTIONS {
-        assert!(rt; question.holds(rt.alloc(), circuit) == wanted);
+fn texts_are_refused(rt: HostRuntime) {
+    for (text, wanted) in &CIRCUITS {
+        assert!(rt; refusal(rt.alloc(), text) == Some(*wanted));
     }
+    for (text, wanted) in &WITNESSES {
+        assert!(rt; witness_refusal(rt.alloc(), text) == Some(*wanted));
+    }
+}
+
+// How a text of a circuit with its justice properties is refused.
+fn live_refusal(alloc: Global, text: &[u8]) -> Option<AigerError> {
+    read_liveness(alloc, text).err()
+}
+
+// The program reads a circuit without a justice property by the other reader, which passes over fairness constraints.
+#[test]
+fn a_fairness_constraint_beside_no_property_is_of_a_variable(rt: HostRuntime) {
+    let refusal = live_refusal(rt.alloc(), b"aag 2 1 0 0 0 0 0 0 1\n2\n5\n");
+    assert!(rt; refusal == Some(AigerError::Undefined(2)));
+    assert!(rt; live_refusal(rt.alloc(), b"aag 2 1 0 0 0 0 0 0 1\n2\n3\n").is_none());
+}
+
+// The program replays witnesses of bad literals alone where there is no justice property.
+#[test]
+fn no_property_has_a_witness(rt: HostRuntime) {
+    let said = replays(
+        rt.alloc(),
+        b"aag 1 0 1 0 0 1\n2 2\n2\n",
+        b"1\nj0\n0\n\n.\n",
+        None,
+    );
+    assert!(rt; said == Err(JusticeError::NoProperties));
 }

@@ -1,14 +1,28 @@
-//! Tests of circuits: traces, invariants, and whether a circuit is well-formed.
+//! Tests of circuits, of their parts, of what is left where equal variables are merged, and of the longer circuits that
+//! show liveness; and examples of each.
 #![tactic(auto)]
 
+pub mod arbiters;
 #[cfg(test)]
-mod certificates;
-pub mod example;
+mod built;
 #[cfg(test)]
-mod latched;
+mod carried;
 #[cfg(test)]
-mod moments;
+mod chances;
 #[cfg(test)]
-mod traces;
+mod chosen;
+pub mod cone;
 #[cfg(test)]
-mod well_formed;
+mod copies;
+#[cfg(test)]
+mod limited;
+#[cfg(test)]
+mod longer;
+pub mod merged;
+#[cfg(test)]
+mod numbers;
+pub mod traces;
+#[cfg(test)]
+mod uses;
+#[cfg(test)]
+mod widths;

@@ -1,124 +1,80 @@
-//! Traces that are replayed.
+//! A bad literal that becomes true, and one that never does.
+ghost use Rattle.std.specs.Prelude.{IfOk, IfSome, IsTrue};
+ghost use Rattle.gipmc_circuits.specs.Certificate.{is_certified};
+ghost use Rattle.gipmc_circuits.specs.Circuit.{IsSafe};
+ghost use Rattle.gipmc_circuits.specs.Traces.{FailsBy};
 
-use crate::latched::{latched, netlist};
-use gipmc_circuits::{Netlist, Trace, TraceDoubt, replay, trace_doubt};
-use gipsat_solver::Literal;
+use gipmc_circuits::{Circuit, Latch, Netlist, Trace, Verdict, certify, replay};
+use gipsat_cnf::Literal;
+use gipsat_plain::Plain;
 use std::alloc::{AllocError, Global};
 
-// A variable and its value at each moment, if there is a constraint.
-type Constraint = Option<(u8, bool)>;
-
-// The circuit with a constraint.
-fn constrained(alloc: Global, constraint: Constraint) -> Result<Netlist, AllocError> {
-    let mut circuit = latched(alloc)?;
-    if let Some((variable, value)) = constraint {
-        circuit
-            .constraints
-            .push(Literal::new(u32::from(variable), value))?;
+/// Both latches begin at 0. Latch 2 holds next what input 1 is, and latch 3 keeps its value.
+pub fn two_latches(alloc: Global) -> Result<Netlist, AllocError> {
+    let mut circuit = Circuit::new(alloc);
+    circuit.inputs.push(1)?;
+    for &(variable, next) in &[(2, 1), (3, 3)] {
+        circuit.latches.push(Latch {
+            variable,
+            next: Literal::new(next, true),
+            reset: Some(false),
+        })?;
     }
-    netlist(alloc, circuit)
+    Netlist::new(alloc, circuit)?.ok_or(AllocError)
 }
 
-// A row for each moment.
-fn rows(alloc: Global, inputs: &[&[bool]]) -> Result<Vec<Vec<bool>>, AllocError> {
-    let mut rows = Vec::new(alloc);
-    for &input in inputs {
-        let row = input.to_vec(alloc)?;
+// The values of the input, one moment after another: it is 1, and then 0.
+fn inputs(alloc: Global) -> Result<Vec<Vec<bool>>, AllocError> {
+    let mut rows = Vec::with_capacity(alloc, 2)?;
+    for &input in &[true, false] {
+        let row = Vec::from_array(alloc, [input])?;
         rows.reserve(1)?;
         rows.push_reserved(row);
     }
     Ok(rows)
 }
 
-// The trace that begins with these values of the latches.
-fn trace(alloc: Global, latches: &[bool], inputs: &[&[bool]]) -> Result<Trace, AllocError> {
-    let inputs = rows(alloc, inputs)?;
-    Ok(Trace {
-        latches: latches.to_vec(alloc)?,
-        inputs,
-    })
-}
-
-// Whether a trace is a counterexample, and why not.
-fn judged(
+/// A trace at whose end the bad literal is true, if this one is: the input is 1, and then 0.
+pub fn counterexample(
     alloc: Global,
-    constraint: Constraint,
-    latches: &[bool],
-    inputs: &[&[bool]],
-) -> Result<(bool, Option<TraceDoubt>), AllocError> {
-    let netlist = constrained(alloc, constraint)?;
-    let trace = trace(alloc, latches, inputs)?;
-    let bad = Literal::new(4, true);
-    let fails = replay(alloc, &netlist, bad, &trace)?;
-    Ok((fails, trace_doubt(alloc, &netlist, bad, &trace)?))
+    netlist: &Netlist,
+    bad: Literal,
+) -> Result<Option<Trace>, AllocError>
+    ensures { IfOk result (λ found. IfSome found (FailsBy netlist.now.circuit bad)) }
+{
+    let inputs = inputs(alloc)?;
+    let latches = Vec::from_array(alloc, [false, false])?;
+    let trace = Trace { latches, inputs };
+    if replay(alloc, netlist, bad, &trace)? {
+        Ok(Some(trace))
+    } else {
+        Ok(None)
+    }
 }
 
-// A constraint, the values of the latches at first, a row of inputs for each moment, and why the circuit does not fail
-// by this trace, if it does not.
-const TRACES: &[(Constraint, &[bool], &[&[bool]], Option<TraceDoubt>)] = &[
-    // Latch 3 may begin at 1, and latch 2 holds the input then.
-    (None, &[false, true], &[&[true], &[false]], None),
-    // Latch 3 may begin at 0 as well, and the gate is false then.
-    (
-        None,
-        &[false, false],
-        &[&[true], &[false]],
-        Some(TraceDoubt::NotBad(1)),
-    ),
-    // Latch 2 has to begin at 0.
-    (None, &[true, true], &[&[false]], Some(TraceDoubt::Reset(0))),
-    // No moment at all.
-    (None, &[false, true], &[], Some(TraceDoubt::Empty)),
-    // The first moment alone breaks it.
-    (
-        Some((1, false)),
-        &[false, true],
-        &[&[true], &[false]],
-        Some(TraceDoubt::Constraint(0, 0)),
-    ),
-    // The last moment alone breaks it.
-    (
-        Some((2, false)),
-        &[false, true],
-        &[&[true], &[false]],
-        Some(TraceDoubt::Constraint(1, 0)),
-    ),
-    // None breaks it.
-    (Some((3, true)), &[false, true], &[&[true], &[false]], None),
-    // A latch too many, and one too few.
-    (
-        None,
-        &[false, true, false],
-        &[&[true], &[false]],
-        Some(TraceDoubt::Width),
-    ),
-    (
-        None,
-        &[false],
-        &[&[true], &[false]],
-        Some(TraceDoubt::Width),
-    ),
-    // An input too many, and one too few.
-    (
-        None,
-        &[false, true],
-        &[&[true, false], &[false]],
-        Some(TraceDoubt::Width),
-    ),
-    (
-        None,
-        &[false, true],
-        &[&[true], &[]],
-        Some(TraceDoubt::Width),
-    ),
-];
+// One clause: the bad literal is false.
+fn invariant(alloc: Global, bad: Literal) -> Result<Vec<Vec<Literal>>, AllocError> {
+    let clause = Vec::from_array(alloc, [bad.negated()])?;
+    let mut clauses = Vec::with_capacity(alloc, 1)?;
+    clauses.push_reserved(clause);
+    Ok(clauses)
+}
+
+/// What is said of the invariant that the bad literal is false. If it is certified, the bad literal never becomes true.
+pub fn judged(alloc: Global, netlist: &Netlist, bad: Literal) -> Result<Verdict, AllocError>
+    ensures { IfOk result (λ verdict. IsTrue (is_certified verdict) → IsSafe netlist.now.circuit bad) }
+{
+    let invariant = invariant(alloc, bad)?;
+    certify::<Plain>(alloc, netlist, bad, &invariant, 1000)
+}
 
 #[test]
-fn replays_what_the_circuit_does(rt: HostRuntime) -> Result<(), AllocError> {
-    for &(constraint, latches, inputs, wanted) in TRACES {
-        let (fails, doubt) = judged(rt.alloc(), constraint, latches, inputs)?;
-        assert!(rt; doubt == wanted);
-        assert!(rt; fails == wanted.is_none());
-    }
+fn one_latch_becomes_true(rt: HostRuntime) -> Result<(), AllocError> {
+    let netlist = two_latches(rt.alloc())?;
+    let (second, third) = (Literal::new(2, true), Literal::new(3, true));
+    assert!(rt; counterexample(rt.alloc(), &netlist, second)?.is_some());
+    assert!(rt; counterexample(rt.alloc(), &netlist, third)?.is_none());
+    assert!(rt; judged(rt.alloc(), &netlist, third)? == Verdict::Certified);
+    assert!(rt; judged(rt.alloc(), &netlist, second)? != Verdict::Certified);
     Ok(())
 }

@@ -1,9 +1,10 @@
 //! How far bounded model checking goes.
 
-use crate::shifter::{FULL, shifter};
+use crate::small::{SHIFTER, made};
 use crate::stopper::Stopper;
 use gipmc_engines::{Bounds, Verdict, search};
-use gipsat_solver::{Literal, Solver};
+use gipsat_cnf::Literal;
+use gipsat_plain::Plain;
 use std::alloc::{AllocError, Global};
 
 // What a search says, in short.
@@ -28,15 +29,18 @@ fn found_by(verdict: &Verdict) -> Found {
 
 // What a search to one depth says of the register, where a listener stops it before another.
 fn told(alloc: Global, bad: Literal, depth: usize, stop: usize) -> Result<Found, AllocError> {
-    let netlist = shifter(alloc)?;
+    let netlist = made(alloc, SHIFTER)?;
     let bounds = Bounds {
         depth,
         limit: 100,
         calls: 0,
     };
-    let verdict = search::<Solver, _, _>(alloc, &netlist, bad, bounds, &mut Stopper::new(0, stop))?;
+    let verdict = search::<Plain, _>(alloc, &netlist, bad, bounds, &mut Stopper::new(0, stop))?;
     Ok(found_by(&verdict))
 }
+
+// The gate that is true where both latches are.
+const FULL: u8 = 4;
 
 // The bad literal's variable, a depth, the depth where a listener stops, and what is found.
 const SEARCHES: &[(u8, usize, usize, Found)] = &[

@@ -1,8 +1,10 @@
 //! One search for several bad literals.
 
-use crate::shifter::{ALL, counter, full, long, shifter};
+use crate::small::{SHIFTER, THREE, made};
+use gipmc_circuits::Netlist;
 use gipmc_engines::{Bounds, Engine, Finding, Plan, Tries, check_all};
-use gipsat_solver::{Literal, Solver};
+use gipsat_cnf::Literal;
+use gipsat_plain::Plain;
 use std::alloc::{AllocError, Global};
 
 // What is found out about one of several, in short.
@@ -32,22 +34,16 @@ fn said_by(finding: &Finding) -> Said {
 fn literals() -> [Literal; 5] {
     [
         Literal::new(0, true),
-        full(),
+        Literal::new(4, true),
         Literal::new(1, true),
-        full(),
+        Literal::new(4, true),
         Literal::new(9, true),
     ]
 }
 
-// What these engines find out about them by so many rounds of simulation, as deep as this.
-fn found_out(
-    alloc: Global,
-    engine: Engine,
-    rounds: usize,
-    depth: usize,
-) -> Result<[Said; 5], AllocError> {
-    let netlist = shifter(alloc)?;
-    let plan = Plan {
+// The plan of an engine, by so many rounds of simulation, as deep as this.
+fn plan(engine: Engine, rounds: usize, depth: usize) -> Plan {
+    Plan {
         engine,
         tries: Tries {
             rounds,
@@ -58,9 +54,14 @@ fn found_out(
             ..Bounds::default()
         },
         ..Plan::default()
-    };
-    let literals = literals();
-    let found = check_all::<Solver, _, _>(alloc, &netlist, &literals, &plan, &mut ())?;
+    }
+}
+
+// What a plan finds out about the first `count` of them.
+fn found_out(alloc: Global, plan: &Plan, count: usize) -> Result<[Said; 5], AllocError> {
+    let netlist = made(alloc, SHIFTER)?;
+    let bads = literals();
+    let found = check_all::<Plain, _>(alloc, &netlist, &bads[..count.min(5)], plan, &mut ())?;
     let mut said = [Said::Unknown; 5];
     for (place, finding) in found.each.iter().enumerate() {
         if place < 5 {
@@ -71,108 +72,55 @@ fn found_out(
 }
 
 #[test]
-fn finds_out_about_each(rt: HostRuntime) -> Result<(), AllocError> {
-    let deep = found_out(rt.alloc(), Engine::Bounded, 0, 9)?;
-    assert!(rt;
-        deep == [
-            Said::Within(9),
-            Said::Fails(3),
-            Said::Fails(1),
-            Said::Fails(3),
-            Said::Unknown
-        ]
-    );
-    let shallow = found_out(rt.alloc(), Engine::Bounded, 0, 1)?;
-    assert!(rt;
-        shallow
-            == [
-                Said::Within(1),
-                Said::Within(1),
-                Said::Fails(1),
-                Said::Within(1),
-                Said::Unknown
-            ]
-    );
-    let simulated = found_out(rt.alloc(), Engine::Simulation, 1, 0)?;
-    assert!(rt;
-        simulated
-            == [
-                Said::Unknown,
-                Said::Fails(3),
-                Said::Fails(1),
-                Said::Fails(3),
-                Said::Unknown
-            ]
-    );
+fn finds_out_about_each_as_deep_as_it_may(rt: HostRuntime) -> Result<(), AllocError> {
+    let (open, fails, now) = (Said::Unknown, Said::Fails(3), Said::Fails(1));
+    let deep = found_out(rt.alloc(), &plan(Engine::Bounded, 1, 9), 5)?;
+    assert!(rt; deep == [Said::Within(9), fails, now, fails, open]);
+    let shallow = found_out(rt.alloc(), &plan(Engine::Bounded, 1, 1), 5)?;
+    assert!(rt; shallow == [Said::Within(1), Said::Within(1), now, Said::Within(1), open]);
     Ok(())
-}
-
-// The first four of the literals, of which the register has the variables: what is decided about them.
-fn decided(alloc: Global, engine: Engine, rounds: usize) -> Result<[Said; 4], AllocError> {
-    let netlist = shifter(alloc)?;
-    let plan = Plan {
-        engine,
-        tries: Tries {
-            rounds,
-            ..Tries::default()
-        },
-        ..Plan::default()
-    };
-    let literals = literals();
-    let found = check_all::<Solver, _, _>(alloc, &netlist, &literals[..4], &plan, &mut ())?;
-    let mut said = [Said::Unknown; 4];
-    for (place, finding) in found.each.iter().enumerate() {
-        if place < 4 {
-            said[place] = said_by(finding);
-        }
-    }
-    Ok(said)
 }
 
 #[test]
-fn decides_each(rt: HostRuntime) -> Result<(), AllocError> {
-    let wanted = [Said::Safe, Said::Fails(3), Said::Fails(1), Said::Fails(3)];
-    assert!(rt; decided(rt.alloc(), Engine::Ic3, 0)? == wanted);
+fn finds_out_about_each(rt: HostRuntime) -> Result<(), AllocError> {
+    let (open, fails, now) = (Said::Unknown, Said::Fails(3), Said::Fails(1));
+    let simulated = found_out(rt.alloc(), &plan(Engine::Simulation, 1, 0), 5)?;
+    assert!(rt; simulated == [open, fails, now, fails, open]);
+    let by_ic3 = found_out(rt.alloc(), &plan(Engine::Ic3, 1, 9), 4)?;
+    assert!(rt; by_ic3 == [Said::Safe, fails, now, fails, open]);
     // No moment at all makes the first one true.
-    let wanted = [
-        Said::Inductive(0),
-        Said::Fails(3),
-        Said::Fails(1),
-        Said::Fails(3),
-    ];
-    for &(engine, rounds) in &[(Engine::Induction, 0), (Engine::All, 0), (Engine::All, 1)] {
-        assert!(rt; decided(rt.alloc(), engine, rounds)? == wanted);
+    for &rounds in &[0, 1] {
+        let by_all = found_out(rt.alloc(), &plan(Engine::All, rounds, 9), 4)?;
+        assert!(rt; by_all == [Said::Inductive(0), fails, now, fails, open]);
     }
     Ok(())
 }
 
-// Which engines found out what stands about the first four literals, by these engines and so many rounds of simulation.
-fn engines_of(
-    alloc: Global,
-    engine: Engine,
-    rounds: usize,
-) -> Result<[Option<Engine>; 4], AllocError> {
-    let netlist = shifter(alloc)?;
-    let plan = Plan {
-        engine,
-        tries: Tries {
-            rounds,
-            ..Tries::default()
-        },
+#[test]
+fn finds_out_about_none_without_calls(rt: HostRuntime) -> Result<(), AllocError> {
+    let without = Plan {
         bounds: Bounds {
-            depth: 9,
-            calls: 1000,
+            calls: 0,
             ..Bounds::default()
         },
-        ..Plan::default()
+        ..plan(Engine::Ic3, 1, 9)
     };
-    let literals = literals();
-    let found = check_all::<Solver, _, _>(alloc, &netlist, &literals[..4], &plan, &mut ())?;
-    let mut engines = [None; 4];
-    for place in 0..4 {
-        engines[place] = found.engine(place);
-    }
-    Ok(engines)
+    assert!(rt; found_out(rt.alloc(), &without, 4)? == [Said::Unknown; 5]);
+    Ok(())
+}
+
+// Which engines found out what stands about the first four literals.
+fn engines_of(alloc: Global, engine: Engine) -> Result<[Option<Engine>; 4], AllocError> {
+    let netlist = made(alloc, SHIFTER)?;
+    let plan = plan(engine, 1, 9);
+    let bads = literals();
+    let found = check_all::<Plain, _>(alloc, &netlist, &bads[..4], &plan, &mut ())?;
+    Ok([
+        found.engine(0),
+        found.engine(1),
+        found.engine(2),
+        found.engine(3),
+    ])
 }
 
 #[test]
@@ -183,87 +131,15 @@ fn tells_which_engine_decided(rt: HostRuntime) -> Result<(), AllocError> {
         Some(Engine::Ic3),
         Some(Engine::Induction),
     );
-    assert!(rt; engines_of(rt.alloc(), Engine::Simulation, 1)? == [None, sim, sim, sim]);
-    assert!(rt; engines_of(rt.alloc(), Engine::Bounded, 0)? == [bmc, bmc, bmc, bmc]);
-    assert!(rt; engines_of(rt.alloc(), Engine::Ic3, 0)? == [ic3, ic3, ic3, ic3]);
-    assert!(rt; engines_of(rt.alloc(), Engine::Induction, 0)? == [step, bmc, bmc, bmc]);
-    assert!(rt; engines_of(rt.alloc(), Engine::All, 1)? == [step, sim, sim, sim]);
-    Ok(())
-}
-
-// What bounded model checking and induction find out about a counter, to this depth: both bits, the high and the low one.
-fn of_a_counter(alloc: Global, depth: usize) -> Result<[Said; 3], AllocError> {
-    let netlist = counter(alloc)?;
-    let plan = Plan {
-        engine: Engine::Induction,
-        bounds: Bounds {
-            depth,
-            ..Bounds::default()
-        },
-        ..Plan::default()
-    };
-    let literals = [
-        Literal::new(6, true),
-        Literal::new(3, true),
-        Literal::new(2, true),
-    ];
-    let found = check_all::<Solver, _, _>(alloc, &netlist, &literals, &plan, &mut ())?;
-    let mut said = [Said::Unknown; 3];
-    for (place, finding) in found.each.iter().enumerate() {
-        if place < 3 {
-            said[place] = said_by(finding);
-        }
+    for &(engine, wanted) in &[
+        (Engine::Simulation, [None, sim, sim, sim]),
+        (Engine::Bounded, [bmc, bmc, bmc, bmc]),
+        (Engine::Ic3, [ic3, ic3, ic3, ic3]),
+        (Engine::Induction, [step, bmc, bmc, bmc]),
+        (Engine::All, [step, sim, sim, sim]),
+    ] {
+        assert!(rt; engines_of(rt.alloc(), engine)? == wanted);
     }
-    Ok(said)
-}
-
-#[test]
-fn decides_by_induction(rt: HostRuntime) -> Result<(), AllocError> {
-    assert!(rt;
-        of_a_counter(rt.alloc(), 9)? == [Said::Inductive(1), Said::Fails(3), Said::Fails(2)]
-    );
-    // A base for k = 1 is that no trace of no transition fails.
-    assert!(rt;
-        of_a_counter(rt.alloc(), 0)? == [Said::Inductive(1), Said::Within(0), Said::Within(0)]
-    );
-    Ok(())
-}
-
-// What IC3 decides by so many calls about two literals of the long register.
-fn decided_beside(
-    alloc: Global,
-    literals: &[Literal; 2],
-    calls: usize,
-) -> Result<[Said; 2], AllocError> {
-    let netlist = long(alloc)?;
-    let plan = Plan {
-        engine: Engine::Ic3,
-        bounds: Bounds {
-            calls,
-            ..Bounds::default()
-        },
-        ..Plan::default()
-    };
-    let found = check_all::<Solver, _, _>(alloc, &netlist, literals, &plan, &mut ())?;
-    let mut said = [Said::Unknown; 2];
-    for (place, finding) in found.each.iter().enumerate() {
-        if place < 2 {
-            said[place] = said_by(finding);
-        }
-    }
-    Ok(said)
-}
-
-#[test]
-fn decides_a_literal_beside_a_hard_one(rt: HostRuntime) -> Result<(), AllocError> {
-    let (hard, never) = (Literal::new(u32::from(ALL), true), Literal::new(0, true));
-    // Both together take long.
-    assert!(rt;
-        decided_beside(rt.alloc(), &[hard, never], 1000)? == [Said::Unknown, Said::Unknown]
-    );
-    // Then each has a search of its own for a while.
-    assert!(rt; decided_beside(rt.alloc(), &[hard, never], 5000)? == [Said::Unknown, Said::Safe]);
-    assert!(rt; decided_beside(rt.alloc(), &[never, hard], 5000)? == [Said::Safe, Said::Unknown]);
     Ok(())
 }
 
@@ -279,22 +155,21 @@ fn greatest_variable(clauses: &[Vec<Literal>]) -> u32 {
 }
 
 // The greatest variable of the invariant by which IC3 shows that gate 6 of the counter is never true.
-fn greatest_of_a_counter(alloc: Global, names_gates: bool) -> Result<u32, AllocError> {
-    let netlist = counter(alloc)?;
+fn greatest_of(alloc: Global, netlist: &Netlist, names_gates: bool) -> Result<u32, AllocError> {
     let plan = Plan {
-        engine: Engine::Ic3,
         names_gates,
-        ..Plan::default()
+        ..plan(Engine::Ic3, 1, 0)
     };
-    let literals = [Literal::new(6, true)];
-    let found = check_all::<Solver, _, _>(alloc, &netlist, &literals, &plan, &mut ())?;
+    let bads = [Literal::new(6, true)];
+    let found = check_all::<Plain, _>(alloc, netlist, &bads, &plan, &mut ())?;
     Ok(greatest_variable(&found.invariant))
 }
 
 #[test]
 fn names_gates_where_the_plan_lets_it(rt: HostRuntime) -> Result<(), AllocError> {
+    let netlist = made(rt.alloc(), THREE)?;
     // The latches are 2 and 3, and latches alone decide the gate.
-    assert!(rt; greatest_of_a_counter(rt.alloc(), false)? == 3);
-    assert!(rt; greatest_of_a_counter(rt.alloc(), true)? == 6);
+    assert!(rt; greatest_of(rt.alloc(), &netlist, false)? == 3);
+    assert!(rt; greatest_of(rt.alloc(), &netlist, true)? == 6);
     Ok(())
 }

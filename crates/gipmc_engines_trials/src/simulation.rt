@@ -1,10 +1,10 @@
 //! What random simulation finds.
 
-use crate::shifter::{full, netlist, shifter};
+use crate::small::{SHIFTER, made};
 use crate::stopper::Stopper;
 use gipmc_circuits::{And, Circuit, Latch, Netlist};
 use gipmc_engines::{Tries, simulate};
-use gipsat_solver::Literal;
+use gipsat_cnf::Literal;
 use std::alloc::{AllocError, Global};
 
 // How many moments the trace has that simulation finds for the register, and of how many rounds a listener was told
@@ -15,14 +15,14 @@ fn found(
     rounds: usize,
     stop: usize,
 ) -> Result<(Option<usize>, usize), AllocError> {
-    let netlist = shifter(alloc)?;
+    let netlist = made(alloc, SHIFTER)?;
     let tries = Tries {
         seed: 7,
         rounds,
         moments,
     };
     let mut watch = Stopper::new(stop, 0);
-    let trace = simulate(alloc, &netlist, full(), tries, &mut watch)?;
+    let trace = simulate(alloc, &netlist, Literal::new(4, true), tries, &mut watch)?;
     Ok((trace.map(|trace| trace.inputs.len()), watch.told))
 }
 
@@ -70,7 +70,7 @@ fn all_at_once(alloc: Global) -> Result<Netlist, AllocError> {
     for &(output, left, right) in &[(7, 1, 2), (8, 7, 3), (9, 8, 4), (10, 9, 5), (11, 10, 6)] {
         circuit.gates.push(both(output, left, right))?;
     }
-    netlist(alloc, circuit)
+    Netlist::new(alloc, circuit)?.ok_or(AllocError)
 }
 
 // How many moments the trace has that one round finds for this circuit.

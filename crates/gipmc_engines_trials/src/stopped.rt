@@ -1,0 +1,118 @@
+//! Bounds and listeners that end a search.
+
+use crate::small::{Form, ONES, SIX_ONES, literal, made};
+use gipmc_engines::Watch;
+use gipmc_ic3::Statistics;
+use gipmc_liveness_engines::{Bounds, Verdict, decide_live};
+use gipsat_plain::Plain;
+use std::alloc::{AllocError, Global};
+use std::ops::ControlFlow;
+
+// Stops a search where it is told for the last time that it may be told.
+#[derive(Clone, Copy)]
+struct Stopper {
+    // How often it may be told.
+    most: usize,
+    // How often it was told.
+    told: usize,
+}
+
+impl Stopper {
+    fn tell(&mut self) -> ControlFlow<()> {
+        self.told = self.told.saturating_add(1);
+        if self.told >= self.most {
+            ControlFlow::Break(())
+        } else {
+            ControlFlow::Continue(())
+        }
+    }
+}
+
+impl Watch for Stopper {
+    fn note_round(&mut self, _rounds: usize) -> ControlFlow<()> {
+        self.tell()
+    }
+
+    fn note(&mut self, _depth: usize, _clauses: usize, _learned: usize) -> ControlFlow<()> {
+        self.tell()
+    }
+
+    fn note_slice(&mut self, _frame: usize, _statistics: &Statistics) -> ControlFlow<()> {
+        self.tell()
+    }
+}
+
+// What is said, in short.
+#[derive(Clone, Copy, PartialEq, Eq)]
+enum Said {
+    Fails,
+    Live,
+    Unknown,
+}
+
+fn said_by(verdict: &Verdict) -> Said {
+    match verdict {
+        Verdict::Fails(_) => Said::Fails,
+        Verdict::Live(_, _) => Said::Live,
+        Verdict::Unknown => Said::Unknown,
+    }
+}
+
+// The last latch of a register is to recur, or its negation, which is true at as many moments as there are latches; or what
+// is no variable of it.
+const LAST_IS_SET: u8 = 6;
+
+const LAST_IS_NOT_SET: u8 = 7;
+
+const SIXTH_IS_NOT_SET: u8 = 13;
+
+const NO_VARIABLE: u8 = 40;
+
+// What is said of a register within bounds, and how often a listener is told that may be told so often.
+fn heard(
+    alloc: Global,
+    form: Form,
+    justice: u8,
+    bounds: (usize, usize, usize),
+    most: usize,
+) -> Result<(Said, usize), AllocError> {
+    let netlist = made(alloc, form)?;
+    let (k, calls, rounds) = bounds;
+    let bounds = Bounds { k, calls, rounds };
+    let mut watch = Stopper { most, told: 0 };
+    let justice = [literal(justice)];
+    let verdict = decide_live::<Plain, _>(alloc, &netlist, &[], &justice, bounds, &mut watch)?;
+    Ok((said_by(&verdict), watch.told))
+}
+
+// A literal that is to recur, the bounds (literals, calls, rounds), and what is said.
+const BOUNDED: &[(u8, (usize, usize, usize), Said)] = &[
+    (LAST_IS_SET, (2, 1000, 1), Said::Fails),
+    // Three literals are met in turn, and not a fourth one.
+    (LAST_IS_NOT_SET, (4, 1000, 2), Said::Live),
+    // No literal is counted, but there is no lasso.
+    (LAST_IS_NOT_SET, (0, 1000, 1), Said::Live),
+    (LAST_IS_NOT_SET, (4, 1000, 0), Said::Unknown),
+    // No call is allowed.
+    (LAST_IS_NOT_SET, (4, 0, 9), Said::Unknown),
+    (NO_VARIABLE, (4, 1000, 2), Said::Unknown),
+];
+
+#[test]
+fn bounds_end_a_search(rt: HostRuntime) -> Result<(), AllocError> {
+    for &(justice, bounds, wanted) in BOUNDED {
+        let (said, _) = heard(rt.alloc(), ONES, justice, bounds, 1_000_000)?;
+        assert!(rt; said == wanted);
+    }
+    Ok(())
+}
+
+#[test]
+fn a_listener_that_stops_is_told_no_more(rt: HostRuntime) -> Result<(), AllocError> {
+    for most in 1..7 {
+        let (said, told) = heard(rt.alloc(), SIX_ONES, SIXTH_IS_NOT_SET, (7, 1000, 9), most)?;
+        assert!(rt; said == Said::Unknown);
+        assert!(rt; told == most);
+    }
+    Ok(())
+}
