@@ -1,8 +1,7 @@
 #!/usr/bin/env python3
 """Makes formulas in conjunctive form by stated seeds: a list with minisat's answers, and files to time solvers with.
 
-    tools/formulas.py --list                      puts the list `new formulas` at the end of giputils_replay's stdin and
-                                                  stdout, in the place of the one that stands there; it needs minisat
+    tools/formulas.py --list                      writes the list tests/lists/formulas.txt; it needs minisat
     tools/formulas.py --write FOLDER FORMULAS     a DIMACS file for each of the formulas
     tools/formulas.py --time FORMULAS PROGRAM..   runs the programs by turns on each formula, and prints tables
     tools/formulas.py --table FILE..              prints the tables of runs that were kept
@@ -53,7 +52,7 @@ from lib import families, fresh
 from lib.families import colouring, mixed, one_model, parity, parity_chains, pigeonhole, random_clauses, units
 
 SECONDS = 100
-REPLAY = Path(__file__).resolve().parent.parent / "crates" / "giputils_replay"
+LIST = Path(__file__).resolve().parent.parent / "tests" / "lists" / "formulas.txt"
 HEADER = "new formulas"
 
 
@@ -356,8 +355,8 @@ def word(clause):
 
 
 def write_list():
-    """Puts the list at the end of the lists that giputils_replay runs."""
-    questions, answers = [HEADER], [HEADER]
+    """Writes the list."""
+    lines = [HEADER]
     with tempfile.TemporaryDirectory() as folder:
         path = Path(folder) / "formula.cnf"
         for clauses in formulas(random.Random(1971)):
@@ -365,12 +364,8 @@ def write_list():
             run = answer("minisat", path)
             if run.what == "none" or (run.what == "sat" and not satisfies(run.model, clauses)):
                 sys.exit(f"minisat has no answer to {clauses}")
-            questions.append(" ".join(["cnf", *map(word, clauses)]))
-            answers.append(run.what)
-    for name, lines in (("stdin", questions), ("stdout", answers)):
-        path = REPLAY / name
-        before = list(itertools.takewhile(lambda line: line != HEADER, path.read_text().splitlines()))
-        path.write_text("".join(f"{line}\n" for line in before + lines))
+            lines.append(" ".join(["cnf", *map(word, clauses), "->", run.what]))
+    LIST.write_text("".join(f"{line}\n" for line in lines))
 
 
 # Timing.

@@ -2,7 +2,7 @@
 """A plain checker of proofs, written apart from gipsat's: DRAT and LRAT, as text or binary.
 
     tools/proofs.py --check FORMULA PROOF    writes `s VERIFIED` or `s NOT VERIFIED`
-    tools/proofs.py --stored                 judges each proof in the tests of gipsat_drat_trials
+    tools/proofs.py --stored                 judges each proof of tests/proofs.txt
     tools/proofs.py --hostile N GIPSAT       changes right proofs at random, N times: `GIPSAT --check` may verify none of a
                                              satisfiable formula, and has to judge all as this checker does
     tools/proofs.py --convert N GIPSAT CADICAL    has GIPSAT turn the stored DRAT proofs, and those that CADICAL writes of N
@@ -22,7 +22,7 @@ import sys
 import tempfile
 
 ROOT = pathlib.Path(__file__).resolve().parent.parent
-TRIALS = ROOT / "crates/gipsat_drat_trials/src"
+STORED = ROOT / "tests/proofs.txt"
 
 
 class Refused(Exception):
@@ -350,17 +350,22 @@ def judge(formula, data):
 
 
 def stored():
-    """The proofs of the tests: formula, proof, and whether it is verified."""
-    for path in sorted(TRIALS.glob("*.rt")):
-        text = path.read_text()
-        names = {}
-        for name, value in re.findall(r'const (\w+): &\[u8\] =\s*b"((?:[^"\\]|\\.)*)"', text):
-            names[name] = ast.literal_eval('b"""' + value + '"""')
-        for table, rows in re.findall(r"const (VERIFIED|REFUSED): \[[^=]*= \[(.*?)\n\];", text, re.S):
-            rows = re.sub(r"^\s*//.*$", "", rows, flags=re.M)
-            for formula, proof in re.findall(r'\(\s*(\w+|b"(?:[^"\\]|\\.)*"),\s*b"((?:[^"\\]|\\.)*)"', rows):
-                formula = names.get(formula) or ast.literal_eval('b"""' + formula[2:-1] + '"""')
-                yield path.name, formula, ast.literal_eval('b"""' + proof + '"""'), table == "VERIFIED"
+    """The proofs of tests/proofs.txt: a name, formula, proof, and whether it is verified."""
+    names, about = {}, ""
+    for number, row in enumerate(STORED.read_text(encoding="utf-8").splitlines(), 1):
+        if row.startswith("#"):
+            about = row[2:]
+        elif "\t" in row:
+            outcome, _, formula, proof = row.split("\t")
+            yield f"{number}: {about}", bytes_of(names.get(formula, formula)), bytes_of(proof), outcome.startswith("verified")
+        else:
+            name, _, formula = row.partition(" = ")
+            names[name] = formula
+
+
+def bytes_of(text):
+    """The bytes of a text with escapes."""
+    return ast.literal_eval(f'b"""{text}"""')
 
 
 def judge_stored():

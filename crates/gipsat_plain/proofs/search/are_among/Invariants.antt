@@ -1,0 +1,8 @@
+use Rattle.std.proofs.Common.{◌≡◌, ℕ, ◌<◌, Some}
+use Rattle.std.specs.Prelude.{slice_get}
+use Rattle.gipsat_cnf.specs.Formulas.{Has}
+use Rattle.gipsat_cnf.specs.Literals.{Lit}
+use Rattle.gipsat_plain.proofs.search.are_among.Given as goal
+
+abbrev pub invariant-loop-l : goal.invariant-loop-l
+invariant-loop-l l = (k : ℕ) (m : Lit) → k < l.l-index → slice_get l.some k ≡ Some m → Has l.literals m

@@ -1,0 +1,22 @@
+//! Tests of the texts of formulas and proofs, and the examples of their pages: devices that move one byte at a time or
+//! fail, what a step of a checker leaves behind where it is refused, and deletions.
+//!
+//! They hold what neither a clause nor a row of the built program can say, and stand apart from the libraries, so that
+//! these are not proved twice for them. What is read, answered and refused are rows of `tests/gipsat.sh`, and
+//! `tests/refused.py` runs some of the tests with each of their requests for memory refused.
+#![tactic(auto)]
+
+#[cfg(test)]
+mod answered;
+#[cfg(test)]
+mod caller;
+#[cfg(test)]
+mod checked;
+#[cfg(test)]
+mod deletions;
+#[cfg(test)]
+mod devices;
+#[cfg(test)]
+mod hinted;
+#[cfg(test)]
+mod steps;
