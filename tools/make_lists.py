@@ -1,8 +1,8 @@
 #!/usr/bin/env python3
-"""Makes the lists of calls that giputils_replay runs, and asks another program for the answers.
+"""Makes the lists of calls that giputils_replay and gipsat_replay run, and asks another program for the answers.
 
-    tools/make_lists.py PROGRAM       writes crates/giputils_replay/stdin and crates/giputils_replay/stdout
-    tools/make_lists.py --rows        writes anew the lists of tools/rows alone, which come first in both
+    tools/make_lists.py PROGRAM       writes stdin and stdout of both crates, and tests/lists/tables.txt
+    tools/make_lists.py --rows        writes anew the lists of tools/rows alone, which come first in stdin and stdout
 
 A file of tools/rows has lists that were written by hand, each with what it shows: a line `new NAME TITLE`, and then
 lines `CALL -> ANSWER`. Lines that begin with `#` and empty lines are left out.
@@ -30,7 +30,15 @@ from pathlib import Path
 
 from lib import solver_lists, texts
 
-REPLAY = Path(__file__).resolve().parent.parent / "crates" / "giputils_replay"
+ROOT = Path(__file__).resolve().parent.parent
+
+TABLES = ROOT / "tests" / "lists" / "tables.txt"
+
+# The files of tools/rows whose lists each program runs, and the first line behind them.
+PROGRAMS = {
+    "giputils_replay": (("base", "bits"), "new galloc"),
+    "gipsat_replay": (("solver",), f"new solver {solver_lists.FORMULAS[0][0]}"),
+}
 
 LARGEST_VALUE = 2**32 - 1
 
@@ -361,8 +369,8 @@ def answers_of(program, header, calls):
     return answers
 
 
-def row_files():
-    return sorted((Path(__file__).resolve().parent / "rows").glob("*.txt"))
+def row_files(program):
+    return [ROOT / "tools" / "rows" / f"{name}.txt" for name in PROGRAMS[program][0]]
 
 
 def rows_of(path):
@@ -377,26 +385,27 @@ def rows_of(path):
             sys.exit(f"{path}:{number}: neither 'new NAME TITLE' nor 'CALL -> ANSWER'")
 
 
-def hand_written():
-    """The lists of all files of tools/rows."""
-    return [line for path in row_files() for line in rows_of(path)]
+def hand_written(program):
+    """The lists of the files of tools/rows that a program runs."""
+    return [line for path in row_files(program) for line in rows_of(path)]
 
 
-def stored_lines():
-    """The lines of all lists that giputils_replay is run on, with their answers."""
-    calls, answers = ((REPLAY / name).read_text(encoding="utf-8").splitlines() for name in ("stdin", "stdout"))
+def stored_lines(program):
+    """The lines of all lists that a program is run on, with their answers."""
+    folder = ROOT / "crates" / program
+    calls, answers = ((folder / name).read_text(encoding="utf-8").splitlines() for name in ("stdin", "stdout"))
     return list(zip(calls, answers, strict=True))
 
 
-def generated(lines):
-    """The stored lines behind those that were written by hand: from the first list without a title on."""
-    first = next(i for i, (line, _) in enumerate(lines) if line.startswith("new ") and len(line.split()) == 2)
-    return lines[first:]
+def generated(program):
+    """The stored lines behind those that were written by hand."""
+    lines, first = stored_lines(program), PROGRAMS[program][1]
+    return lines[lines.index((first, first)) :]
 
 
-def write(lines):
+def write(program, lines):
     for place, name in enumerate(("stdin", "stdout")):
-        (REPLAY / name).write_text("".join(f"{line[place]}\n" for line in lines), encoding="utf-8")
+        (ROOT / "crates" / program / name).write_text("".join(f"{line[place]}\n" for line in lines), encoding="utf-8")
 
 
 def main():
@@ -406,19 +415,23 @@ def main():
     source.add_argument("program", nargs="?", metavar="PROGRAM")
     asked = parser.parse_args()
     if asked.rows:
-        write([*hand_written(), *generated(stored_lines())])
+        for program in PROGRAMS:
+            write(program, [*hand_written(program), *generated(program)])
         return
     if not shutil.which(asked.program):
         parser.error(f"there is no program '{asked.program}'")
-    questions = []
-    answers = []
+    of_containers = []
     for header, *calls in all_lists():
-        questions += [header, *calls]
-        answers += [header, *answers_of(asked.program, header, calls)]
+        of_containers += [(header, header), *zip(calls, answers_of(asked.program, header, calls))]
+    write("giputils_replay", [*hand_written("giputils_replay"), *of_containers])
+    of_solver, tables = [], []
     for header, calls, wanted in solver_lists.lists():
-        questions += [header, *calls]
-        answers += [header, *wanted]
-    write([*hand_written(), *zip(questions, answers)])
+        if header.startswith("new tables"):
+            tables += [header, *(f"{call} -> {answer}" for call, answer in zip(calls, wanted))]
+        else:
+            of_solver += [(header, header), *zip(calls, wanted)]
+    write("gipsat_replay", [*hand_written("gipsat_replay"), *of_solver])
+    TABLES.write_text("".join(f"{line}\n" for line in tables), encoding="utf-8")
 
 
 if __name__ == "__main__":

@@ -15,9 +15,9 @@ mod sets;
 mod vectors;
 
 use crate::common::{Checksum, Generator};
-use anyhow::{Context, bail};
 use std::alloc::Global;
 use std::env;
+use std::io::{self, ErrorKind};
 use std::process::ExitCode;
 
 const WORKLOADS: [&str; 24] = [
@@ -56,80 +56,99 @@ struct Task<'a> {
     reps: u64,
 }
 
-fn main(rt: HostRuntime) -> anyhow::Result<ExitCode> {
+// The exit status after the usage line.
+const USAGE: u8 = 2;
+
+// The exit status where no workload has the name.
+const UNKNOWN: u8 = 3;
+
+fn main(rt: HostRuntime) -> io::Result<ExitCode> {
     let args: Vec<String> = env::args(&rt)?.collect(rt.alloc())?;
-    perform(&rt, read_task(rt.alloc(), &args)?)
+    match task_of(&args) {
+        Some(task) => perform(&rt, task),
+        None => {
+            eprintln!(rt; "usage: giputils_bench WORKLOAD SIZE SEED [REPS]")?;
+            Ok(ExitCode::from(USAGE))
+        }
+    }
+}
+
+// The argument at a place, which is empty where there is none.
+fn word(args: &[String], place: usize) -> &str {
+    match args.get(place) {
+        Some(arg) => arg.as_str(),
+        None => "",
+    }
 }
 
 // What the arguments ask for, of which the first is the name of the program.
-fn read_task(alloc: Global, args: &[String]) -> anyhow::Result<Task<'_>> {
-    let words: Vec<&str> = args.iter().map(|arg| arg.as_str()).collect(alloc)?;
-    task_of(&words)
-}
-
-fn task_of<'a>(words: &[&'a str]) -> anyhow::Result<Task<'a>> {
-    let (workload, size, seed, reps) = match *words {
-        [_, workload, size, seed] => (workload, size, seed, "1"),
-        [_, workload, size, seed, reps] => (workload, size, seed, reps),
-        _ => bail!("usage: giputils_bench WORKLOAD SIZE SEED [REPS]"),
-    };
-    Ok(Task {
-        workload,
-        size: size.parse().context("SIZE")?,
-        seed: seed.parse().context("SEED")?,
-        reps: reps.parse().context("REPS")?,
+fn task_of(args: &[String]) -> Option<Task<'_>> {
+    let reps = if args.len() == 4 { "1" } else { word(args, 4) };
+    Some(Task {
+        workload: word(args, 1),
+        size: word(args, 2).parse().ok()?,
+        seed: word(args, 3).parse().ok()?,
+        reps: reps.parse().ok()?,
     })
 }
 
 // Runs the workload, or all of them, and prints the checksums.
-fn perform(rt: &HostRuntime, task: Task<'_>) -> anyhow::Result<ExitCode> {
-    if task.workload == "all" {
-        for &workload in &WORKLOADS {
-            print_named(rt, Task { workload, ..task })?;
-        }
-        return Ok(ExitCode::SUCCESS);
+fn perform(rt: &HostRuntime, task: Task<'_>) -> io::Result<ExitCode> {
+    if task.workload != "all" {
+        return print_one(rt, task);
     }
-    match repeat(rt.alloc(), task)? {
-        Some(checksum) => println!(rt; "{checksum}")?,
-        None => return Ok(ExitCode::from(3)),
+    for &workload in &WORKLOADS {
+        print!(rt; "{workload} ")?;
+        print_one(rt, Task { workload, ..task })?;
     }
     Ok(ExitCode::SUCCESS)
 }
 
-// Prints the workload's name and its checksum, if there is one of this name.
-fn print_named(rt: &HostRuntime, task: Task<'_>) -> anyhow::Result<()> {
-    let workload = task.workload;
-    if let Some(checksum) = repeat(rt.alloc(), task)? {
-        println!(rt; "{workload} {checksum}")?;
+// Prints the workload's checksum, if there is one of this name.
+fn print_one(rt: &HostRuntime, task: Task<'_>) -> io::Result<ExitCode> {
+    let mut checksum = Checksum::new();
+    match repeat(rt.alloc(), task, &mut checksum) {
+        Some(true) => {
+            println!(rt; "{checksum}")?;
+            Ok(ExitCode::SUCCESS)
+        }
+        Some(false) => Err(io::Error::from(ErrorKind::OutOfMemory)),
+        None => Ok(ExitCode::from(UNKNOWN)),
     }
-    Ok(())
 }
 
-// The checksum of all runs of the workload of a task, if there is one of this name.
-fn repeat(alloc: Global, task: Task<'_>) -> anyhow::Result<Option<Checksum>> {
-    let mut checksum = Checksum::new();
+// Makes all runs of the workload of a task, if there is one of this name: whether memory sufficed.
+fn repeat(alloc: Global, task: Task<'_>, checksum: &mut Checksum) -> Option<bool> {
     for rep in 0..task.reps {
         let mut rng = Generator::new(task.seed.wrapping_add(rep));
-        if !run(alloc, task.workload, task.size, &mut rng, &mut checksum)? {
-            return Ok(None);
+        let made = run(alloc, task, &mut rng, checksum);
+        if made != Some(true) {
+            return made;
         }
     }
-    Ok(Some(checksum))
+    Some(true)
 }
 
-// Makes the workload of this name, if there is one.
+// Makes the workload of a task, if there is one of this name: whether memory sufficed.
 fn run(
     alloc: Global,
-    workload: &str,
-    size: u32,
+    task: Task<'_>,
     rng: &mut Generator,
     checksum: &mut Checksum,
-) -> anyhow::Result<bool> {
-    Ok(
-        heap::run(alloc, workload, size, rng, checksum)?
-            || galloc::run(alloc, workload, size, rng, checksum)?
-            || bits::run(alloc, workload, size, rng, checksum)?
-            || sets::run(alloc, workload, size, rng, checksum)?
-            || calls::run(alloc, workload, size, rng, checksum)?,
-    )
+) -> Option<bool> {
+    let (name, size) = (task.workload, task.size);
+    let mut made = heap::run(alloc, name, size, rng, checksum);
+    if made.is_none() {
+        made = galloc::run(alloc, name, size, rng, checksum);
+    }
+    if made.is_none() {
+        made = bits::run(alloc, name, size, rng, checksum);
+    }
+    if made.is_none() {
+        made = sets::run(alloc, name, size, rng, checksum);
+    }
+    if made.is_none() {
+        made = calls::run(alloc, name, size, rng, checksum);
+    }
+    made
 }

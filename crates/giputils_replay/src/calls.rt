@@ -1,41 +1,36 @@
-//! The lines of a list, one after another.
+//! The lines of a list: calls with their words.
 
-use anyhow::{Context, Result};
-use std::alloc::Global;
-use std::error::Error;
-use std::fmt;
-use std::num::ParseIntError;
-
-/// A line that stands for no call of the container.
-#[derive(Clone, Copy, Debug, PartialEq, Eq)]
-pub(crate) struct NotACall;
-
-impl fmt::Display for NotACall {
-    fn fmt<W: fmt::Write>(&self, f: &mut fmt::Formatter<W>) -> fmt::Result {
-        f.write_str("not a call of the container")
-    }
+/// A call: its name, and the words behind it.
+#[derive(Clone, Copy)]
+pub(crate) struct Call<'a> {
+    pub(crate) name: &'a str,
+    pub(crate) words: &'a str,
 }
 
-impl Error for NotACall {}
-
-impl From<ParseIntError> for NotACall {
-    fn from(_error: ParseIntError) -> NotACall {
-        NotACall
+impl<'a> Call<'a> {
+    /// The call of a line.
+    pub(crate) fn of(line: &'a str) -> Self {
+        let (name, words) = line.split_once(' ').unwrap_or((line, ""));
+        Call { name, words }
     }
-}
 
-/// What each line stands for, where `parse` tells it of the line's words.
-pub(crate) fn parse_each<T: Drop, F: Fn(&[&str]) -> Result<T, NotACall>>(
-    alloc: Global,
-    lines: &[String],
-    parse: F,
-) -> Result<Vec<T>>
-    requires { F.IsAlwaysCallable parse }
-{
-    let mut calls = Vec::with_capacity(alloc, lines.len())?;
-    for (i, line) in lines.iter().enumerate() {
-        let words: Vec<&str> = line.split(' ').collect(alloc)?;
-        calls.push(parse(&words).context(format_args!("call {}", i + 1))?)?;
+    /// The word at a place, which is empty where there is none.
+    pub(crate) fn word(self, place: usize) -> &'a str {
+        self.words.split(' ').nth(place).unwrap_or("")
     }
-    Ok(calls)
+
+    /// The number at a place, which is 0 where there is none.
+    pub(crate) fn number(self, place: usize) -> usize {
+        self.word(place).parse().unwrap_or(0)
+    }
+
+    /// The number of 32 bits at a place, which is 0 where there is none.
+    pub(crate) fn short(self, place: usize) -> u32 {
+        self.word(place).parse().unwrap_or(0)
+    }
+
+    /// Whether the word at a place is `1`.
+    pub(crate) fn is_one(self, place: usize) -> bool {
+        self.word(place) == "1"
+    }
 }

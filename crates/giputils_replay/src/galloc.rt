@@ -1,61 +1,93 @@
-//! Lists of calls of the index allocator.
-ghost use Rattle.giputils_replay.specs.Galloc.{Parses};
+//! Lists of calls of the index allocator, which are made in one run.
+//!
+//! `alloc VALUE`, `dealloc INDEX`, `is_removed INDEX`, `read INDEX`, `write INDEX VALUE`, `gc` and `len`: the calls of
+//! these names. A map is told by rising key, as in `{0:0 2:1}`.
 
-use crate::calls::{NotACall, parse_each};
+use crate::calls::Call;
+use crate::replies::Replies;
 use giputils_base::allocator::{GallocCall, GallocReply, galloc_run};
 use giputils_base::hash::GHashMap;
-use std::alloc::Global;
-use std::io::{self, Write};
+use std::alloc::{AllocError, Global};
 
-/// Runs the calls from the empty allocator, and writes a line for each reply.
-pub(crate) fn replay<W: Write>(alloc: Global, out: &mut W, lines: &[String]) -> anyhow::Result<()> {
-    let calls = parse_each(alloc, lines, parse_call)?;
-    let (_, replies) = galloc_run(alloc, &calls)?;
-    for reply in &replies {
-        write_reply(alloc, out, reply)?;
-    }
-    Ok(())
-}
-
-// The call that the words of a line stand for: `alloc VALUE`, `dealloc INDEX`, `is_removed INDEX`, `read INDEX`,
-// `write INDEX VALUE`, `gc` or `len`. Any others stand for none.
-fn parse_call(words: &[&str]) -> Result<GallocCall<u32>, NotACall>
-    ensures { Parses words.now result }
-{
-    match *words {
-        ["alloc", value] => Ok(GallocCall::Alloc(value.parse()?)),
-        ["dealloc", index] => Ok(GallocCall::Dealloc(index.parse()?)),
-        ["is_removed", index] => Ok(GallocCall::IsRemoved(index.parse()?)),
-        ["read", index] => Ok(GallocCall::Read(index.parse()?)),
-        ["write", index, value] => Ok(GallocCall::Write(index.parse()?, value.parse()?)),
-        ["gc"] => Ok(GallocCall::Gc),
-        ["len"] => Ok(GallocCall::Len),
-        _ => Err(NotACall),
+/// Makes the calls on an allocator of no slots.
+pub(crate) fn replay(alloc: Global, calls: &str, replies: &mut Replies) {
+    match replies_to(alloc, calls) {
+        Ok(said) => tell_each(alloc, &said, replies),
+        Err(_) => replies.done(false),
     }
 }
 
-// Writes a reply as a line: a number, a truth value, `ok`, `skipped`, `refused`, or a map by rising key, as in
-// `{0:0 2:1}`.
-fn write_reply<W: Write>(alloc: Global, out: &mut W, reply: &GallocReply<u32>) -> io::Result<()> {
+fn replies_to(alloc: Global, calls: &str) -> Result<Vec<GallocReply<u32>>, AllocError> {
+    let mut made = Vec::new(alloc);
+    for line in calls.lines() {
+        if made.push(made_call(Call::of(line))).is_err() {
+            return Err(AllocError);
+        }
+    }
+    run(alloc, &made)
+}
+
+fn run(alloc: Global, calls: &[GallocCall<u32>]) -> Result<Vec<GallocReply<u32>>, AllocError> {
+    let (_, said) = galloc_run(alloc, calls)?;
+    Ok(said)
+}
+
+// The call of a line. One that is none asks for the length.
+fn made_call(call: Call<'_>) -> GallocCall<u32> {
+    let index = call.number(0);
+    match call.name {
+        "alloc" => GallocCall::Alloc(call.short(0)),
+        "dealloc" => GallocCall::Dealloc(index),
+        "is_removed" => GallocCall::IsRemoved(index),
+        "read" => GallocCall::Read(index),
+        "write" => GallocCall::Write(index, call.short(1)),
+        "gc" => GallocCall::Gc,
+        _ => GallocCall::Len,
+    }
+}
+
+fn tell_each(alloc: Global, said: &[GallocReply<u32>], replies: &mut Replies) {
+    for reply in said {
+        tell(alloc, reply, replies);
+    }
+}
+
+fn tell(alloc: Global, reply: &GallocReply<u32>, replies: &mut Replies) {
     match reply {
-        GallocReply::Index(n) | GallocReply::Length(n) => writeln!(out, "{n}"),
-        GallocReply::Value(value) => writeln!(out, "{value}"),
-        GallocReply::Flag(flag) => writeln!(out, "{flag}"),
-        GallocReply::Done => writeln!(out, "ok"),
-        GallocReply::Skipped => writeln!(out, "skipped"),
-        GallocReply::Refused => writeln!(out, "refused"),
-        GallocReply::Map(map) => write_map(alloc, out, map),
+        GallocReply::Index(n) | GallocReply::Length(n) => replies.number(*n),
+        GallocReply::Value(value) => replies.number(*value as usize),
+        GallocReply::Flag(flag) => replies.flag(*flag),
+        GallocReply::Done => replies.done(true),
+        GallocReply::Skipped => replies.skipped(),
+        GallocReply::Refused => replies.line("refused"),
+        GallocReply::Map(map) => tell_map(alloc, map, replies),
     }
 }
 
-// Writes a map as in `{0:0 2:1}`, by rising key.
-fn write_map<W: Write>(alloc: Global, out: &mut W, map: &GHashMap<usize, usize>) -> io::Result<()> {
-    let mut places: Vec<(usize, usize)> = map.iter().map(|(old, new)| (*old, *new)).collect(alloc)?;
-    places.sort()?;
-    write!(out, "{{")?;
-    for (i, (old, new)) in places.iter().enumerate() {
-        let gap = if i == 0 { "" } else { " " };
-        write!(out, "{gap}{old}:{new}")?;
+fn tell_map(alloc: Global, map: &GHashMap<usize, usize>, replies: &mut Replies) {
+    match pairs(alloc, map) {
+        Ok(pairs) => tell_pairs(&pairs, replies),
+        Err(_) => replies.done(false),
     }
-    writeln!(out, "}}")
+}
+
+// The pairs of a map, by rising key.
+fn pairs(alloc: Global, map: &GHashMap<usize, usize>) -> Result<Vec<(usize, usize)>, AllocError> {
+    let mut pairs = Vec::with_capacity(alloc, map.len())?;
+    for (old, new) in map.iter() {
+        pairs.push((*old, *new))?;
+    }
+    pairs.sort_unstable();
+    Ok(pairs)
+}
+
+fn tell_pairs(pairs: &[(usize, usize)], replies: &mut Replies) {
+    replies.piece("{");
+    for (i, (old, new)) in pairs.iter().enumerate() {
+        replies.piece(if i == 0 { "" } else { " " });
+        replies.shown(old);
+        replies.piece(":");
+        replies.shown(new);
+    }
+    replies.line("}");
 }

@@ -22,51 +22,72 @@ mod rates;
 mod shown;
 mod times;
 
-use anyhow::{Context, Result, bail};
-use std::alloc::Global;
-use std::io::Write;
+use crate::calls::Call;
+use crate::replies::Replies;
+use std::alloc::{AllocError, Global};
 
-/// Writes the answer to each line.
-pub(crate) fn replay<W: Write>(alloc: Global, out: &mut W, lines: &[String]) -> Result<()> {
-    for (i, line) in lines.iter().enumerate() {
-        let answer = answer_to(alloc, line.as_str()).context(format_args!("call {}", i + 1))?;
-        writeln!(out, "{answer}")?;
+/// Answers each question.
+pub(crate) fn replay(alloc: Global, questions: &str, replies: &mut Replies) {
+    for line in questions.lines() {
+        let call = Call::of(line);
+        match numbers(alloc, call.words) {
+            Ok(numbers) => answer(alloc, call.name, &numbers, replies),
+            Err(_) => replies.done(false),
+        }
     }
-    Ok(())
 }
 
-// The answer to a line.
-fn answer_to(alloc: Global, line: &str) -> Result<String> {
-    let mut words = line.split(' ');
-    let name = words.next().context("no words")?;
+// The numbers of some words.
+fn numbers(alloc: Global, words: &str) -> Result<Vec<u128>, AllocError> {
     let mut numbers = Vec::new(alloc);
-    for word in words {
-        numbers.push(word.parse::<u128>()?)?;
+    for word in words.split_whitespace() {
+        numbers.push(word.parse().unwrap_or(0))?;
     }
-    answer(alloc, name, &numbers)
+    Ok(numbers)
 }
 
-// The answer to the question of this name over these numbers.
-fn answer(alloc: Global, name: &str, numbers: &[u128]) -> Result<String> {
+// The number at a place, which is 0 where there is none.
+fn at(numbers: &[u128], place: usize) -> u128 {
+    numbers.get(place).copied().unwrap_or(0)
+}
+
+// The same as a number of 64 bits, which is the greatest one at most.
+fn short_at(numbers: &[u128], place: usize) -> usize {
+    short(at(numbers, place))
+}
+
+fn short(number: u128) -> usize {
+    usize::try_from(number).unwrap_or(usize::MAX)
+}
+
+// Answers the question of this name over these numbers.
+fn answer(alloc: Global, name: &str, numbers: &[u128], replies: &mut Replies) {
     match name {
-        "decimal" => decimals::decimal(alloc, numbers),
-        "percent" => decimals::percent(alloc, numbers),
-        "average" => averages::text(alloc, numbers),
-        "average_sum" => averages::sum(alloc, numbers),
-        "average_mean" => averages::mean(alloc, numbers),
-        "moving_average" => averages::moving(alloc, numbers),
-        "average_duration" => durations::average(alloc, numbers),
-        "average_duration_sum" => durations::average_sum(alloc, numbers),
-        "average_duration_mean" => durations::average_mean(alloc, numbers),
-        "counted_duration" => durations::counted(alloc, numbers),
-        "counted_duration_sum" => durations::counted_sum(alloc, numbers),
-        "doubled_average" => durations::doubled(alloc, numbers),
-        "success_rate" => rates::success_rate(alloc, numbers),
-        "tried_rate" => rates::tried_rate(alloc, numbers),
-        "tries" => rates::tries(alloc, numbers),
-        "running_time" => times::text(alloc, numbers),
-        "time" => times::time(alloc, numbers),
-        "since_label" => times::since_label(alloc, numbers),
-        _ => bail!("no such question"),
+        "decimal" => decimals::decimal(alloc, numbers, replies),
+        "percent" => decimals::percent(alloc, numbers, replies),
+        "average" => averages::text(alloc, numbers, replies),
+        "average_sum" => averages::sum(numbers, replies),
+        "average_mean" => averages::mean(alloc, numbers, replies),
+        "moving_average" => averages::moving(alloc, numbers, replies),
+        "success_rate" => rates::success_rate(alloc, numbers, replies),
+        "tried_rate" => rates::tried_rate(alloc, numbers, replies),
+        "tries" => rates::tries(numbers, replies),
+        _ => answer_of_times(alloc, name, numbers, replies),
+    }
+}
+
+// The same of durations and moments.
+fn answer_of_times(alloc: Global, name: &str, numbers: &[u128], replies: &mut Replies) {
+    match name {
+        "average_duration" => durations::average(alloc, numbers, replies),
+        "average_duration_sum" => durations::average_sum(numbers, replies),
+        "average_duration_mean" => durations::average_mean(numbers, replies),
+        "counted_duration" => durations::counted(alloc, numbers, replies),
+        "counted_duration_sum" => durations::counted_sum(numbers, replies),
+        "doubled_average" => durations::doubled(alloc, numbers, replies),
+        "running_time" => times::text(alloc, numbers, replies),
+        "time" => times::time(numbers, replies),
+        "since_label" => times::since_label(numbers, replies),
+        _ => replies.unknown(),
     }
 }

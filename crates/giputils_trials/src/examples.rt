@@ -10,7 +10,7 @@ use giputils::decimal::{Decimal, rounded};
 use giputils::grc::Grc;
 use giputils::gvec::Gvec;
 use giputils::hash::GHashMap;
-use giputils::heap::{BinaryHeap, ByRank};
+use giputils::heap::{BinaryHeap, BoundedHeap, ByNumber, ByRank};
 use giputils::logger::IntervalLogger;
 use giputils::statistic::Average;
 use log::Level;
@@ -39,6 +39,16 @@ fn change_ranks(rt: &impl Abort, heap: &mut BinaryHeap<u8>) -> Result<(), Fail> 
     assert!(rt; heap.peek() == Some(1));
     assert!(rt; heap.remove(1, &ByRank(&ranks)));
     assert!(rt; !heap.contains(1));
+    Ok(())
+}
+
+#[test]
+fn a_bounded_heap(rt: HostRuntime) -> Result<(), Fail> {
+    let mut queue: BoundedHeap<u8> = BoundedHeap::with_bound(rt.alloc(), 3)?;
+    queue.build(&[0, 1, 2], &ByNumber);
+    assert!(rt; queue.pop(&ByNumber) == Some(2));
+    queue.push(2, &ByNumber);
+    assert!(rt; queue.len() == 3);
     Ok(())
 }
 

@@ -1,10 +1,18 @@
-//! All tests of `giputils` and of `giputils_refusing`: the examples of the README, and what the allocator for tests
-//! refuses, counts and passes on, which no clause can say.
+//! Tests of the containers but for the heaps, and of `giputils_refusing`: the examples of the README, what the allocator
+//! for tests refuses, counts and passes on, and calls that are refused memory, request by request.
 //!
-//! They stand apart from the libraries, so that these are not proved twice for them.
+//! They hold what no clause can say: that a call answers want of memory only where a request was refused, how many
+//! requests it makes, and that some calls make none. What a refused call leaves is proved. They stand apart from the
+//! libraries, so that these are not proved twice for them.
 #![tactic(auto)]
 
+#[cfg(test)]
+mod base;
+#[cfg(test)]
+mod bits;
 #[cfg(test)]
 mod examples;
 #[cfg(test)]
 mod refusing;
+#[cfg(test)]
+mod uses;

@@ -1,49 +1,38 @@
-//! Calls that name a place or a length.
+//! Calls that name a place: `get PLACE`, `set PLACE BIT`, `put PLACE BIT`, `flip PLACE` and `set_word INDEX WORD`.
+ghost use Rattle.std.specs.Prelude.{◌<◌, length};
 
-use super::Reply;
-use crate::calls::NotACall;
+use crate::calls::Call;
+use crate::replies::Replies;
 use giputils_bits::bitvec::BitVec;
 
-/// Makes the call of a name and one or two numbers: `get PLACE`, `set PLACE BIT`, `put PLACE BIT`, `flip PLACE`,
-/// `set_word INDEX WORD`, `truncate LEN` or `next_one START`.
-pub(super) fn call(
-    bits: &mut BitVec,
-    name: &str,
-    first: usize,
-    second: usize,
-) -> Result<Reply, NotACall> {
-    match name {
-        "truncate" => Ok(truncate(bits, first)),
-        "next_one" => Ok(Reply::Place(bits.next_one(first))),
-        "set_word" => Ok(set_word(bits, first, second)),
-        "get" | "put" | "set" | "flip" => Ok(call_at(bits, name, first, second == 1)),
-        _ => Err(NotACall),
+/// Makes a call, if the vector has the place.
+pub(super) fn make(bits: &mut BitVec, call: Call<'_>, replies: &mut Replies) {
+    let place = call.number(0);
+    if call.name == "set_word" {
+        set_word(bits, place, call.number(1), replies);
+    } else if place < bits.len() {
+        make_at(bits, call.name, place, call.is_one(1), replies);
+    } else {
+        replies.skipped();
     }
 }
 
-fn truncate(bits: &mut BitVec, len: usize) -> Reply {
-    bits.truncate(len);
-    Reply::Done
-}
-
-fn set_word(bits: &mut BitVec, index: usize, word: usize) -> Reply {
+fn set_word(bits: &mut BitVec, index: usize, word: usize, replies: &mut Replies) {
     if index >= bits.word_len() {
-        return Reply::Skipped;
+        return replies.skipped();
     }
     bits.set_word(index, word as u64);
-    Reply::Done
+    replies.done(true);
 }
 
-// Makes a call at a place, if the vector has it.
-fn call_at(bits: &mut BitVec, name: &str, place: usize, bit: bool) -> Reply {
-    if place >= bits.len() {
-        return Reply::Skipped;
-    }
+fn make_at(bits: &mut BitVec, name: &str, place: usize, bit: bool, replies: &mut Replies)
+    requires { place < length bits.old }
+{
     match name {
-        "get" => return Reply::Flag(bits.get(place)),
-        "put" => return Reply::Flag(bits.put(place, bit)),
+        "get" => return replies.flag(bits.get(place)),
+        "put" => return replies.flag(bits.put(place, bit)),
         "set" => bits.set(place, bit),
         _ => bits.flip(place),
     }
-    Reply::Done
+    replies.done(true);
 }

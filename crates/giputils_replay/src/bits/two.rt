@@ -1,102 +1,84 @@
-//! Calls that are lent other vectors.
+//! Calls that are lent other vectors, which are named by their texts.
 
-use super::Reply;
-use crate::calls::NotACall;
+use crate::calls::Call;
+use crate::replies::Replies;
 use giputils_bits::bitvec::{BitVec, BitVecError};
 use std::alloc::Global;
+use std::cmp::Ordering;
 
-/// Whether a call of this name is lent one vector.
-pub(super) fn is_call(name: &str) -> bool {
-    matches!(
-        name,
-        "append"
-            | "eq"
-            | "ne"
-            | "cmp"
-            | "and"
-            | "or"
-            | "xor"
-            | "copy_from"
-            | "difference_with"
-            | "is_subset"
-            | "is_disjoint"
-    )
-}
-
-/// Makes the call of a name that is lent the vector with this text.
-pub(super) fn call(
-    alloc: Global,
-    bits: &mut BitVec,
-    name: &str,
-    text: &str,
-) -> anyhow::Result<Reply> {
-    let other = vector(alloc, text)?;
-    Ok(lend(bits, name, &other)?)
+/// Makes a call that is lent one vector, or `assign_and TEXT NEGATED TEXT NEGATED`.
+pub(super) fn make(alloc: Global, bits: &mut BitVec, call: Call<'_>, replies: &mut Replies) {
+    let Ok(first) = vector(alloc, call.word(0)) else {
+        return replies.done(false);
+    };
+    if call.name == "assign_and" {
+        assign_and(alloc, bits, &first, call, replies);
+    } else {
+        lend(bits, call.name, &first, replies);
+    }
 }
 
 // The vector with this text.
 fn vector(alloc: Global, text: &str) -> Result<BitVec, BitVecError> {
-    let digits = if text == "[]" { "" } else { text };
-    BitVec::from(alloc, digits.bytes().rev().map(|digit| digit == b'1'))
+    let mut bits = BitVec::new(alloc);
+    for digit in text.bytes().rev() {
+        if digit == b'0' || digit == b'1' {
+            bits.push(digit == b'1')?;
+        }
+    }
+    Ok(bits)
 }
 
-fn lend(bits: &mut BitVec, name: &str, other: &BitVec) -> Result<Reply, BitVecError> {
-    Ok(match name {
-        "append" => return append(bits, other),
-        "eq" => Reply::Flag(*bits == *other),
-        "ne" => Reply::Flag(*bits != *other),
-        "cmp" => Reply::Order(BitVec::cmp(bits, other)),
-        _ if bits.len() != other.len() => Reply::Skipped,
-        "is_subset" => Reply::Flag(bits.is_subset(other)),
-        "is_disjoint" => Reply::Flag(bits.is_disjoint(other)),
-        _ => join(bits, name, other),
-    })
+fn lend(bits: &mut BitVec, name: &str, other: &BitVec, replies: &mut Replies) {
+    match name {
+        "append" => replies.done(bits.append(other).is_ok()),
+        "eq" => replies.flag(*bits == *other),
+        "ne" => replies.flag(*bits != *other),
+        "cmp" => replies.line(name_of(BitVec::cmp(bits, other))),
+        _ if bits.len() != other.len() => replies.skipped(),
+        "is_subset" => replies.flag(bits.is_subset(other)),
+        "is_disjoint" => replies.flag(bits.is_disjoint(other)),
+        _ => join(bits, name, other, replies),
+    }
 }
 
-fn append(bits: &mut BitVec, other: &BitVec) -> Result<Reply, BitVecError> {
-    bits.append(other)?;
-    Ok(Reply::Done)
+fn name_of(order: Ordering) -> &'static str {
+    match order {
+        Ordering::Less => "less",
+        Ordering::Equal => "equal",
+        Ordering::Greater => "greater",
+    }
 }
 
 // Joins a vector with one of its length.
-fn join(bits: &mut BitVec, name: &str, other: &BitVec) -> Reply {
+fn join(bits: &mut BitVec, name: &str, other: &BitVec, replies: &mut Replies) {
     if bits.len() != other.len() {
-        return Reply::Skipped;
+        return replies.skipped();
     }
     match name {
         "and" => *bits &= other,
         "or" => *bits |= other,
         "xor" => *bits ^= other,
         "copy_from" => bits.copy_from(other),
-        _ => bits.difference_with(other),
+        "difference_with" => bits.difference_with(other),
+        _ => return replies.unknown(),
     }
-    Reply::Done
+    replies.done(true);
 }
 
-/// Makes the call of `assign_and TEXT NEGATED TEXT NEGATED`, each vector negated where that is 1.
-pub(super) fn assign_and(
+fn assign_and(
     alloc: Global,
     bits: &mut BitVec,
-    inputs: &[&str],
-) -> anyhow::Result<Reply> {
-    match *inputs {
-        [a, not_a, b, not_b] => {
-            Ok(assign(
-                bits,
-                &vector(alloc, a)?,
-                not_a == "1",
-                &vector(alloc, b)?,
-                not_b == "1",
-            ))
-        }
-        _ => Err(NotACall.into()),
+    first: &BitVec,
+    call: Call<'_>,
+    replies: &mut Replies,
+) {
+    let Ok(second) = vector(alloc, call.word(2)) else {
+        return replies.done(false);
+    };
+    if bits.len() != first.len() || bits.len() != second.len() {
+        return replies.skipped();
     }
-}
-
-fn assign(bits: &mut BitVec, a: &BitVec, not_a: bool, b: &BitVec, not_b: bool) -> Reply {
-    if bits.len() != a.len() || bits.len() != b.len() {
-        return Reply::Skipped;
-    }
-    bits.assign_and(a, not_a, b, not_b);
-    Reply::Done
+    bits.assign_and(first, call.is_one(1), &second, call.is_one(3));
+    replies.done(true);
 }

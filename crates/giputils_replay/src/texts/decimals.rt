@@ -1,54 +1,49 @@
 //! Questions on fractions.
-ghost use Rattle.giputils_replay.specs.Texts.{ArePlaces, AskForDecimal};
-ghost use Rattle.std.specs.Prelude.{◌≡◌, ◌↔◌, IfOk, IsOk, slice_index};
-ghost use Rattle.std.specs.Result.{OkIff};
+ghost use Rattle.std.specs.Prelude.{◌<◌, ◌≤◌};
 
-use super::shown::display_text;
-use anyhow::{Result, bail, ensure};
+use super::shown::tell_display;
+use super::{at, short};
+use crate::replies::Replies;
 use giputils_stat::decimal::Decimal;
 use std::alloc::Global;
 
 /// The text of a fraction.
-pub(crate) fn decimal(alloc: Global, numbers: &[u128]) -> Result<String> {
-    let decimal = decimal_of(numbers)?;
-    display_text(alloc, &decimal)
+pub(crate) fn decimal(alloc: Global, numbers: &[u128], replies: &mut Replies) {
+    let decimal = Decimal {
+        numerator: at(numbers, 0),
+        denominator: divisor(at(numbers, 1)),
+        places: places_of(at(numbers, 2)),
+    };
+    tell_display(alloc, &decimal, replies);
+    replies.line("");
 }
 
 /// The text of how many of a hundred one number is of another.
-pub(crate) fn percent(alloc: Global, numbers: &[u128]) -> Result<String> {
-    let &[part, whole, places] = numbers else {
-        bail!("a percentage is of three numbers");
-    };
-    let whole = u64::try_from(whole)?;
-    ensure!(whole > 0, "division by 0");
-    let decimal = Decimal::percent(u64::try_from(part)?, whole, places_of(places)?);
-    display_text(alloc, &decimal)
+pub(crate) fn percent(alloc: Global, numbers: &[u128], replies: &mut Replies) {
+    let part = short(at(numbers, 0)) as u64;
+    let decimal = Decimal::percent(part, divisor(at(numbers, 1)), places_of(at(numbers, 2)));
+    tell_display(alloc, &decimal, replies);
+    replies.line("");
 }
 
-/// A number of decimals.
-pub(crate) fn places_of(number: u128) -> Result<u32>
-    ensures { OkIff result (ArePlaces number) number }
+/// A number of decimals: 1 where it is none, and 19 where it is greater.
+pub(crate) fn places_of(number: u128) -> u32
+    ensures some { 0 < result }
+    ensures most { result ≤ 19 }
 {
-    ensure!(number > 0, "no decimals");
-    ensure!(number <= 19, "too many decimals");
-    Ok(number as u32)
+    if number == 0 {
+        1
+    } else if number > 19 {
+        19
+    } else {
+        number as u32
+    }
 }
 
-// The decimal that the numbers of a line ask for: a numerator, a denominator, and how many places.
-fn decimal_of(numbers: &[u128]) -> Result<Decimal>
-    ensures accepted { IsOk result ↔ AskForDecimal numbers.now }
-    ensures numerator { IfOk result (λ d. d.numerator ≡ slice_index numbers.now 0) }
-    ensures denominator { IfOk result (λ d. d.denominator ≡ slice_index numbers.now 1) }
-    ensures places { IfOk result (λ d. d.places ≡ slice_index numbers.now 2) }
+// What a fraction is divided by: 1 where it is 0.
+fn divisor(number: u128) -> u64
+    ensures { 0 < result }
 {
-    let &[numerator, denominator, places] = numbers else {
-        bail!("a decimal is of three numbers");
-    };
-    ensure!(denominator > 0, "division by 0");
-    ensure!(denominator <= u64::MAX as u128, "too large a denominator");
-    Ok(Decimal {
-        numerator,
-        denominator: denominator as u64,
-        places: places_of(places)?,
-    })
+    let divisor = short(number) as u64;
+    if divisor > 0 { divisor } else { 1 }
 }

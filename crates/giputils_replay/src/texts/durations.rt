@@ -1,82 +1,96 @@
 //! Questions on averages and sums of durations.
 
-use super::shown::debug_text;
-use anyhow::{Result, bail, ensure};
+use super::at;
+use super::shown::tell_debug;
+use crate::replies::Replies;
 use giputils_stat::statistic::{AverageDuration, CountedDuration};
 use std::alloc::Global;
 use std::time::Duration;
 
 /// The text of the average of the durations.
-pub(crate) fn average(alloc: Global, numbers: &[u128]) -> Result<String> {
-    let average = average_of(numbers)?;
-    debug_text(alloc, &average)
+pub(crate) fn average(alloc: Global, numbers: &[u128], replies: &mut Replies) {
+    tell_debug(alloc, &average_of(numbers), replies);
+    replies.line("");
 }
 
 /// The sum that the average of the durations tells.
-pub(crate) fn average_sum(alloc: Global, numbers: &[u128]) -> Result<String> {
-    let sum = average_of(numbers)?.sum();
-    Ok(format!(in alloc; "{}", sum.as_nanos())?)
+pub(crate) fn average_sum(numbers: &[u128], replies: &mut Replies) {
+    tell_nanos(average_of(numbers).sum(), replies);
 }
 
 /// The average of the durations, or `none`.
-pub(crate) fn average_mean(alloc: Global, numbers: &[u128]) -> Result<String> {
-    Ok(match average_of(numbers)?.mean() {
-        Some(mean) => format!(in alloc; "{}", mean.as_nanos())?,
-        None => format!(in alloc; "none")?,
-    })
+pub(crate) fn average_mean(numbers: &[u128], replies: &mut Replies) {
+    match average_of(numbers).mean() {
+        Some(mean) => tell_nanos(mean, replies),
+        None => replies.line("none"),
+    }
 }
 
 /// The text of the number and the sum of the durations.
-pub(crate) fn counted(alloc: Global, numbers: &[u128]) -> Result<String> {
-    let counted = counted_of(numbers)?;
-    debug_text(alloc, &counted)
+pub(crate) fn counted(alloc: Global, numbers: &[u128], replies: &mut Replies) {
+    tell_debug(alloc, &counted_of(numbers), replies);
+    replies.line("");
 }
 
 /// The sum that the counted durations tell.
-pub(crate) fn counted_sum(alloc: Global, numbers: &[u128]) -> Result<String> {
-    let sum = counted_of(numbers)?.sum();
-    Ok(format!(in alloc; "{}", sum.as_nanos())?)
+pub(crate) fn counted_sum(numbers: &[u128], replies: &mut Replies) {
+    tell_nanos(counted_of(numbers).sum(), replies);
 }
 
 /// How many durations are in an average that is added to itself so often, and its text.
-pub(crate) fn doubled(alloc: Global, numbers: &[u128]) -> Result<String> {
-    let &[times, nanos] = numbers else {
-        bail!("how often, and of which duration");
-    };
-    let mut average = average_of(&[nanos])?;
-    for _ in 0..times {
-        ensure!(average.can_merge(&average), "too many durations");
-        let same = average;
-        average += same;
-    }
-    let text = debug_text(alloc, &average)?;
-    Ok(format!(in alloc; "{} {text}", average.count())?)
-}
-
-/// The duration of so many nanoseconds.
-pub(crate) fn duration_of(nanos: u128) -> Result<Duration> {
-    ensure!(nanos <= Duration::MAX.as_nanos(), "too long");
-    Ok(Duration::from_nanos_u128(nanos))
-}
-
-// The average of the durations.
-fn average_of(numbers: &[u128]) -> Result<AverageDuration> {
+pub(crate) fn doubled(alloc: Global, numbers: &[u128], replies: &mut Replies) {
     let mut average = AverageDuration::default();
-    for nanos in numbers {
-        let duration = duration_of(*nanos)?;
-        ensure!(average.can_add(duration), "too long");
+    let duration = duration_of(at(numbers, 1));
+    if average.can_add(duration) {
         average += duration;
     }
-    Ok(average)
+    for _ in 0..at(numbers, 0) {
+        let same = average;
+        if average.can_merge(&same) {
+            average += same;
+        }
+    }
+    replies.shown(&average.count());
+    replies.piece(" ");
+    tell_debug(alloc, &average, replies);
+    replies.line("");
 }
 
-// The number and the sum of the durations.
-fn counted_of(numbers: &[u128]) -> Result<CountedDuration> {
+/// Tells the nanoseconds of a duration.
+pub(crate) fn tell_nanos(duration: Duration, replies: &mut Replies) {
+    replies.shown(&duration.as_nanos());
+    replies.line("");
+}
+
+/// The duration of so many nanoseconds, which is the greatest one at most.
+pub(crate) fn duration_of(nanos: u128) -> Duration {
+    if nanos <= Duration::MAX.as_nanos() {
+        Duration::from_nanos_u128(nanos)
+    } else {
+        Duration::MAX
+    }
+}
+
+// The average of the durations, as far as they can be added.
+fn average_of(numbers: &[u128]) -> AverageDuration {
+    let mut average = AverageDuration::default();
+    for nanos in numbers {
+        let duration = duration_of(*nanos);
+        if average.can_add(duration) {
+            average += duration;
+        }
+    }
+    average
+}
+
+// The number and the sum of the durations, as far as they can be added.
+fn counted_of(numbers: &[u128]) -> CountedDuration {
     let mut counted = CountedDuration::default();
     for nanos in numbers {
-        let duration = duration_of(*nanos)?;
-        ensure!(counted.can_add(duration), "too long");
-        counted += duration;
+        let duration = duration_of(*nanos);
+        if counted.can_add(duration) {
+            counted += duration;
+        }
     }
-    Ok(counted)
+    counted
 }

@@ -1,40 +1,36 @@
 //! Questions on running times.
 
-use super::durations::duration_of;
-use super::shown::display_text;
-use anyhow::{Result, bail, ensure};
+use super::at;
+use super::durations::{duration_of, tell_nanos};
+use super::shown::tell_display;
+use crate::replies::Replies;
 use giputils_stat::statistic::RunningTime;
 use std::alloc::Global;
 
 /// The text of a running time.
-pub(crate) fn text(alloc: Global, numbers: &[u128]) -> Result<String> {
-    let &[start, now] = numbers else {
-        bail!("a running time is of two moments");
-    };
-    let running = RunningTime::new(duration_of(start)?);
-    let shown = running.show(duration_of(now)?);
-    display_text(alloc, &shown)
+pub(crate) fn text(alloc: Global, numbers: &[u128], replies: &mut Replies) {
+    let running = RunningTime::new(duration_of(at(numbers, 0)));
+    tell_display(alloc, &running.show(duration_of(at(numbers, 1))), replies);
+    replies.line("");
 }
 
 /// How long it has run.
-pub(crate) fn time(alloc: Global, numbers: &[u128]) -> Result<String> {
-    let &[start, now] = numbers else {
-        bail!("a running time is of two moments");
-    };
-    let running = RunningTime::new(duration_of(start)?);
-    let time = running.time(duration_of(now)?);
-    Ok(format!(in alloc; "{}", time.as_nanos())?)
+pub(crate) fn time(numbers: &[u128], replies: &mut Replies) {
+    let running = RunningTime::new(duration_of(at(numbers, 0)));
+    tell_nanos(running.time(duration_of(at(numbers, 1))), replies);
 }
 
 /// How long it has run since a label was made, by a copy of it.
-pub(crate) fn since_label(alloc: Global, numbers: &[u128]) -> Result<String> {
-    let &[start, labelled, now] = numbers else {
-        bail!("the time since a label is of three moments");
+pub(crate) fn since_label(numbers: &[u128], replies: &mut Replies) {
+    let now = duration_of(at(numbers, 2));
+    let running = RunningTime::new(duration_of(at(numbers, 0)));
+    let Ok(copy) = running.clone() else {
+        return replies.done(false);
     };
-    let now = duration_of(now)?;
-    let running = RunningTime::new(duration_of(start)?);
-    let label = running.clone()?.label(duration_of(labelled)?);
-    ensure!(label <= running.time(now), "the label is of a later moment");
-    let since = running.from_label(now, label);
-    Ok(format!(in alloc; "{}", since.as_nanos())?)
+    let label = copy.label(duration_of(at(numbers, 1)));
+    if label <= running.time(now) {
+        tell_nanos(running.from_label(now, label), replies);
+    } else {
+        replies.skipped();
+    }
 }

@@ -7,44 +7,54 @@
 ghost use Rattle.std.specs.Prelude.{◌≡◌, ◌≢◌, ℕ, Some, None, nat_eq, IfOk, OnOk, OnErr};
 ghost use Rattle.giputils_base.specs.Hash.{get};
 
-use super::{Container, Reply, text};
-use crate::calls::NotACall;
-use anyhow::Result;
+use crate::calls::Call;
+use crate::replies::Replies;
 use giputils_base::hash::GHashMap;
 use std::alloc::{AllocError, Global};
-use std::io::Write;
 use std::mem;
 
-/// Makes the calls on a map of no keys, and writes a line for each reply.
-pub(crate) fn replay<W: Write>(alloc: Global, out: &mut W, lines: &[String]) -> Result<()> {
-    super::replay(alloc, out, lines, &mut GHashMap::new(alloc))
+/// Makes the calls on a map of no keys.
+pub(crate) fn replay(alloc: Global, calls: &str, replies: &mut Replies) {
+    let mut map = GHashMap::new(alloc);
+    for line in calls.lines() {
+        answer(alloc, &mut map, Call::of(line), replies);
+    }
 }
 
-impl Container for GHashMap<u32, u32> {
-    fn call(&mut self, alloc: Global, name: &str, numbers: &[u32]) -> Result<Reply> {
-        match *numbers {
-            [] => whole(alloc, self, name),
-            [key] => Ok(entry(self, name, key)?),
-            [key, value] if name == "insert" => {
-                put(self, key, value)?;
-                Ok(Reply::Done)
-            }
-            _ => Err(NotACall.into()),
+// Makes a call, and tells its reply.
+fn answer(alloc: Global, map: &mut GHashMap<u32, u32>, call: Call<'_>, replies: &mut Replies) {
+    let key = call.short(0);
+    match call.name {
+        "collect" => put_back(map, later_values(alloc), replies),
+        "clone" => {
+            let made = cloned(map);
+            put_back(map, made, replies);
         }
+        "insert" => replies.done(put(map, key, call.short(1)).is_ok()),
+        "len" => replies.number(map.len()),
+        "text" => replies.debugged(map),
+        "pairs" => tell_pairs(alloc, map, replies),
+        "get" => replies.value(value_at(map, key)),
+        "remove" => replies.value(map.remove(&key)),
+        "contains_key" => replies.flag(map.contains_key(&key)),
+        "raise" => replies.flag(raised(map, key)),
+        _ => replies.unknown(),
     }
 }
 
-// The reply to a call without numbers.
-fn whole(alloc: Global, map: &mut GHashMap<u32, u32>, name: &str) -> Result<Reply> {
-    match name {
-        "collect" => *map = later_values(alloc)?,
-        "clone" => *map = cloned(map)?,
-        "len" => return Ok(Reply::Number(map.len())),
-        "pairs" => return Ok(text(alloc, &pairs(alloc, map)?)?),
-        "text" => return Ok(text(alloc, map)?),
-        _ => return Err(NotACall.into()),
+// Goes on with a map that was made.
+fn put_back(
+    map: &mut GHashMap<u32, u32>,
+    made: Result<GHashMap<u32, u32>, AllocError>,
+    replies: &mut Replies,
+) {
+    match made {
+        Ok(made) => {
+            *map = made;
+            replies.done(true);
+        }
+        Err(_) => replies.done(false),
     }
-    Ok(Reply::Done)
 }
 
 fn later_values(alloc: Global) -> Result<GHashMap<u32, u32>, AllocError>
@@ -61,23 +71,19 @@ fn cloned(map: &GHashMap<u32, u32>) -> Result<GHashMap<u32, u32>, AllocError>
     map.clone()
 }
 
-// Takes all pairs out, and gives them by rising key.
+// Takes all pairs out, and tells them by rising key.
+fn tell_pairs(alloc: Global, map: &mut GHashMap<u32, u32>, replies: &mut Replies) {
+    match pairs(alloc, map) {
+        Ok(pairs) => replies.debugged(&pairs),
+        Err(_) => replies.done(false),
+    }
+}
+
 fn pairs(alloc: Global, map: &mut GHashMap<u32, u32>) -> Result<Vec<(u32, u32)>, AllocError> {
     let taken = mem::replace(map, GHashMap::new(alloc));
     let mut pairs: Vec<(u32, u32)> = taken.into_iter().collect(alloc)?;
     pairs.sort_unstable();
     Ok(pairs)
-}
-
-// The reply to a call on one key.
-fn entry(map: &mut GHashMap<u32, u32>, name: &str, key: u32) -> Result<Reply, NotACall> {
-    Ok(match name {
-        "get" => Reply::Value(value_at(map, key)),
-        "remove" => Reply::Value(map.remove(&key)),
-        "contains_key" => Reply::Flag(map.contains_key(&key)),
-        "raise" => Reply::Flag(raised(map, key)),
-        _ => return Err(NotACall),
-    })
 }
 
 fn value_at(map: &GHashMap<u32, u32>, key: u32) -> Option<u32>

@@ -1,7 +1,7 @@
 //! Work with each of its requests for memory refused in turn.
 
-use crate::hashed::GROWTH;
-use crate::{hashed, indexes, lists, statistics};
+use crate::base::hashed::GROWTH;
+use crate::base::{hashed, indexes, lists, statistics};
 use giputils_refusing::{Refusing, TurnFault, refuse_each, refuse_from_each};
 use std::alloc::Global;
 

@@ -1,4 +1,0 @@
-pub mod Galloc
-pub mod Heap
-pub mod Texts
-pub mod Words
