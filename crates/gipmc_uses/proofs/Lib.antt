@@ -1,0 +1,2 @@
+mod Counters
+mod SameSums

@@ -1,0 +1,6 @@
+//! Uses of circuits, as a caller writes them: a module a topic, each use proved on public contracts alone.
+#![tactic(auto)]
+
+pub mod adders;
+pub mod confirm;
+pub mod counter;

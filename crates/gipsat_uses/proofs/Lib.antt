@@ -1,0 +1,8 @@
+mod Cardinalities
+mod Examples
+mod FirstQuestion
+mod Followed
+mod Incrementals
+mod MinimalCores
+mod Outcomes
+mod Unrolling

@@ -1,0 +1,8 @@
+//! Uses of the solver, as a caller writes them: a module a topic, each use proved on public contracts alone.
+#![tactic(auto)]
+
+pub mod bounded;
+pub mod cardinality;
+pub mod first_question;
+pub mod incremental;
+pub mod minimal_core;
