@@ -62,7 +62,7 @@ def main():
         for asked, fault in answers.items():
             passed, failed = passed + (not fault), failed + bool(fault)
             if fault:
-                print(f"{script.relative_to(ROOT)}: {asked}: {fault}")
+                print(f"FAILED: {script.relative_to(ROOT)}: {asked}: {fault}")
     print(f"{passed} passed, {failed} failed")
     return 1 if failed else 0
 

@@ -13,7 +13,7 @@ there=$(mktemp -d) || exit 2
 trap 'rm -rf "$there"' EXIT
 cd "$there" && git init -q . || exit 2
 
-for crate in giputils_base giputils_heap gipsat_cnf gipsat_kernel gipsat_search gipsat_solver; do
+for crate in giputils_vec giputils_bounded giputils_heap gipsat_cnf gipsat_kernel gipsat_search gipsat_solver; do
     mkdir -p "crates/$crate"
     cp -r "$here/crates/$crate"/{src,specs,proofs} "crates/$crate" || exit 2
     grep "^$crate:" "$here/crates.txt" >> crates.txt || exit 2
@@ -54,11 +54,11 @@ cat > crates/solver_caller/src/main.rt << 'END'
 #![tactic(auto)]
 
 use gipsat_solver::{Literal, Solver};
-use std::alloc::{AllocError, Allocator};
+use std::alloc::{AllocError, Global};
 use std::io;
 
 // Whether something satisfies two clauses that contradict each other.
-fn is_satisfied<A: Allocator + Copy>(alloc: A) -> Result<bool, AllocError> {
+fn is_satisfied(alloc: Global) -> Result<bool, AllocError> {
     let l = Literal::new(1, true);
     let mut solver = Solver::new(alloc);
     solver.add_clause(&[l])?;

@@ -65,13 +65,13 @@ def try_all(copy):
         said = compile_with(case, copy)
         if said is None:
             failed += 1
-            print(f"must-not-compile {path.name}: FAILED: its 'old:' text does not stand once in {case['file']}")
+            print(f"FAILED: must-not-compile {path.name}: its 'old:' text does not stand once in {case['file']}")
         elif case["error"] in said:
             passed += 1
             print(f"must-not-compile {path.name}: refused, as it must be: {case['error']}")
         else:
             failed += 1
-            print(f"must-not-compile {path.name}: FAILED: no '{case['error']}' in\n{said}")
+            print(f"FAILED: must-not-compile {path.name}: no '{case['error']}' in\n{said}")
     print(f"{passed} passed, {failed} failed")
     return 1 if failed or not passed else 0
 

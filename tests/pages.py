@@ -27,11 +27,10 @@ The crate `giputils` hands out the files of specs/ that have these words, and al
 
 Each line of an example in Rust on a README that is not quoted stands in giputils_trials/src/examples.rt, its imports
 under the names that `giputils` gives them. The page of `gip` has the script that `gip` is run on, with its replies. The
-README of the root links to that of each crate. The folders that docs/ELSEWHERE.md names for a part are, with those of
-the rows that it names, all that crates.txt asks for. docs/DESIGN.md names each crate, and in its table those that it
-stands on; the solver has the names that stand there beside MiniSat's, the imports of its modules make no cycle, and
+folders that docs/ELSEWHERE.md names for a part are, with those of the rows that it names, all that crates.txt asks for.
+docs/DESIGN.md names each crate, links to its README, and has in its table those that it stands on; the solver has the names that stand there beside MiniSat's, the imports of its modules make no cycle, and
 each module begins with a line `//!`. Each file that a page names is there, and each part of a page that a link names;
-no line has more than 120 columns, but for imports that are quoted, and the README of the root has at most 90 lines.
+no line has more than 120 columns, but for imports that are quoted, and the README of the root has at most 80 lines.
 """
 
 import argparse
@@ -45,9 +44,9 @@ import textwrap
 
 ROOT = pathlib.Path(__file__).resolve().parent.parent
 CRATES = ROOT / "crates"
-GATHERED = ("giputils_base", "giputils_bits", "giputils_heap", "giputils_stat")
+GATHERED = tuple(f"giputils_{part}" for part in "bits bits_run bounded hash heap index stat vec".split())
 WIDTH = 120
-LINES = 90
+LINES = 80
 PEER, PROVED, TESTED = "## What differs from ", "## What is proved", "## What is only tested"
 EXAMPLE, DIFFERS, CHOICES, COST = "## Example", PEER + "the Rust crate", "## Choices", "## Cost"
 ALL = (EXAMPLE, DIFFERS, PROVED, TESTED, CHOICES, COST)
@@ -55,8 +54,12 @@ ALL = (EXAMPLE, DIFFERS, PROVED, TESTED, CHOICES, COST)
 PARTS = {
     "giputils": (EXAMPLE, DIFFERS),
     "giputils_base": ALL,
+    "giputils_vec": ALL,
+    "giputils_hash": (EXAMPLE, DIFFERS, PROVED, TESTED, COST),
+    "giputils_index": ALL,
     "giputils_bits": ALL,
     "giputils_bits_run": (PROVED, TESTED, CHOICES),
+    "giputils_bounded": ALL,
     "giputils_heap": ALL,
     "giputils_stat": ALL,
     "giputils_text": (PROVED, TESTED, CHOICES),
@@ -80,7 +83,10 @@ PARTS = {
     "gip_lines": (PROVED, TESTED, CHOICES, COST),
     "gip": (EXAMPLE,),
     "giputils_uses": (PROVED, TESTED, CHOICES),
+    "gipsat_uses": (PROVED, TESTED),
+    "gipmc_uses": (PROVED, TESTED),
     "giputils_replay": (TESTED,),
+    "gipsat_replay": (TESTED,),
     "giputils_bench": ("## Workloads", "## How to measure"),
 }
 
@@ -432,25 +438,30 @@ def packed(text):
     return re.sub(r"\s", "", re.sub(r"//.*", "", text))
 
 
+def imports(text):
+    """The names that a text of Rust imports, each with its path."""
+    found = re.findall(r"\buse ([\w:]+?)(?:::\{([^}]*)\})?;", text)
+    return {f"{path}::{name.strip()}" if names else path for path, names in found for name in (names or path).split(",") if name.strip()}
+
+
 def examples(text):
     """The lines of a page's examples in Rust that no test has, imports by the names that `giputils` gives them."""
-    tests = packed((CRATES / "giputils_trials/src/examples.rt").read_text(encoding="utf-8"))
+    tests = (CRATES / "giputils_trials/src/examples.rt").read_text(encoding="utf-8")
     found = re.findall(r"^```rust\n(.*?)^```", QUOTE.sub("", text), re.DOTALL | re.MULTILINE)
     lines = [line for example in found for line in example.split("\n") if packed(line)]
-    complaints = []
+    complaints, told, imported = [], packed(tests), imports(tests)
     for line in lines:
-        named = re.sub(r"giputils_(?:base(?:::others)?|bits|stat)::", "giputils::", line)
-        if packed(named.replace("giputils_heap::", "giputils::heap::")) not in tests:
+        named = re.sub(r"giputils_(?:base|bits|hash|index|stat|vec)::(?:others::)?", "giputils::", line)
+        named = re.sub(r"giputils_(?:bounded|heap)::", "giputils::heap::", named)
+        if not (imports(named) <= imported if imports(named) else packed(named) in told):
             complaints.append(f"no test has the line {line.strip()}")
     return complaints
 
 
 def readme(page, text):
     """What is wrong with the README of the root."""
-    crates = sorted(path.relative_to(ROOT) for path in CRATES.glob("*/README.md"))
-    complaints = [f"it has no link to {path}" for path in crates if f"]({path})" not in text]
     count = text.count("\n")
-    complaints += [f"it has {count} lines, and {LINES} are allowed"] if count > LINES else []
+    complaints = [f"it has {count} lines, and {LINES} are allowed"] if count > LINES else []
     return complaints + sound(page, text) + examples(text)
 
 
@@ -540,7 +551,9 @@ def map_of_crates(page, text):
     beside one of MiniSat that the solver has not, modules of the solver that import each other, and a module whose
     first line says nothing."""
     crates = sorted(path.parent.name for path in CRATES.glob("*/src"))
-    complaints = [f"it does not name {crate}" for crate in crates if f"`{crate}`" not in text]
+    complaints = [f"it does not name {crate}" for crate in crates if not re.search(rf"[`\[]{crate}[`\]]", text)]
+    readmes = sorted(path.relative_to(ROOT) for path in CRATES.glob("*/README.md"))
+    complaints += [f"it has no link to {path}" for path in readmes if f"](../{path})" not in text]
     table = text.partition("\n## In a crate")[0]
     for own, others in re.findall(r"^\| ((?:`\w+`(?:, )?)+) \| ([^|]*) \|$", table, re.MULTILINE):
         told = set().union(*(needed(other) for other in re.findall(r"`(\w+)`", others)))
@@ -588,7 +601,7 @@ def main():
             complaints.append("it is not there")
         failed += bool(complaints)
         for complaint in complaints:
-            print(f"{page.relative_to(ROOT)}: {complaint}")
+            print(f"FAILED: {page.relative_to(ROOT)}: {complaint}")
     print(f"{len(pages) - failed} passed, {failed} failed")
     sys.exit(failed > 0)
 
