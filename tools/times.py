@@ -7,7 +7,7 @@ The yardstick is the check of one small crate from nothing, before ./test and af
 machines compare, and of one whose processors are lent out to others.
 
 The processes are looked at five times a second. The processor time of the prover's is added up by crate and by what
-they prove: the crate, its tests, the wrong bodies that `rt ci` tries, or those of the crate whose turn it is. What they
+they prove: the crate, its tests, the wrong bodies that `rt ci` tries, or those that tests/due.py tries. What they
 take between the last look and their end is no part of that. Stages are the commands that ./test runs. What is no proof
 of a crate is compilers, programs and scripts, and the small crates of wrong_test.py.
 """
@@ -27,7 +27,7 @@ import time
 ROOT = pathlib.Path(__file__).resolve().parent.parent
 # It stands on the kit alone.
 YARDSTICK = "giputils_refusing"
-PARTS = ("proof", "tests", "must-fail", "turn")
+PARTS = ("proof", "tests", "must-fail", "wrong")
 TICKS = os.sysconf("SC_CLK_TCK")
 
 
@@ -84,7 +84,7 @@ def part_of(process):
     crate = words[words.index("--crate-name") + 1]
     # A wrong body is checked in a copy of the crate; what stands elsewhere is no crate of this repository.
     if not pathlib.Path(folder).is_relative_to(ROOT):
-        parts = {"/rt-edit-": "must-fail", "/giputils-wrong-": "turn"}
+        parts = {"/rt-edit-": "must-fail", "/giputils-wrong-": "wrong"}
         part = next((part for name, part in parts.items() if name in folder), None)
         return (crate, part) if part else None
     return crate, "tests" if "--test" in words else "proof"
@@ -131,7 +131,7 @@ def crates():
 
 def print_crates(sums):
     """Prints the seconds of the prover by crate and part."""
-    print("\n| Crate | Proof | Proof of tests | `must-fail/` | Turn |\n|---|---|---|---|---|")
+    print("\n| Crate | Proof | Proof of tests | `must-fail/` | `wrong/` |\n|---|---|---|---|---|")
     for crate in crates():
         cells = [f"{sums[crate, part]:.0f}" if sums[crate, part] else "" for part in PARTS]
         print(f"| `{crate}` | {' | '.join(cells)} |")
