@@ -781,6 +781,13 @@ grep -qE '^[0-9]+ d [0-9]+ 0$' "$work/hints"
 told "clauses that leave the store are told by their names" $?
 [ "$(grep -vm 1 ' d ' "$work/hints" | cut -d ' ' -f 1)" = "$(($(awk '/^p/ { print $4 }' "$work/throng") + 1))" ]
 told "the first step has the name behind those of the formula" $?
+# A proof with hints that is so long that the memory of deleted clauses is given back, so that those that are left move up:
+# ten pigeons in nine holes.
+pigeons 9 > "$work/flock"
+try "a long proof with hints is written" 20 "" "s UNSATISFIABLE" "" -q --lrat --proof "$work/hints" "$work/flock"
+try "that long proof with hints is checked" 0 "" "s VERIFIED" "" --check "$work/flock" "$work/hints"
+[ "$(wc -w < "$work/hints")" -gt 1000000 ]
+told "that proof has more than a million numbers" $?
 try "a proof without elimination is written" 20 "" "s UNSATISFIABLE" "" -q --no-simplify --proof "$work/plain" "$work/crowd"
 try "that proof without elimination is checked" 0 "" "s VERIFIED" "" --check "$work/crowd" "$work/plain"
 
@@ -1000,6 +1007,23 @@ for _ in range(60):
     assert ran.stdout.endswith("s UNSATISFIABLE\n") and ran.returncode == (10 if found else 20), (text, chosen)
 END
 told "models of many formulas, by projections, are those of a table" $?
+
+# A limit above 0: as many conflicts as it says are met, by all models together and by each question. Six pigeons in five
+# holes take more; `31` stands for them, so that they need not sit where it is false.
+# NAME STATUS OUTPUT CONFLICTS FILE [ARGUMENT..]: expects that a search without values meets so many conflicts.
+try_limit() {
+    "$gipsat" -n --stats "${@:6}" "$5" > "$work/out" 2> "$work/err"
+    [ "$?" = "$2" ] && [ "$(cat "$work/out")" = "$3" ] &&
+        [ "$(sed -n 's/^c \([0-9]*\) conflicts,.*/\1/p' "$work/err" | tail -n 1)" = "$4" ]
+    told "$1" $?
+}
+awk 'NR == 1 { $3 += 1; print } NR > 1 { print -31, $0 }' "$work/pigeons" > "$work/chosen"
+{ echo 'p inccnf'; sed 1d "$work/chosen"; printf 'a 31 0\na -31 0\na 31 0\n'; } > "$work/asked"
+try_limit "a limit of five conflicts" 0 "s UNKNOWN" 5 "$work/pigeons" --conflicts 5
+try_limit "a limit of five conflicts among models" 10 $'s SATISFIABLE\ns UNKNOWN' 5 "$work/chosen" \
+    --models 0 --project 31 --conflicts 5
+try_limit "a limit of five conflicts for each question" 10 $'s UNKNOWN\ns SATISFIABLE\ns UNKNOWN' 10 "$work/asked" \
+    --conflicts 5
 
 # Questions: lines that begin with an a, behind a header p inccnf. Each is asked of the clauses before it.
 asked='c two\nc comments\n\np inccnf\n1 2 3 0\n-1 2\n0\na 0\n-2 -3 0\na 3 0\na 3 2 0\na -3 -2 0\n'
