@@ -28,12 +28,14 @@ The crate `giputils` hands out the files of specs/ that have these words, and al
 Each line of an example in Rust on a README that is not quoted stands in giputils_trials/src/examples.rt, its imports
 under the names that `giputils` gives them. The page of `gip` has the script that `gip` is run on, with its replies. The
 folders that docs/ELSEWHERE.md names for a part are, with those of the rows that it names, all that crates.txt asks for.
-docs/DESIGN.md names each crate, links to its README, and has in its table those that it stands on; the solver has the names that stand there beside MiniSat's, the imports of its modules make no cycle, and
-each module begins with a line `//!`. Each file that a page names is there, and each part of a page that a link names;
+docs/DESIGN.md names each crate, links to its README, and has in its table those that it stands on; the solver has the
+names that stand there beside MiniSat's, the imports of its modules make no cycle, and each module begins with a line
+`//!`. A type has a name that no type of another file has, but for those of tests/names.txt. Each file that a page names is there, and each part of a page that a link names;
 no line has more than 120 columns, but for imports that are quoted, and the README of the root has at most 80 lines.
 """
 
 import argparse
+import collections
 import functools
 import graphlib
 import os
@@ -44,6 +46,7 @@ import textwrap
 
 ROOT = pathlib.Path(__file__).resolve().parent.parent
 CRATES = ROOT / "crates"
+NAMES = ROOT / "tests/names.txt"
 GATHERED = tuple(f"giputils_{part}" for part in "bits bits_run bounded hash heap index stat vec".split())
 WIDTH = 120
 LINES = 80
@@ -571,6 +574,24 @@ def map_of_crates(page, text):
     return complaints + sound(page, text)
 
 
+def names_given_twice():
+    """The names that types of several files have."""
+    files = collections.defaultdict(set)
+    for path in CRATES.glob("*/src/**/*.rt"):
+        text = without_comments(path.read_text(encoding="utf-8"))
+        for name in re.findall(r"^ *(?:pub(?:\(\w+\))? )?(?:struct|enum|trait) (\w+)", text, re.MULTILINE):
+            files[name].add(path)
+    return {name for name in files if len(files[name]) > 1}
+
+
+def decisions(page, text):
+    """What is wrong with the page of decisions: a name that types of several files have, and no line of the list."""
+    listed, given = set(NAMES.read_text(encoding="utf-8").split()), names_given_twice()
+    complaints = [f"several types are named {name}" for name in sorted(given - listed)]
+    complaints += [f"{NAMES.name} lists {name}, which no two types have" for name in sorted(listed - given)]
+    return complaints + sound(page, text)
+
+
 def arguments():
     """What the command line asks for."""
     parser = argparse.ArgumentParser(description=__doc__, formatter_class=argparse.RawDescriptionHelpFormatter)
@@ -582,6 +603,7 @@ def main():
     write = arguments().write
     pages = {page: sound for folder in ("docs", "tools") for page in sorted((ROOT / folder).rglob("*.md"))}
     pages |= {ROOT / "docs/ELSEWHERE.md": elsewhere, ROOT / "docs/DESIGN.md": map_of_crates, ROOT / "README.md": readme}
+    pages[ROOT / "docs/DECISIONS.md"] = decisions
     callers = sorted(CRATES.glob("*/CALLING.md"))
     pages |= {page: page_for_callers for page in callers}
     wanted = {page.with_name("README.md") for page in callers} | {CRATES / crate / "README.md" for crate in PARTS}
