@@ -15,6 +15,7 @@ one of the base is gone and no list says why. The last line is 'N passed, M fail
 
 import argparse
 import random
+import signal
 import subprocess
 import sys
 
@@ -70,6 +71,8 @@ def main():
     due, gone = compared(chosen)
     print(f"due: {len(due)} of {len(chosen)}", flush=True)
     if asked.list:
+        # A reader that has seen enough ends the list.
+        signal.signal(signal.SIGPIPE, signal.SIG_DFL)
         for body in due:
             print(body.name)
         return 0
@@ -89,7 +92,7 @@ def main():
     passed, failed = passed + (not faults), failed + len(faults)
     untried = [body.wanted for body in chosen if body not in outcomes]
     reasons = [*untried, *(found for found, _ in outcomes.values())]
-    print(f"refused: {wrong_checks.counted(reasons)}; {len(untried)} of these as their files say, since they are not due")
+    print(f"refused: {wrong_checks.counted(reasons)}; {len(untried)} of these as their files say, and not tried")
     print(f"{passed} passed, {failed} failed")
     return 1 if failed else 0
 
