@@ -1,5 +1,5 @@
 //! A search in slices, with pauses: at each it tells how far it is, and may be stopped.
-ghost use Rattle.std.specs.Prelude.{◌≡◌, IfNone, IfOk, IfSome, IsTrue, OnErr, OnOk};
+ghost use Rattle.std.specs.Prelude.{◌≡◌, ◌+◌, ◌≤◌, IfNone, IfOk, IfSome, IsTrue, OnErr, OnOk};
 ghost use Rattle.gipsat_solver.specs.Answers.{HasNoFewer, HasUpTo, IsDecided, IsRight};
 
 use crate::answers::End;
@@ -24,6 +24,7 @@ pub fn solve_in_slices<P: Progress>(
     ensures stopped { IfOk result (λ found. IfNone found (IsTrue (P.wants_stop progress.new))) }
     ensures formula { solver.new.formula ≡ solver.old.formula }
     ensures learned { HasNoFewer solver.old solver.new }
+    ensures most { OnOk result (solver.new.learned ≤ solver.old.learned + limit) }
 {
     solver.tell_from_now_on(progress.wants_chains());
     let found = solve_on(solver, limit, progress);
@@ -47,6 +48,7 @@ fn solve_on<P: Progress>(
     ensures stopped { IfOk result (λ found. IfNone found (IsTrue (P.wants_stop progress.new))) }
     ensures formula { solver.new.formula ≡ solver.old.formula }
     ensures learned { HasNoFewer solver.old solver.new }
+    ensures most { OnOk result (solver.new.learned ≤ solver.old.learned + limit) }
 {
     let mut left = limit;
     let mut slice = Slice::first(solver);
