@@ -1,5 +1,5 @@
 -- Several models of a problem, one after another.
-use Rattle.std.specs.Prelude.{◌≡◌, ℕ, zero, suc, ◌≤◌, Bool, not, ◌==◌, if◌then◌else◌, List, [], ◌∷◌, ◌++◌, map, codes, ⊤, IsTrue, Option, ◌⊎◌}
+use Rattle.std.specs.Prelude.{◌≡◌, ℕ, zero, suc, Bool, not, ◌==◌, if◌then◌else◌, List, [], ◌∷◌, ◌++◌, map, codes, ⊤, IsTrue, Option, ◌⊎◌}
 use Rattle.std.specs.Io.KnownBytes.{Appends}
 use Rattle.gipsat_cnf.specs.Formulas.{Assignment, Clause, Formula, IsSatisfiable, satisfies}
 use Rattle.gipsat_cnf.specs.Literals.{Lit}
@@ -35,9 +35,13 @@ IsModelsText witness projection Open (suc n) problem text =
     ⊎ (¬ (IsSatisfiable problem.clauses) × (text ≡ codes "s UNSATISFIABLE\n"))
     ⊎ (Open × (text ≡ codes "s UNKNOWN\n"))
 
--- at least as many clauses were learned as the limit says, or the search was stopped
+-- as many clauses were learned as the limit says, or the search was stopped
 abbrev pub IsOpen : ℕ → ℕ → Bool → Type 0
-IsOpen limit learned stop = (limit ≤ learned) ⊎ IsTrue stop
+IsOpen limit learned stop = (learned ≡ limit) ⊎ IsTrue stop
+
+-- a formula has the clauses of another one, and maybe more behind them
+abbrev pub Extends : Formula → Formula → Type 0
+Extends formula longer = (more : Formula) × (longer ≡ formula ++ more)
 
 -- a writer that held the one holds the other after the text of n models
 abbrev pub WritesModels : Bool → List Lit → Type 0 → ℕ → Problem → Option (List ℕ) → Option (List ℕ) → Type 0

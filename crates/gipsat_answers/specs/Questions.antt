@@ -1,5 +1,5 @@
 -- Questions that an incremental text asks, and the texts of right replies.
-use Rattle.std.specs.Prelude.{◌≡◌, ℕ, ◌≤◌, ◌<◌, ◌==◌, ◌||◌, Bool, true, false, List, [], ◌∷◌, ◌++◌, drop, length, if◌then◌else◌, codes, Option, Some, None, IfSome, IsTrue, is_some, ⊤, ◌⊎◌}
+use Rattle.std.specs.Prelude.{◌≡◌, ℕ, ◌+◌, ◌≤◌, ◌<◌, ◌==◌, ◌||◌, Bool, true, false, List, [], ◌∷◌, ◌++◌, drop, length, if◌then◌else◌, codes, Option, Some, None, IfSome, IsTrue, is_some, ⊤, ◌⊎◌}
 use Rattle.std.specs.Option.{option_map, option_and_then}
 use Rattle.std.specs.Str.{byte, bytes_eq}
 use Rattle.std.specs.Io.KnownBytes.{Appends}
@@ -11,6 +11,7 @@ use Rattle.gipsat_dimacs.specs.Texts.{begins, comment_byte, problem_by}
 use Rattle.gipsat_dimacs.specs.declared.rule.HeaderRule.TheVariants.{Relaxed}
 use Rattle.gipsat_answers.specs.Answers.{witness_text}
 use Rattle.gipsat_answers.specs.Assumed.{literals_in}
+use Rattle.gipsat_answers.specs.Enumeration.{Extends}
 use Rattle.gipsat_answers.specs.declared.answers.Verdict.{Verdict}
 use Rattle.gipsat_answers.specs.declared.answers.Verdict.TheVariants.{Satisfiable, Unsatisfiable, Unknown, Stopped}
 
@@ -64,6 +65,11 @@ questions_in (line ∷ lines) =
 abbrev pub questions_of : List ℕ → Option (List Question)
 questions_of text = questions_in (text_lines text)
 
+-- each of the questions is asked of clauses with which the formula begins
+abbrev pub AreAskedOf : Formula → List Question → Type 0
+AreAskedOf formula [] = ⊤
+AreAskedOf formula (question ∷ more) = Extends question.formula formula × AreAskedOf formula more
+
 -- the bytes of an input have the form
 abbrev pub AsksQuestions : Option (List ℕ) → Type 0
 AsksQuestions input = IfSome input (λ text. IsTrue (is_some (questions_of text)))
@@ -76,30 +82,33 @@ OfQuestions input P = IfSome input (λ text. IfSome (questions_of text) P)
 abbrev pub AreFalseFrom : ℕ → Assignment → Type 0
 AreFalseFrom variables a = (v : ℕ) → variables ≤ v → a v ≡ false
 
--- the text of a right reply: values that satisfy the formula and make the literals true, if they are wanted, or that
--- there are none, or that it is open: at least as many clauses were learned as the limit says, or the search was stopped
+-- the text of a right reply, for which so many clauses were learned: values that satisfy the formula and make the literals
+-- true, if they are wanted, or that there are none, or that it is open: as many clauses were learned as the limit says, or
+-- the search was stopped
 abbrev pub IsRightReply : Bool → ℕ → ℕ → Bool → Question → Verdict → List ℕ → Type 0
-IsRightReply witness limit learned stop question Satisfiable text =
+IsRightReply witness limit spent stop question Satisfiable text =
     (a : Assignment) × ((variables : ℕ) × IsTrue (satisfies a question.formula)
     × IsTrue (makes_true a question.assumed) × AreFalseFrom variables a
     × (text ≡ codes "s SATISFIABLE\n" ++ witness_text witness a variables))
-IsRightReply witness limit learned stop question Unsatisfiable text =
+IsRightReply witness limit spent stop question Unsatisfiable text =
     (¬ (IsSatisfiableUnder question.formula question.assumed)) × (text ≡ codes "s UNSATISFIABLE\n")
-IsRightReply witness limit learned stop question Unknown text = (limit ≤ learned) × (text ≡ codes "s UNKNOWN\n")
-IsRightReply witness limit learned stop question Stopped text = IsTrue stop × (text ≡ codes "s UNKNOWN\n")
+IsRightReply witness limit spent stop question Unknown text = (spent ≡ limit) × (text ≡ codes "s UNKNOWN\n")
+IsRightReply witness limit spent stop question Stopped text = IsTrue stop × (text ≡ codes "s UNKNOWN\n")
 
 -- a writer that held the one holds the other after a right reply
 abbrev pub WritesReply : Bool → ℕ → ℕ → Bool → Question → Verdict → Option (List ℕ) → Option (List ℕ) → Type 0
-WritesReply witness limit learned stop question verdict old new =
-    (text : List ℕ) × IsRightReply witness limit learned stop question verdict text × Appends old new text
+WritesReply witness limit spent stop question verdict old new =
+    (text : List ℕ) × IsRightReply witness limit spent stop question verdict text × Appends old new text
 
--- the text of right replies, one to each question in order
+-- the text of right replies, one to each question in order, for each of which at most as many clauses were learned as the
+-- limit says, and for all of them together so many
 abbrev pub AreRightReplies : Bool → ℕ → ℕ → Bool → List Question → List ℕ → Type 0
-AreRightReplies witness limit learned stop [] text = text ≡ []
+AreRightReplies witness limit learned stop [] text = (text ≡ []) × (learned ≡ 0)
 AreRightReplies witness limit learned stop (question ∷ more) text =
-    (verdict : Verdict) × ((first : List ℕ) × ((rest : List ℕ) × (text ≡ first ++ rest)
-    × IsRightReply witness limit learned stop question verdict first
-    × AreRightReplies witness limit learned stop more rest))
+    (verdict : Verdict) × ((spent : ℕ) × ((others : ℕ) × ((first : List ℕ) × ((rest : List ℕ)
+    × (text ≡ first ++ rest) × (learned ≡ spent + others) × (spent ≤ limit)
+    × IsRightReply witness limit spent stop question verdict first
+    × AreRightReplies witness limit others stop more rest))))
 
 -- a writer that held the one holds the other after right replies to these questions
 abbrev pub WritesReplies : Bool → ℕ → ℕ → Bool → List Question → Option (List ℕ) → Option (List ℕ) → Type 0

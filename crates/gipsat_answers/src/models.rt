@@ -1,9 +1,9 @@
 //! Several models of a formula, one after another.
-ghost use Rattle.std.specs.Prelude.{◌≡◌, ◌++◌, ◌∷◌, [], ℕ, IfOk, IsErrOf, OnOk};
+ghost use Rattle.std.specs.Prelude.{◌≡◌, ◌≢◌, ◌≤◌, ◌++◌, ◌∷◌, [], ℕ, IfOk, IsErrOf, OnOk};
 ghost use Rattle.std.specs.Io.KnownBytes.{Appends};
 ghost use Rattle.gipsat_cnf.specs.Models.{assignment_in};
 ghost use Rattle.gipsat_answers.specs.Answers.{problem_of};
-ghost use Rattle.gipsat_answers.specs.Enumeration.{differing, first_verdict, model_text, IsOpen, IsRightVerdict, WritesModels, WritesNext};
+ghost use Rattle.gipsat_answers.specs.Enumeration.{differing, first_verdict, model_text, Extends, IsOpen, IsRightVerdict, WritesModels, WritesNext};
 
 use crate::answers::{Verdict, model_text, value_in, write};
 use gipsat_cnf::{Answer, Cnf, Literal};
@@ -26,13 +26,13 @@ pub struct Models<'a> {
     pub witness: bool,
 }
 
-/// What was found out about a formula, and how many clauses were learned.
-#[derive(Clone, Copy)]
+/// What was found out about a formula, and by what.
+#[derive(Drop)]
 pub struct Enumerated {
     /// Whether there is a model.
     pub verdict: Verdict,
-    /// How many clauses were learned.
-    pub learned: usize,
+    /// The solver that was given the formula, with the clauses that exclude models and all that it has learned.
+    pub solver: Solver,
 }
 
 /// Writes models of a formula that was read, each as [`solve_text`](crate::solve_text) writes one, once it is found, and
@@ -52,21 +52,20 @@ pub fn write_models<W: Write, P: Progress>(
     progress: &mut P,
 ) -> Result<Enumerated, DimacsError>
     ensures written { IfOk result (λ told. WritesModels wanted.entry.witness wanted.entry.projection.now
-        (IsOpen wanted.entry.limit told.learned (P.wants_stop progress.new))
+        (IsOpen wanted.entry.limit told.solver.learned (P.wants_stop progress.new))
         wanted.entry.count (problem_of instance.variables instance.clauses)
         (W.contents writer.old) (W.contents writer.new)) }
     ensures verdict { IfOk result (λ told.
         IsRightVerdict (problem_of instance.variables instance.clauses) told.verdict) }
+    ensures formula { IfOk result (λ told. Extends instance.clauses told.solver.formula) }
+    ensures most { IfOk result (λ told. told.solver.learned ≤ wanted.entry.limit) }
     ensures other { (line : ℕ) (reason : Reason) → ¬ (IsErrOf result (DimacsError.Line line reason)) }
 {
     let variables = instance.variables;
     let mut solver = Solver::over(alloc, instance.clauses)?;
     solver.set_inprocessing(Inprocessing::NONE);
     match write_by(alloc, &mut solver, variables, writer, wanted, progress) {
-        Ok(verdict) => Ok(Enumerated {
-            verdict,
-            learned: solver.learned(),
-        }),
+        Ok(verdict) => Ok(Enumerated { verdict, solver }),
         Err(error) => Err(error),
     }
 }
@@ -80,11 +79,14 @@ fn write_by<W: Write, P: Progress>(
     wanted: Models<'_>,
     progress: &mut P,
 ) -> Result<Verdict, DimacsError>
+    requires most { solver.old.learned ≤ wanted.limit }
     ensures written { IfOk result (λ verdict. WritesModels wanted.entry.witness wanted.entry.projection.now
         (IsOpen wanted.entry.limit solver.new.learned (P.wants_stop progress.new))
         wanted.entry.count (problem_of variables solver.old.formula)
         (W.contents writer.old) (W.contents writer.new)) }
     ensures verdict { IfOk result (λ verdict. IsRightVerdict (problem_of variables solver.old.formula) verdict) }
+    ensures formula { OnOk result (Extends solver.old.formula solver.new.formula) }
+    ensures most { OnOk result (solver.new.learned ≤ wanted.entry.limit) }
     ensures other { (line : ℕ) (reason : Reason) → ¬ (IsErrOf result (DimacsError.Line line reason)) }
 {
     for found in 0..wanted.count {
@@ -116,10 +118,13 @@ fn write_next<W: Write, P: Progress>(
     wanted: Models<'_>,
     progress: &mut P,
 ) -> Result<Verdict, DimacsError>
+    requires most { solver.old.learned ≤ wanted.limit }
     ensures written { IfOk result (λ verdict. WritesNext wanted.entry.witness wanted.entry.projection.now
         (IsOpen wanted.entry.limit solver.new.learned (P.wants_stop progress.new))
         (problem_of variables solver.old.formula) verdict solver.new.formula
         (W.contents writer.old) (W.contents writer.new)) }
+    ensures kept { IfOk result (λ verdict. verdict ≢ Verdict.Satisfiable → solver.new.formula ≡ solver.old.formula) }
+    ensures most { OnOk result (solver.new.learned ≤ wanted.entry.limit) }
     ensures other { (line : ℕ) (reason : Reason) → ¬ (IsErrOf result (DimacsError.Line line reason)) }
 {
     let limit = wanted.limit.saturating_sub(solver.learned());
@@ -156,6 +161,7 @@ fn write_model<W: Write>(
         (model_text wanted.entry.witness (assignment_in model.now) (problem_of variables solver.old.formula))) }
     ensures excluded { OnOk result (solver.new.formula ≡
         solver.old.formula ++ differing (assignment_in model.now) wanted.entry.projection.now ∷ []) }
+    ensures learned { solver.new.learned ≡ solver.old.learned }
     ensures other { (line : ℕ) (reason : Reason) → ¬ (IsErrOf result (DimacsError.Line line reason)) }
 {
     let text = model_text(alloc, wanted.witness, variables, model)?;

@@ -1,5 +1,5 @@
 //! Questions that a text asks one after another, of the clauses before each.
-ghost use Rattle.std.specs.Prelude.{◌≡◌, ◌++◌, [], ◌≤◌, ◌<◌, ℕ, List, true, false, drop, length, codes, Some, None, IfNone, IfOk, IfSome, IsTrue, MatchOption, OnOk};
+ghost use Rattle.std.specs.Prelude.{◌≡◌, ◌++◌, ◌+◌, ◌-◌, [], ◌≤◌, ◌<◌, ℕ, List, true, false, drop, length, codes, Some, None, IfNone, IfOk, IfSome, IsTrue, MatchOption, OnOk};
 ghost use Rattle.std.specs.Bool.{OnTrue};
 ghost use Rattle.std.specs.Option.{option_map};
 ghost use Rattle.std.specs.Io.KnownBytes.{Appends, IsAtEnd};
@@ -7,10 +7,10 @@ ghost use Rattle.giputils_text.specs.Lines.{text_lines};
 ghost use Rattle.gipsat_cnf.specs.Answers.{IsRightOr};
 ghost use Rattle.gipsat_cnf.specs.Formulas.{Formula};
 ghost use Rattle.gipsat_cnf.specs.Literals.{Lit};
-ghost use Rattle.gipsat_solver.specs.Answers.{HasNoFewer};
+ghost use Rattle.gipsat_solver.specs.Answers.{HasMore, HasNoFewer};
 ghost use Rattle.gipsat_answers.specs.Assumed.{literals_in};
 ghost use Rattle.gipsat_answers.specs.Questions.{asks, clauses_in, is_header, is_silent, is_stop, questions_after, questions_in, questions_of, verdict_with, Question};
-ghost use Rattle.gipsat_answers.specs.Questions.{AsksQuestions, IsRightOfAll, IsRightReply, OfQuestions, WritesReplies, WritesReply};
+ghost use Rattle.gipsat_answers.specs.Questions.{AreAskedOf, AsksQuestions, IsRightOfAll, IsRightReply, OfQuestions, WritesReplies, WritesReply};
 
 use crate::answers::{Verdict, bytes, model_text, write};
 use crate::assumed::read_literals;
@@ -24,16 +24,25 @@ use giputils_text::split_line;
 use std::alloc::{AllocError, Global};
 use std::io::{ErrorKind, Read, Write};
 
-/// What was answered to the questions of a text.
-#[derive(Clone, Copy)]
+/// What was answered to the questions of a text, and by what.
+#[derive(Drop)]
 pub struct Replies {
     /// What the replies say together: `Satisfiable` where something satisfies one of the questions, and `Unsatisfiable`
     /// where there are some and nothing satisfies any.
     pub verdict: Verdict,
-    /// How many clauses were learned.
-    pub learned: usize,
+    /// The solver that was given the clauses, with all that it has learned.
+    pub solver: Solver,
     /// Whether the search was stopped.
     pub is_stopped: bool,
+}
+
+// What was answered to the questions of a text.
+#[derive(Clone, Copy)]
+struct Told {
+    // What the replies say together.
+    verdict: Verdict,
+    // Whether the search was stopped.
+    is_stopped: bool,
 }
 
 /// Reads a text to its end, and answers its questions in order, within as many learned clauses for each as the task
@@ -60,15 +69,23 @@ pub fn answer_questions<R: Read, W: Write, P: Progress>(
     ensures read_to_end { OnOk result (IsAtEnd (R.remaining reader.new)) }
     ensures has_form { OnOk result (AsksQuestions (R.remaining reader.old)) }
     ensures written { IfOk result (λ told. OfQuestions (R.remaining reader.old) (λ questions.
-        WritesReplies task.witness task.limit told.learned told.is_stopped questions
+        WritesReplies task.witness task.limit told.solver.learned told.is_stopped questions
         (W.contents writer.old) (W.contents writer.new))) }
     ensures verdict { IfOk result (λ told. OfQuestions (R.remaining reader.old) (λ questions.
         IsRightOfAll questions told.verdict)) }
+    ensures formula { IfOk result (λ told. OfQuestions (R.remaining reader.old) (AreAskedOf told.solver.formula)) }
     ensures stopped { IfOk result (λ told. IsTrue told.is_stopped → IsTrue (P.wants_stop progress.new)) }
 {
     let text = read_text(alloc, reader)?;
     let mut solver = Solver::new(alloc);
-    answer_text(alloc, &mut solver, &text, writer, task, progress)
+    match answer_text(alloc, &mut solver, &text, writer, task, progress) {
+        Ok(told) => Ok(Replies {
+            verdict: told.verdict,
+            solver,
+            is_stopped: told.is_stopped,
+        }),
+        Err(error) => Err(error),
+    }
 }
 
 // The bytes of a text.
@@ -92,11 +109,13 @@ fn answer_text<W: Write, P: Progress>(
     writer: &mut W,
     task: Task,
     progress: &mut P,
-) -> Result<Replies, DimacsError>
+) -> Result<Told, DimacsError>
     requires empty { solver.old.formula ≡ [] }
+    requires new { solver.old.learned ≡ 0 }
     ensures right { IfOk result (λ told. (asked : List Question) × (questions_of text.now ≡ Some asked)
-        × WritesReplies task.witness task.limit told.learned told.is_stopped asked
-        (W.contents writer.old) (W.contents writer.new) × IsRightOfAll asked told.verdict) }
+        × WritesReplies task.witness task.limit solver.new.learned told.is_stopped asked
+        (W.contents writer.old) (W.contents writer.new) × IsRightOfAll asked told.verdict
+        × AreAskedOf solver.new.formula asked) }
     ensures stopped { IfOk result (λ told. IsTrue told.is_stopped → IsTrue (P.wants_stop progress.new)) }
 {
     let (lines, body) = behind_header(text)?;
@@ -171,12 +190,14 @@ fn answer_lines<W: Write, P: Progress>(
     writer: &mut W,
     task: Task,
     progress: &mut P,
-) -> Result<Replies, DimacsError>
+) -> Result<Told, DimacsError>
     requires empty { solver.old.formula ≡ [] }
+    requires new { solver.old.learned ≡ 0 }
     ensures right { IfOk result (λ told. (asked : List Question)
         × (questions_after [] [] (text_lines text.now) ≡ Some asked)
-        × WritesReplies task.witness task.limit told.learned told.is_stopped asked
-        (W.contents writer.old) (W.contents writer.new) × IsRightOfAll asked told.verdict) }
+        × WritesReplies task.witness task.limit solver.new.learned told.is_stopped asked
+        (W.contents writer.old) (W.contents writer.new) × IsRightOfAll asked told.verdict
+        × AreAskedOf solver.new.formula asked) }
     ensures stopped { IfOk result (λ told. IsTrue told.is_stopped → IsTrue (P.wants_stop progress.new)) }
 {
     let mut verdict = None;
@@ -209,9 +230,8 @@ fn answer_lines<W: Write, P: Progress>(
     }
     add_begun(alloc, solver, &mut begun)?;
     progress.end(report_of(solver));
-    Ok(Replies {
+    Ok(Told {
         verdict: verdict.unwrap_or(Verdict::Unknown),
-        learned: solver.learned(),
         is_stopped,
     })
 }
@@ -320,13 +340,14 @@ fn reply_to<W: Write, P: Progress>(
     requires stopped { IsTrue asked.is_stopped → IsTrue (P.wants_stop progress.old) }
     ensures written { IfOk result (λ verdict. (assumed : List Lit)
         × (literals_in asked.entry.literals.now ≡ Some assumed)
-        × WritesReply task.witness task.limit solver.new.learned true
+        × WritesReply task.witness task.limit (solver.new.learned - solver.old.learned) true
         (record { formula = solver.old.formula; assumed = assumed }) verdict
         (W.contents writer.old) (W.contents writer.new)) }
     ensures stays { IfOk result (λ verdict. IsTrue asked.entry.is_stopped → verdict ≡ Verdict.Stopped) }
     ensures stopped { IfOk result (λ verdict. verdict ≡ Verdict.Stopped → IsTrue (P.wants_stop progress.new)) }
     ensures formula { solver.new.formula ≡ solver.old.formula }
     ensures learned { HasNoFewer solver.old solver.new }
+    ensures most { OnOk result (solver.new.learned ≤ solver.old.learned + task.limit) }
 {
     let assumed = match read_literals(alloc, asked.literals) {
         Ok(assumed) => assumed,
@@ -358,11 +379,13 @@ fn reply<P: Progress>(
     task: Task,
     progress: &mut P,
 ) -> Result<(Verdict, Vec<u8>), AllocError>
-    ensures right { IfOk result (λ made. IsRightReply task.witness task.limit solver.new.learned true
+    ensures right { IfOk result (λ made. IsRightReply task.witness task.limit
+        (solver.new.learned - solver.old.learned) true
         (record { formula = solver.old.formula; assumed = assumed.now }) made.0 made.1.items) }
     ensures stopped { IfOk result (λ made. made.0 ≡ Verdict.Stopped → IsTrue (P.wants_stop progress.new)) }
     ensures formula { solver.new.formula ≡ solver.old.formula }
     ensures learned { HasNoFewer solver.old solver.new }
+    ensures most { OnOk result (solver.new.learned ≤ solver.old.learned + task.limit) }
 {
     match solve_assuming(solver, assumed, task.limit, progress)? {
         Some(AnswerUnder::Sat(model)) => {
@@ -410,10 +433,11 @@ fn solve_assuming<P: Progress>(
     progress: &mut P,
 ) -> Result<Option<AnswerUnder>, AllocError>
     ensures right { IfOk result (λ found. IfSome found
-        (IsRightOr solver.old.formula assumed.now (limit ≤ solver.new.learned))) }
+        (IsRightOr solver.old.formula assumed.now (HasMore limit solver.old solver.new))) }
     ensures stopped { IfOk result (λ found. IfNone found (IsTrue (P.wants_stop progress.new))) }
     ensures formula { solver.new.formula ≡ solver.old.formula }
     ensures learned { HasNoFewer solver.old solver.new }
+    ensures most { OnOk result (solver.new.learned ≤ solver.old.learned + limit) }
 {
     let before = solver.learned();
     let mut left = limit;

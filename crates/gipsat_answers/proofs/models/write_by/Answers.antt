@@ -1,5 +1,5 @@
 -- A model more, and the last answer.
-use Rattle.std.proofs.Common.{rules, ◌≡◌, ◌-◌, ◌+◌, subst, sym, arith}
+use Rattle.std.proofs.Common.{rules, ◌≡◌, ◌-◌, ◌+◌, ◌∙◌, subst, sym, arith}
 use Rattle.gipsat_answers.specs.Answers.{problem_of}
 use Rattle.gipsat_answers.specs.Enumeration.{IsOpen, IsRightVerdict, WritesNext}
 use Rattle.gipsat_answers.proofs.Enumerating.{Leads-step, Leads-last-step, first-right}
@@ -15,10 +15,13 @@ loop-found-preserved g c =
     let before = g.W.Write.contents c.loop-found.writer in
     let then = g.W.Write.contents c.write_next.new.writer in
     let next = c.write_next.new.solver.formula in
-    Leads-step wanted.witness wanted.projection.now wanted.limit wanted.count problem old c.loop-found.found now next before then Open
-    c.loop-found-test.true c.loop-found.invariant
-    (subst (λ v. WritesNext wanted.witness wanted.projection.now Open (problem_of c.args.variables now) v next before then)
-    c.in-Satisfiable.is c.in_ok-last.ensures.written)
+    record {
+      leads = Leads-step wanted.witness wanted.projection.now wanted.limit wanted.count problem old c.loop-found.found now next before then Open
+          c.loop-found-test.true c.loop-found.invariant.leads
+          (subst (λ v. WritesNext wanted.witness wanted.projection.now Open (problem_of c.args.variables now) v next before then)
+          c.in-Satisfiable.is c.in_ok-last.ensures.written);
+      most = c.in_ok-last.ensures.most;
+    }
 
 pub returns-in_default : goal.returns-in_default
 returns-in_default g c =
@@ -35,10 +38,15 @@ returns-in_default g c =
     record {
       written = Leads-last-step wanted.witness wanted.projection.now wanted.limit wanted.count problem old c.loop-found.found now next
           before then c.in_ok-last.last c.write_next.new.solver.learned (g.P.Progress.wants_stop c.write_next.new.progress) less
-          c.loop-found.invariant c.in_default.not-Satisfiable c.in_ok-last.ensures.written;
+          c.loop-found.invariant.leads c.in_default.not-Satisfiable c.in_ok-last.ensures.written;
       verdict = subst (λ v. IsRightVerdict problem v) (sym c.first_verdict.ensures)
           (first-right wanted.witness wanted.projection.now wanted.limit wanted.count problem old
           (wanted.count - c.loop-found.found) c.loop-found.found now next before then c.in_ok-last.last Open sum
-          c.loop-found.invariant c.in_ok-last.ensures.written);
+          c.loop-found.invariant.leads c.in_ok-last.ensures.written);
+      formula = (
+        c.loop-found.invariant.leads.more.0,
+        c.in_ok-last.ensures.kept c.in_default.not-Satisfiable ∙ c.loop-found.invariant.leads.more.1,
+      );
+      most = c.in_ok-last.ensures.most;
       other = search rules;
     }

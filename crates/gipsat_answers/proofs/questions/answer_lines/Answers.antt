@@ -1,8 +1,8 @@
--- A question was replied to.
-use Rattle.std.proofs.Common.{◌≤◌, [], Some, IsTrue, ap, subst}
+-- A question was replied to, and all were.
+use Rattle.std.proofs.Common.{◌≡◌, ◌≤◌, ◌+◌, ◌-◌, true, [], Some, IsTrue, ap, arith, subst, sym}
 use Rattle.giputils_text.specs.Lines.{text_lines}
-use Rattle.gipsat_answers.specs.Questions.{questions_after}
-use Rattle.gipsat_answers.proofs.Questioning.{Asked-more-on, is_stop-only}
+use Rattle.gipsat_answers.specs.Questions.{questions_after, IsRightOfAll, WritesReply}
+use Rattle.gipsat_answers.proofs.Questioning.{Asked-end, Asked-more-on, is_stop-only}
 use Rattle.gipsat_answers.proofs.questions.answer_lines.Goals as goal
 
 pub loop-line-preserved : goal.loop-line-preserved
@@ -13,6 +13,11 @@ loop-line-preserved g c =
     let (assumed, names, wrote) = c.in_ok-last.ensures.written in
     let last = c.in_ok-last.last in
     let later = c.reply_to.new.solver.learned in
+    let same : c.add_begun.new.solver.learned ≡ before.solver.learned = c.in_ok-add_begun.ensures.learned in
+    let fewer : c.add_begun.new.solver.learned ≤ later = c.in_ok-last.ensures.learned in
+    let bound : later ≤ c.add_begun.new.solver.learned + task.limit = c.in_ok-last.ensures.most in
+    let least : before.solver.learned ≤ later = omega (arith, same, fewer) in
+    let most : later - before.solver.learned ≤ task.limit = omega (arith, same, bound) in
     record {
       asked = Asked-more-on task.witness task.limit (questions_after [] [] (text_lines c.args.text.now)) (g.W.Write.contents c.args.writer.now)
           before.solver.formula c.add_begun.new.solver.formula c.reply_to.new.solver.formula before.begun.text.items c.in-Some.line.now
@@ -21,7 +26,23 @@ loop-line-preserved g c =
           c.in-Some-question.literals.now added assumed later last (g.W.Write.contents c.reply_to.new.writer) (Some c.verdict_with.result)
           c.is_stop-is_stopped.result c.in-Some-question.ensures.some.0 c.in-Some-question.ensures.some.1 has is_added
           c.in_ok-last.ensures.formula c.in_ok-add_begun.ensures.text names
-          (subst (λ n. n ≤ later) c.in_ok-add_begun.ensures.learned c.in_ok-last.ensures.learned) c.in_ok-last.ensures.stays wrote
+          least most c.in_ok-last.ensures.stays
+          (subst (λ n. WritesReply task.witness task.limit (later - n) true
+          (record { formula = c.add_begun.new.solver.formula; assumed = assumed }) last (g.W.Write.contents before.writer)
+          (g.W.Write.contents c.reply_to.new.writer)) same wrote)
           (ap Some c.verdict_with.ensures) c.is_stop-is_stopped.ensures;
       stopped = λ is. c.in_ok-last.ensures.stopped (is_stop-only last (subst IsTrue c.is_stop-is_stopped.ensures is));
     }
+
+pub returns-clause-right : goal.returns-clause-right
+returns-clause-right g c =
+    let before = c.loop-line in
+    let task = c.args.task in
+    let last = c.add_begun-2.new.solver in
+    let (added, has, is_added) = c.in_ok-add_begun-2.ensures.added in
+    let (asked, all, wrote, right, formulas) = Asked-end task.witness task.limit (questions_after [] [] (text_lines c.args.text.now))
+    (g.W.Write.contents c.args.writer.now) before.solver.formula added last.formula before.begun.text.items
+    (text_lines before.left.now) before.solver.learned last.learned before.is_stopped before.verdict
+    (g.W.Write.contents before.writer) before.invariant.asked c.in_default.ensures.lines has is_added
+    c.in_ok-add_begun-2.ensures.learned in
+    (asked, all, wrote, subst (λ v. IsRightOfAll asked v) (sym c.unwrap_or.ensures) right, formulas)

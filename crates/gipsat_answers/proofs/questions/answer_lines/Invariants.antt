@@ -8,7 +8,7 @@ use Rattle.gipsat_answers.proofs.questions.answer_lines.Given as goal
 abbrev pub invariant-loop-line : goal.invariant-loop-line
 invariant-loop-line g l = record {
   asked : Asked l.task.witness l.task.limit (questions_after [] [] (text_lines l.text)) (g.W.Write.contents l.initial.writer)
-      (questions_after l.solver.formula l.begun.text.items (text_lines l.left)) l.solver.learned l.is_stopped l.verdict
+      l.solver.formula (questions_after l.solver.formula l.begun.text.items (text_lines l.left)) l.solver.learned l.is_stopped l.verdict
       (g.W.Write.contents l.writer);
   stopped : IsTrue l.is_stopped → IsTrue (g.P.Progress.wants_stop l.progress);
 }
