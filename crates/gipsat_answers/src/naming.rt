@@ -1,5 +1,6 @@
 //! A search whose listener hears of clauses under the names of their variables.
-ghost use Rattle.std.specs.Prelude.{◌≡◌, ◌||◌, IfNone, IfOk, IfSome, IsTrue};
+ghost use Rattle.std.specs.Prelude.{◌≡◌, ◌||◌, false, true, length, IfNone, IfOk, IfSome, IsTrue, OnOk};
+ghost use Rattle.std.specs.Bool.{OnTrue};
 ghost use Rattle.gipsat_solver.specs.Answers.{HasNoFewer, IsRight};
 
 use gipsat_cnf::{Answer, Literal};
@@ -66,7 +67,21 @@ fn search_named<P: Progress>(
         clause: Vec::new(alloc),
         is_lost: false,
     };
-    let found = solve_in_slices(solver, limit, &mut naming)?;
+    search_told(solver, limit, &mut naming)
+}
+
+// Searches as `solve_in_slices` does, and answers only where each clause was told.
+fn search_told<P: Progress>(
+    solver: &mut Solver,
+    limit: usize,
+    naming: &mut Naming<'_, P>,
+) -> Result<Option<Answer>, AllocError>
+    ensures right { IfOk result (λ found. IfSome found (IsRight solver.old solver.new limit)) }
+    ensures formula { solver.new.formula ≡ solver.old.formula }
+    ensures learned { HasNoFewer solver.old solver.new }
+    ensures told { OnOk result (naming.new.is_lost ≡ false) }
+{
+    let found = solve_in_slices(solver, limit, naming)?;
     if naming.is_lost {
         return Err(AllocError);
     }
@@ -84,12 +99,32 @@ struct Naming<'a, P: Progress> {
     is_lost: bool,
 }
 
+impl<P: Progress> Naming<'_, P> {
+    // Puts a clause under the names in place of the last one. False where memory for it is refused, so that it is lost.
+    fn name(&mut self, clause: &[Literal]) -> bool
+        ensures whole { OnTrue result (length self.new.clause.items ≡ length clause.now) }
+        ensures lost { result ≡ false → self.new.is_lost ≡ true }
+        ensures stays { self.old.is_lost ≡ true → self.new.is_lost ≡ true }
+        ensures listener { self.new.progress.now ≡ self.old.progress.now }
+    {
+        match name_clause(&mut self.clause, self.names, clause) {
+            Ok(()) => true,
+            Err(AllocError) => {
+                self.is_lost = true;
+                false
+            }
+        }
+    }
+}
+
 // Puts a clause under names in place of another one.
 fn name_clause(
     named: &mut Vec<Literal>,
     names: &[u32],
     clause: &[Literal],
-) -> Result<(), AllocError> {
+) -> Result<(), AllocError>
+    ensures { OnOk result (length named.new.items ≡ length clause.now) }
+{
     named.clear();
     for l in clause {
         named.push(name_of(names, *l))?;
@@ -117,16 +152,14 @@ impl<P: Progress> Progress for Naming<'_, P> {
     }
 
     fn added(&mut self, id: usize, clause: &[Literal], chain: &[usize]) {
-        match name_clause(&mut self.clause, self.names, clause) {
-            Ok(()) => self.progress.added(id, &self.clause, chain),
-            Err(AllocError) => self.is_lost = true,
+        if self.name(clause) {
+            self.progress.added(id, &self.clause, chain);
         }
     }
 
     fn deleted(&mut self, id: usize, clause: &[Literal]) {
-        match name_clause(&mut self.clause, self.names, clause) {
-            Ok(()) => self.progress.deleted(id, &self.clause),
-            Err(AllocError) => self.is_lost = true,
+        if self.name(clause) {
+            self.progress.deleted(id, &self.clause);
         }
     }
 
