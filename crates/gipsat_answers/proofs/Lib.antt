@@ -1,4 +1,5 @@
 mod Assuming
+pub mod Below
 mod Enumerating
 mod Examples
 mod Questioning

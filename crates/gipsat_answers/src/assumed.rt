@@ -1,5 +1,7 @@
 //! Literals that words name, and formulas in which they are true.
-ghost use Rattle.std.specs.Prelude.{◌≡◌, ◌++◌, codes, IfOk, OnOk, Some};
+ghost use Rattle.std.specs.Prelude.{◌≡◌, ◌++◌, false, codes, IfOk, OnOk, Some};
+ghost use Rattle.std.specs.Bool.{OnTrue};
+ghost use Rattle.gipsat_cnf.specs.Formulas.{AreBelow};
 ghost use Rattle.gipsat_answers.specs.Answers.{problem_of};
 ghost use Rattle.gipsat_answers.specs.Assumed.{assuming, first_variables, literals_in, literals_of, units};
 
@@ -43,8 +45,16 @@ fn literals_of(alloc: Global, clauses: &Cnf) -> Result<Vec<Literal>, AllocError>
 }
 
 /// Whether each literal is of one of so many variables.
-pub fn are_named(variables: u32, literals: &[Literal]) -> bool {
-    literals.iter().all(|l| l.variable() < variables)
+pub fn are_named(variables: u32, literals: &[Literal]) -> bool
+    ensures named { OnTrue result (AreBelow variables literals.now) }
+    ensures unnamed { result ≡ false → ¬ (AreBelow variables literals.now) }
+{
+    for l in literals {
+        if l.variable() >= variables {
+            return false;
+        }
+    }
+    true
 }
 
 /// Adds a clause of each literal alone to a formula that was read.

@@ -1,6 +1,7 @@
 //! The whole task: from the bytes of a text to those of an answer.
 ghost use Rattle.std.specs.Prelude.{◌≡◌, ◌≢◌, ℕ, IfOk, IfErr, OnOk, IsErrOf, IsTrue};
 ghost use Rattle.std.specs.Io.KnownBytes.{IsAtEnd};
+ghost use Rattle.gipsat_cnf.specs.Lists.{AreAllBelow};
 ghost use Rattle.gipsat_dimacs.specs.Inputs.{HasClauses, HasForm, IsRefusedAt, OfProblem, WritesNone};
 ghost use Rattle.gipsat_dimacs.specs.declared.rule.HeaderRule.TheVariants.{Strict};
 ghost use Rattle.gipsat_answers.specs.Answers.{problem_of, IsRightText, WritesAnswer, WritesAnswerWith, WritesVerdict};
@@ -52,6 +53,8 @@ pub fn solve_text<R: Read, W: Write, P: Progress>(
     ensures written { IfOk result (λ solved. OfProblem Strict (R.remaining reader.old)
         (λ problem. WritesAnswer problem limit solved (W.contents writer.old) (W.contents writer.new))) }
     ensures formula { IfOk result (λ solved. HasClauses Strict (R.remaining reader.old) (formula_of solved)) }
+    ensures named { OfProblem Strict (R.remaining reader.old)
+        (λ problem. AreAllBelow problem.variables problem.clauses) }
     ensures stopped { IfOk result (λ solved. solved.verdict ≡ Verdict.Stopped → IsTrue (P.wants_stop progress.new)) }
 
     // When the text is refused, in which line, and what was written then.
