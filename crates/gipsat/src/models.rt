@@ -1,10 +1,11 @@
 //! From a formula's bytes to several models of it.
-ghost use Rattle.std.specs.Prelude.{◌≡◌, ℕ, is_some, IfOk, IsErrOf, IsTrue, OnOk};
+ghost use Rattle.std.specs.Prelude.{◌≡◌, ◌≤◌, ℕ, is_some, IfOk, IsErrOf, IsTrue, OnOk};
 ghost use Rattle.std.specs.Option.{option_map};
 ghost use Rattle.std.specs.Io.KnownBytes.{IsAtEnd};
+ghost use Rattle.gipsat_cnf.specs.Lists.{AreAllBelow};
 ghost use Rattle.gipsat_answers.specs.Answers.{problem_of};
 ghost use Rattle.gipsat_answers.specs.Assumed.{assuming};
-ghost use Rattle.gipsat_answers.specs.Enumeration.{IsOpen, IsRightVerdict, WritesModels};
+ghost use Rattle.gipsat_answers.specs.Enumeration.{Extends, IsOpen, IsRightVerdict, WritesModels};
 ghost use Rattle.gipsat_dimacs.specs.Inputs.{HasForm, IsRefusedAt, OfProblem, WritesNone};
 ghost use Rattle.gipsat.specs.Models.{projection_of};
 
@@ -41,10 +42,15 @@ pub fn enumerate<'a, R: Read, W: Write>(
     ensures has_form { OnOk result (HasForm options.now.rule (R.remaining reader.old)) }
     ensures written { IfOk result (λ told. OfProblem options.now.rule (R.remaining reader.old) (λ problem.
         WritesModels options.now.witness (projection_of (option_map (λ literals. literals.now) wanted.entry.projection) problem.variables)
-        (IsOpen options.now.conflicts told.learned (is_some options.now.time)) wanted.entry.count
+        (IsOpen options.now.conflicts told.solver.learned (is_some options.now.time)) wanted.entry.count
         (assuming wanted.entry.assumed.now problem) (W.contents writer.old) (W.contents writer.new))) }
     ensures verdict { IfOk result (λ told. OfProblem options.now.rule (R.remaining reader.old) (λ problem.
         IsRightVerdict (assuming wanted.entry.assumed.now problem) told.verdict)) }
+    ensures formula { IfOk result (λ told. OfProblem options.now.rule (R.remaining reader.old) (λ problem.
+        Extends (assuming wanted.entry.assumed.now problem).clauses told.solver.formula)) }
+    ensures most { IfOk result (λ told. told.solver.learned ≤ options.now.conflicts) }
+    ensures named { OnOk result (OfProblem options.now.rule (R.remaining reader.old) (λ problem.
+        AreAllBelow problem.variables (assuming wanted.entry.assumed.now problem).clauses)) }
     ensures line { (line : ℕ) (reason : Reason) → IsErrOf result (SolveError.Task (DimacsError.Line line reason)) →
         WritesNone options.now.rule (R.remaining reader.old) }
     ensures in_line { (line : ℕ) (reason : Reason) → IsErrOf result (SolveError.Task (DimacsError.Line line reason)) →
@@ -94,11 +100,13 @@ fn write_in_time<'a, W: Write>(
     writer: &mut W,
 ) -> Result<Enumerated, SolveError<'a>>
     ensures written { IfOk result (λ told. WritesModels models.entry.witness models.entry.projection.now
-        (IsOpen models.entry.limit told.learned (is_some options.now.time))
+        (IsOpen models.entry.limit told.solver.learned (is_some options.now.time))
         models.entry.count (problem_of instance.variables instance.clauses)
         (W.contents writer.old) (W.contents writer.new)) }
     ensures verdict { IfOk result (λ told.
         IsRightVerdict (problem_of instance.variables instance.clauses) told.verdict) }
+    ensures formula { IfOk result (λ told. Extends instance.clauses told.solver.formula) }
+    ensures most { IfOk result (λ told. told.solver.learned ≤ models.entry.limit) }
     ensures other { (line : ℕ) (reason : Reason) →
         ¬ (IsErrOf result (SolveError.Task (DimacsError.Line line reason))) }
 {
@@ -131,11 +139,13 @@ fn write_told<'a, W: Write, P: Progress + Drop>(
     writer: &mut W,
 ) -> Result<Told<P>, SolveError<'a>>
     ensures written { IfOk result (λ told. WritesModels models.entry.witness models.entry.projection.now
-        (IsOpen models.entry.limit told.enumerated.learned (P.wants_stop told.progress))
+        (IsOpen models.entry.limit told.enumerated.solver.learned (P.wants_stop told.progress))
         models.entry.count (problem_of instance.variables instance.clauses)
         (W.contents writer.old) (W.contents writer.new)) }
     ensures verdict { IfOk result (λ told.
         IsRightVerdict (problem_of instance.variables instance.clauses) told.enumerated.verdict) }
+    ensures formula { IfOk result (λ told. Extends instance.clauses told.enumerated.solver.formula) }
+    ensures most { IfOk result (λ told. told.enumerated.solver.learned ≤ models.entry.limit) }
     ensures other { (line : ℕ) (reason : Reason) →
         ¬ (IsErrOf result (SolveError.Task (DimacsError.Line line reason))) }
 {

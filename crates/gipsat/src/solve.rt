@@ -1,6 +1,7 @@
 //! From a formula's bytes to those of its answer, with a proof in a file if one is wanted.
 ghost use Rattle.std.specs.Prelude.{◌≡◌, ◌≢◌, ℕ, is_some, IfOk, IfErr, IsTrue, OnOk, IsErrOf};
 ghost use Rattle.std.specs.Io.KnownBytes.{IsAtEnd};
+ghost use Rattle.gipsat_cnf.specs.Lists.{AreAllBelow};
 ghost use Rattle.gipsat_answers.specs.Answers.{problem_of, WritesAnswerWith};
 ghost use Rattle.gipsat_answers.specs.Assumed.{assuming};
 ghost use Rattle.gipsat_answers.specs.Names.{formula_of};
@@ -58,6 +59,8 @@ pub fn solve<'a, R: Read, W: Write>(
         (W.contents writer.old) (W.contents writer.new))) }
     ensures formula { IfOk result (λ solved. OfProblem options.now.rule (R.remaining reader.old) (λ problem.
         formula_of solved ≡ (assuming assumed.now problem).clauses)) }
+    ensures named { OnOk result (OfProblem options.now.rule (R.remaining reader.old) (λ problem.
+        AreAllBelow problem.variables (assuming assumed.now problem).clauses)) }
     ensures stopped { IfOk result (λ solved. solved.verdict ≡ Verdict.Stopped → IsTrue (is_some options.now.time)) }
     ensures line { (line : ℕ) (reason : Reason) → IsErrOf result (SolveError.Task (DimacsError.Line line reason)) →
         WritesNone options.now.rule (R.remaining reader.old) }
@@ -83,6 +86,8 @@ pub fn read_assuming<'a, R: Read>(
     ensures has_form { OnOk result (HasForm options.now.rule (R.remaining reader.old)) }
     ensures made { IfOk result (λ made. OfProblem options.now.rule (R.remaining reader.old) (λ problem.
         problem_of made.variables made.clauses ≡ assuming assumed.now problem)) }
+    ensures named { OnOk result (OfProblem options.now.rule (R.remaining reader.old) (λ problem.
+        AreAllBelow problem.variables (assuming assumed.now problem).clauses)) }
     ensures line { (line : ℕ) (reason : Reason) → IsErrOf result (SolveError.Task (DimacsError.Line line reason)) →
         WritesNone options.now.rule (R.remaining reader.old) }
     ensures in_line { (line : ℕ) (reason : Reason) → IsErrOf result (SolveError.Task (DimacsError.Line line reason)) →

@@ -10,5 +10,5 @@ returns-in_ok-write_told-in-Some-clause-written g c =
     let models = c.args.models in
     let told = c.in_ok-write_told-in-Some.field-0 in
     let stops : IsTrue (is_some c.args.options.now.time) = rw c.in-Some.is refl in
-    WritesModels-stopping models.witness models.projection.now models.limit told.enumerated.learned _ (is_some c.args.options.now.time)
+    WritesModels-stopping models.witness models.projection.now models.limit told.enumerated.solver.learned _ (is_some c.args.options.now.time)
     models.count (problem_of c.args.instance.variables c.args.instance.clauses) _ _ stops c.in_ok-write_told-in-Some.ensures.written
