@@ -1,9 +1,14 @@
--- Worked examples of command lines.
+-- Worked examples of command lines, and of the status of a check.
 use Rattle.std.proofs.Common.{◌≡◌, ◌^◌, ◌-◌, [], ◌∷◌, refl, codes, Some, None, Ok, Err, true, false}
+use Rattle.std.proofs.lemmas.Bool.{false≢true}
 use Rattle.gip_program.specs.Items.{UnknownOption, NoValue, NoNumber}
 use Rattle.gip_program.specs.declared.items.Info.TheVariants as info
+use Rattle.gipsat_drat.specs.declared.error.Flaw.TheVariants.{NotShown}
+use Rattle.gipsat_drat.specs.declared.error.Outcome.TheVariants.{Verified, Refused}
+use Rattle.gipsat_drat.specs.declared.error.Place.TheVariants.{Line}
 use Rattle.gipsat_command.specs.Misuses.{Words, ExtraFile, MissingFile, MissingModels, MissingProof, ProofOfMore, NotForCheck, InputTwice, OutputTwice}
 use Rattle.gipsat_command.specs.Options.{no_request}
+use Rattle.gipsat_command.specs.Statuses.{TellsVerified, checking_status}
 use Rattle.gipsat_command.specs.Words.{work_asked, Tell, Solve, Check, Convert}
 
 nothing : work_asked [] ≡ Ok (Solve no_request)
@@ -155,3 +160,19 @@ refused-check_with_option = refl
 
 refused-check_of_stdin : work_asked (codes "--check" ∷ codes "-" ∷ codes "-" ∷ []) ≡ Err InputTwice
 refused-check_of_stdin = refl
+
+status-verified : checking_status Verified ≡ 0
+status-verified = refl
+
+status-refused : checking_status (Refused (record { place = Line 3; flaw = NotShown })) ≡ 1
+status-refused = refl
+
+-- the formula has a clause without literals, or one that something satisfies
+verified : TellsVerified (Some (codes "p cnf 1 1\n0\n")) (Some (codes "c\n")) (Some (codes "c\ns VERIFIED\n"))
+verified = (refl, ((λ (a, sat). false≢true sat), refl))
+
+verified-one : TellsVerified (Some (codes "p cnf 1 1\n1 0\n")) (Some []) (Some (codes "s VERIFIED\n")) → ⊥
+verified-one (form, (none, appends)) = none ((λ v. true), refl)
+
+verified-other_form : TellsVerified (Some (codes "1 0\n")) (Some []) (Some (codes "s VERIFIED\n")) → ⊥
+verified-other_form (form, told) = false≢true form

@@ -1,1 +1,3 @@
+mod Checked
 mod Examples
+mod Sources

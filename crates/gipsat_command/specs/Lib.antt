@@ -1,3 +1,5 @@
+pub mod Files
 pub mod Misuses
 pub mod Options
+pub mod Statuses
 pub mod Words

@@ -1,9 +1,10 @@
 //! A check of a proof without hints that writes one with hints to a file.
 ghost use Rattle.std.specs.Prelude.{◌≡◌, ◌≢◌, IfOk, OnOk};
-ghost use Rattle.std.specs.Io.KnownBytes.{IsAtEnd};
+ghost use Rattle.std.specs.Io.KnownBytes.{Appends, IsAtEnd};
 ghost use Rattle.gipsat_dimacs.specs.Inputs.{HasForm, OfProblem};
 ghost use Rattle.gipsat_dimacs.specs.declared.rule.HeaderRule.TheVariants.{Strict};
-ghost use Rattle.gipsat_drat.specs.Outcomes.{IsRight};
+ghost use Rattle.gipsat_command.specs.Files.{output_contents, source_remaining};
+ghost use Rattle.gipsat_drat.specs.Outcomes.{IsRight, WritesOutcome, outcome_text};
 
 use crate::errors::Failure;
 use crate::files::{Output, Source};
@@ -35,20 +36,25 @@ impl Write for Written<'_> {
     }
 }
 
-/// Checks a proof beside the formula that the options name, notes what was passed over, and writes the outcome to standard
-/// output. Where it is verified, a proof with hints appears in the file that the options name.
+/// Checks a proof beside a formula, notes what was passed over, and writes the outcome. Where it is verified, a proof
+/// with hints appears in the file of this name.
 ///
 /// # Errors
-/// A [`Failure`]. The file is as it was then.
-pub fn convert_files<'a>(
+/// A [`Failure`]. But for an error of the output, the file is as it was then.
+pub fn convert<'a, F: Read, P: Read, W: Write>(
     rt: &HostRuntime,
     options: &Options<'a>,
-    proof: &mut Source<'a>,
+    formula: &mut Source<'a, F>,
+    proof: &mut Source<'a, P>,
     path: &'a str,
+    output: &mut Output<W>,
     notes: &mut Notes,
-) -> Result<Outcome, Failure<'a>> {
-    let mut formula = Source::open(rt, options.file)?;
-    let mut output = Output::new(rt);
+) -> Result<Outcome, Failure<'a>>
+    ensures has_form { OnOk result (HasForm Strict (source_remaining F.remaining formula.old)) }
+    ensures written { IfOk result (λ outcome. OfProblem Strict (source_remaining F.remaining formula.old) (λ problem.
+        WritesOutcome problem outcome
+        (output_contents W.contents output.old) (output_contents W.contents output.new))) }
+{
     let mut written = match proof_file::create_beside(rt, options, path, proof.name()) {
         Ok(file) => Written { file, error: None },
         Err(error) => return Err(Failure::Proof(error)),
@@ -58,15 +64,15 @@ pub fn convert_files<'a>(
     } else {
         LratFormat::Text
     };
-    match convert(rt, &mut formula, proof, format, &mut written, notes) {
-        Ok(outcome) => end(written, outcome, &mut output),
+    match convert_to(rt, formula, proof, format, &mut written, notes) {
+        Ok(outcome) => end(written, outcome, output),
         Err(DratError::Output) => Err(Failure::Write(Some(path), written.error)),
-        Err(error) => Err(formula.check_failure(proof, &output, error)),
+        Err(error) => Err(formula.check_failure(proof, output, error)),
     }
 }
 
 // Converts as `lrat_from_drat` does.
-fn convert<F: Read, P: Read, W: Write>(
+fn convert_to<F: Read, P: Read, W: Write>(
     rt: &HostRuntime,
     formula: &mut F,
     proof: &mut P,
@@ -84,12 +90,14 @@ fn convert<F: Read, P: Read, W: Write>(
 }
 
 // Gives the file its name where the proof is verified, and writes the outcome.
-fn end<'a>(
+fn end<'a, W: Write>(
     written: Written<'a>,
     outcome: Outcome,
-    output: &mut Output,
+    output: &mut Output<W>,
 ) -> Result<Outcome, Failure<'a>>
-    ensures { IfOk result (λ told. told ≡ outcome) }
+    ensures same { IfOk result (λ told. told ≡ outcome) }
+    ensures written { OnOk result (Appends (output_contents W.contents output.old)
+        (output_contents W.contents output.new) (outcome_text outcome)) }
 {
     if outcome == Outcome::Verified {
         if let Err(error) = written.file.finish() {

@@ -1,6 +1,8 @@
 //! What is read and written, with the cause where that failed.
-ghost use Rattle.std.specs.Prelude.{◌≤◌, length};
+ghost use Rattle.std.specs.Prelude.{◌≡◌, ◌++◌, OnOk, Some};
 ghost use Rattle.std.specs.Io.{ReadsAtMost};
+ghost use Rattle.std.specs.Io.KnownBytes.{Keeps, ReadConsumes};
+ghost use Rattle.gipsat_command.specs.Files.{ahead_of, output_contents, source_remaining, stream_remaining};
 
 use crate::errors::Failure;
 use gip_program::open_file;
@@ -8,13 +10,31 @@ use gipsat_dimacs::{DimacsError, Reason};
 use gipsat_drat::error::DratError;
 use giputils_text::split_once;
 use std::fs::File;
-use std::io::{self, IsTerminal, Read, Stdin, Stdout, Write};
+use std::io::{self, IsTerminal, Read, Stdin, Write};
 
-/// A file that is read, or standard input.
-pub struct Source<'a> {
+/// A file, or standard input.
+#[derive(Drop)]
+pub enum Stream {
+    /// Standard input.
+    Stdin(Stdin),
+    /// An open file.
+    File(File),
+}
+
+impl Read for Stream {
+    fn read(&mut self, buf: &mut [u8]) -> io::Result<usize> {
+        match self {
+            Stream::Stdin(stdin) => stdin.read(buf),
+            Stream::File(file) => file.read(buf),
+        }
+    }
+}
+
+/// A reader, and the name that it has in errors.
+pub struct Source<'a, R> {
     // None is standard input.
     name: Option<&'a str>,
-    stream: Stream,
+    stream: R,
     // Bytes that were read ahead, and how many of them were handed on.
     ahead: Vec<u8>,
     handed: usize,
@@ -25,7 +45,7 @@ pub struct Source<'a> {
 }
 
 // One call in its owners' proofs, in place of one for each field.
-impl Drop for Source<'_> {
+impl<R: Drop> Drop for Source<'_, R> {
     fn drop(self) {
         let Source {
             name: _,
@@ -38,14 +58,7 @@ impl Drop for Source<'_> {
     }
 }
 
-// Where bytes come from.
-#[derive(Drop)]
-enum Stream {
-    Stdin(Stdin),
-    File(File),
-}
-
-impl<'a> Source<'a> {
+impl<'a> Source<'a, Stream> {
     /// Opens the file of this name; standard input has none.
     ///
     /// # Errors
@@ -59,19 +72,7 @@ impl<'a> Source<'a> {
             },
             None => Stream::Stdin(rt.stdin()),
         };
-        Ok(Source {
-            name,
-            stream,
-            ahead: Vec::new(rt.alloc()),
-            handed: 0,
-            has_ended: false,
-            error: None,
-        })
-    }
-
-    /// The name of its file; standard input has none.
-    pub fn name(&self) -> Option<&'a str> {
-        self.name
+        Ok(Source::new(rt, name, stream))
     }
 
     /// Tells that a terminal is read, if it is one.
@@ -88,30 +89,76 @@ impl<'a> Source<'a> {
             Stream::File(_) => false,
         }
     }
+}
+
+impl<'a, R: Read> Source<'a, R> {
+    /// A reader under the name of its file; standard input has none.
+    pub fn new(rt: &HostRuntime, name: Option<&'a str>, stream: R) -> Self
+        ensures { source_remaining R.remaining result ≡ R.remaining stream }
+    {
+        Source {
+            name,
+            stream,
+            ahead: Vec::new(rt.alloc()),
+            handed: 0,
+            has_ended: false,
+            error: None,
+        }
+    }
+
+    /// The name of its file; standard input has none.
+    pub fn name(&self) -> Option<&'a str> {
+        self.name
+    }
 
     /// Whether its text begins with a header `p inccnf`. What is read for that is read again.
     ///
     /// # Errors
     ///
     /// `Read` where a read fails, and `Memory` where memory is refused.
-    pub fn has_questions(&mut self) -> Result<bool, Failure<'a>> {
+    pub fn has_questions(&mut self) -> Result<bool, Failure<'a>>
+        ensures { OnOk result (Keeps (source_remaining R.remaining self.old) (source_remaining R.remaining self.new)) }
+    {
         for _ in 0..BLOCKS {
-            match asks_questions(&self.ahead) {
-                Some(asks) => return Ok(asks),
-                None if self.has_ended => return Ok(false),
-                None => self.read_ahead()?,
+            if let Some(asks) = asks_questions(self.left()) {
+                return Ok(asks);
             }
+            if self.has_ended {
+                return Ok(false);
+            }
+            self.read_ahead()?;
         }
         Ok(false)
     }
 
+    // What was read ahead and not handed on.
+    #[tactic(auto, using(crate::proofs::Sources::left_ahead))]
+    fn left(&self) -> &[u8]
+        ensures { result.now ≡ ahead_of self.now }
+    {
+        let start = self.handed.min(self.ahead.len());
+        &self.ahead[start..]
+    }
+
     // Reads some bytes more ahead.
-    fn read_ahead(&mut self) -> Result<(), Failure<'a>> {
+    fn read_ahead(&mut self) -> Result<(), Failure<'a>>
+        ensures { OnOk result (Keeps (source_remaining R.remaining self.old) (source_remaining R.remaining self.new)) }
+    {
         let mut block = [0u8; BLOCK];
         let Ok(n) = self.read_stream(&mut block) else {
             return Err(self.unread());
         };
-        match self.ahead.extend_from_slice(&block[..n]) {
+        self.push(&block[..n])
+    }
+
+    // Puts some bytes behind those that were read ahead.
+    #[tactic(auto, using(crate::proofs::Sources::pushed_ahead))]
+    fn push(&mut self, bytes: &[u8]) -> Result<(), Failure<'a>>
+        ensures ahead { OnOk result (ahead_of self.new ≡ ahead_of self.old ++ bytes.now) }
+        ensures stream { stream_remaining R.remaining self.new ≡ stream_remaining R.remaining self.old }
+    {
+        self.handed = self.handed.min(self.ahead.len());
+        match self.ahead.extend_from_slice(bytes) {
             Ok(()) => Ok(()),
             Err(_) => Err(Failure::Memory),
         }
@@ -119,34 +166,43 @@ impl<'a> Source<'a> {
 
     // Reads from the stream, until it has ended.
     fn read_stream(&mut self, buf: &mut [u8]) -> io::Result<usize>
-        ensures { ReadsAtMost result buf.new }
+        ensures bound { ReadsAtMost result buf.new }
+        ensures bytes { ReadConsumes (stream_remaining R.remaining self.old) (stream_remaining R.remaining self.new)
+            result buf.new }
+        ensures ahead { ahead_of self.new ≡ ahead_of self.old }
     {
         if self.has_ended {
             return Ok(0);
         }
-        let done = match &mut self.stream {
-            Stream::Stdin(stdin) => stdin.read(buf),
-            Stream::File(file) => file.read(buf),
+        let n = match self.stream.read(buf) {
+            Ok(n) => n,
+            Err(error) => {
+                self.error = Some(error);
+                return Err(error);
+            }
         };
-        match done {
-            Ok(n) => self.has_ended = n == 0 && !buf.is_empty(),
-            Err(error) => self.error = Some(error),
+        if n > 0 || buf.is_empty() {
+            return Ok(n);
         }
-        done
+        self.has_ended = true;
+        Ok(n)
     }
 
     // Hands bytes on that were read ahead.
-    fn hand_on(&mut self, buf: &mut [u8]) -> usize
-        ensures { result ≤ length buf.new }
+    fn hand_on(&mut self, buf: &mut [u8]) -> io::Result<usize>
+        ensures bound { ReadsAtMost result buf.new }
+        ensures bytes { ReadConsumes (Some (ahead_of self.old)) (Some (ahead_of self.new)) result buf.new }
+        ensures stream { stream_remaining R.remaining self.new ≡ stream_remaining R.remaining self.old }
     {
-        let start = self.handed.min(self.ahead.len());
-        let n = copy_front(&self.ahead[start..], buf);
-        self.handed = start.saturating_add(n);
-        n
+        let mut left = self.left();
+        let n = left.read(buf)?;
+        let rest = left.len();
+        self.handed = self.ahead.len().saturating_sub(rest);
+        Ok(n)
     }
 
     /// Why a formula from here was not solved.
-    pub fn failure(&self, output: &Output, error: DimacsError) -> Failure<'a> {
+    pub fn failure<W: Write>(&self, output: &Output<W>, error: DimacsError) -> Failure<'a> {
         match error {
             DimacsError::Input => self.unread(),
             DimacsError::Line(line, reason) => Failure::Line(self.name, line, reason),
@@ -156,7 +212,12 @@ impl<'a> Source<'a> {
     }
 
     /// Why a proof was not checked beside a formula from here.
-    pub fn check_failure(&self, proof: &Self, output: &Output, error: DratError) -> Failure<'a> {
+    pub fn check_failure<P: Read, W: Write>(
+        &self,
+        proof: &Source<'a, P>,
+        output: &Output<W>,
+        error: DratError,
+    ) -> Failure<'a> {
         match error {
             DratError::Formula(DimacsError::Line(line, Reason::Compressed(compression))) => {
                 Failure::Compressed(self.name, line, compression)
@@ -175,22 +236,15 @@ impl<'a> Source<'a> {
     }
 }
 
-impl Read for Source<'_> {
+impl<R: Read> Read for Source<'_, R> {
+    ghost remaining = { source_remaining R.remaining };
+
     fn read(&mut self, buf: &mut [u8]) -> io::Result<usize> {
         if self.handed < self.ahead.len() {
-            return Ok(self.hand_on(buf));
+            return self.hand_on(buf);
         }
         self.read_stream(buf)
     }
-}
-
-// Copies as many of the first bytes as fit: how many.
-fn copy_front(from: &[u8], to: &mut [u8]) -> usize
-    ensures { result ≤ length to.new }
-{
-    let n = from.len().min(to.len());
-    to[..n].copy_from_slice(&from[..n]);
-    n
 }
 
 // The header of a text with questions.
@@ -216,25 +270,26 @@ fn asks_questions(text: &[u8]) -> Option<bool> {
     None
 }
 
-/// Standard output.
-pub struct Output {
-    stdout: Stdout,
-    // Why the last write failed.
+/// A writer, and why its last write failed.
+pub struct Output<W> {
+    writer: W,
     error: Option<io::Error>,
 }
 
 // One call in its owners' proofs, in place of one for each field.
-impl Drop for Output {
+impl<W: Drop> Drop for Output<W> {
     fn drop(self) {
-        let Output { stdout, error } = self;
+        let Output { writer, error } = self;
     }
 }
 
-impl Output {
+impl<W: Write> Output<W> {
     /// Before anything is written.
-    pub fn new(rt: &HostRuntime) -> Self {
+    pub fn new(writer: W) -> Self
+        ensures { output_contents W.contents result ≡ W.contents writer }
+    {
         Output {
-            stdout: rt.stdout(),
+            writer,
             error: None,
         }
     }
@@ -245,16 +300,20 @@ impl Output {
     }
 }
 
-impl Write for Output {
+impl<W: Write> Write for Output<W> {
+    ghost contents = { output_contents W.contents };
+
     fn write(&mut self, buf: &[u8]) -> io::Result<usize> {
-        let done = self.stdout.write(buf);
-        if let Err(error) = done {
-            self.error = Some(error);
+        match self.writer.write(buf) {
+            Ok(n) => Ok(n),
+            Err(error) => {
+                self.error = Some(error);
+                Err(error)
+            }
         }
-        done
     }
 
     fn flush(&mut self) -> io::Result<()> {
-        self.stdout.flush()
+        self.writer.flush()
     }
 }

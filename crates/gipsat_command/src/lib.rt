@@ -11,7 +11,7 @@ mod options;
 pub mod proof_file;
 
 pub use about::{ABOUT, Text};
-pub use checks::{check_files, convert_proof};
+pub use checks::{check_files, check_in, convert_in, convert_proof};
 pub use errors::{Failure, UsageError};
-pub use files::{Output, Source};
+pub use files::{Output, Source, Stream};
 pub use options::{Options, Task};
