@@ -1,14 +1,12 @@
--- Worked examples of what a run comes to and of its status.
-use Rattle.std.proofs.Common.{◌≡◌, ℕ, [], ◌∷◌, refl, codes, Some, None, Ok, Err, true}
+-- Worked examples of what is read, and of what is answered to it.
+use Rattle.std.proofs.Common.{[], ◌∷◌, refl, codes, Some, None, true, false}
+use Rattle.std.specs.Fmt.{digits}
 use Rattle.std.proofs.lemmas.Bool.{false≢true}
-use Rattle.gipsat_dimacs.specs.declared.error.DimacsError.TheVariants.{Memory}
-use Rattle.gipsat_answers.specs.declared.answers.Verdict.TheVariants.{Satisfiable, Unsatisfiable, Unknown}
-use Rattle.gipsat_drat.specs.declared.error.Flaw.TheVariants.{NotShown}
-use Rattle.gipsat_drat.specs.declared.error.Outcome.TheVariants.{Verified, Refused}
-use Rattle.gipsat_drat.specs.declared.error.Place.TheVariants.{Line}
 use Rattle.gipsat_dimacs.specs.Inputs.{HasForm, WritesNone, HasClauses, IsRefusedAt}
+use Rattle.gipsat_dimacs.specs.Texts.{Problem}
 use Rattle.gipsat_dimacs.specs.declared.rule.HeaderRule.TheVariants as rule
-use Rattle.gipsat.specs.Statuses.{checking_status, solving_status}
+use Rattle.gipsat_answers.specs.declared.answers.Verdict.TheVariants.{Satisfiable, Unsatisfiable, Unknown}
+use Rattle.gipsat.specs.Answered.{AreQuestionsAnswered, IsProblemAnswered, WritesOne}
 
 -- a text of one clause; of an input whose bytes are not known nothing is said
 form : HasForm rule.Strict (Some (codes "p cnf 1 1\n1 0\n"))
@@ -30,20 +28,41 @@ refused-at_the_end = (codes "p cnf 1 2\n1 0", [], refl, refl, refl)
 clauses : HasClauses rule.Strict (Some (codes "p cnf 1 1\n1 0\n")) ((record { variable = 0; positive = true } ∷ []) ∷ [])
 clauses = refl
 
-status-model : solving_status {E = ℕ} (Ok Satisfiable) ≡ 10
-status-model = refl
+-- a problem that something satisfies, and one of a clause without literals
+abbrev of_one : Problem
+of_one = record { variables = 1; clauses = (record { variable = 0; positive = true } ∷ []) ∷ [] }
 
-status-none : solving_status {E = ℕ} (Ok Unsatisfiable) ≡ 20
-status-none = refl
+abbrev of_none : Problem
+of_none = record { variables = 1; clauses = [] ∷ [] }
 
-status-open : solving_status {E = ℕ} (Ok Unknown) ≡ 0
-status-open = refl
+model : WritesOne true of_one Satisfiable (Some (codes "c\n")) (Some (codes "c\ns SATISFIABLE\nv 1 0\n"))
+unfolding digits
+model = ((λ v. true), refl, refl)
 
-status-no_memory : solving_status (Err Memory) ≡ 1
-status-no_memory = refl
+model-none : WritesOne true of_none Satisfiable None None → ⊥
+model-none (a, sat, appends) = false≢true sat
 
-status-verified : checking_status {E = ℕ} (Ok Verified) ≡ 0
-status-verified = refl
+no_model : WritesOne true of_none Unsatisfiable (Some []) (Some (codes "s UNSATISFIABLE\n"))
+no_model = ((λ (a, sat). false≢true sat), refl)
 
-status-refused : checking_status {E = ℕ} (Ok (Refused (record { place = Line 3; flaw = NotShown }))) ≡ 1
-status-refused = refl
+no_model-one : WritesOne true of_one Unsatisfiable (Some []) (Some (codes "s UNSATISFIABLE\n")) → ⊥
+no_model-one (none, appends) = none ((λ v. true), refl)
+
+unknown : WritesOne true of_one Unknown (Some []) (Some (codes "s UNKNOWN\n"))
+unknown = refl
+
+-- what was answered to a text: one answer to a formula, without values, or a reply to each question
+answered : IsProblemAnswered rule.Strict false None [] None Satisfiable (Some (codes "p cnf 1 1\n1 0\n"))
+    (Some []) (Some (codes "s SATISFIABLE\n"))
+answered = (refl, ((λ v. true), refl, refl))
+
+answered-other : IsProblemAnswered rule.Strict false None [] None Unsatisfiable (Some (codes "p cnf 1 1\n1 0\n"))
+    None None → ⊥
+answered-other (form, (none, appends)) = none ((λ v. true), refl)
+
+answered-assuming : IsProblemAnswered rule.Strict false None (record { variable = 0; positive = false } ∷ []) None Unsatisfiable
+    (Some (codes "p cnf 1 1\n0\n")) None None
+answered-assuming = (refl, ((λ (a, sat). false≢true sat), tt))
+
+replied-other_form : AreQuestionsAnswered false 9 Unsatisfiable (Some (codes "p cnf 1 1\n1 0\n")) None None → ⊥
+replied-other_form (form, replied) = false≢true form

@@ -1,5 +1,5 @@
 -- What holds of the problem that an input writes, and of one that is made of it.
-use Rattle.std.proofs.Common.{◌≡◌, ℕ, zero, suc, List, Option, Some, None, IfSome, IsTrue, sym, subst, ◌⊎◌, ⊎_elim, inl, inr, Bool}
+use Rattle.std.proofs.Common.{◌≡◌, ℕ, zero, suc, List, Option, Some, None, IfSome, IsTrue, sym, subst, ⊎_elim, inl, inr, Bool}
 use Rattle.std.specs.Prelude.{IfOk, Result, Ok, Err}
 use Rattle.gipsat_cnf.specs.Literals.{Lit}
 use Rattle.gipsat_answers.specs.Enumeration.{IsModelsText, IsOpen, WritesModels, differing, with_clause}
@@ -53,3 +53,25 @@ pub WritesModels-stopping : (witness : Bool) (projection : List Lit) (limit lear
 WritesModels-stopping witness projection limit learned stop wide n problem old new stops writes =
     WritesModels-wider witness projection (IsOpen limit learned stop) (IsOpen limit learned wide) n problem old new
     (IsOpen-wider limit learned stop wide (λ any. stops)) writes
+
+-- what holds of the problem of an input, by what else does
+found-more : (found : Option Problem) (P Q : Problem → Type 0) → ((problem : Problem) → P problem → Q problem)
+    → IfSome found P → IfSome found Q
+found-more None P Q more holds = tt
+found-more (Some problem) P Q more holds = more problem holds
+
+pub OfProblem-more : (rule : HeaderRule) (input : Option (List ℕ)) (P Q : Problem → Type 0)
+    → ((problem : Problem) → P problem → Q problem) → OfProblem rule input P → OfProblem rule input Q
+OfProblem-more rule None P Q more holds = tt
+OfProblem-more rule (Some text) P Q more holds = found-more (problem_by rule text) P Q more holds
+
+-- both hold of it, where each does
+found-both : (found : Option Problem) (P Q : Problem → Type 0) → IfSome found P → IfSome found Q
+    → IfSome found (λ problem. P problem × Q problem)
+found-both None P Q one other = tt
+found-both (Some problem) P Q one other = (one, other)
+
+pub OfProblem-both : (rule : HeaderRule) (input : Option (List ℕ)) (P Q : Problem → Type 0) → OfProblem rule input P
+    → OfProblem rule input Q → OfProblem rule input (λ problem. P problem × Q problem)
+OfProblem-both rule None P Q one other = tt
+OfProblem-both rule (Some text) P Q one other = found-both (problem_by rule text) P Q one other

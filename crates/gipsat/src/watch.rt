@@ -60,7 +60,8 @@ impl Display for Lengths<'_> {
 #[derive(Drop)]
 pub struct WatchedReader<'a, R: Read> {
     rt: &'a HostRuntime,
-    reader: R,
+    /// What is read.
+    pub reader: R,
     clock: Clock<'a>,
     logger: IntervalLogger,
     // Whether nothing is written.
@@ -71,7 +72,9 @@ pub struct WatchedReader<'a, R: Read> {
 
 impl<'a, R: Read> WatchedReader<'a, R> {
     /// Before anything is read.
-    pub fn new(rt: &'a HostRuntime, options: &Options, reader: R) -> Self {
+    pub fn new(rt: &'a HostRuntime, options: &Options, reader: R) -> Self
+        ensures { result.reader ≡ reader }
+    {
         WatchedReader {
             rt,
             reader,
@@ -84,6 +87,8 @@ impl<'a, R: Read> WatchedReader<'a, R> {
 }
 
 impl<R: Read> Read for WatchedReader<'_, R> {
+    ghost remaining = { λ watched. R.remaining watched.reader };
+
     fn read(&mut self, buf: &mut [u8]) -> io::Result<usize> {
         let read = self.reader.read(buf)?;
         self.bytes = self.bytes.saturating_add(read as u64);
