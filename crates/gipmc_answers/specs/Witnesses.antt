@@ -43,3 +43,9 @@ abbrev pub Replays : List ℕ → List ℕ → Option ℕ → Type 0
 Replays bytes text asked =
     (c : Circuit) × IsCircuitIn bytes c × (witnesses : List (List ℕ × Trace)) × AreWitnessesIn c text witnesses
     × IsTrue (list_any (λ w. names_asked w.0 asked) witnesses) × Every (IsRight c asked) witnesses
+
+-- the bytes write a circuit, and the text n witnesses for it, which are right whatever they name
+abbrev pub ReplaysAll : List ℕ → List ℕ → ℕ → Type 0
+ReplaysAll bytes text n =
+    (c : Circuit) × IsCircuitIn bytes c × (witnesses : List (List ℕ × Trace)) × AreWitnessesIn c text witnesses
+    × (length witnesses ≡ n) × Every (IsRight c None) witnesses

@@ -20,4 +20,4 @@ pub use certificates::{
 pub use gipmc_task::{Certifying, Listener, Lost, Outcome, Output, TaskError, Traces};
 pub use induction::InductionDoubt;
 pub use known::Known;
-pub use witnesses::{WitnessDoubt, replays, witness_doubt};
+pub use witnesses::{WitnessDoubt, replay_all, replays, witness_doubt};

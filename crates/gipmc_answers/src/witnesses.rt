@@ -2,7 +2,8 @@
 ghost use Rattle.std.specs.Prelude.{◌≡◌, ◌==◌, ◌<◌, ◌∷◌, [], length, map, IfNone, IfOk, IsTrue, None, Some};
 ghost use Rattle.std.specs.List.{list_any};
 ghost use Rattle.gipmc_aiger.specs.Lists.{Every};
-ghost use Rattle.gipmc_answers.specs.Witnesses.{AreWitnessesIn, FailsAt, IsRight, Replays, claimed, names_asked, names_place};
+ghost use Rattle.gipmc_answers.specs.Witnesses.{AreWitnessesIn, FailsAt, IsRight, Replays, ReplaysAll};
+ghost use Rattle.gipmc_answers.specs.Witnesses.{claimed, names_asked, names_place};
 
 use crate::answers::netlist_in;
 use gipmc_aiger::{Claim, read_claims};
@@ -75,6 +76,26 @@ pub fn witness_doubt(
         return Err(unnamed(asked));
     }
     first_doubt(alloc, &netlist, &claims, asked)
+}
+
+/// How many witnesses a text has, and why one of them is no counterexample to the circuit that the other text writes, at
+/// one of the bad literals that it names. None if all are. There may be no witness; else this is what [`witness_doubt`]
+/// finds out where no literal is asked for.
+///
+/// # Errors
+/// Those of [`witness_doubt`] but for the lack of a witness.
+pub fn replay_all(
+    alloc: Global,
+    bytes: &[u8],
+    text: &[u8],
+) -> Result<(usize, Option<WitnessDoubt>), TaskError>
+    ensures { IfOk result (λ found. IfNone found.1 (ReplaysAll bytes.now text.now found.0)) }
+{
+    let netlist = netlist_in(alloc, bytes)?;
+    has_asked(&netlist, None)?;
+    let claims = claims_in(alloc, &netlist, text)?;
+    let doubt = first_doubt(alloc, &netlist, &claims, None)?;
+    Ok((claims.len(), doubt))
 }
 
 // Tests that the circuit has the bad literal that is asked for, or one at all.
