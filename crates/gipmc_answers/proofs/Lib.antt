@@ -1,6 +1,7 @@
 mod Claimed
 mod ByInduction
 mod Depths
+mod Examples
 mod Shown
 mod Told
 pub mod Witnessed
