@@ -49,3 +49,9 @@ Replays bytes text asked =
     (c : Circuit) × (l : Liveness) × IsPropertiesIn bytes c l × (witnesses : List (List ℕ × Trace))
     × AreLassosIn c text witnesses × IsTrue (list_any (λ w. names_asked w.0 asked) witnesses)
     × Every (IsRight c l asked) witnesses
+
+-- the bytes write a circuit with properties, and the text n witnesses for it, which are right whatever they name
+abbrev pub ReplaysAll : List ℕ → List ℕ → ℕ → Type 0
+ReplaysAll bytes text n =
+    (c : Circuit) × (l : Liveness) × IsPropertiesIn bytes c l × (witnesses : List (List ℕ × Trace))
+    × AreLassosIn c text witnesses × (length witnesses ≡ n) × Every (IsRight c l None) witnesses

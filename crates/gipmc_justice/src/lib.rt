@@ -10,4 +10,4 @@ pub mod witnesses;
 pub use answers::{Answered, Found, Said, answer};
 pub use certificates::{JusticeDoubt, certificate_of, certifies, doubt_of};
 pub use error::JusticeError;
-pub use witnesses::{LassoDoubt, LassoReason, lasso_doubt, replays};
+pub use witnesses::{LassoDoubt, LassoReason, lasso_doubt, replay_all, replays};

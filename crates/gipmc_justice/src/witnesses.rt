@@ -2,7 +2,8 @@
 ghost use Rattle.std.specs.Prelude.{◌≡◌, ◌==◌, ◌<◌, ◌∷◌, [], length, map, IfNone, IfOk, IsTrue, None, Some};
 ghost use Rattle.std.specs.List.{list_any};
 ghost use Rattle.gipmc_aiger.specs.Lists.{Every};
-ghost use Rattle.gipmc_justice.specs.Witnesses.{AreLassosIn, FailsAt, IsRight, Replays, claimed, names_asked};
+ghost use Rattle.gipmc_justice.specs.Witnesses.{AreLassosIn, FailsAt, IsRight, Replays, ReplaysAll};
+ghost use Rattle.gipmc_justice.specs.Witnesses.{claimed, names_asked};
 
 use crate::answers::properties_in;
 use crate::error::JusticeError;
@@ -112,6 +113,26 @@ pub fn lasso_doubt(
         return Err(unnamed(asked));
     }
     first_doubt(alloc, &read.0, &read.1, &claims, asked)
+}
+
+/// How many witnesses of justice properties a text has, and which of them shows no failure of one that it names, of the
+/// circuit that the other text writes. None if all do. There may be no witness; else this is what [`lasso_doubt`] finds
+/// out where no property is asked for.
+///
+/// # Errors
+/// Those of [`lasso_doubt`] but for the lack of a witness.
+pub fn replay_all(
+    alloc: Global,
+    bytes: &[u8],
+    text: &[u8],
+) -> Result<(usize, Option<LassoDoubt>), JusticeError>
+    ensures { IfOk result (λ found. IfNone found.1 (ReplaysAll bytes.now text.now found.0)) }
+{
+    let read = properties_in(alloc, bytes)?;
+    has_asked(&read.1, None)?;
+    let claims = claims_in(alloc, &read.0.circuit, text)?;
+    let doubt = first_doubt(alloc, &read.0, &read.1, &claims, None)?;
+    Ok((claims.len(), doubt))
 }
 
 // Tests that the circuit has the property that is asked for, or one at all.
