@@ -1,3 +1,4 @@
 mod Claimed
+mod Findings
 mod Told
 pub mod Witnessed

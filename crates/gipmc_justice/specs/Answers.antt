@@ -1,7 +1,8 @@
 -- Texts of answers about justice properties, and when they are right.
-use Rattle.std.specs.Prelude.{◌≡◌, ℕ, zero, suc, ◌<◌, ◌^◌, List, [], ◌++◌, Vec, length, slice_get, codes, decimal, Option, Some, None, IsTrue}
+use Rattle.std.specs.Prelude.{◌≡◌, ℕ, zero, suc, ◌<◌, ◌^◌, List, [], ◌∷◌, ◌++◌, Vec, length, slice_get, codes, decimal, Option, Some, None, IsTrue}
 use Rattle.std.specs.declared.alloc.Global.{Global}
 use Rattle.gipsat_cnf.specs.Literals.{Lit}
+use Rattle.gipmc_aiger.specs.Lists.{Every}
 use Rattle.gipmc_aiger.specs.LiveCircuits.{WritesLive}
 use Rattle.gipmc_aiger.specs.Traces.{lasso_text}
 use Rattle.gipmc_aiger.specs.declared.liveness.Liveness.{Liveness}
@@ -10,9 +11,10 @@ use Rattle.gipmc_circuits.specs.WellFormed.{is_well_formed}
 use Rattle.gipmc_task.specs.Outcomes.{both}
 use Rattle.gipmc_task.specs.declared.outcome.Outcome.{Outcome}
 use Rattle.gipmc_task.specs.declared.outcome.Outcome.TheVariants.{Fails, Safe, Open}
-use Rattle.gipmc_liveness_engines.specs.Verdicts.{IsRightVerdict}
+use Rattle.gipmc_liveness_engines.specs.Verdicts.{IsLiveByClauses, IsRightVerdict}
 use Rattle.gipmc_liveness_engines.specs.declared.verdict.Verdict.{Verdict}
 use Rattle.gipmc_liveness_engines.specs.declared.verdict.Verdict.TheVariants as verdict
+use Rattle.gipmc_justice.specs.declared.answers.Found.{Found}
 
 -- the lines that name the justice property at a place and end an answer
 abbrev pub named : ℕ → List ℕ
@@ -53,6 +55,27 @@ TellsFirst c l (suc n) outcome text =
 abbrev pub TellsAsked : Circuit → Liveness → Option ℕ → Outcome → List ℕ → Type 0
 TellsAsked c l None outcome text = TellsFirst c l (length l.justice.items) outcome text
 TellsAsked c l (Some place) outcome text = Tells c l place outcome text
+
+-- what a verdict on the property at a place shows that it holds by: the clauses, if it holds
+abbrev pub found_of : ℕ → Verdict → List Found
+found_of place (verdict.Fails lasso) = []
+found_of place (verdict.Live means invariant) = record { place = place; means = means; invariant = invariant } ∷ []
+found_of place verdict.Unknown = []
+
+-- what was found names this place, and shows that the property of these literals holds
+abbrev pub IsFoundOf : Circuit → Liveness → List Lit → ℕ → Found → Type 0
+IsFoundOf c l justice place f =
+    (f.place ≡ place) × IsLiveByClauses c l.fairness.items justice f.means f.invariant.items
+
+-- what was found names this place, and shows that the property there holds
+abbrev pub IsFoundAt : Circuit → Liveness → ℕ → Found → Type 0
+IsFoundAt c l place f =
+    (justice : Vec Lit Global) × (slice_get l.justice.items place ≡ Some justice) × IsFoundOf c l justice.items place f
+
+-- each that was found shows that a property holds: the one that is asked for, if one is, and else the one that it names
+abbrev pub AreFoundFor : Circuit → Liveness → Option ℕ → List Found → Type 0
+AreFoundFor c l None found = Every (λ f. IsFoundAt c l f.place f) found
+AreFoundFor c l (Some place) found = Every (IsFoundAt c l place) found
 
 -- the bytes write the circuit with its justice properties and fairness constraints, and it is well-formed
 abbrev pub IsPropertiesIn : List ℕ → Circuit → Liveness → Type 0

@@ -1,9 +1,11 @@
 //! Answers about justice properties, from the bytes of a circuit's text to those of the answers.
-ghost use Rattle.std.specs.Prelude.{◌≡◌, ℕ, ◌<◌, ◌^◌, ◌++◌, codes, length, decimal, Some, IfOk, OnOk};
+ghost use Rattle.std.specs.Prelude.{◌≡◌, ℕ, ◌<◌, ◌^◌, ◌++◌, codes, length, decimal, None, Some, IfOk, OnOk};
+ghost use Rattle.gipmc_aiger.specs.Lists.{Every};
 ghost use Rattle.gipmc_task.specs.Output.{IsWritten};
 ghost use Rattle.gipmc_task.specs.declared.outcome.Outcome.TheVariants.{Fails};
 ghost use Rattle.gipmc_justice.specs.Answers.{Answers, IsPropertiesIn, Tells, TellsAsked, TellsFirst, TellsOf};
-ghost use Rattle.gipmc_justice.specs.Answers.{named, outcome_of, verdict_text};
+ghost use Rattle.gipmc_justice.specs.Answers.{AreFoundFor, IsFoundAt, IsFoundOf};
+ghost use Rattle.gipmc_justice.specs.Answers.{found_of, named, outcome_of, verdict_text};
 ghost use Rattle.gipmc_justice.specs.Witnesses.{Replays};
 ghost use Rattle.gipmc_liveness_engines.specs.Verdicts.{IsRightVerdict};
 
@@ -89,6 +91,7 @@ pub fn answer<S: SatSolver + Drop, L: Listener, W: Write>(
     ensures answers { IfOk result (λ a. Answers bytes.now asked a.said.outcome a.said.text.items) }
     ensures witness { (place : ℕ) → asked ≡ Some place →
         IfOk result (λ a. a.said.outcome ≡ Fails → Replays bytes.now a.said.text.items asked) }
+    ensures found { IfOk result (λ a. AreFoundFor a.netlist.circuit a.liveness asked a.said.found.items) }
     ensures written { IfOk result (λ a. IsWritten output.old.failure output.new.failure
         (W.contents output.old.writer) (W.contents output.new.writer) a.said.text.items) }
 {
@@ -127,6 +130,7 @@ fn answer_asked<S: SatSolver + Drop, L: Listener, W: Write>(
 ) -> Result<Said, JusticeError>
     ensures tells { IfOk result (λ said.
         TellsAsked netlist.now.circuit liveness.now asked said.outcome said.text.items) }
+    ensures found { IfOk result (λ said. AreFoundFor netlist.now.circuit liveness.now asked said.found.items) }
     ensures written { IfOk result (λ said. IsWritten output.old.failure output.new.failure
         (W.contents output.old.writer) (W.contents output.new.writer) said.text.items) }
 {
@@ -150,6 +154,7 @@ fn answer_all<S: SatSolver + Drop, L: Listener, W: Write>(
 ) -> Result<Said, AllocError>
     ensures tells { IfOk result (λ said. TellsFirst netlist.now.circuit liveness.now
         (length liveness.now.justice.items) said.outcome said.text.items) }
+    ensures found { IfOk result (λ said. AreFoundFor netlist.now.circuit liveness.now None said.found.items) }
     ensures written { IfOk result (λ said. IsWritten output.old.failure output.new.failure
         (W.contents output.old.writer) (W.contents output.new.writer) said.text.items) }
 {
@@ -183,6 +188,7 @@ fn answer_at<S: SatSolver + Drop, L: Listener, W: Write>(
 ) -> Result<Said, AllocError>
     requires { place < length liveness.now.justice.items }
     ensures tells { IfOk result (λ said. Tells netlist.now.circuit liveness.now place said.outcome said.text.items) }
+    ensures found { IfOk result (λ said. Every (IsFoundAt netlist.now.circuit liveness.now place) said.found.items) }
     ensures written { IfOk result (λ said. IsWritten output.old.failure output.new.failure
         (W.contents output.old.writer) (W.contents output.new.writer) said.text.items) }
 {
@@ -205,6 +211,8 @@ fn answer_about<S: SatSolver + Drop, L: Listener, W: Write>(
 ) -> Result<Said, AllocError>
     ensures tells { IfOk result (λ said.
         TellsOf netlist.now.circuit liveness.now property.now place said.outcome said.text.items) }
+    ensures found { IfOk result (λ said.
+        Every (IsFoundOf netlist.now.circuit liveness.now property.now place) said.found.items) }
     ensures written { IfOk result (λ said. IsWritten output.old.failure output.new.failure
         (W.contents output.old.writer) (W.contents output.new.writer) said.text.items) }
 {
@@ -263,17 +271,22 @@ fn outcome_of(verdict: &Verdict) -> Outcome
 }
 
 // What a verdict on the property at a place has to show that it holds.
-fn found_in(alloc: Global, place: usize, verdict: Verdict) -> Result<Vec<Found>, AllocError> {
+fn found_in(alloc: Global, place: usize, verdict: Verdict) -> Result<Vec<Found>, AllocError>
+    ensures { IfOk result (λ found. found.items ≡ found_of place verdict) }
+{
     let mut found = Vec::new(alloc);
-    if let Verdict::Live(means, invariant) = verdict {
-        found.reserve(1)?;
-        found.push_reserved(Found {
-            place,
-            means,
-            invariant,
-        });
+    match verdict {
+        Verdict::Live(means, invariant) => {
+            found.reserve(1)?;
+            found.push_reserved(Found {
+                place,
+                means,
+                invariant,
+            });
+            Ok(found)
+        }
+        Verdict::Fails(_) | Verdict::Unknown => Ok(found),
     }
-    Ok(found)
 }
 
 // The text of a verdict on the property at a place.
