@@ -1,4 +1,5 @@
 mod Claimed
+mod Examples
 mod Findings
 mod Told
 pub mod Witnessed
