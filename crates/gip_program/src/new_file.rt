@@ -42,8 +42,15 @@ pub struct NewFile<'a> {
 #[derive(Drop)]
 struct Part {
     file: File,
-    // The number in its name. None for what is written as it stands.
-    number: Option<u32>,
+    // None for what is written as it stands.
+    named: Option<Named>,
+}
+
+// The number in the name of a part, and that name, which is made once: a part that is to go away wants no memory.
+#[derive(Drop)]
+struct Named {
+    number: u32,
+    name: String,
 }
 
 // The name of a part: that of the new file, and the part's number.
@@ -135,13 +142,13 @@ impl<'a> NewFile<'a> {
             Ok(_) => {
                 file.part = Some(Part {
                     file: File::create(rt, name)?,
-                    number: None,
+                    named: None,
                 });
                 return Ok(file);
             }
         }
         // A folder that can't be written is told now.
-        remove(rt, name, &file.make_part()?);
+        remove(rt, &file.make_part()?);
         Ok(file)
     }
 
@@ -190,43 +197,43 @@ impl<'a> NewFile<'a> {
                 Err(error) => return Err(FinishError::Unmade(name, error)),
             },
         };
-        let Some(number) = part.number else {
+        let Part { file, named } = part;
+        let Some(named) = named else {
             return Ok(());
         };
-        match self.appear(&part.file, number) {
+        match self.appear(&file, named.name.as_str()) {
             Ok(true) => Ok(()),
-            Ok(false) => Err(FinishError::Taken(name, number)),
-            Err(error) => Err(FinishError::Refused(name, number, error)),
+            Ok(false) => Err(FinishError::Taken(name, named.number)),
+            Err(error) => Err(FinishError::Refused(name, named.number, error)),
         }
     }
 
-    // Moves the part with this number to the name. Whether the name was free, or is that of the replaced file.
-    fn appear(&self, file: &File, number: u32) -> io::Result<bool> {
+    // Moves the part of this name to the file's own. Whether that was free, or is that of the replaced file.
+    fn appear(&self, file: &File, part: &str) -> io::Result<bool> {
         // Some systems tell only here that a write failed.
         file.sync_all()?;
-        let part = part_name(&self.rt, self.name, number)?;
         match fs::symlink_metadata(&self.rt, self.place()) {
             Ok(metadata) => {
                 if !self.replaces(Identity::of(&metadata))? {
                     return Ok(false);
                 }
-                fs::rename(&self.rt, part.as_str(), self.place())?;
+                fs::rename(&self.rt, part, self.place())?;
                 return Ok(true);
             }
             Err(error) if error.kind() == ErrorKind::NotFound => {}
             Err(error) => return Err(error),
         }
         // A link is refused where the name was taken since, and a rename is not.
-        match fs::hard_link(&self.rt, part.as_str(), self.place()) {
+        match fs::hard_link(&self.rt, part, self.place()) {
             Ok(()) => {
-                let _ = fs::remove_file(&self.rt, part.as_str());
+                let _ = fs::remove_file(&self.rt, part);
                 Ok(true)
             }
             Err(error) => match error.kind() {
                 ErrorKind::AlreadyExists => Ok(false),
                 // What file systems without links answer.
                 ErrorKind::PermissionDenied | ErrorKind::Unsupported => {
-                    fs::rename(&self.rt, part.as_str(), self.place())?;
+                    fs::rename(&self.rt, part, self.place())?;
                     Ok(true)
                 }
                 _ => Err(error),
@@ -247,11 +254,12 @@ impl<'a> NewFile<'a> {
         let first = process::id(self.rt.process());
         for more in 0..NAMES {
             let number = first.wrapping_add(more);
-            match File::create_new(&self.rt, part_name(&self.rt, self.name, number)?.as_str()) {
+            let name = part_name(&self.rt, self.name, number)?;
+            match File::create_new(&self.rt, name.as_str()) {
                 Ok(file) => {
                     return Ok(Part {
                         file,
-                        number: Some(number),
+                        named: Some(Named { number, name }),
                     });
                 }
                 Err(error) if error.kind() == ErrorKind::AlreadyExists => {}
@@ -266,13 +274,13 @@ impl Drop for NewFile<'_> {
     fn drop(self) {
         let NewFile {
             rt,
-            name,
+            name: _,
             target: _,
             replaced: _,
             part,
         } = self;
         if let Some(part) = part {
-            remove(&rt, name, &part);
+            remove(&rt, &part);
         }
     }
 }
@@ -303,12 +311,9 @@ impl Identity {
 }
 
 // Removes the part of a new file, where it is one.
-fn remove(rt: &HostRuntime, name: &str, part: &Part) {
-    let Some(number) = part.number else {
-        return;
-    };
-    if let Ok(part) = part_name(rt, name, number) {
-        let _ = fs::remove_file(rt, part.as_str());
+fn remove(rt: &HostRuntime, part: &Part) {
+    if let Some(named) = &part.named {
+        let _ = fs::remove_file(rt, named.name.as_str());
     }
 }
 
