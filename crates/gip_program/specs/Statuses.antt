@@ -1,5 +1,5 @@
 -- The status that a program ends with.
-use Rattle.std.specs.Prelude.{ℕ, Result, Ok, Err}
+use Rattle.std.specs.Prelude.{◌≡◌, ◌⊎◌, ℕ, Result, Ok, Err}
 
 -- where nothing is answered, or an answer is not verified
 abbrev pub refused_status : ℕ
@@ -13,3 +13,7 @@ usage_status = 2
 abbrev pub ended_status : {E : Type 0} → Result Unit E → ℕ
 ended_status (Ok done) = 0
 ended_status (Err error) = refused_status
+
+-- one of these two: all went well, or not
+abbrev pub IsEndedStatus : ℕ → Type 0
+IsEndedStatus status = (status ≡ 0) ⊎ (status ≡ refused_status)

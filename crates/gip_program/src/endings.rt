@@ -1,7 +1,7 @@
 //! How a program begins and ends.
-ghost use Rattle.std.specs.Prelude.{◌≡◌};
+ghost use Rattle.std.specs.Prelude.{◌≡◌, IfErr};
 ghost use Rattle.std.specs.Process.{exit_status};
-ghost use Rattle.gip_program.specs.Statuses.{ended_status, refused_status, usage_status};
+ghost use Rattle.gip_program.specs.Statuses.{IsEndedStatus, ended_status, refused_status, usage_status};
 
 use crate::about::About;
 use crate::cause::Cause;
@@ -23,7 +23,9 @@ const USAGE: u8 = 2;
 /// # Errors
 /// Where an argument is no text, memory is refused, or a stream can't be opened. Standard error tells it; the program
 /// ends with this status.
-pub fn begin(rt: &HostRuntime) -> Result<Vec<String>, ExitCode> {
+pub fn begin(rt: &HostRuntime) -> Result<Vec<String>, ExitCode>
+    ensures { IfErr result (λ status. exit_status status ≡ refused_status) }
+{
     if let Err(error) = hold_standard_streams(rt) {
         return Err(refuse(rt, &format_args!("/dev/null: {}", Cause(Some(error)))));
     }
@@ -58,7 +60,9 @@ pub fn tell<S: Copy, N: Copy, T: Copy>(
     rt: &HostRuntime,
     about: &About<S, N, T>,
     info: Info,
-) -> ExitCode {
+) -> ExitCode
+    ensures { IsEndedStatus (exit_status result) }
+{
     end(rt, write(rt, about, info))
 }
 
