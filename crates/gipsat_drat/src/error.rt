@@ -100,13 +100,15 @@ impl fmt::Display for Refusal {
     }
 }
 
-/// What a check of a DRAT proof passed over: deletions of clauses that were not held.
+/// What is to be told of a check of a DRAT proof.
 #[derive(Clone, Copy)]
 pub struct Notes {
-    /// How many there are.
+    /// How many deletions of clauses that were not held were passed over.
     pub missing: usize,
     /// Where the first one ends.
     pub first: Option<Place>,
+    /// Whether the proof was read as DRAT though it begins with a number that could be a name of LRAT.
+    pub may_be_lrat: bool,
 }
 
 impl Notes {
@@ -115,6 +117,7 @@ impl Notes {
         Notes {
             missing: 0,
             first: None,
+            may_be_lrat: false,
         }
     }
 }

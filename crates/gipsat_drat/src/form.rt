@@ -112,6 +112,41 @@ fn text_form(start: &[u8], clauses: usize) -> Form {
     Form::Text
 }
 
+// Whether the first step of a proof begins with a number that a step of one with hints may have as its name, since no
+// clause of the formula has it.
+pub(crate) fn begins_with_name(start: &[u8], clauses: usize) -> bool {
+    match start {
+        [b'a', codes @ ..] if !is_text(start) => first_code(codes) > clauses as u64,
+        _ => first_number(start) > clauses as u64,
+    }
+}
+
+// The first number of some bytes. 0 if there is none.
+fn first_code(bytes: &[u8]) -> u64 {
+    let mut codes = Codes::new(GREATEST_NAME);
+    for byte in bytes {
+        match codes.byte(*byte) {
+            Ok(None) => {}
+            Ok(Some(code)) => return code,
+            Err(_) => return 0,
+        }
+    }
+    0
+}
+
+// The first word of a text, if it is a number without a sign. 0 if it is not.
+fn first_number(text: &[u8]) -> u64 {
+    let mut words = Words::new(GREATEST_NAME);
+    for byte in text {
+        match words.byte(*byte) {
+            Ok(Word::None) => {}
+            Ok(Word::Number { positive, value }) if positive => return value,
+            _ => return 0,
+        }
+    }
+    0
+}
+
 // Whether the first bytes may be a text's, as far as a line that begins with `c`.
 fn is_text(start: &[u8]) -> bool {
     let mut begins_line = false;

@@ -77,10 +77,11 @@ impl Step {
         if found {
             return;
         }
-        let Notes { missing, first } = self.notes;
+        let notes = self.notes;
         self.notes = Notes {
-            missing: missing.saturating_add(1),
-            first: first.or(Some(place)),
+            missing: notes.missing.saturating_add(1),
+            first: notes.first.or(Some(place)),
+            ..notes
         };
     }
 }

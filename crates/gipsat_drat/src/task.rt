@@ -8,7 +8,7 @@ ghost use Rattle.gipsat_drat.specs.Outcomes.{IsRight, WritesOutcome};
 
 use crate::checker::Checker;
 use crate::error::{DratError, Failure, Notes, OtherForm, Outcome};
-use crate::form::{Form, form_of};
+use crate::form::{Form, begins_with_name, form_of};
 use crate::lrat::LratChecker;
 use crate::lrat_parser::LratParser;
 use crate::lrat_writer::{LratFormat, write_log};
@@ -57,7 +57,7 @@ pub fn check_text<F: Read, P: Read, W: Write>(
     check_text_noting(alloc, formula, proof, writer, &mut notes)
 }
 
-/// Does what [`check_text`] does, and notes what was passed over.
+/// Does what [`check_text`] does, and notes what is to be told of a DRAT proof.
 ///
 /// # Errors
 /// As [`check_text`].
@@ -182,7 +182,7 @@ fn check_unhinted<P: Read>(
         Ok(Form::LratText | Form::LratBinary) => Err(OtherForm::Lrat),
         form => form,
     };
-    check_steps(alloc, checker, form, &start, proof, notes)
+    check_steps(alloc, checker, clauses, form, &start, proof, notes)
 }
 
 // Checks a proof that nothing satisfies a formula, whatever form it has.
@@ -249,14 +249,16 @@ fn check_plain<P: Read>(
 ) -> Result<Outcome, Failure>
     ensures { IfOk result (IsRight formula) }
 {
+    let clauses = formula.len();
     let mut checker = Checker::over(alloc, formula)?;
-    check_steps(alloc, &mut checker, form, start, proof, notes)
+    check_steps(alloc, &mut checker, clauses, form, start, proof, notes)
 }
 
-// Checks a proof without hints, which has begun with some bytes.
+// Checks a proof without hints about so many clauses, which has begun with some bytes.
 fn check_steps<P: Read>(
     alloc: Global,
     checker: &mut Checker,
+    clauses: usize,
     form: Result<Form, OtherForm>,
     start: &[u8],
     proof: &mut P,
@@ -272,7 +274,10 @@ fn check_steps<P: Read>(
         Form::Text | Form::LratText => Parser::of_text(alloc),
     };
     let outcome = check_parsed(alloc, checker, &mut parser, start, proof);
-    *notes = parser.notes();
+    *notes = Notes {
+        may_be_lrat: begins_with_name(start, clauses),
+        ..parser.notes()
+    };
     outcome
 }
 
