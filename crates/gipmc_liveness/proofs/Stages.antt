@@ -17,10 +17,12 @@ gates_from n stages k before = stage_gates (n + k) (n + length stages + 2 * k) b
 
 -- what is there so far, and what is left, are all of the stages
 pub record StagesSoFar (old now : Circuit) (n : ℕ) (stages : List Lit) (k : ℕ) (before : Lit) : Type 0 where
+  pub inputs : now.inputs.items ≡ old.inputs.items
   pub latches : now.latches.items ++ latches_from n stages k
       ≡ old.latches.items ++ stage_latches n (n + length stages) stages
   pub gates : now.gates.items ++ gates_from n stages k before
       ≡ old.gates.items ++ stage_gates n (n + length stages) always stages
+  pub bads : now.bads.items ≡ old.bads.items
   pub constraints : now.constraints.items ≡ old.constraints.items
   pub last : all_passed (n + k) before (drop k stages) ≡ all_passed n always stages
 
@@ -29,10 +31,12 @@ stages_none c n stages =
     let x : n + 0 ≡ n = omega arith in
     let g : n + length stages + 2 * 0 ≡ n + length stages = omega arith in
     record {
+      inputs = refl;
       latches = ap (λ y. c.latches.items ++ stage_latches y (n + length stages + 2 * 0) stages) x
           ∙ ap (λ y. c.latches.items ++ stage_latches n y stages) g;
       gates = ap (λ y. c.gates.items ++ stage_gates y (n + length stages + 2 * 0) always stages) x
           ∙ ap (λ y. c.gates.items ++ stage_gates n y always stages) g;
+      bads = refl;
       constraints = refl;
       last = ap (λ y. all_passed y always stages) x;
     }
@@ -46,6 +50,7 @@ stages_more c d e n stages k before l so_far less read adds =
     let rest = drop (k + 1) stages in
     let split : drop k stages ≡ l ∷ rest = drop_more stages k l less ∙ ap (λ m. m ∷ rest) (sym read) in
     record {
+      inputs = adds.inputs ∙ so_far.inputs;
       latches =
           ap (λ ls. ls ++ latches_from n stages (k + 1)) adds.latches
           ∙ append_assoc d.latches.items (passed (n + k) (n + length stages + 2 * k) ∷ []) (latches_from n stages (k + 1))
@@ -65,6 +70,7 @@ stages_more c d e n stages k before l so_far less read adds =
           ∷ stage_gates ((n + k) + 1) y (yes_of (n + k)) rest) g
           ∙ ap (λ ls. d.gates.items ++ stage_gates (n + k) (n + length stages + 2 * k) before ls) (sym split)
           ∙ so_far.gates;
+      bads = adds.bads ∙ so_far.bads;
       constraints = adds.constraints ∙ so_far.constraints;
       last = ap (λ y. all_passed y (yes_of (n + k)) rest) x
           ∙ ap (λ ls. all_passed (n + k) before ls) (sym split) ∙ so_far.last;
@@ -75,10 +81,12 @@ pub stages_all : (c d : Circuit) (n : ℕ) (stages : List Lit) (k : ℕ) (before
 stages_all c d n stages k before so_far past =
     let none : drop k stages ≡ [] = drop_all k stages past in
     record {
+      inputs = so_far.inputs;
       latches = sym (append-nil d.latches.items)
           ∙ ap (λ ls. d.latches.items ++ stage_latches (n + k) (n + length stages + 2 * k) ls) (sym none) ∙ so_far.latches;
       gates = sym (append-nil d.gates.items)
           ∙ ap (λ ls. d.gates.items ++ stage_gates (n + k) (n + length stages + 2 * k) before ls) (sym none) ∙ so_far.gates;
+      bads = so_far.bads;
       constraints = so_far.constraints;
     }
 
@@ -88,11 +96,13 @@ stages_passed c d n stages k before so_far past =
     ap (λ ls. all_passed (n + k) before ls) (sym (drop_all k stages past)) ∙ so_far.last
 
 -- the whole chain
-pub IsChained-made : (n : ℕ) (c d e f : Circuit) (stages : List Lit) (last before : Lit) (output : ℕ)
+pub IsChained-made : (n : ℕ) (c d e f : Circuit) (stages : List Lit) (last before bad : Lit) (output : ℕ)
     → IsCopied c d → AddsStages d e n stages → before ≡ all_passed n always stages → output ≡ n + length stages + 2 * length stages
     → f.gates.items ≡ e.gates.items ++ passing output before last ∷ [] → f.latches.items ≡ e.latches.items
-    → f.constraints.items ≡ e.constraints.items → IsChained n c f stages last
-IsChained-made n c d e f stages last before output copied adds is here gates latches constraints = record {
+    → f.constraints.items ≡ e.constraints.items → f.inputs.items ≡ e.inputs.items → f.bads.items ≡ e.bads.items ++ bad ∷ []
+    → bad ≡ yes_of output → IsChained n c f stages last
+IsChained-made n c d e f stages last before bad output copied adds is here gates latches constraints inputs bads of = record {
+  inputs = inputs ∙ adds.inputs ∙ copied.inputs;
   latches = latches ∙ adds.latches ∙ ap (λ ls. ls ++ stage_latches n (n + length stages) stages) copied.latches;
   gates =
       gates ∙ ap (λ gs. gs ++ passing output before last ∷ []) adds.gates
@@ -100,5 +110,6 @@ IsChained-made n c d e f stages last before output copied adds is here gates lat
       ∙ ap (λ gs. gs ++ (stage_gates n (n + length stages) always stages ++ passing output before last ∷ [])) copied.gates
       ∙ ap (λ b. c.gates.items ++ (stage_gates n (n + length stages) always stages ++ passing output b last ∷ [])) is
       ∙ ap (λ o. c.gates.items ++ (stage_gates n (n + length stages) always stages ++ passing o (all_passed n always stages) last ∷ [])) here;
+  bads = bads ∙ ap (λ bs. bs ++ bad ∷ []) (adds.bads ∙ copied.bads) ∙ ap (λ l. l ∷ []) (of ∙ ap yes_of here);
   constraints = constraints ∙ adds.constraints ∙ copied.constraints;
 }

@@ -52,25 +52,31 @@ last_gate n stages last = passing (top n stages) (all_passed n always stages) la
 
 -- the new circuit is the old one with the latch and the gates of a stage
 pub record AddsStage (old new : Circuit) (x g : ℕ) (before l : Lit) : Type 0 where
+  pub inputs : new.inputs.items ≡ old.inputs.items
   pub latches : new.latches.items ≡ old.latches.items ++ passed x g ∷ []
   pub gates : new.gates.items ≡ (old.gates.items ++ passing g before l ∷ []) ++ waiting x g ∷ []
+  pub bads : new.bads.items ≡ old.bads.items
   pub constraints : new.constraints.items ≡ old.constraints.items
 
 -- the new circuit is the old one with the latches and gates of stages
 pub record AddsStages (old new : Circuit) (n : ℕ) (stages : List Lit) : Type 0 where
+  pub inputs : new.inputs.items ≡ old.inputs.items
   pub latches : new.latches.items ≡ old.latches.items ++ stage_latches n (n + length stages) stages
   pub gates : new.gates.items ≡ old.gates.items ++ stage_gates n (n + length stages) always stages
+  pub bads : new.bads.items ≡ old.bads.items
   pub constraints : new.constraints.items ≡ old.constraints.items
 
--- e is c with the latches and gates of stages, and a last gate
+-- e is c with the latches and gates of stages, and a last gate, whose literal is the only bad one
 pub record IsChained (n : ℕ) (c : Circuit) (e : Circuit) (stages : List Lit) (last : Lit) : Type 0 where
+  pub inputs : e.inputs.items ≡ c.inputs.items
   pub latches : e.latches.items ≡ c.latches.items ++ stage_latches n (n + length stages) stages
   pub gates : e.gates.items
       ≡ c.gates.items ++ (stage_gates n (n + length stages) always stages ++ last_gate n stages last ∷ [])
+  pub bads : e.bads.items ≡ yes_of (top n stages) ∷ []
   pub constraints : e.constraints.items ≡ c.constraints.items
 
 -- e is c with a chain of k latches, whose variables are n and those behind it, as c has none: each waits for one of the
--- literals in turn, and the last gate is bad, for one literal more
+-- literals in turn, and the last gate, for one literal more, is the only bad one
 pub record IsCounterFrom (n : ℕ) (c : Circuit) (literals : List Lit) (k : ℕ) (e : Circuit) (bad : Lit) : Type 0 where
   pub fresh : IsTrue (is_below n c)
   pub stages : IsTrue (list_all (literal_below n) (turns literals k))
@@ -82,9 +88,10 @@ pub record IsCounterFrom (n : ℕ) (c : Circuit) (literals : List Lit) (k : ℕ)
 abbrev pub IsCounterOf : Circuit → List Lit → ℕ → Circuit → Lit → Type 0
 IsCounterOf c literals k e bad = (n : ℕ) × IsCounterFrom n c literals k e bad
 
--- e has the inputs, latches, gates and constraints of c
+-- e has the inputs, latches, gates and constraints of c, and no bad literal
 pub record IsCopied (c e : Circuit) : Type 0 where
   pub inputs : e.inputs.items ≡ c.inputs.items
   pub latches : e.latches.items ≡ c.latches.items
   pub gates : e.gates.items ≡ c.gates.items
+  pub bads : e.bads.items ≡ []
   pub constraints : e.constraints.items ≡ c.constraints.items

@@ -87,6 +87,7 @@ pub record Adds (old new : Circuit) (more_latches : List Latch) (more_gates : Li
   pub inputs : new.inputs.items ≡ old.inputs.items
   pub latches : new.latches.items ≡ old.latches.items ++ more_latches
   pub gates : new.gates.items ≡ old.gates.items ++ more_gates
+  pub bads : new.bads.items ≡ old.bads.items
   pub constraints : new.constraints.items ≡ old.constraints.items
 
 -- the new circuit is the old one with the input n, the latch that something is saved, and the first gates
@@ -94,17 +95,20 @@ pub record AddsSaving (old new : Circuit) (n f : ℕ) : Type 0 where
   pub inputs : new.inputs.items ≡ old.inputs.items ++ n ∷ []
   pub latches : new.latches.items ≡ old.latches.items ++ latch (n + 1) f ∷ []
   pub gates : new.gates.items ≡ old.gates.items ++ saving n (n + 1) f
+  pub bads : new.bads.items ≡ old.bads.items
   pub constraints : new.constraints.items ≡ old.constraints.items
 
--- e is c with the input n, which saves, and with latches and gates for each latch of c and each of the literals
+-- e is c with the input n, which saves, and with latches and gates for each latch of c and each of the literals; the
+-- literal of the last gate is the only bad one
 pub record IsSaving (n : ℕ) (c : Circuit) (e : Circuit) (literals : List Lit) : Type 0 where
   pub inputs : e.inputs.items ≡ c.inputs.items ++ n ∷ []
   pub latches : e.latches.items ≡ c.latches.items ++ saver_latches n (latch_variables c) literals
   pub gates : e.gates.items ≡ c.gates.items ++ saver_gates n (latch_variables c) literals
+  pub bads : e.bads.items ≡ yes_of (last_of n (length (latch_variables c)) (length literals)) ∷ []
   pub constraints : e.constraints.items ≡ c.constraints.items
 
--- e is c with an input n that saves what the latches hold, where the variables from n on are none of c; the last gate is
--- bad: the latches hold what was saved, and each of the literals was true since
+-- e is c with an input n that saves what the latches hold, where the variables from n on are none of c; the last gate
+-- alone is bad: the latches hold what was saved, and each of the literals was true since
 pub record IsSaverFrom (n : ℕ) (c : Circuit) (literals : List Lit) (e : Circuit) (bad : Lit) : Type 0 where
   pub fresh : IsTrue (is_below n c)
   pub within : IsTrue (list_all (literal_below n) literals)
