@@ -25,8 +25,10 @@ gate_merged merges g = record { output = g.output; left = merged merges g.left; 
 abbrev pub latch_merged : List Lit → Latch → Latch
 latch_merged merges l = record { variable = l.variable; next = merged merges l.next; reset = l.reset }
 
--- each gate, latch and constraint of the smaller circuit is one of the whole circuit, after the merges
+-- the smaller circuit has the inputs of the whole circuit, and each of its gates, latches and constraints is one of the whole
+-- circuit, after the merges
 pub record IsMergedOf (merges : List Lit) (small whole : Circuit) : Type 0 where
+  pub inputs : small.inputs.items ≡ whole.inputs.items
   pub gates : All (Contains (map (gate_merged merges) whole.gates.items)) small.gates.items
   pub latches : All (Contains (map (latch_merged merges) whole.latches.items)) small.latches.items
   pub constraints : small.constraints.items ≡ map (merged merges) whole.constraints.items
