@@ -1,4 +1,5 @@
 pub mod Built
+mod Examples
 mod Latched
 pub mod Machines
 pub mod Numbers

@@ -1,2 +1,3 @@
 pub mod AreRight
 pub mod Depths
+mod Examples

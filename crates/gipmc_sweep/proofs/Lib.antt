@@ -1,3 +1,4 @@
 pub mod Carried
 mod Equalities
+mod Examples
 mod Left
