@@ -340,6 +340,10 @@ told "a certificate that is written" $?
 [ "$("$gipmc" --certify cert two.aag 2> err)" = "s NOT VERIFIED" ]
 told "a certificate of the first literal is none of both" $?
 rm -f circuit
+try "no circuit of a k" 1 "circuit: not written, since '--engine induction' finds a k, and a k has no circuit" "" "$kept" \
+    --engine induction --certificate circuit --aiger
+[ ! -e circuit ]
+told "no file of such a circuit" $?
 "$gipmc" --bad 0 --certificate circuit --aiger two.aag > out 2> err
 status=$?
 [ "$status" = 20 ] && [ "$(answers out)" = "$safe" ] && [ ! -s err ] && [ "$(head -c 4 circuit)" = "aag " ] &&

@@ -32,8 +32,10 @@ pub enum Failure<'a> {
     Task(Option<&'a str>, TaskError),
     /// The task on justice properties was not done, for what this input has.
     Justice(Option<&'a str>, JusticeError),
-    /// No certificate was written to this file, since that of a justice property is no circuit.
+    /// No certificate is written to this file, since that of a justice property is no circuit.
     NoCircuit(&'a str),
+    /// No certificate is written to this file, since a k, which induction finds, has no circuit.
+    NoCircuitOfK(&'a str),
     /// No certificate was written to this file, since it would be one of several properties.
     SeveralProperties(Option<&'a str>),
     /// Memory was refused.
@@ -110,6 +112,10 @@ impl Display for Failure<'_> {
             Failure::NoCircuit(name) => write!(
                 f,
                 "{name}: not written, since the certificate of a justice property is clauses, without '--aiger'"
+            ),
+            Failure::NoCircuitOfK(name) => write!(
+                f,
+                "{name}: not written, since '--engine induction' finds a k, and a k has no circuit"
             ),
             Failure::SeveralProperties(name) => write!(
                 f,

@@ -33,6 +33,7 @@ use gipmc_answers::{
     Answered, answer, certificate_of, doubt_of, witness_circuit_of, witness_doubt,
 };
 use gipmc_command::{ABOUT, Options, Task};
+use gipmc_engines::Engine;
 use gipmc_justice::{JusticeError, lasso_doubt};
 use gipmc_task::{Outcome, Output, TaskError};
 use gipsat_solver::Solver;
@@ -196,13 +197,16 @@ fn search_circuit<'a>(
     search_for(rt, options, clock, bytes, certificate, wave)
 }
 
-// The file of a certificate, if one is wanted.
+// The file of a certificate, if one is wanted. None is begun where there can be no certificate of the form that is wanted.
 fn certificate_file<'a>(
     rt: &HostRuntime,
     options: &Options<'a>,
 ) -> Result<Option<NewFile<'a>>, Failure<'a>> {
     match options.certificate {
         Some(name) if options.aiger && options.justice.is_some() => Err(Failure::NoCircuit(name)),
+        Some(name) if options.aiger && options.engine == Engine::Induction => {
+            Err(Failure::NoCircuitOfK(name))
+        }
         name => new_file(rt, name),
     }
 }

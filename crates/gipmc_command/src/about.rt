@@ -159,8 +159,8 @@ pub const OPTIONS: [Opt<Switch, Number, Text>; 18] = [
         kind: Kind::Switch(Switch::Aiger),
         section: "Output",
         help: "write the certificate of --certificate as a circuit in the ascii form of AIGER: the same inputs and latches, \
-               and a bad literal that is true outside of the invariant too. No k-induction searches then, unless --engine \
-               names it; and there is no such certificate of a justice property",
+               and a bad literal that is true outside of the invariant too. No k-induction searches then, since a k has no \
+               circuit; beside --engine induction this is refused, and so it is for a justice property",
     },
     Opt {
         long: "--names",
