@@ -97,6 +97,21 @@ status=$?
 [ "$status" = 10 ] && [ "$("$gipmc" --replay both.wit held.aag)" = "s VERIFIED" ]
 told "a trace by all engines" $?
 
+# A latch that rises unless ten inputs are all true. The seed draws their values.
+{
+    echo 'aag 20 10 1 0 9 1'
+    seq 2 2 20
+    printf '22 41\n22\n24 4 2\n'
+    for gate in $(seq 26 2 40); do echo "$gate $((gate - 2)) $((gate - 20))"; done
+} > drawn.aag
+for seed in 1 2; do
+    "$gipmc" --seed "$seed" drawn.aag > "seed$seed" 2> err
+done
+"$gipmc" --seed 1 drawn.aag > again 2> err
+status=$?
+[ "$status" = 10 ] && cmp -s seed1 again && ! cmp -s seed1 seed2 && [ "$("$gipmc" --replay seed2 drawn.aag)" = "s VERIFIED" ]
+told "a trace of another seed" $?
+
 printf '%b' 'aag 4 1 2 0 1 1\n2\n4 2\n6 8\n6\n8 4 2\n' > twice.aag
 "$gipmc" --engine sim twice.aag > sim.wit 2> err
 status=$?

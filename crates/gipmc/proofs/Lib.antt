@@ -1,2 +1,4 @@
 mod Asked
 mod Ended
+mod Examples
+mod Plans

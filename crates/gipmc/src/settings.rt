@@ -1,4 +1,6 @@
 //! What the options say of a search, and of where its answers are written.
+ghost use Rattle.std.specs.Prelude.{◌≡◌};
+ghost use Rattle.gipmc.specs.Plans.{depth_alone, depth_by, engine_by, wants_circuit};
 
 use gipmc_command::Options;
 use gipmc_engines::{Bounds, Engine, Plan, Tries};
@@ -14,7 +16,14 @@ const MOMENTS: usize = 256;
 const DEPTH: usize = 100;
 
 /// What searches, and how far.
-pub fn plan_of(options: &Options) -> Plan {
+pub fn plan_of(options: &Options) -> Plan
+    ensures engine { result.engine ≡ engine_by (wants_circuit options.now) options.now.engine }
+    ensures seed { result.tries.seed ≡ options.now.seed }
+    ensures depth { result.bounds.depth ≡ depth_by options.now.engine options.now.depth }
+    ensures limit { result.bounds.limit ≡ options.now.limit }
+    ensures calls { result.bounds.calls ≡ usize.MAX }
+    ensures gates { result.names_gates ≡ wants_circuit options.now }
+{
     Plan {
         engine: engine_of(options),
         tries: Tries {
@@ -23,28 +32,50 @@ pub fn plan_of(options: &Options) -> Plan {
             moments: MOMENTS,
         },
         bounds: Bounds {
-            depth: depth_of(options),
+            depth: options.depth.unwrap_or(depth_alone(options.engine)),
             limit: options.limit,
             calls: usize::MAX,
         },
         // Without a certificate equal latches and gates are merged. Behind that, gates in lemmas gain nothing.
-        names_gates: certifying(options) == Certifying::Circuit,
+        names_gates: wants_circuit(options),
     }
 }
 
+// Whether a certificate as a circuit is wanted.
+fn wants_circuit(options: &Options) -> bool
+    ensures { result ≡ wants_circuit options.now }
+{
+    options.certificate.is_some() && options.aiger
+}
+
 // The engine. An invariant makes a certificate that is a circuit.
-fn engine_of(options: &Options) -> Engine {
+fn engine_of(options: &Options) -> Engine
+    ensures { result ≡ engine_by (wants_circuit options.now) options.now.engine }
+{
     match options.engine {
-        Engine::All if certifying(options) == Certifying::Circuit => Engine::Invariants,
+        Engine::All => all_but_induction(wants_circuit(options)),
         engine => engine,
     }
 }
 
+// All engines, or those that find invariants.
+fn all_but_induction(is_invariant: bool) -> Engine
+    ensures { result ≡ engine_by is_invariant Engine.All }
+{
+    if is_invariant {
+        Engine::Invariants
+    } else {
+        Engine::All
+    }
+}
+
 // How far bounded model checking goes, where that is not said: alone it would not end on a safe circuit.
-fn depth_of(options: &Options) -> usize {
-    match options.engine {
-        Engine::Bounded => options.depth.unwrap_or(DEPTH),
-        _ => options.depth.unwrap_or(usize::MAX),
+fn depth_alone(engine: Engine) -> usize
+    ensures { result ≡ depth_alone engine }
+{
+    match engine {
+        Engine::Bounded => DEPTH,
+        _ => usize::MAX,
     }
 }
 
