@@ -661,6 +661,8 @@ printf '%b' 'aag 2 1 1 0 0 1\r\n2\r\n4 2\r\n4\r\n' > returns.aag
 try "a circuit with carriage returns" 10 "" "$fails" "" --engine bmc returns.aag
 witness '1\r\nb0\r\n0\r\n1\r\n0\r\n.\r\n'
 try "a witness with carriage returns" 0 "" "s VERIFIED" "$held" --replay wit
+try "a carriage return in the binary form" 1 "<stdin>:1: not a space or a line end where one is wanted" "" \
+    'aig 2 1 1 0 0 1\r\n2\r\n4\r\n' --engine bmc
 
 # Two bits count 0, 1, 2, 0. The base of k = 1 is that no trace without a transition fails.
 printf 'aag 5 0 2 0 3 3\n2 6\n4 8\n10\n4\n2\n6 5 3\n8 5 2\n10 4 2\n' > three.aag

@@ -1,6 +1,7 @@
 -- What the status of a run says.
-use Rattle.std.proofs.Common.{◌≡◌, Bool, true, false, Ok, Err, IsTrue, refl}
+use Rattle.std.proofs.Common.{◌≡◌, ℕ, ◌<◌, ⊎_elim, Bool, true, false, Ok, Err, IsTrue, arith, inl, inr, refl}
 use Rattle.std.specs.Prelude.{Result, IfOk}
+use Rattle.gip_program.specs.Statuses.{IsEndedStatus}
 use Rattle.gipmc.specs.Statuses.{search_status, verified_status}
 use Rattle.gipmc_task.specs.declared.outcome.Outcome.{Outcome}
 use Rattle.gipmc_task.specs.declared.outcome.Outcome.TheVariants.{Fails, Safe, Open}
@@ -25,3 +26,14 @@ pub verified_ended : {E : Type 0} (P : Type 0) (r : Result Bool E) → IfOk r (�
 verified_ended P (Ok true) is status = is refl
 verified_ended P (Ok false) is status = absurd cc
 verified_ended P (Err error) is status = absurd cc
+
+-- a check ends with 0 or with 1
+pub check_ended : {E : Type 0} (r : Result Bool E) → IsEndedStatus (verified_status r)
+check_ended (Ok true) = inl refl
+check_ended (Ok false) = inr refl
+check_ended (Err error) = inr refl
+
+-- what ends so ends with no other status
+pub no_other : (P : Type 0) (status n : ℕ) → IsEndedStatus status → status ≡ n → 1 < n → P
+no_other P status n ends is more =
+    ⊎_elim (λ well. absurd (omega (arith, well, is, more))) (λ refused. absurd (omega (arith, refused, is, more))) ends

@@ -2,3 +2,4 @@ mod Asked
 mod Ended
 mod Examples
 mod Plans
+mod Texts

@@ -1,4 +1,10 @@
 //! Files that are read whole, and texts that are written.
+ghost use Rattle.std.specs.Prelude.{◌≡◌, ℕ, IfOk, List, None, Option};
+ghost use Rattle.std.specs.Option.{option_map};
+ghost use Rattle.gipmc.specs.Texts.{IsTextOf, ends_in_return, first_returns, have_returns, text_read};
+ghost use Rattle.gipmc.specs.Texts.{with_feeds, without_return};
+ghost use Rattle.giputils_text.specs.Lines.{text_lines};
+
 use crate::errors::Failure;
 use gip_program::{Existing, NewFile, open_file};
 use giputils_text::split_line;
@@ -6,19 +12,47 @@ use std::alloc::AllocError;
 use std::fs::File;
 use std::io::{ErrorKind, Read, Write};
 
-/// The bytes of the file of this name; standard input has none. Where the first line of a text ends in a carriage return
-/// and a line feed, each line has the line feed alone.
-///
-/// # Errors
-/// [`Failure::Open`] where the file can't be opened, or is a directory, [`Failure::Read`] where a read fails, and
-/// [`Failure::Compressed`] where the bytes are compressed.
-pub fn bytes_of<'a>(rt: &HostRuntime, name: Option<&'a str>) -> Result<Vec<u8>, Failure<'a>> {
+/// Where the texts are that a run reads.
+pub trait Inputs {
+    // The bytes of each file by its name, where they are known. Standard input has no name.
+    ghost bytes: { Self → Option (List ℕ) → Option (List ℕ) };
+
+    /// The text of the file of this name, or of standard input. Where its first line ends in a carriage return and a
+    /// line feed, each line has the line feed alone.
+    ///
+    /// # Errors
+    /// [`Failure::Open`] where the file can't be opened, or is a directory, [`Failure::Read`] where a read fails, and
+    /// [`Failure::Compressed`] where the bytes are compressed.
+    fn text_of<'a>(&self, rt: &HostRuntime, name: Option<&'a str>) -> Result<Vec<u8>, Failure<'a>>
+        ensures { IfOk result (λ text. IsTextOf (bytes self.now (option_map (λ n. n.now) name.entry)) text.items) };
+}
+
+/// The files of the machine, and its standard input. No contract knows what they have.
+#[derive(Clone, Copy)]
+pub struct Files;
+
+impl Inputs for Files {
+    ghost bytes = { λ _ _. None };
+
+    fn text_of<'a>(&self, rt: &HostRuntime, name: Option<&'a str>) -> Result<Vec<u8>, Failure<'a>> {
+        let Some(file) = name else {
+            return read_text(rt, name, &mut rt.stdin());
+        };
+        let mut file = open(rt, file)?;
+        read_text(rt, name, &mut file)
+    }
+}
+
+// The text that a reader has, which is the file of this name or standard input.
+fn read_text<'a, R: Read>(
+    rt: &HostRuntime,
+    name: Option<&'a str>,
+    reader: &mut R,
+) -> Result<Vec<u8>, Failure<'a>>
+    ensures { IfOk result (λ text. IsTextOf (R.remaining reader.old) text.items) }
+{
     let mut bytes = Vec::new(rt.alloc());
-    let read = match name {
-        Some(name) => open(rt, name)?.read_to_end(&mut bytes),
-        None => rt.stdin().read_to_end(&mut bytes),
-    };
-    match read {
+    match reader.read_to_end(&mut bytes) {
         Ok(_) => match tool_of(&bytes) {
             Some(tool) => Err(Failure::Compressed(name, tool)),
             None => Ok(with_line_feeds(rt, bytes)?),
@@ -39,7 +73,9 @@ fn tool_of(bytes: &[u8]) -> Option<&'static str> {
 }
 
 // A text without the carriage returns at the ends of its lines, if its first line has one.
-fn with_line_feeds(rt: &HostRuntime, bytes: Vec<u8>) -> Result<Vec<u8>, AllocError> {
+fn with_line_feeds(rt: &HostRuntime, bytes: Vec<u8>) -> Result<Vec<u8>, AllocError>
+    ensures { IfOk result (λ text. text.items ≡ text_read bytes.items) }
+{
     if has_returns(&bytes) {
         without_returns(rt, &bytes)
     } else {
@@ -48,23 +84,55 @@ fn with_line_feeds(rt: &HostRuntime, bytes: Vec<u8>) -> Result<Vec<u8>, AllocErr
 }
 
 // Whether the first line of a text ends in a carriage return. The binary form has none.
-fn has_returns(bytes: &[u8]) -> bool {
+fn has_returns(bytes: &[u8]) -> bool
+    ensures { result ≡ have_returns (text_lines bytes.now) }
+{
     match split_line(bytes) {
-        Some((first, _)) => first.ends_with(b"\r") && !first.starts_with(b"aig"),
+        Some((first, _)) => first_returns(first),
         None => false,
     }
 }
 
+// Whether the first line of a text does, which is not in the binary form.
+fn first_returns(first: &[u8]) -> bool
+    ensures { result ≡ first_returns first.now }
+{
+    if first.starts_with(b"aig") {
+        return false;
+    }
+    ends_in_return(first)
+}
+
+// Whether a line ends in a carriage return.
+fn ends_in_return(line: &[u8]) -> bool
+    ensures { result ≡ ends_in_return line.now }
+{
+    line.ends_with(b"\r")
+}
+
 // The lines of a text without the carriage returns at their ends.
-fn without_returns(rt: &HostRuntime, bytes: &[u8]) -> Result<Vec<u8>, AllocError> {
+#[tactic(auto, using(crate::proofs::Texts::one_more))]
+fn without_returns(rt: &HostRuntime, bytes: &[u8]) -> Result<Vec<u8>, AllocError>
+    ensures { IfOk result (λ text. text.items ≡ with_feeds (text_lines bytes.now)) }
+{
     let mut text = Vec::new(rt.alloc());
     let mut rest = bytes;
     while let Some((line, after)) = split_line(rest) {
-        text.extend_from_slice(line.strip_suffix(b"\r").unwrap_or(line))?;
+        text.extend_from_slice(without_return(line))?;
         text.push(b'\n')?;
         rest = after;
     }
     Ok(text)
+}
+
+// A line without the carriage return at its end, if it has one.
+fn without_return(line: &[u8]) -> &[u8]
+    ensures { result.now ≡ without_return line.now }
+{
+    if !ends_in_return(line) {
+        return line;
+    }
+    &line[..line.len().saturating_sub(1)]
 }
 
 // Opens a file to read it.

@@ -5,8 +5,10 @@
 //! error.
 #![tactic(auto)]
 
-ghost use Rattle.std.specs.Prelude.{◌≡◌, false, IfNone, IfOk, IfSome, IsTrue, None, Some};
+ghost use Rattle.std.specs.Prelude.{◌≡◌, false, map, string_bytes, IfNone, IfOk, IfSome, IsTrue, None, Some};
+ghost use Rattle.std.specs.Option.{option_map};
 ghost use Rattle.std.specs.Process.{exit_status};
+ghost use Rattle.gip_program.specs.Statuses.{IsEndedStatus};
 ghost use Rattle.gipmc_answers.specs.Answers.{Answers, IsCircuitIn};
 ghost use Rattle.gipmc_answers.specs.Certificates.{Certifies};
 ghost use Rattle.gipmc_answers.specs.Witnesses.{Replays};
@@ -15,7 +17,10 @@ ghost use Rattle.gipmc_justice.specs.Certificates as certificates;
 ghost use Rattle.gipmc_justice.specs.Witnesses as justice;
 ghost use Rattle.gipmc.specs.Asked.{AreBadsLeftOut, CertifiesAsked, IsAnsweredAsked, ReplaysAsked, ReplaysEach};
 ghost use Rattle.gipmc.specs.Asked.{outcome_of_bads};
+ghost use Rattle.gipmc.specs.Runs.{Ask, Finds, IsCertified, IsFound, IsReplayed, Verifies};
 ghost use Rattle.gipmc.specs.Statuses.{outcome_status, search_status, verified_status};
+ghost use Rattle.gipmc.specs.Texts.{IsTextOf};
+ghost use Rattle.gipmc_command.specs.Options.{request_of};
 
 mod errors;
 mod files;
@@ -27,7 +32,7 @@ mod snapshot;
 mod traces;
 
 use errors::Failure;
-use files::{bytes_of, new_file, write_out, write_whole};
+use files::{Files, Inputs, new_file, write_out, write_whole};
 use gip_program::{Clock, NewFile, begin, explain, refuse, tell};
 use gipmc_answers::{
     Answered, answer, certificate_of, doubt_of, witness_circuit_of, witness_doubt,
@@ -50,23 +55,37 @@ use traces::tell_traces;
 const REFUSED: u8 = 1;
 
 fn main(rt: HostRuntime) -> ExitCode {
-    let words = match begin(&rt) {
-        Ok(words) => words,
-        Err(status) => return status,
-    };
-    match Task::parse(&words) {
-        Ok(Task::Tell(info)) => tell(&rt, &ABOUT, info),
-        Ok(Task::Search(options)) => run_search(&rt, &options),
-        Ok(Task::Replay(options, witness)) => run_replay(&rt, &options, witness),
-        Ok(Task::Certify(options, name)) => run_certify(&rt, &options, name),
-        Err(error) => explain(&rt, "gipmc", &error),
+    match begin(&rt) {
+        Ok(words) => run(&rt, &Files, &words),
+        Err(status) => status,
+    }
+}
+
+// The status of what some words ask for, of the files that they name.
+fn run<I: Inputs>(rt: &HostRuntime, inputs: &I, words: &[String]) -> ExitCode
+    ensures safe { exit_status result ≡ 20 →
+        Ask (map string_bytes words.now) (Finds (I.bytes inputs.now) Safe) }
+    ensures fails { exit_status result ≡ 10 →
+        Ask (map string_bytes words.now) (Finds (I.bytes inputs.now) Fails) }
+    ensures verified { exit_status result ≡ 0 →
+        Ask (map string_bytes words.now) (Verifies (I.bytes inputs.now)) }
+{
+    match Task::parse(words) {
+        Ok(Task::Tell(info)) => tell(rt, &ABOUT, info),
+        Ok(Task::Search(options)) => run_search(rt, inputs, &options),
+        Ok(Task::Replay(options, witness)) => run_replay(rt, inputs, &options, witness),
+        Ok(Task::Certify(options, name)) => run_certify(rt, inputs, &options, name),
+        Err(error) => explain(rt, "gipmc", &error),
     }
 }
 
 // The status of a search in the circuit of the file that the options name, or of standard input.
-fn run_search(rt: &HostRuntime, options: &Options) -> ExitCode {
+fn run_search<I: Inputs>(rt: &HostRuntime, inputs: &I, options: &Options) -> ExitCode
+    ensures safe { exit_status result ≡ 20 → IsFound (I.bytes inputs.now) (request_of options.now) Safe }
+    ensures fails { exit_status result ≡ 10 → IsFound (I.bytes inputs.now) (request_of options.now) Fails }
+{
     let clock = Clock::start(rt);
-    match bytes_of(rt, options.file) {
+    match inputs.text_of(rt, options.file) {
         Ok(bytes) => search_in(rt, options, clock, &bytes),
         Err(error) => refuse(rt, &error),
     }
@@ -83,8 +102,17 @@ fn search_in(rt: &HostRuntime, options: &Options, clock: Clock, bytes: &[u8]) ->
 }
 
 // The status of a replay of the witness in the file of this name, or in standard input.
-fn run_replay(rt: &HostRuntime, options: &Options, name: Option<&str>) -> ExitCode {
-    match texts_of(rt, options, name) {
+fn run_replay<I: Inputs>(
+    rt: &HostRuntime,
+    inputs: &I,
+    options: &Options,
+    name: Option<&str>,
+) -> ExitCode
+    ensures verified { exit_status result ≡ 0 →
+        IsReplayed (I.bytes inputs.now) (request_of options.now) (option_map (λ n. n.now) name.entry) }
+    ensures ends { IsEndedStatus (exit_status result) }
+{
+    match texts_of(rt, inputs, options, name) {
         Ok((bytes, witness)) => replay_in(rt, options, name, &bytes, &witness),
         Err(error) => refuse(rt, &error),
     }
@@ -98,15 +126,25 @@ fn replay_in(
     bytes: &[u8],
     witness: &[u8],
 ) -> ExitCode
-    ensures { exit_status result ≡ 0 →
+    ensures verified { exit_status result ≡ 0 →
         ReplaysAsked bytes.now witness.now options.now.bad options.now.justice }
+    ensures ends { IsEndedStatus (exit_status result) }
 {
     end_check(rt, replay(rt, options, name, bytes, witness))
 }
 
 // The status of a certification by the certificate in the file of this name, or in standard input.
-fn run_certify(rt: &HostRuntime, options: &Options, name: Option<&str>) -> ExitCode {
-    match texts_of(rt, options, name) {
+fn run_certify<I: Inputs>(
+    rt: &HostRuntime,
+    inputs: &I,
+    options: &Options,
+    name: Option<&str>,
+) -> ExitCode
+    ensures verified { exit_status result ≡ 0 →
+        IsCertified (I.bytes inputs.now) (request_of options.now) (option_map (λ n. n.now) name.entry) }
+    ensures ends { IsEndedStatus (exit_status result) }
+{
+    match texts_of(rt, inputs, options, name) {
         Ok((bytes, text)) => certify_in(rt, options, name, &bytes, &text),
         Err(error) => refuse(rt, &error),
     }
@@ -120,20 +158,27 @@ fn certify_in(
     bytes: &[u8],
     text: &[u8],
 ) -> ExitCode
-    ensures { exit_status result ≡ 0 →
+    ensures verified { exit_status result ≡ 0 →
         CertifiesAsked bytes.now text.now options.now.bad options.now.justice }
+    ensures ends { IsEndedStatus (exit_status result) }
 {
     end_check(rt, certify(rt, options, name, bytes, text))
 }
 
 // The texts of the circuit that the options name and of the file of this name, each or standard input.
-fn texts_of<'a>(
+fn texts_of<'a, I: Inputs>(
     rt: &HostRuntime,
+    inputs: &I,
     options: &Options<'a>,
     name: Option<&'a str>,
-) -> Result<(Vec<u8>, Vec<u8>), Failure<'a>> {
-    let bytes = bytes_of(rt, options.file)?;
-    let text = bytes_of(rt, name)?;
+) -> Result<(Vec<u8>, Vec<u8>), Failure<'a>>
+    ensures circuit { IfOk result
+        (λ texts. IsTextOf (I.bytes inputs.now (option_map (λ n. n.now) options.now.file)) texts.0.items) }
+    ensures answer { IfOk result
+        (λ texts. IsTextOf (I.bytes inputs.now (option_map (λ n. n.now) name.entry)) texts.1.items) }
+{
+    let bytes = inputs.text_of(rt, options.file)?;
+    let text = inputs.text_of(rt, name)?;
     Ok((bytes, text))
 }
 

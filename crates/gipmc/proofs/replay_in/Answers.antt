@@ -1,10 +1,14 @@
 -- The witness is verified.
-use Rattle.std.proofs.Common.{sym, ◌∙◌}
+use Rattle.std.proofs.Common.{subst, sym, ◌∙◌}
+use Rattle.gip_program.specs.Statuses.{IsEndedStatus}
 use Rattle.gipmc.specs.Asked.{ReplaysAsked}
-use Rattle.gipmc.proofs.Ended.{verified_ended}
+use Rattle.gipmc.proofs.Ended.{check_ended, verified_ended}
 use Rattle.gipmc.proofs.replay_in.Goals as goal
 
-pub returns : goal.returns
-returns c is =
+pub returns-clause-verified : goal.returns-clause-verified
+returns-clause-verified c is =
     verified_ended (ReplaysAsked c.args.bytes.now c.args.witness.now c.args.options.now.bad c.args.options.now.justice) c.replay.result c.replay.ensures
     (sym c.end_check.ensures ∙ is)
+
+pub returns-clause-ends : goal.returns-clause-ends
+returns-clause-ends c = subst IsEndedStatus (sym c.end_check.ensures) (check_ended c.replay.result)
