@@ -782,6 +782,23 @@ try "the bad literal alone" 20 "" "$safe" "$several" --bad 0
 try "a justice property alone" 20 "" "$(printf '0\nj1\n.')" "$several" --justice 1
 try "a justice property, which is asked for last" 10 "" "$(printf '1\nj0\n0\n\n.')" "$several" --bad 0 --justice 0
 try "the witnesses of all answers" 0 "" "s VERIFIED" "$several" --replay all
+# Witnesses of both kinds in one text. A latch that rises and stays up is bad, and true again and again.
+rising='aag 1 0 1 0 0 1 0 1\n2 1\n2\n1\n2\n'
+witness '1\nb0\n0\n\n\n.\n1\nj0\n0\n\n\n.\n'
+try "a right trace and a right lasso" 0 "" "s VERIFIED" "$rising" --replay wit
+witness '1\nb0\n0\n\n.\n1\nj0\n0\n\n\n.\n'
+try "a right lasso behind a wrong trace" 1 \
+    "wit: witness 1, b0: the bad literal is false at the last moment, 0" "s NOT VERIFIED" "$rising" --replay wit
+witness '1\nj0\n0\n\n\n.\n1\nb0\n0\n\n.\n'
+try "a right lasso before a wrong trace" 1 \
+    "wit: witness 1, b0: the bad literal is false at the last moment, 0" "s NOT VERIFIED" "$rising" --replay wit
+witness '1\nb0\n0\n\n\n.\n1\nj0\n0\n\n.\n'
+try "a wrong lasso behind a right trace" 1 \
+    "wit: witness 1, j0: behind the last moment the latches hold what they held at none before" "s NOT VERIFIED" \
+    "$rising" --replay wit
+witness '0\nb0\n.\n0\nj0\n.\n'
+try "no witness of either kind" 1 "wit: no witness" "" "$rising" --replay wit
+try "no witness of either kind, beside no bad literal" 1 "wit: no witness of a justice property" "" "$fair" --replay wit
 try "no witness of the other property" 1 "all: no witness of justice property 1, which '--justice' asks for" "" \
     "$several" --replay all --justice 1
 try "no witness of the bad literal" 1 "all: no witness of bad literal 0, which '--bad' asks for" "" \

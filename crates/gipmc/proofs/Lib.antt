@@ -2,4 +2,5 @@ mod Asked
 mod Ended
 mod Examples
 mod Plans
+mod Replayed
 mod Texts

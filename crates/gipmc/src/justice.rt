@@ -46,7 +46,7 @@ pub fn search_justice<'a>(
     ensures answers { IfOk result (λ found. IfSome found
         (λ a. Answers bytes.now options.now.justice a.said.outcome a.said.text.items)) }
 {
-    if !is_of_justice(options, bytes) {
+    if !is_of_justice(bytes, options.bad, options.justice) {
         return Ok(None);
     }
     teller.go_on_with_justice();

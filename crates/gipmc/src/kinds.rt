@@ -1,36 +1,27 @@
-//! Which properties a search is about: those of the kind that is asked for, or all that the circuit has.
+//! Which properties a task is about: those of the kind that is asked for, or all that the circuit has.
 ghost use Rattle.std.specs.Prelude.{◌≡◌, false};
 ghost use Rattle.gipmc.specs.Asked.{AreBadsLeftOut, IsJusticeLeftOut, asks_of_bads, asks_of_justice};
 
 use gipmc_aiger::{Header, read_header};
-use gipmc_command::Options;
 
-/// Whether the bad literals of the circuit that the bytes write are asked about. They are where the bytes write none: a
-/// search tells that.
-pub fn is_of_bads(options: &Options, bytes: &[u8]) -> bool
-    ensures { result ≡ false → AreBadsLeftOut bytes.now options.now.bad options.now.justice }
+/// Whether the bad literals of the circuit that the bytes write are asked about, where these places are asked for. They
+/// are where the bytes write none: a search tells that.
+pub fn is_of_bads(bytes: &[u8], bad: Option<usize>, justice: Option<usize>) -> bool
+    ensures { result ≡ false → AreBadsLeftOut bytes.now bad justice }
 {
     match read_header(bytes) {
-        Ok(header) => asks_of_bads(&header, options.bad, options.justice),
+        Ok(header) => asks_of_bads(&header, bad, justice),
         Err(_) => true,
     }
 }
 
 /// Whether its justice properties are.
-pub fn is_of_justice(options: &Options, bytes: &[u8]) -> bool
-    ensures { result ≡ false → IsJusticeLeftOut bytes.now options.now.bad options.now.justice }
+pub fn is_of_justice(bytes: &[u8], bad: Option<usize>, justice: Option<usize>) -> bool
+    ensures { result ≡ false → IsJusticeLeftOut bytes.now bad justice }
 {
     match read_header(bytes) {
-        Ok(header) => asks_of_justice(&header, options.bad, options.justice),
+        Ok(header) => asks_of_justice(&header, bad, justice),
         Err(_) => true,
-    }
-}
-
-/// Whether the circuit that the bytes write has justice properties.
-pub fn has_justice(bytes: &[u8]) -> bool {
-    match read_header(bytes) {
-        Ok(header) => header.justice > 0,
-        Err(_) => false,
     }
 }
 

@@ -5,7 +5,8 @@
 //! error.
 #![tactic(auto)]
 
-ghost use Rattle.std.specs.Prelude.{◌≡◌, false, map, string_bytes, IfNone, IfOk, IfSome, IsTrue, None, Some};
+ghost use Rattle.std.specs.Prelude.{◌≡◌, ◌+◌, ◌<◌, false, map, string_bytes, IfNone, IfOk, IfSome, IsTrue, None, OnOk};
+ghost use Rattle.std.specs.Prelude.{Some};
 ghost use Rattle.std.specs.Option.{option_map};
 ghost use Rattle.std.specs.Process.{exit_status};
 ghost use Rattle.gip_program.specs.Statuses.{IsEndedStatus};
@@ -15,8 +16,8 @@ ghost use Rattle.gipmc_answers.specs.Witnesses.{Replays};
 ghost use Rattle.gipmc_task.specs.declared.outcome.Outcome.TheVariants.{Fails, Safe};
 ghost use Rattle.gipmc_justice.specs.Certificates as certificates;
 ghost use Rattle.gipmc_justice.specs.Witnesses as justice;
-ghost use Rattle.gipmc.specs.Asked.{AreBadsLeftOut, CertifiesAsked, IsAnsweredAsked, ReplaysAsked, ReplaysEach};
-ghost use Rattle.gipmc.specs.Asked.{outcome_of_bads};
+ghost use Rattle.gipmc.specs.Asked.{AreBadsLeftOut, AreBadsReplayed, CertifiesAsked, IsAnsweredAsked};
+ghost use Rattle.gipmc.specs.Asked.{IsJusticeReplayed, ReplaysAsked, ReplaysEach, outcome_of_bads};
 ghost use Rattle.gipmc.specs.Runs.{Ask, Finds, IsCertified, IsFound, IsReplayed, Verifies};
 ghost use Rattle.gipmc.specs.Statuses.{outcome_status, search_status, verified_status};
 ghost use Rattle.gipmc.specs.Texts.{IsTextOf};
@@ -35,7 +36,7 @@ use errors::Failure;
 use files::{Files, Inputs, new_file, write_out, write_whole};
 use gip_program::{Clock, NewFile, begin, explain, refuse, tell};
 use gipmc_answers::{
-    Answered, answer, certificate_of, doubt_of, witness_circuit_of, witness_doubt,
+    Answered, answer, certificate_of, doubt_of, replay_all, witness_circuit_of, witness_doubt,
 };
 use gipmc_command::{ABOUT, Options, Task};
 use gipmc_engines::Engine;
@@ -43,7 +44,7 @@ use gipmc_justice::{JusticeError, lasso_doubt};
 use gipmc_task::{Outcome, Output, TaskError};
 use gipsat_solver::Solver;
 use justice::{justice_failure, keep_of_justice, outcome_of_justice, search_justice};
-use kinds::{has_justice, is_of_bads};
+use kinds::{is_of_bads, is_of_justice};
 use progress::Teller;
 use settings::{output_of, plan_of};
 use std::fmt::Display;
@@ -398,7 +399,7 @@ fn search_bads<'a>(
     ensures answers { IfOk result (λ found. IfSome found
         (λ a. Answers bytes.now options.now.bad a.said.outcome a.said.text.items)) }
 {
-    if !is_of_bads(options, bytes) {
+    if !is_of_bads(bytes, options.bad, options.justice) {
         return Ok(None);
     }
     let plan = plan_of(options);
@@ -477,7 +478,7 @@ fn replay<'a>(
         ReplaysAsked bytes.now witness.now options.now.bad options.now.justice) }
 {
     match options.bad {
-        Some(bad) => replay_of_bads(rt, options, name, bytes, witness, Some(bad)),
+        Some(bad) => replay_of_bad(rt, options, name, bytes, witness, bad),
         None => replay_unless_bad(rt, options, name, bytes, witness),
     }
 }
@@ -499,7 +500,7 @@ fn replay_unless_bad<'a>(
     }
 }
 
-// Replays the witnesses of justice properties, and those of bad literals, of which one may be missing.
+// Replays the witnesses of all justice properties and of all bad literals. Those of one kind may be missing.
 fn replay_each<'a>(
     rt: &HostRuntime,
     options: &Options<'a>,
@@ -509,35 +510,93 @@ fn replay_each<'a>(
 ) -> Result<bool, Failure<'a>>
     ensures { IfOk result (λ verified. IsTrue verified → ReplaysEach bytes.now witness.now) }
 {
-    if !has_justice(bytes) {
-        return replay_of_bads(rt, options, name, bytes, witness, None);
-    }
-    match lasso_doubt(rt.alloc(), bytes, witness, None) {
-        Ok(Some(doubt)) => doubted(rt, name, &doubt),
-        Ok(None) => replay_beside_lassos(rt, options, name, bytes, witness),
-        Err(JusticeError::NoWitness) if is_of_bads(options, bytes) => {
-            replay_of_bads(rt, options, name, bytes, witness, None)
-        }
-        Err(error) => Err(justice_failure(options.file, name, error)),
-    }
+    let Some(lassos) = replay_lassos(rt, options, name, bytes, witness)? else {
+        return Ok(false);
+    };
+    let Some(traces) = replay_traces(rt, options, name, bytes, witness)? else {
+        return Ok(false);
+    };
+    has_witness(options, name, bytes, traces, lassos)?;
+    verified_text(rt, true)
 }
 
-// Replays the witnesses of bad literals, if there are some, where those of justice properties are right.
-fn replay_beside_lassos<'a>(
+// Replays the witnesses of justice properties, if the circuit has such. How many there are, unless one is not verified,
+// which is written.
+fn replay_lassos<'a>(
     rt: &HostRuntime,
     options: &Options<'a>,
     name: Option<&'a str>,
     bytes: &[u8],
     witness: &[u8],
-) -> Result<bool, Failure<'a>> {
-    if !is_of_bads(options, bytes) {
-        return verified_text(rt, true);
+) -> Result<Option<usize>, Failure<'a>>
+    ensures { IfOk result (λ count. IfSome count (IsJusticeReplayed bytes.now witness.now)) }
+{
+    if !is_of_justice(bytes, None, None) {
+        return Ok(Some(0));
     }
-    match witness_doubt(rt.alloc(), bytes, witness, None) {
-        Ok(Some(doubt)) => doubted(rt, name, &doubt),
-        Ok(None) | Err(TaskError::NoWitness) => verified_text(rt, true),
+    match gipmc_justice::replay_all(rt.alloc(), bytes, witness) {
+        Ok(found) => undoubted(rt, name, found.0, &found.1),
+        Err(error) => Err(justice_failure(options.file, name, error)),
+    }
+}
+
+// Replays those of bad literals in the same way, if a search would be about these.
+fn replay_traces<'a>(
+    rt: &HostRuntime,
+    options: &Options<'a>,
+    name: Option<&'a str>,
+    bytes: &[u8],
+    witness: &[u8],
+) -> Result<Option<usize>, Failure<'a>>
+    ensures { IfOk result (λ count. IfSome count (AreBadsReplayed bytes.now witness.now)) }
+{
+    if !is_of_bads(bytes, None, None) {
+        return Ok(Some(0));
+    }
+    match replay_all(rt.alloc(), bytes, witness) {
+        Ok(found) => undoubted(rt, name, found.0, &found.1),
         Err(error) => Err(failure(options.file, name, error)),
     }
+}
+
+// So many witnesses, if none of them is doubted. Else writes that one is not verified, and why.
+fn undoubted<'a, D: Display>(
+    rt: &HostRuntime,
+    name: Option<&'a str>,
+    count: usize,
+    doubt: &Option<D>,
+) -> Result<Option<usize>, Failure<'a>>
+    ensures { IfOk result (λ found. IfSome found (λ n. (n ≡ count) × (doubt.now ≡ None))) }
+{
+    match doubt {
+        None => Ok(Some(count)),
+        Some(doubt) => {
+            doubted(rt, name, doubt)?;
+            Ok(None)
+        }
+    }
+}
+
+// Tests that there is a witness among so many of bad literals and of justice properties.
+fn has_witness<'a>(
+    options: &Options<'a>,
+    name: Option<&'a str>,
+    bytes: &[u8],
+    traces: usize,
+    lassos: usize,
+) -> Result<(), Failure<'a>>
+    ensures { OnOk result (0 < traces + lassos) }
+{
+    if traces > 0 {
+        return Ok(());
+    }
+    if lassos > 0 {
+        return Ok(());
+    }
+    if is_of_bads(bytes, None, None) {
+        return Err(failure(options.file, name, TaskError::NoWitness));
+    }
+    Err(justice_failure(options.file, name, JusticeError::NoWitness))
 }
 
 // Replays the witnesses of the justice property at a place.
@@ -559,18 +618,18 @@ fn replay_of_justice<'a>(
     }
 }
 
-// Replays the witnesses of the bad literal that is asked for, or of all.
-fn replay_of_bads<'a>(
+// Replays the witnesses of the bad literal at a place.
+fn replay_of_bad<'a>(
     rt: &HostRuntime,
     options: &Options<'a>,
     name: Option<&'a str>,
     bytes: &[u8],
     witness: &[u8],
-    bad: Option<usize>,
+    place: usize,
 ) -> Result<bool, Failure<'a>>
-    ensures { IfOk result (λ verified. IsTrue verified → Replays bytes.now witness.now bad) }
+    ensures { IfOk result (λ verified. IsTrue verified → Replays bytes.now witness.now (Some place)) }
 {
-    match witness_doubt(rt.alloc(), bytes, witness, bad) {
+    match witness_doubt(rt.alloc(), bytes, witness, Some(place)) {
         Ok(None) => verified_text(rt, true),
         Ok(Some(doubt)) => doubted(rt, name, &doubt),
         Err(error) => Err(failure(options.file, name, error)),
@@ -634,7 +693,7 @@ fn certify_bads<'a>(
 
 // Tells where a certificate of all bad literals says nothing of justice properties.
 fn tell_left_out(rt: &HostRuntime, options: &Options, bytes: &[u8]) {
-    if options.bad.is_none() && has_justice(bytes) {
+    if options.bad.is_none() && is_of_justice(bytes, None, None) {
         let name = options.file.unwrap_or("<stdin>");
         let _ = eprintln!(rt; "c {name}: its bad literals alone are certified");
     }

@@ -1,7 +1,11 @@
--- Witnesses of the one kind or of the other.
-use Rattle.std.proofs.Common.{inl}
+-- Witnesses of the one kind, of the other, or of both.
 use Rattle.std.proofs.lemmas.Result.{IfOk-weaker}
 use Rattle.gipmc.proofs.replay_each.Goals as goal
 
-pub returns-then-not-has_justice : goal.returns-then-not-has_justice
-returns-then-not-has_justice c = IfOk-weaker c.replay_of_bads.result _ _ (λ verified right is. inl (right is)) c.replay_of_bads.ensures
+pub returns : goal.returns
+returns c =
+    let lassos = rw c.in-Some.is at c.in_ok-lassos.ensures in
+    let traces = rw c.in-Some-2.is at c.in_ok-traces.ensures in
+    IfOk-weaker c.verified_text.result _ _
+    (λ verified same is. (c.in-Some-2.traces, c.in-Some.lassos, traces, lassos, c.in_ok-has_witness.ensures))
+    c.verified_text.ensures
