@@ -23,6 +23,13 @@ abbrev pub outcome_of_justice : Option properties.Answered → Outcome
 outcome_of_justice None = Safe
 outcome_of_justice (Some answer) = answer.said.outcome
 
+-- the bytes write the circuit with its properties, and what was found shows that some of these hold: the one that is
+-- asked for, if one is
+abbrev pub IsFoundFor : List ℕ → Option ℕ → properties.Answered → Type 0
+IsFoundFor bytes asked answer =
+    justice.IsPropertiesIn bytes answer.netlist.circuit answer.liveness
+    × justice.AreFoundFor answer.netlist.circuit answer.liveness asked answer.said.found.items
+
 -- whether a search is about the bad literals of a circuit with this header: not where a justice property is asked for,
 -- nor where nothing is and there are justice properties alone
 abbrev pub asks_of_bads : Header → Option ℕ → Option ℕ → Bool

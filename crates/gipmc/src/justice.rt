@@ -1,7 +1,8 @@
 //! The program's work on justice properties.
-ghost use Rattle.std.specs.Prelude.{◌≡◌, IfNone, IfOk, IfSome};
-ghost use Rattle.gipmc_justice.specs.Answers.{Answers};
-ghost use Rattle.gipmc.specs.Asked.{IsJusticeLeftOut, outcome_of_justice};
+ghost use Rattle.std.specs.Prelude.{◌≡◌, ℕ, IfNone, IfOk, IfSome, Some};
+ghost use Rattle.gipmc_justice.specs.Answers.{Answers, IsPropertiesIn};
+ghost use Rattle.gipmc_justice.specs.Certificates.{Certifies};
+ghost use Rattle.gipmc.specs.Asked.{IsFoundFor, IsJusticeLeftOut, outcome_of_justice};
 
 use crate::errors::Failure;
 use crate::failure;
@@ -45,6 +46,7 @@ pub fn search_justice<'a>(
         (IsJusticeLeftOut bytes.now options.now.bad options.now.justice)) }
     ensures answers { IfOk result (λ found. IfSome found
         (λ a. Answers bytes.now options.now.justice a.said.outcome a.said.text.items)) }
+    ensures found { IfOk result (λ found. IfSome found (IsFoundFor bytes.now options.now.justice)) }
 {
     if !is_of_justice(bytes, options.bad, options.justice) {
         return Ok(None);
@@ -108,41 +110,63 @@ pub fn outcome_of_justice(justice: &Option<Answered>) -> Outcome
 /// Writes the certificate of a justice property that holds, if it is the only one that was asked about, to the file.
 ///
 /// # Errors
-/// [`Failure::NoCircuit`] where it is to be a circuit, [`Failure::SeveralProperties`] where several hold, and those of the
-/// certificate and of its file.
+/// [`Failure::NoCircuit`] where it is to be a circuit, [`Failure::SeveralProperties`] where several hold, and those of
+/// the certificate and of its file.
 pub fn keep_of_justice<'a>(
     rt: &HostRuntime,
     options: &Options<'a>,
+    bytes: &[u8],
     answer: &Answered,
     file: NewFile<'a>,
-) -> Result<(), Failure<'a>> {
+) -> Result<(), Failure<'a>>
+    requires { IsFoundFor bytes.now options.now.justice answer.now }
+{
     if answer.said.outcome != Outcome::Safe {
         return Ok(());
     }
     if options.aiger {
         return Err(Failure::NoCircuit(file.name()));
     }
-    match answer.said.found.as_slice() {
-        [found] => write_certificate(rt, answer, found, file),
-        _ => Err(Failure::SeveralProperties(Some(file.name()))),
+    let found = &answer.said.found;
+    if found.len() != 1 {
+        return Err(Failure::SeveralProperties(Some(file.name())));
     }
+    write_certificate(rt, options, bytes, answer, &found[0], file)
 }
 
 // Writes the certificate of a property to the file.
 fn write_certificate<'a>(
     rt: &HostRuntime,
+    options: &Options<'a>,
+    bytes: &[u8],
     answer: &Answered,
     found: &Found,
     file: NewFile<'a>,
-) -> Result<(), Failure<'a>> {
-    match certificate_of::<Solver>(
-        rt.alloc(),
-        &answer.netlist,
-        &answer.liveness,
-        found,
-        usize::MAX,
-    ) {
+) -> Result<(), Failure<'a>>
+    requires circuit { IsPropertiesIn bytes.now answer.now.netlist.circuit answer.now.liveness }
+    requires asked { (place : ℕ) → options.now.justice ≡ Some place → found.now.place ≡ place }
+{
+    match certificate_text(rt, options, bytes, answer, found) {
         Ok(text) => write_whole(file, &text),
         Err(error) => Err(justice_failure(Some(file.name()), Some(file.name()), error)),
     }
+}
+
+// The text of the certificate that was found for the circuit that the bytes write: of the property that is asked for, if
+// one is.
+fn certificate_text(
+    rt: &HostRuntime,
+    _options: &Options,
+    _bytes: &[u8],
+    answer: &Answered,
+    found: &Found,
+) -> Result<Vec<u8>, JusticeError>
+    requires circuit { IsPropertiesIn _bytes.now answer.now.netlist.circuit answer.now.liveness }
+    requires asked { (place : ℕ) → _options.now.justice ≡ Some place → found.now.place ≡ place }
+    ensures certifies { IfOk result (λ text. Certifies _bytes.now text.items found.now.place) }
+    ensures asked { (place : ℕ) → _options.now.justice ≡ Some place →
+        IfOk result (λ text. Certifies _bytes.now text.items place) }
+{
+    let (netlist, liveness) = (&answer.netlist, &answer.liveness);
+    certificate_of::<Solver>(rt.alloc(), netlist, liveness, found, usize::MAX)
 }

@@ -16,7 +16,7 @@ ghost use Rattle.gipmc_answers.specs.Witnesses.{Replays};
 ghost use Rattle.gipmc_task.specs.declared.outcome.Outcome.TheVariants.{Fails, Safe};
 ghost use Rattle.gipmc_justice.specs.Certificates as certificates;
 ghost use Rattle.gipmc_justice.specs.Witnesses as justice;
-ghost use Rattle.gipmc.specs.Asked.{AreBadsLeftOut, AreBadsReplayed, CertifiesAsked, IsAnsweredAsked};
+ghost use Rattle.gipmc.specs.Asked.{AreBadsLeftOut, AreBadsReplayed, CertifiesAsked, IsAnsweredAsked, IsFoundFor};
 ghost use Rattle.gipmc.specs.Asked.{IsJusticeReplayed, ReplaysAsked, ReplaysEach, outcome_of_bads};
 ghost use Rattle.gipmc.specs.Runs.{Ask, Finds, IsCertified, IsFound, IsReplayed, Verifies};
 ghost use Rattle.gipmc.specs.Statuses.{outcome_status, search_status, verified_status};
@@ -286,6 +286,7 @@ fn keep_found<'a>(
     wave: Option<NewFile<'a>>,
 ) -> Result<(), Failure<'a>>
     requires circuit { IfSome found.now.bads (λ a. IsCircuitIn bytes.now a.netlist.circuit) }
+    requires properties { IfSome found.now.justice (IsFoundFor bytes.now options.now.justice) }
 {
     let certified = match certificate {
         Some(file) => keep_certificate(rt, options, bytes, found, file),
@@ -305,12 +306,13 @@ fn keep_certificate<'a>(
     file: NewFile<'a>,
 ) -> Result<(), Failure<'a>>
     requires circuit { IfSome found.now.bads (λ a. IsCircuitIn bytes.now a.netlist.circuit) }
+    requires properties { IfSome found.now.justice (IsFoundFor bytes.now options.now.justice) }
 {
     if let Some(answer) = &found.bads {
         return keep_of_bads(rt, options, bytes, answer, file);
     }
     match &found.justice {
-        Some(answer) => keep_of_justice(rt, options, answer, file),
+        Some(answer) => keep_of_justice(rt, options, bytes, answer, file),
         None => Ok(()),
     }
 }
@@ -360,6 +362,7 @@ fn search<'a>(
     output: &mut Output<Stdout>,
 ) -> Result<Found, Failure<'a>>
     ensures circuit { IfOk result (λ f. IfSome f.bads (λ a. IsCircuitIn bytes.now a.netlist.circuit)) }
+    ensures properties { IfOk result (λ f. IfSome f.justice (IsFoundFor bytes.now options.now.justice)) }
     ensures answers { IfOk result
         (λ f. IsAnsweredAsked bytes.now options.now.bad options.now.justice f.outcome) }
 {
