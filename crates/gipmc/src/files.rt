@@ -13,7 +13,7 @@ use std::fs::File;
 use std::io::{ErrorKind, Read, Write};
 
 /// Where the texts are that a run reads.
-pub trait Inputs {
+pub trait Texts {
     // The bytes of each file by its name, where they are known. Standard input has no name.
     ghost bytes: { Self → Option (List ℕ) → Option (List ℕ) };
 
@@ -31,7 +31,7 @@ pub trait Inputs {
 #[derive(Clone, Copy)]
 pub struct Files;
 
-impl Inputs for Files {
+impl Texts for Files {
     ghost bytes = { λ _ _. None };
 
     fn text_of<'a>(&self, rt: &HostRuntime, name: Option<&'a str>) -> Result<Vec<u8>, Failure<'a>> {

@@ -33,7 +33,7 @@ mod snapshot;
 mod traces;
 
 use errors::Failure;
-use files::{Files, Inputs, new_file, write_out, write_whole};
+use files::{Files, Texts, new_file, write_out, write_whole};
 use gip_program::{Clock, NewFile, begin, explain, refuse, tell};
 use gipmc_answers::{
     Answered, answer, certificate_of, doubt_of, replay_all, witness_circuit_of, witness_doubt,
@@ -63,30 +63,30 @@ fn main(rt: HostRuntime) -> ExitCode {
 }
 
 // The status of what some words ask for, of the files that they name.
-fn run<I: Inputs>(rt: &HostRuntime, inputs: &I, words: &[String]) -> ExitCode
+fn run<T: Texts>(rt: &HostRuntime, texts: &T, words: &[String]) -> ExitCode
     ensures safe { exit_status result ≡ 20 →
-        Ask (map string_bytes words.now) (Finds (I.bytes inputs.now) Safe) }
+        Ask (map string_bytes words.now) (Finds (T.bytes texts.now) Safe) }
     ensures fails { exit_status result ≡ 10 →
-        Ask (map string_bytes words.now) (Finds (I.bytes inputs.now) Fails) }
+        Ask (map string_bytes words.now) (Finds (T.bytes texts.now) Fails) }
     ensures verified { exit_status result ≡ 0 →
-        Ask (map string_bytes words.now) (Verifies (I.bytes inputs.now)) }
+        Ask (map string_bytes words.now) (Verifies (T.bytes texts.now)) }
 {
     match Task::parse(words) {
         Ok(Task::Tell(info)) => tell(rt, &ABOUT, info),
-        Ok(Task::Search(options)) => run_search(rt, inputs, &options),
-        Ok(Task::Replay(options, witness)) => run_replay(rt, inputs, &options, witness),
-        Ok(Task::Certify(options, name)) => run_certify(rt, inputs, &options, name),
+        Ok(Task::Search(options)) => run_search(rt, texts, &options),
+        Ok(Task::Replay(options, witness)) => run_replay(rt, texts, &options, witness),
+        Ok(Task::Certify(options, name)) => run_certify(rt, texts, &options, name),
         Err(error) => explain(rt, "gipmc", &error),
     }
 }
 
 // The status of a search in the circuit of the file that the options name, or of standard input.
-fn run_search<I: Inputs>(rt: &HostRuntime, inputs: &I, options: &Options) -> ExitCode
-    ensures safe { exit_status result ≡ 20 → IsFound (I.bytes inputs.now) (request_of options.now) Safe }
-    ensures fails { exit_status result ≡ 10 → IsFound (I.bytes inputs.now) (request_of options.now) Fails }
+fn run_search<T: Texts>(rt: &HostRuntime, texts: &T, options: &Options) -> ExitCode
+    ensures safe { exit_status result ≡ 20 → IsFound (T.bytes texts.now) (request_of options.now) Safe }
+    ensures fails { exit_status result ≡ 10 → IsFound (T.bytes texts.now) (request_of options.now) Fails }
 {
     let clock = Clock::start(rt);
-    match inputs.text_of(rt, options.file) {
+    match texts.text_of(rt, options.file) {
         Ok(bytes) => search_in(rt, options, clock, &bytes),
         Err(error) => refuse(rt, &error),
     }
@@ -103,17 +103,17 @@ fn search_in(rt: &HostRuntime, options: &Options, clock: Clock, bytes: &[u8]) ->
 }
 
 // The status of a replay of the witness in the file of this name, or in standard input.
-fn run_replay<I: Inputs>(
+fn run_replay<T: Texts>(
     rt: &HostRuntime,
-    inputs: &I,
+    texts: &T,
     options: &Options,
     name: Option<&str>,
 ) -> ExitCode
     ensures verified { exit_status result ≡ 0 →
-        IsReplayed (I.bytes inputs.now) (request_of options.now) (option_map (λ n. n.now) name.entry) }
+        IsReplayed (T.bytes texts.now) (request_of options.now) (option_map (λ n. n.now) name.entry) }
     ensures ends { IsEndedStatus (exit_status result) }
 {
-    match texts_of(rt, inputs, options, name) {
+    match texts_of(rt, texts, options, name) {
         Ok((bytes, witness)) => replay_in(rt, options, name, &bytes, &witness),
         Err(error) => refuse(rt, &error),
     }
@@ -135,17 +135,17 @@ fn replay_in(
 }
 
 // The status of a certification by the certificate in the file of this name, or in standard input.
-fn run_certify<I: Inputs>(
+fn run_certify<T: Texts>(
     rt: &HostRuntime,
-    inputs: &I,
+    texts: &T,
     options: &Options,
     name: Option<&str>,
 ) -> ExitCode
     ensures verified { exit_status result ≡ 0 →
-        IsCertified (I.bytes inputs.now) (request_of options.now) (option_map (λ n. n.now) name.entry) }
+        IsCertified (T.bytes texts.now) (request_of options.now) (option_map (λ n. n.now) name.entry) }
     ensures ends { IsEndedStatus (exit_status result) }
 {
-    match texts_of(rt, inputs, options, name) {
+    match texts_of(rt, texts, options, name) {
         Ok((bytes, text)) => certify_in(rt, options, name, &bytes, &text),
         Err(error) => refuse(rt, &error),
     }
@@ -167,19 +167,19 @@ fn certify_in(
 }
 
 // The texts of the circuit that the options name and of the file of this name, each or standard input.
-fn texts_of<'a, I: Inputs>(
+fn texts_of<'a, T: Texts>(
     rt: &HostRuntime,
-    inputs: &I,
+    texts: &T,
     options: &Options<'a>,
     name: Option<&'a str>,
 ) -> Result<(Vec<u8>, Vec<u8>), Failure<'a>>
     ensures circuit { IfOk result
-        (λ texts. IsTextOf (I.bytes inputs.now (option_map (λ n. n.now) options.now.file)) texts.0.items) }
+        (λ both. IsTextOf (T.bytes texts.now (option_map (λ n. n.now) options.now.file)) both.0.items) }
     ensures answer { IfOk result
-        (λ texts. IsTextOf (I.bytes inputs.now (option_map (λ n. n.now) name.entry)) texts.1.items) }
+        (λ both. IsTextOf (T.bytes texts.now (option_map (λ n. n.now) name.entry)) both.1.items) }
 {
-    let bytes = inputs.text_of(rt, options.file)?;
-    let text = inputs.text_of(rt, name)?;
+    let bytes = texts.text_of(rt, options.file)?;
+    let text = texts.text_of(rt, name)?;
     Ok((bytes, text))
 }
 

@@ -10,11 +10,11 @@ use Rattle.gipmc.proofs.run.Goals as goal
 
 pub returns-in-Ok-Tell-clause-safe : goal.returns-in-Ok-Tell-clause-safe
 returns-in-Ok-Tell-clause-safe g c is =
-    no_other (Ask (map string_bytes c.args.words.now) (Finds (g.I.Inputs.bytes c.args.inputs.now) Safe)) _ 20 c.tell.ensures is (omega arith)
+    no_other (Ask (map string_bytes c.args.words.now) (Finds (g.T.Texts.bytes c.args.texts.now) Safe)) _ 20 c.tell.ensures is (omega arith)
 
 pub returns-in-Ok-Tell-clause-fails : goal.returns-in-Ok-Tell-clause-fails
 returns-in-Ok-Tell-clause-fails g c is =
-    no_other (Ask (map string_bytes c.args.words.now) (Finds (g.I.Inputs.bytes c.args.inputs.now) Fails)) _ 10 c.tell.ensures is (omega arith)
+    no_other (Ask (map string_bytes c.args.words.now) (Finds (g.T.Texts.bytes c.args.texts.now) Fails)) _ 10 c.tell.ensures is (omega arith)
 
 pub returns-in-Ok-Tell-clause-verified : goal.returns-in-Ok-Tell-clause-verified
 returns-in-Ok-Tell-clause-verified g c is =
@@ -34,11 +34,11 @@ returns-in-Ok-Search-clause-verified g c is =
 
 pub returns-in-Ok-Replay-clause-safe : goal.returns-in-Ok-Replay-clause-safe
 returns-in-Ok-Replay-clause-safe g c is =
-    no_other (Ask (map string_bytes c.args.words.now) (Finds (g.I.Inputs.bytes c.args.inputs.now) Safe)) _ 20 c.run_replay.ensures.ends is (omega arith)
+    no_other (Ask (map string_bytes c.args.words.now) (Finds (g.T.Texts.bytes c.args.texts.now) Safe)) _ 20 c.run_replay.ensures.ends is (omega arith)
 
 pub returns-in-Ok-Replay-clause-fails : goal.returns-in-Ok-Replay-clause-fails
 returns-in-Ok-Replay-clause-fails g c is =
-    no_other (Ask (map string_bytes c.args.words.now) (Finds (g.I.Inputs.bytes c.args.inputs.now) Fails)) _ 10 c.run_replay.ensures.ends is (omega arith)
+    no_other (Ask (map string_bytes c.args.words.now) (Finds (g.T.Texts.bytes c.args.texts.now) Fails)) _ 10 c.run_replay.ensures.ends is (omega arith)
 
 pub returns-in-Ok-Replay-clause-verified : goal.returns-in-Ok-Replay-clause-verified
 returns-in-Ok-Replay-clause-verified g c is =
@@ -46,11 +46,11 @@ returns-in-Ok-Replay-clause-verified g c is =
 
 pub returns-in-Ok-Certify-clause-safe : goal.returns-in-Ok-Certify-clause-safe
 returns-in-Ok-Certify-clause-safe g c is =
-    no_other (Ask (map string_bytes c.args.words.now) (Finds (g.I.Inputs.bytes c.args.inputs.now) Safe)) _ 20 c.run_certify.ensures.ends is (omega arith)
+    no_other (Ask (map string_bytes c.args.words.now) (Finds (g.T.Texts.bytes c.args.texts.now) Safe)) _ 20 c.run_certify.ensures.ends is (omega arith)
 
 pub returns-in-Ok-Certify-clause-fails : goal.returns-in-Ok-Certify-clause-fails
 returns-in-Ok-Certify-clause-fails g c is =
-    no_other (Ask (map string_bytes c.args.words.now) (Finds (g.I.Inputs.bytes c.args.inputs.now) Fails)) _ 10 c.run_certify.ensures.ends is (omega arith)
+    no_other (Ask (map string_bytes c.args.words.now) (Finds (g.T.Texts.bytes c.args.texts.now) Fails)) _ 10 c.run_certify.ensures.ends is (omega arith)
 
 pub returns-in-Ok-Certify-clause-verified : goal.returns-in-Ok-Certify-clause-verified
 returns-in-Ok-Certify-clause-verified g c is =

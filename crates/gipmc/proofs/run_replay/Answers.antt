@@ -8,7 +8,7 @@ use Rattle.gipmc.proofs.run_replay.Goals as goal
 pub returns-in-Ok-clause-verified : goal.returns-in-Ok-clause-verified
 returns-in-Ok-clause-verified g c is =
     let options = c.args.options.now in
-    let files = g.I.Inputs.bytes c.args.inputs.now in
+    let files = g.T.Texts.bytes c.args.texts.now in
     if_texts (λ bytes text. ReplaysAsked bytes text options.bad options.justice)
     (files (option_map (λ n. n.now) options.file)) (files (option_map (λ n. n.now) c.args.name)) _ _
     c.in-Ok.ensures.circuit c.in-Ok.ensures.answer

@@ -9,12 +9,12 @@ pub returns-in-Ok-clause-safe : goal.returns-in-Ok-clause-safe
 returns-in-Ok-clause-safe g c is =
     let options = c.args.options.now in
     if_text (λ bytes. IsAnsweredAsked bytes options.bad options.justice Safe)
-    (g.I.Inputs.bytes c.args.inputs.now (option_map (λ n. n.now) options.file)) c.in-Ok.bytes.items c.in-Ok.ensures
+    (g.T.Texts.bytes c.args.texts.now (option_map (λ n. n.now) options.file)) c.in-Ok.bytes.items c.in-Ok.ensures
     (rw c.deref.ensures.value at (c.search_in.ensures.safe is))
 
 pub returns-in-Ok-clause-fails : goal.returns-in-Ok-clause-fails
 returns-in-Ok-clause-fails g c is =
     let options = c.args.options.now in
     if_text (λ bytes. IsAnsweredAsked bytes options.bad options.justice Fails)
-    (g.I.Inputs.bytes c.args.inputs.now (option_map (λ n. n.now) options.file)) c.in-Ok.bytes.items c.in-Ok.ensures
+    (g.T.Texts.bytes c.args.texts.now (option_map (λ n. n.now) options.file)) c.in-Ok.bytes.items c.in-Ok.ensures
     (rw c.deref.ensures.value at (c.search_in.ensures.fails is))
