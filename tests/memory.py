@@ -5,7 +5,7 @@ A row is a run of GIP, GIPSAT or GIPMC, and which requests for memory are refuse
 that follow it, for each N. Each refused run has to end as the run does that is refused nothing, or to say that memory
 was refused, or that an answer is open. It may then say less, and nothing else. It ends by itself, with a status that
 the programs have. A file that it was to write is absent or whole: the same as without the refusal, or another one that
-the program itself verifies; the part of one that is not yet whole may stay under its own name.
+the program itself verifies; the part of one that did not get its name stays only where the error names it.
 
 `rt try --fail-alloc N` refuses the Nth request of a run too, but it builds the program anew for each N, which takes
 minutes. So what is refused here is the built program, by tests/refuse.c. The last line is 'N passed, M failed'.
@@ -97,7 +97,7 @@ def runs():
     yield solver("an assumption", ["--assume", "1 -2", f], files={f: SATISFIABLE})
     yield solver("questions", [f], files={f: QUESTIONS})
     for engine in ("all", "sim", "bmc", "ic3", "induction"):
-        words = [] if engine == "all" else ["--engine", engine, "--depth", "9"]
+        words = [] if engine == "all" else ["--engine", engine, *(["--depth", "9"] if engine == "bmc" else [])]
         for kind, text in (("is safe", COUNTER), ("fails", FAILS)):
             yield checker(f"a circuit that {kind}, by {engine}", [*words, c], files={c: text})
     yield checker("a shortest trace", ["--shortest", c], files={c: FAILS})
@@ -107,7 +107,7 @@ def runs():
     yield checker("a wave", ["--bad", "1", "--vcd", "wave", c], files={c: TWO}, written="wave")
     yield checker("a file of a witness", ["--witness", "w-", c], files={c: TWO}, written="w-b1.aiw",
                   verified=["--replay", "w-b1.aiw", "--bad", "1", c])
-    for form in ([], ["--aiger"], ["--engine", "induction", "--depth", "9"]):
+    for form in ([], ["--aiger"], ["--engine", "induction"]):
         name = " ".join(["a certificate that is written", *form[:2]])
         yield checker(name, ["--certificate", "cert", *form, c], files={c: COUNTER}, written="cert",
                       verified=["--certify", "cert", c])
@@ -269,7 +269,7 @@ def fault(machine, run, whole, got):
     (wanted, all_out, all_err), all_written, _ = whole
     if status is None or status < 0:
         return "no end of its own"
-    if not all(re.fullmatch(rf"{re.escape(run.written or '')}[.][0-9]+[.]part", name) for name in left):
+    if not all(f"(see {name})".encode() in err for name in left):
         return f"it leaves {', '.join(left)}"
     if not is_whole(machine, run, written, all_written):
         return f"{run.written} is not whole"
