@@ -266,7 +266,9 @@ try_refused "a needed clause deleted" 2 "$not_shown" "$squares" 'd 1 2 3 0\n1 2 
 try_check "a deletion of what is not there" 0 \
     "c $work/proof: deletions of what is not there were passed over: 1, the first at line 1" "s VERIFIED" \
     "$squares" 'd 1 2 0\n1 2 0\n1 0\n4 0\n0\n'
-try_check "variables of the proof's own" 0 "" "s VERIFIED" "$squares" '9 -1 0\n-9 1 0\n1 2 0\n9 0\n4 0\n0\n'
+read_as_drat="c $work/proof: read as DRAT, though its first number may be a name of LRAT"
+try_check "variables of the proof's own" 0 "$read_as_drat" "s VERIFIED" "$squares" \
+    '9 -1 0\n-9 1 0\n1 2 0\n9 0\n4 0\n0\n'
 lrat='9 1 2 0 1 2 0\n10 1 0 9 3 4 0\n10 d 9 1 2 0\n11 4 0 10 5 6 0\n12 0 11 10 7 8 0\n'
 try_check "a proof with hints" 0 "" "s VERIFIED" "$squares" "$lrat"
 try_refused "a hint that is not unit" 1 "a hint whose clause is not unit" "$squares" '9 1 2 0 3 1 2 0\n'
@@ -347,8 +349,13 @@ while IFS= read -r row; do
     esac
     formula=${named[$formula]-$formula}
     error=
-    [ "$noted" = - ] ||
-        error="c $work/proof: deletions of what is not there were passed over: ${noted/ at /, the first at }"$'\n'
+    case $noted in drat*) error=$read_as_drat$'\n' ;; esac
+    noted=${noted#drat}
+    noted=${noted#, }
+    case $noted in
+        - | '') ;;
+        *) error+="c $work/proof: deletions of what is not there were passed over: ${noted/ at /, the first at }"$'\n' ;;
+    esac
     case $outcome in
         verified*) try_check "$about ($proof)" 0 "${error%$'\n'}" "s VERIFIED" "$formula" "$proof" ;;
         line*) try_check "$about ($proof)" 1 "$error$work/proof:${outcome#line }" "s NOT VERIFIED" "$formula" "$proof" ;;

@@ -145,10 +145,16 @@ fn end_check(rt: &HostRuntime, proof: Option<&str>, outcome: Outcome) -> ExitCod
     }
 }
 
-// Tells how many deletions of the proof in this file were passed over.
+// Tells as which form the proof in this file was read, where that may be in doubt, and how many of its deletions were
+// passed over.
 fn warn(rt: &HostRuntime, proof: Option<&str>, notes: Notes) {
+    let name = proof.unwrap_or("<stdin>");
+    if notes.may_be_lrat {
+        let _ = eprintln!(rt;
+            "c {name}: read as DRAT, though its first number may be a name of LRAT"
+        );
+    }
     if let Some(first) = notes.first {
-        let name = proof.unwrap_or("<stdin>");
         let missing = notes.missing;
         let _ = eprintln!(rt;
             "c {name}: deletions of what is not there were passed over: {missing}, the first at {first}"
