@@ -1,3 +1,4 @@
 mod Examples
 mod HeldLemmas
 mod OutcomeLemmas
+mod RatExamples
