@@ -1,11 +1,13 @@
 -- What a search answered to an input, in what it wrote.
-use Rattle.std.specs.Prelude.{ℕ, List, codes, Bool, Option, Some, None, IsTrue, ⊤, ◌⊎◌}
+use Rattle.std.specs.Prelude.{◌≡◌, ℕ, List, codes, Bool, Option, Some, None, IsTrue, ⊤, ◌⊎◌}
 use Rattle.std.specs.Io.KnownBytes.{Appends}
 use Rattle.gipsat_cnf.specs.Formulas.{Assignment, IsSatisfiable, satisfies}
 use Rattle.gipsat_cnf.specs.Literals.{Lit}
+use Rattle.gip_program.specs.Statuses.{refused_status}
 use Rattle.gipsat_dimacs.specs.Inputs.{HasForm, OfProblem}
 use Rattle.gipsat_dimacs.specs.Texts.{Problem}
 use Rattle.gipsat_dimacs.specs.declared.rule.HeaderRule.{HeaderRule}
+use Rattle.gipsat_answers.specs.Answers.{verdict_status}
 use Rattle.gipsat_answers.specs.Assumed.{assuming}
 use Rattle.gipsat_answers.specs.Enumeration.{IsRightVerdict, WritesModels, model_text}
 use Rattle.gipsat_answers.specs.Questions.{AsksQuestions, IsRightOfAll, OfQuestions, Question, WritesReplies}
@@ -54,3 +56,7 @@ abbrev pub IsAnswered : Options → List Lit → Option (List Lit) → Verdict �
 IsAnswered options assumed projection verdict input old new =
     AreQuestionsAnswered options.witness options.conflicts verdict input old new
     ⊎ IsProblemAnswered options.rule options.witness options.models assumed projection verdict input old new
+
+-- the status of a verdict, or that of an error
+abbrev pub IsSearchStatus : ℕ → Type 0
+IsSearchStatus status = ((verdict : Verdict) × (status ≡ verdict_status verdict)) ⊎ (status ≡ refused_status)

@@ -5,7 +5,7 @@ ghost use Rattle.std.specs.Option.{option_map};
 ghost use Rattle.std.specs.Process.{exit_status};
 ghost use Rattle.gipsat_answers.specs.declared.answers.Verdict.TheVariants.{Satisfiable, Unknown, Unsatisfiable};
 ghost use Rattle.gipsat_command.specs.Files.{output_contents, source_remaining};
-ghost use Rattle.gipsat.specs.Answered.{AreQuestionsAnswered, IsAnswered, IsProblemAnswered};
+ghost use Rattle.gipsat.specs.Answered.{AreQuestionsAnswered, IsAnswered, IsProblemAnswered, IsSearchStatus};
 
 use crate::models::{Wanted, enumerate};
 use crate::questions::answer;
@@ -41,6 +41,7 @@ pub fn search_in<'a, R: Read + Drop, W: Write>(
         IsAnswered options.now assumed.now (option_map (λ literals. literals.now) projection.entry) Unknown
         (source_remaining R.remaining source.entry)
         (output_contents W.contents output.old) (output_contents W.contents output.new) }
+    ensures ends { IsSearchStatus (exit_status result) }
 {
     match search(rt, options, assumed, projection, source, output) {
         Ok(verdict) => ExitCode::from(verdict.status()),

@@ -1,7 +1,8 @@
 -- What the status of a check says of its outcome, and what was written of it.
-use Rattle.std.proofs.Common.{◌≡◌, ℕ, List, Option, Some, None, IfSome, Result, Ok, Err, subst, sym}
+use Rattle.std.proofs.Common.{◌≡◌, ℕ, List, Option, Some, None, IfSome, Result, Ok, Err, inl, inr, refl, subst, sym}
 use Rattle.std.specs.Prelude.{IfOk, OnOk}
 use Rattle.std.specs.Io.KnownBytes.{Appends}
+use Rattle.gip_program.specs.Statuses.{IsEndedStatus}
 use Rattle.gipsat_dimacs.specs.Inputs.{HasForm, OfProblem}
 use Rattle.gipsat_dimacs.specs.Texts.{Problem, problem_by}
 use Rattle.gipsat_dimacs.specs.declared.rule.HeaderRule.{HeaderRule}
@@ -10,6 +11,11 @@ use Rattle.gipsat_command.specs.Statuses.{TellsVerified, checking_status}
 use Rattle.gipsat_drat.specs.Outcomes.{IsRight, WritesOutcome, outcome_text}
 use Rattle.gipsat_drat.specs.declared.error.Outcome.{Outcome}
 use Rattle.gipsat_drat.specs.declared.error.Outcome.TheVariants.{Verified, Refused}
+
+-- a check ends with 0 or with 1
+pub check-ended : (outcome : Outcome) → IsEndedStatus (checking_status outcome)
+check-ended Verified = inl refl
+check-ended (Refused refusal) = inr refl
 
 -- a check ends with 0 only where the proof is verified
 pub verified-told : (input old new : Option (List ℕ)) (outcome : Outcome) → checking_status outcome ≡ 0 → HasForm Strict input

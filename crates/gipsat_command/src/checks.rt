@@ -2,6 +2,7 @@
 ghost use Rattle.std.specs.Prelude.{◌≡◌, ◌≢◌, ℕ, IfOk, IfErr, OnOk, IsErrOf};
 ghost use Rattle.std.specs.Io.KnownBytes.{IsAtEnd};
 ghost use Rattle.std.specs.Process.{exit_status};
+ghost use Rattle.gip_program.specs.Statuses.{IsEndedStatus};
 ghost use Rattle.gipsat_command.specs.Files.{output_contents, source_remaining};
 ghost use Rattle.gipsat_command.specs.Statuses.{TellsVerified, checking_status};
 ghost use Rattle.gipsat_drat.specs.Outcomes.{WritesOutcome};
@@ -73,6 +74,7 @@ pub fn check_in<'a, F: Read + Drop, P: Read + Drop, W: Write>(
 ) -> ExitCode
     ensures verified { exit_status result ≡ 0 → TellsVerified (source_remaining F.remaining formula.entry)
         (output_contents W.contents output.old) (output_contents W.contents output.new) }
+    ensures ends { IsEndedStatus (exit_status result) }
 {
     let mut notes = Notes::new();
     match check(rt, &mut formula, &mut proof, output, &mut notes) {
@@ -97,6 +99,7 @@ pub fn convert_in<'a, F: Read + Drop, P: Read + Drop, W: Write>(
 ) -> ExitCode
     ensures verified { exit_status result ≡ 0 → TellsVerified (source_remaining F.remaining formula.entry)
         (output_contents W.contents output.old) (output_contents W.contents output.new) }
+    ensures ends { IsEndedStatus (exit_status result) }
 {
     let mut notes = Notes::new();
     match convert(

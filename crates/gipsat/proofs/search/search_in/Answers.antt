@@ -1,5 +1,5 @@
 -- The status is that of the verdict.
-use Rattle.std.proofs.Common.{sym, ◌∙◌}
+use Rattle.std.proofs.Common.{inl, inr, sym, ◌∙◌}
 use Rattle.std.specs.Option.{option_map}
 use Rattle.gipsat_command.specs.Files.{output_contents, source_remaining}
 use Rattle.gipsat.proofs.Answered.{satisfiable-answered, unknown-answered, unsatisfiable-answered}
@@ -25,3 +25,9 @@ returns-in-Ok-clause-unknown g c is =
     c.in-Ok.verdict (source_remaining g.R.Read.remaining c.args.source) (output_contents g.W.Write.contents c.args.output.now)
     (output_contents g.W.Write.contents c.search.new.output) c.in-Ok.ensures
     (sym c.status.ensures ∙ sym c.from.ensures ∙ is)
+
+pub returns-in-Ok-clause-ends : goal.returns-in-Ok-clause-ends
+returns-in-Ok-clause-ends g c = inl (c.in-Ok.verdict, c.from.ensures ∙ c.status.ensures)
+
+pub returns-in-Err-clause-ends : goal.returns-in-Err-clause-ends
+returns-in-Err-clause-ends g c = inr c.refuse.ensures
