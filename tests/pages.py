@@ -30,8 +30,9 @@ under the names that `giputils` gives them. The page of `gip` has the script tha
 folders that docs/ELSEWHERE.md names for a part are, with those of the rows that it names, all that crates.txt asks for.
 docs/DESIGN.md names each crate, links to its README, and has in its table those that it stands on; the solver has the
 names that stand there beside MiniSat's, the imports of its modules make no cycle, and each module begins with a line
-`//!`. A type has a name that no type of another file has, but for those of tests/names.txt. Each file that a page names is there, and each part of a page that a link names;
-no line has more than 120 columns, but for imports that are quoted, and the README of the root has at most 80 lines.
+`//!`. A type has a name that no type of another file has, but for those of tests/names.txt. Each file that a page names
+is there, and each part of a page that a link names; no line has more than 120 columns, but for imports that are quoted,
+and the README of the root has at most 80 lines.
 """
 
 import argparse
