@@ -1,5 +1,5 @@
 -- The outcome at status 0 is that the proof is verified, and there is no status but 0 and 1.
-use Rattle.std.proofs.Common.{inr, subst, sym, ◌∙◌}
+use Rattle.std.proofs.Common.{subst, sym, ◌∙◌}
 use Rattle.gip_program.specs.Statuses.{IsEndedStatus}
 use Rattle.gipsat_command.proofs.Checked.{check-ended, verified-told}
 use Rattle.gipsat_command.proofs.checks.convert_in.Goals as goal
@@ -10,6 +10,3 @@ returns-in-Ok-clause-verified g c is =
 
 pub returns-in-Ok-clause-ends : goal.returns-in-Ok-clause-ends
 returns-in-Ok-clause-ends g c = subst IsEndedStatus (sym c.end_check.ensures) (check-ended c.in-Ok.outcome)
-
-pub returns-in-Err-clause-ends : goal.returns-in-Err-clause-ends
-returns-in-Err-clause-ends g c = inr c.refuse.ensures
