@@ -230,6 +230,10 @@ bare_claim : claims_of 1 2 (codes "0\n10\n01# DONE\n")
 unfolding bare_of
 bare_claim = refl
 
+-- and no justice property
+lassos_of_bare : lassos_of 1 2 (codes "0\n10\n01# DONE\n") ≡ Some []
+lassos_of_bare = refl
+
 refused-letter_alone : claims_of 1 1 (codes "1\nb\n0\n1\n.\n") ≡ None
 unfolding claim_of
 refused-letter_alone = refl

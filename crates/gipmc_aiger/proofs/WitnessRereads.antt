@@ -252,5 +252,11 @@ pub lassos_reread : (latches inputs property : ℕ) (trace : Trace) → property
     → length trace.latches.items ≡ latches → Every (λ row. length row.items ≡ inputs) trace.inputs.items
     → lassos_of latches inputs (lasso_text property trace) ≡ Some (claim_by (property ∷ []) trace ∷ [])
 lassos_reread latches inputs property trace small counted rows =
-    rw (lasso_lines-are property trace small)
+    let digits = digits-no_mark (decimal property) (decimal_is_IsNumeral property (omega (arith, small))).0.1 in
+    rw (
+      lasso_lines-are property trace small,
+      digits,
+      bits-no_mark trace.latches.items,
+      frames-no_mark trace.inputs.items,
+    )
     (claim-reread 106 98 latches inputs property trace (omega arith) refl refl refl small counted rows)

@@ -120,9 +120,15 @@ claims_in latches inputs lines =
 abbrev pub claims_of : ℕ → ℕ → List ℕ → Option (List Claimed)
 claims_of latches inputs text = claims_in latches inputs (said_lines text)
 
--- the claims of justice properties that a text writes, in answers alone
+-- the claims of justice properties that some lines write: of answers alone, since abc's form is of a bad literal
+abbrev pub lassos_in : ℕ → ℕ → List (List ℕ) → Option (List Claimed)
+lassos_in latches inputs lines =
+    if list_any is_last lines then Some []
+    else claims_from (byte "j") (byte "b") latches inputs false lines
+
+-- the claims of justice properties that a text writes, if it has the form
 abbrev pub lassos_of : ℕ → ℕ → List ℕ → Option (List Claimed)
-lassos_of latches inputs text = claims_from (byte "j") (byte "b") latches inputs false (said_lines text)
+lassos_of latches inputs text = lassos_in latches inputs (said_lines text)
 
 -- the claim that a trace is a witness of these properties
 abbrev pub claim_by : List ℕ → Trace → Claimed

@@ -62,7 +62,8 @@ pub fn read_claims(
 
 /// Reads the witnesses of all answers of a text about justice properties, for a circuit of so many latches and inputs.
 /// Answers that begin with the line `0` or `2` have none, and those about bad literals are read over. A witness may name
-/// several justice properties: `j0j1`. An `x` is read as 0, and lines that begin with `c` or `u` are read over.
+/// several justice properties: `j0j1`. An `x` is read as 0, and lines that begin with `c` or `u` are read over. A trace in
+/// the form that abc writes is one of a bad literal, so there is none in it.
 ///
 /// # Errors
 /// - [`AigerError::Refused`] with the line and the reason where the text has another form.
@@ -78,7 +79,7 @@ pub fn read_lassos(
         lassos_of latches inputs text.now ≡ None }
     ensures errors { IfErr result IsReadError }
 {
-    match answered(alloc, b'j', b'b', latches, inputs, text) {
+    match lassos(alloc, latches, inputs, text) {
         Ok(claims) => Ok(claims),
         Err(stop) => Err(error_at(text, stop)),
     }
@@ -92,6 +93,16 @@ fn claims(alloc: Global, latches: usize, inputs: usize, text: &[u8]) -> Result<V
         return bare_alone(alloc, latches, inputs, text);
     }
     answered(alloc, b'b', b'j', latches, inputs, text)
+}
+
+// The claims of a text about justice properties.
+fn lassos(alloc: Global, latches: usize, inputs: usize, text: &[u8]) -> Result<Vec<Claim>, Stop>
+    ensures { Gives (λ v. claims_view v.items) result (lassos_of latches inputs text.now) }
+{
+    if is_bare(text) {
+        return Ok(Vec::new(alloc));
+    }
+    answered(alloc, b'j', b'b', latches, inputs, text)
 }
 
 // Whether a text has a line that is the last one in abc's form.
