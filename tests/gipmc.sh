@@ -799,6 +799,14 @@ try "a wrong lasso behind a right trace" 1 \
 witness '0\nb0\n.\n0\nj0\n.\n'
 try "no witness of either kind" 1 "wit: no witness" "" "$rising" --replay wit
 try "no witness of either kind, beside no bad literal" 1 "wit: no witness of a justice property" "" "$fair" --replay wit
+# A witness of a kind of which the circuit has none is refused, beside a right one of the other kind too.
+recurring='aag 1 0 1 0 0 0 0 1\n2 1\n1\n2\n'
+witness '1\nj0\n0\n\n\n.\n'
+try "a right lasso" 0 "" "s VERIFIED" "$recurring" --replay wit
+witness '1\nj0\n0\n\n\n.\n1\nb0\n0\n\n.\n'
+try "a right lasso, and a trace of no bad literal" 1 "<stdin>: no bad literal" "" "$recurring" --replay wit
+witness '1\nb0\n0\n1\n0\n.\n1\nj0\n0\n1\n0\n.\n'
+try "a right trace, and a lasso of no property" 1 "<stdin>: no justice property" "" "$held" --replay wit
 try "no witness of the other property" 1 "all: no witness of justice property 1, which '--justice' asks for" "" \
     "$several" --replay all --justice 1
 try "no witness of the bad literal" 1 "all: no witness of bad literal 0, which '--bad' asks for" "" \

@@ -67,20 +67,10 @@ IsAnsweredAsked bytes bad asked outcome =
     (one : Outcome) × (other : Outcome) × AreBadsAnswered bytes bad asked one
     × IsJusticeAnswered bytes bad asked other × (outcome ≡ both one other)
 
--- the text writes m witnesses of bad literals, and all are right, or these are left out where nothing is asked for
-abbrev pub AreBadsReplayed : List ℕ → List ℕ → ℕ → Type 0
-AreBadsReplayed bytes text m =
-    bads_replayed.ReplaysAll bytes text m ⊎ (AreBadsLeftOut bytes None None × (m ≡ 0))
-
--- and n of justice properties
-abbrev pub IsJusticeReplayed : List ℕ → List ℕ → ℕ → Type 0
-IsJusticeReplayed bytes text n =
-    justice_replayed.ReplaysAll bytes text n ⊎ (IsJusticeLeftOut bytes None None × (n ≡ 0))
-
 -- the text writes witnesses of bad literals, of justice properties, or of both, and all of them are right
 abbrev pub ReplaysEach : List ℕ → List ℕ → Type 0
 ReplaysEach bytes text =
-    (m : ℕ) × (n : ℕ) × AreBadsReplayed bytes text m × IsJusticeReplayed bytes text n × (0 < m + n)
+    (m : ℕ) × (n : ℕ) × bads_replayed.ReplaysAll bytes text m × justice_replayed.ReplaysAll bytes text n × (0 < m + n)
 
 -- it writes witnesses of the bad literal or of the justice property that is asked for, or of each that it names
 abbrev pub ReplaysAsked : List ℕ → List ℕ → Option ℕ → Option ℕ → Type 0

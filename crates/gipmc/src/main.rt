@@ -12,12 +12,12 @@ ghost use Rattle.std.specs.Process.{exit_status};
 ghost use Rattle.gip_program.specs.Statuses.{IsEndedStatus};
 ghost use Rattle.gipmc_answers.specs.Answers.{Answers, IsCircuitIn};
 ghost use Rattle.gipmc_answers.specs.Certificates.{Certifies};
-ghost use Rattle.gipmc_answers.specs.Witnesses.{Replays};
+ghost use Rattle.gipmc_answers.specs.Witnesses.{Replays, ReplaysAll};
 ghost use Rattle.gipmc_task.specs.declared.outcome.Outcome.TheVariants.{Fails, Safe};
 ghost use Rattle.gipmc_justice.specs.Certificates as certificates;
 ghost use Rattle.gipmc_justice.specs.Witnesses as justice;
-ghost use Rattle.gipmc.specs.Asked.{AreBadsLeftOut, AreBadsReplayed, CertifiesAsked, IsAnsweredAsked, IsFoundFor};
-ghost use Rattle.gipmc.specs.Asked.{IsJusticeReplayed, ReplaysAsked, ReplaysEach, outcome_of_bads};
+ghost use Rattle.gipmc.specs.Asked.{AreBadsLeftOut, CertifiesAsked, IsAnsweredAsked, IsFoundFor, ReplaysAsked};
+ghost use Rattle.gipmc.specs.Asked.{ReplaysEach, outcome_of_bads};
 ghost use Rattle.gipmc.specs.Runs.{Ask, Finds, IsCertified, IsFound, IsReplayed, Verifies};
 ghost use Rattle.gipmc.specs.Statuses.{outcome_status, search_status, verified_status};
 ghost use Rattle.gipmc.specs.Texts.{IsTextOf};
@@ -503,7 +503,7 @@ fn replay_unless_bad<'a>(
     }
 }
 
-// Replays the witnesses of all justice properties and of all bad literals. Those of one kind may be missing.
+// Replays the witnesses of all justice properties and of all bad literals. There may be none of one kind.
 fn replay_each<'a>(
     rt: &HostRuntime,
     options: &Options<'a>,
@@ -523,8 +523,7 @@ fn replay_each<'a>(
     verified_text(rt, true)
 }
 
-// Replays the witnesses of justice properties, if the circuit has such. How many there are, unless one is not verified,
-// which is written.
+// Replays the witnesses of justice properties. How many there are, unless one is not verified, which is written.
 fn replay_lassos<'a>(
     rt: &HostRuntime,
     options: &Options<'a>,
@@ -532,18 +531,15 @@ fn replay_lassos<'a>(
     bytes: &[u8],
     witness: &[u8],
 ) -> Result<Option<usize>, Failure<'a>>
-    ensures { IfOk result (λ count. IfSome count (IsJusticeReplayed bytes.now witness.now)) }
+    ensures { IfOk result (λ count. IfSome count (justice.ReplaysAll bytes.now witness.now)) }
 {
-    if !is_of_justice(bytes, None, None) {
-        return Ok(Some(0));
-    }
     match gipmc_justice::replay_all(rt.alloc(), bytes, witness) {
         Ok(found) => undoubted(rt, name, found.0, &found.1),
         Err(error) => Err(justice_failure(options.file, name, error)),
     }
 }
 
-// Replays those of bad literals in the same way, if a search would be about these.
+// Replays those of bad literals in the same way.
 fn replay_traces<'a>(
     rt: &HostRuntime,
     options: &Options<'a>,
@@ -551,11 +547,8 @@ fn replay_traces<'a>(
     bytes: &[u8],
     witness: &[u8],
 ) -> Result<Option<usize>, Failure<'a>>
-    ensures { IfOk result (λ count. IfSome count (AreBadsReplayed bytes.now witness.now)) }
+    ensures { IfOk result (λ count. IfSome count (ReplaysAll bytes.now witness.now)) }
 {
-    if !is_of_bads(bytes, None, None) {
-        return Ok(Some(0));
-    }
     match replay_all(rt.alloc(), bytes, witness) {
         Ok(found) => undoubted(rt, name, found.0, &found.1),
         Err(error) => Err(failure(options.file, name, error)),

@@ -1,16 +1,9 @@
--- None where such are left out; else those that were replayed.
-use Rattle.std.proofs.Common.{inl, inr, refl}
-use Rattle.gipmc.specs.Asked.{AreBadsReplayed}
+-- They are all right where none is doubted.
 use Rattle.gipmc_answers.specs.Witnesses.{ReplaysAll}
 use Rattle.gipmc.proofs.Replayed.{if_undoubted}
 use Rattle.gipmc.proofs.replay_traces.Goals as goal
 
-pub returns-then-not-is_of_bads : goal.returns-then-not-is_of_bads
-returns-then-not-is_of_bads c = inr (c.is_of_bads.ensures c.if-not-is_of_bads.true, refl)
-
 pub returns-in-Ok : goal.returns-in-Ok
 returns-in-Ok c =
-    let bytes = c.args.bytes.now in
-    let text = c.args.witness.now in
-    if_undoubted (ReplaysAll bytes text) (AreBadsReplayed bytes text) c.in-Ok.found.1 c.in-Ok.found.0 c.undoubted.result c.in-Ok.ensures
-    (λ n is. inl is) c.undoubted.ensures
+    if_undoubted (ReplaysAll c.args.bytes.now c.args.witness.now) c.in-Ok.found.1 c.in-Ok.found.0 c.undoubted.result c.in-Ok.ensures
+    c.undoubted.ensures
