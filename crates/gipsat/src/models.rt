@@ -41,7 +41,8 @@ pub fn enumerate<'a, R: Read, W: Write>(
     ensures read_to_end { OnOk result (IsAtEnd (R.remaining reader.new)) }
     ensures has_form { OnOk result (HasForm options.now.rule (R.remaining reader.old)) }
     ensures written { IfOk result (λ told. OfProblem options.now.rule (R.remaining reader.old) (λ problem.
-        WritesModels options.now.witness (projection_of (option_map (λ literals. literals.now) wanted.entry.projection) problem.variables)
+        WritesModels options.now.witness
+        (projection_of (option_map (λ literals. literals.now) wanted.entry.projection) problem.variables)
         (IsOpen options.now.conflicts told.solver.learned (is_some options.now.time)) wanted.entry.count
         (assuming wanted.entry.assumed.now problem) (W.contents writer.old) (W.contents writer.new))) }
     ensures verdict { IfOk result (λ told. OfProblem options.now.rule (R.remaining reader.old) (λ problem.

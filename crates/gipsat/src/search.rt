@@ -87,7 +87,8 @@ fn solve_in<'a, R: Read + Drop, W: Write>(
     source: Source<'a, R>,
     output: &mut Output<W>,
 ) -> Result<Verdict, Failure<'a>>
-    ensures { IfOk result (λ verdict. IsProblemAnswered options.now.rule options.now.witness None assumed.now None verdict
+    ensures { IfOk result (λ verdict.
+        IsProblemAnswered options.now.rule options.now.witness None assumed.now None verdict
         (source_remaining R.remaining source.entry)
         (output_contents W.contents output.old) (output_contents W.contents output.new)) }
 {
