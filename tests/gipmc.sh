@@ -1323,6 +1323,11 @@ summary "a summary of IC3 without a lemma" 20 \
     "c b0: frame [0-9]*, [0-9]* calls, [0-9]* obligations; decided by ic3; $took" --engine ic3 constant.aag
 # `tools/pdr.py --family queue_length 4` made it.
 summary "a summary of IC3" 20 "c b0: ${ic3}decided by ic3; $took" --engine ic3 "$top/tests/queue.aag"
+# `tools/pdr.py --family traffic 4` made it. Bounded model checking comes far beyond a depth of 5 before IC3 decides.
+summary "bounded search within a depth, beside all engines" 20 \
+    "c b0: round [0-9]*; depth 5, $solver$steps${ic3}decided by ic3; $took" --depth 5 "$top/tests/traffic.aag"
+summary "bounded search without a depth, beside all engines" 20 \
+    "c b0: round [0-9]*; depth [1-9][0-9][0-9]*, $solver$steps${ic3}decided by ic3; $took" "$top/tests/traffic.aag"
 summary "a summary of two literals" 10 "c b0: $bmc${took}c b1: ${bmc}decided by bmc; $took" --engine bmc --depth 3 two.aag
 summary "a summary of the second literal" 10 "c b1: ${bmc}decided by bmc; $took" --engine bmc --bad 1 two.aag
 summary "a summary of induction" 20 "c b0: ${bmc}${steps}decided by induction; $took" --engine induction kept.aag
