@@ -4,8 +4,8 @@
     tools/cactus.py FILE.. --output PLOT.svg
 
 FILE has runs that `tools/formulas.py --time .. --keep FILE` has kept. A program's curve rises at the processor time of
-each formula that it solved, the shortest first, so a higher curve is better. Times stand on a logarithmic axis from 0.01
-s to the limit of the runs.
+each formula that it solved, the shortest first, so a higher curve is better, and its name has their number. Times stand
+on a logarithmic axis from 0.01 s, where the shorter ones stand too, to the limit of the runs.
 """
 
 import argparse
@@ -64,15 +64,14 @@ def drawn(found, count, limit):
         return bottom - (bottom - TOP) * solved / count
 
     yield f'<svg xmlns="http://www.w3.org/2000/svg" viewBox="0 0 {WIDTH} {HEIGHT}" font-family="sans-serif" font-size="12">'
-    for exponent in range(-2, math.floor(math.log10(limit)) + 1):
-        seconds = 10.0**exponent
+    for seconds in (LEAST * 10**power for power in range(math.floor(decades) + 1)):
         yield line(x(seconds), TOP, x(seconds), bottom)
-        yield text(x(seconds), bottom + 16, f"{seconds:g}")
+        yield text(x(seconds), bottom + 16, f"{'≤ ' if seconds == LEAST else ''}{seconds:g}")
     step = max(1, 10 ** math.floor(math.log10(count)) // (1 if count >= 40 else 2))
     for solved in range(0, count + 1, step):
         yield line(LEFT, y(solved), right, y(solved))
         yield text(LEFT - 6, y(solved) + 4, solved, "end")
-    yield text((LEFT + right) / 2, HEIGHT - 8, "seconds")
+    yield text((LEFT + right) / 2, HEIGHT - 8, f"seconds, at most {limit:g}")
     yield text(LEFT, TOP - 7, f"formulas solved, of {count}", "start")
     ends = sorted((y(len(times)), name) for name, times in found.items())
     places, last = {}, -math.inf

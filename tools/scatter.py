@@ -4,8 +4,8 @@
     tools/scatter.py FILE.. --output PLOT.svg [--across PROGRAM] [--up PROGRAM] [--limit SECONDS]
 
 FILE has runs that `tools/beside.py .. --keep FILE` has kept. A point stands at the processor time of one program across,
-and of the other up, both on logarithmic axes from 0.01 s to the limit; where a program left a bad literal open, the
-point stands at the limit. So points above the diagonal are circuits on which the program across was faster. The
+and of the other up, both on logarithmic axes from 0.01 s, where shorter times stand too, to the limit; where a program
+left a bad literal open, the point stands at the limit, which is called "open". So points above the diagonal are circuits on which the program across was faster. The
 programs are the first two that the runs have, or those that are named; `abc pdr`, say.
 """
 
@@ -42,11 +42,12 @@ def drawn(found, limit, across, up):
 
     yield f'<svg xmlns="http://www.w3.org/2000/svg" viewBox="0 0 {SIZE} {SIZE}" font-family="sans-serif" font-size="12">'
     ticks = [10.0**exponent for exponent in range(-2, math.ceil(math.log10(limit)))]
-    for seconds in [*ticks, limit]:
+    labels = {seconds: f"{seconds:g}" for seconds in ticks} | {LEAST: f"≤ {LEAST:g}", limit: f"{limit:g}, open"}
+    for seconds, label in labels.items():
         yield line(x(seconds), TOP, x(seconds), bottom)
         yield line(LEFT, y(seconds), edge, y(seconds))
-        yield text(x(seconds), bottom + 16, f"{seconds:g}")
-        yield text(LEFT - 6, y(seconds) + 4, f"{seconds:g}", "end")
+        yield text(x(seconds), bottom + 16, label, "end" if seconds == limit else "middle")
+        yield text(LEFT - 6, y(seconds) + 4, label, "end")
     yield line(LEFT, bottom, edge, TOP)
     yield text((LEFT + edge) / 2, SIZE - 10, f"seconds of {across}")
     yield text(LEFT, TOP - 24, f"seconds of {up}, up", "start")
