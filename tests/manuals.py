@@ -1,18 +1,22 @@
 #!/usr/bin/env python3
 """Compares the manual pages and the bash completions with the help of the programs, and ends with 'N passed, M failed'.
 
-    tests/manuals.py            compares, and tries tools/install
-    tests/manuals.py --write    writes them anew
+    tests/manuals.py            compares, and tries the examples, tools/install and tools/package
+    tests/manuals.py --write    writes them anew; a page that changes gets the date of the day
 
-What a program tells by --help is made into crates/NAME/man/NAME.1 and crates/NAME/man/NAME.bash. Where it is not built,
-`rt try` runs it, and tools/install is not tried. The help has this form: lines of usage; paragraphs on the program;
+What a program tells by --help is made into crates/NAME/man/NAME.1 and crates/NAME/man/NAME.bash, and what the README of gip
+says into a page of gip. Where a program is not built, `rt try` runs it, and nothing else is tried. The help has this form: lines of usage; paragraphs on the program;
 sections, each a title with a colon and the options below it, whose texts begin in column 25; more paragraphs; one that
 begins with `Exit status: `. No line has more than 80 columns.
 """
 
 import argparse
+import datetime
+import lzma
+import os
 import pathlib
 import re
+import shutil
 import subprocess
 import sys
 import tempfile
@@ -20,6 +24,36 @@ import tempfile
 ROOT = pathlib.Path(__file__).resolve().parent.parent
 # What each program is, in a line.
 PROGRAMS = {"gipsat": "SAT solver, and checker of its proofs", "gipmc": "model checker of AIGER circuits"}
+GIP = "calls on a heap, or bit vectors, line by line"
+# What each program is used for, and how; the examples are run beside these files.
+EXAMPLES = {
+    "gipsat": [
+        ("Solve a formula.", "gipsat formula.cnf"),
+        ("Write a proof that nothing satisfies it, and check that.",
+         "gipsat --proof proof formula.cnf; gipsat --check formula.cnf proof"),
+        ("Write all models, of those that agree on the variables 1 and 2 one each.",
+         "gipsat --models 0 --project '1 2' formula.cnf"),
+        ("Solve a compressed formula, within a minute.", "xz -dc formula.cnf.xz | gipsat --time 60"),
+    ],
+    "gipmc": [
+        ("Find out whether a bad state can be reached.", "gipmc circuit.aig"),
+        ("Write a certificate that none can be, and check that.",
+         "gipmc --certificate clauses circuit.aig; gipmc --certify clauses circuit.aig"),
+        ("Look for a shortest trace to one, and show it by names and as a wave.",
+         "gipmc --engine bmc --names --vcd trace.vcd circuit.aig"),
+    ],
+    "gip": [
+        ("Push two keys of the heap, and pop the greater one.", r"printf 'push 3\npush 5\npop\n' | gip"),
+        ("Write three bits as a number.", "echo 011 | gip bits"),
+    ],
+}
+FILES = {
+    "formula.cnf": b"p cnf 2 4\n1 2 0\n1 -2 0\n-1 2 0\n-1 -2 0\n",
+    "circuit.aig": b"aag 3 0 2 0 1 1\n2 4\n4 2\n6\n6 4 2\n",
+}
+SEE_ALSO = {"gip": "gipsat gipmc", "gipsat": "gip gipmc", "gipmc": "gip gipsat yosys gtkwave"}
+# The heading of a page, whose date is that of its last change.
+HEADING = re.compile(r'^(\.TH \S+ 1 )"(\d{4}-\d\d-\d\d)?"', re.MULTILINE)
 COLUMN = 24
 WIDTH = 80
 
@@ -75,8 +109,19 @@ def options(lines):
 def roff(text):
     """A text of a manual page. No line of it begins with a control character."""
     text = text.replace("\\", "\\e").replace("-", "\\-")
+    # A full stop would be taken for the end of the sentence.
+    text = text.replace("`.`", r"\(lq\fB.\fR\(rq")
     text = re.sub(r"`([^`]*)`", r"\\fB\1\\fR", text)
     return re.sub(r"^([.'])", r"\\&\1", text)
+
+
+def ends(name):
+    """The lines with which a page ends: examples, and other pages."""
+    yield ".SH EXAMPLES"
+    for what, command in EXAMPLES[name]:
+        yield from (roff(what), ".PP", ".nf", ".RS", f".B {roff(command)}", ".RE", ".fi", ".PP")
+    yield ".SH SEE ALSO"
+    yield " ,\n".join(f".BR {other} (1)" for other in SEE_ALSO[name].split())
 
 
 def manual(name, version, told):
@@ -90,7 +135,27 @@ def manual(name, version, told):
         lines += [f".SS {title}"]
         lines += [line for option in found for line in (".TP", f".B {roff(option.written)}", roff(option.text))]
     lines += [line for text in told.notes for line in (".PP", roff(text))]
-    lines += [".SH EXIT STATUS", roff(told.statuses[0].upper() + told.statuses[1:])]
+    lines += [".SH EXIT STATUS", roff(told.statuses[0].upper() + told.statuses[1:]), *ends(name)]
+    return "\n".join(lines) + "\n"
+
+
+def manual_of_gip():
+    """The page of gip, which has no help: what its README says, and the table of its lines."""
+    blocks = (ROOT / "crates" / "gip" / "README.md").read_text().split("\n\n")
+
+    def said(beginning):
+        """The paragraph that begins so, without links."""
+        found = next(block for block in blocks if block.startswith(beginning))
+        return roff(re.sub(r"\[([^]]*)\]\([^)]*\)", r"\1", " ".join(found.split("\n"))))
+
+    rows = [row.strip("|").split("|") for row in next(b for b in blocks if b.startswith("| Line |")).split("\n")[2:]]
+    lines = ['.\\" Made by tests/manuals.py from the README of gip.', '.TH GIP 1 "" "giputils"']
+    lines += [".SH NAME", f"gip \\- {GIP}", ".SH SYNOPSIS", ".B gip [bits]", ".SH DESCRIPTION"]
+    lines += [roff("Reads lines from standard input, and writes a reply to each. Without an argument a line is a call on a heap:")]
+    for line, effect, reply in rows:
+        lines += [".TP", roff(line.strip()), roff(f"{effect.strip()}; the reply is {reply.strip()}")]
+    statuses = said("Any other argument").replace("those below", "those above")
+    lines += [".PP", said("Of keys with the same rank"), ".SH EXIT STATUS", statuses, *ends("gip")]
     return "\n".join(lines) + "\n"
 
 
@@ -122,15 +187,31 @@ def made(name):
     return {f"{name}.1": manual(name, version, told), f"{name}.bash": completion(name, told)}, text
 
 
+def undated(text):
+    return HEADING.sub(r'\1""', text)
+
+
+def faults_of_page(name, wanted):
+    """What is wrong with a manual page: its text, its date, and what a formatter says of it."""
+    path = ROOT / "crates" / name / "man" / f"{name}.1"
+    text = path.read_text() if path.is_file() else ""
+    yield "" if undated(text) == wanted else f"{path.relative_to(ROOT)}: not as it is made: tests/manuals.py --write"
+    heading = HEADING.search(text)
+    yield "" if heading and heading[2] else f"{path.relative_to(ROOT)}: no date"
+    if shutil.which("groff"):
+        told = subprocess.run(["groff", "-man", "-ww", "-z", "-Tutf8", path], capture_output=True, text=True)
+        yield f"{path.relative_to(ROOT)}: {told.stderr}" if told.stderr else ""
+
+
 def faults_of(name):
     """What is wrong with a program's files. Each is a text, or empty where all is well."""
     texts, text = made(name)
     for line in text.split("\n"):
         yield f"{name} --help: too wide: {line}" if len(line) > WIDTH else ""
-    for file, wanted in texts.items():
-        path = ROOT / "crates" / name / "man" / file
-        is_well = path.is_file() and path.read_text() == wanted
-        yield "" if is_well else f"{path.relative_to(ROOT)}: not as the help says: tests/manuals.py --write"
+    yield from faults_of_page(name, texts[f"{name}.1"])
+    path = ROOT / "crates" / name / "man" / f"{name}.bash"
+    is_well = path.is_file() and path.read_text() == texts[f"{name}.bash"]
+    yield "" if is_well else f"{path.relative_to(ROOT)}: not as the help says: tests/manuals.py --write"
     names = subprocess.run(
         ["bash", "-c", f'source "$1"; COMP_WORDS=({name} --ver); COMP_CWORD=1; _{name}; echo "${{COMPREPLY[*]}}"', "bash",
          ROOT / "crates" / name / "man" / f"{name}.bash"], capture_output=True, text=True)
@@ -138,24 +219,89 @@ def faults_of(name):
     yield "" if is_well else f"{name}.bash: it does not complete --ver: {names.stdout}{names.stderr}"
 
 
-def faults_of_install():
-    """What is wrong with tools/install."""
-    with tempfile.TemporaryDirectory() as prefix:
-        ran = subprocess.run([ROOT / "tools" / "install", prefix], capture_output=True, text=True)
-        yield "" if ran.returncode == 0 else f"tools/install: {ran.stderr}"
-        for name in PROGRAMS:
-            told = subprocess.run([f"{prefix}/bin/{name}", "--version"], capture_output=True, text=True)
-            yield "" if told.returncode == 0 else f"tools/install: {name} does not run"
-            for file in (f"share/man/man1/{name}.1", f"share/bash-completion/completions/{name}"):
-                yield "" if (pathlib.Path(prefix) / file).is_file() else f"tools/install: no {file}"
+def run(*words, **how):
+    return subprocess.run(words, capture_output=True, text=True, **how)
+
+
+def faults_of_examples(programs):
+    """What is wrong with the examples of the pages of these programs."""
+    with tempfile.TemporaryDirectory() as room:
+        folder = pathlib.Path(room)
+        for file, text in FILES.items():
+            (folder / file).write_bytes(text)
+        (folder / "formula.cnf.xz").write_bytes(lzma.compress(FILES["formula.cnf"]))
+        path = os.pathsep.join([*(str(ROOT / "crates" / name / "out") for name in programs), os.environ["PATH"]])
+        for command in (command for name in programs for _, command in EXAMPLES[name]):
+            told = run("bash", "-c", command, cwd=room, env={**os.environ, "PATH": path})
+            is_well = told.returncode in (0, 10, 20) and told.stdout and not told.stderr
+            yield "" if is_well else f"{command}: status {told.returncode}, {told.stderr}{told.stdout}"
+
+
+def faults_below(prefix, programs):
+    """What is wrong with these programs where they were installed: each runs in an empty environment, and has its files."""
+    for name in programs:
+        told = run("env", "-i", f"{prefix}/bin/{name}", "--version" if name in PROGRAMS else "bits", stdin=subprocess.DEVNULL)
+        yield "" if told.returncode == 0 else f"{name} does not run below {prefix}: {told.stderr}"
+        files = [f"share/man/man1/{name}.1"]
+        files += [f"share/bash-completion/completions/{name}"] if name in PROGRAMS else []
+        for file in files:
+            yield "" if (prefix / file).is_file() else f"no {file} below {prefix}"
+
+
+def faults_of_install(programs):
+    """What is wrong with tools/install where these programs are built, where one of them is, and where none is."""
+    for built in (programs, programs[:1], []):
+        with tempfile.TemporaryDirectory() as room:
+            top, prefix = pathlib.Path(room), pathlib.Path(room) / "prefix"
+            for file in ("tools/install", "tests/usage.sh", *(f"crates/{name}/man" for name in programs)):
+                (top / file).parent.mkdir(parents=True, exist_ok=True)
+                (top / file).symlink_to(ROOT / file)
+            for name in built:
+                (top / "crates" / name / "out").symlink_to(ROOT / "crates" / name / "out")
+            told = run(top / "tools" / "install", prefix)
+            left_out = re.findall(r"^tools/install: (\w+) is left out, since it is not built", told.stderr, re.MULTILINE)
+            is_well = told.returncode == (0 if built else 1) and sorted(left_out) == sorted({*EXAMPLES} - {*built})
+            yield "" if is_well else f"tools/install, {built} built: status {told.returncode}, {told.stderr}"
+            yield from faults_below(prefix, built)
+
+
+def faults_of_package(programs):
+    """What is wrong with tools/package: its sums are right, it runs where /opt is empty, and two runs make the same bytes."""
+    with tempfile.TemporaryDirectory() as room:
+        folder = pathlib.Path(room)
+        told = [run(ROOT / "tools" / "package", folder / place / "giputils.tar.gz") for place in ("", "again")
+                if not place or not (folder / place).mkdir()]
+        is_well = all(one.returncode == 0 for one in told)
+        yield "" if is_well else f"tools/package: {[one.stderr for one in told]}"
+        if not is_well:
+            return
+        archives = [(folder / place / "giputils.tar.gz").read_bytes() for place in ("", "again")]
+        yield "" if archives[0] == archives[1] else "tools/package: two runs make two archives"
+        run("tar", "-xzf", "giputils.tar.gz", cwd=room, check=True)
+        unpacked = folder / "giputils"
+        sums = run("sha256sum", "--check", "--strict", "SHA256SUMS", cwd=unpacked)
+        listed = {line.split("  ./")[1] for line in (unpacked / "SHA256SUMS").read_text().splitlines()}
+        files = {str(path.relative_to(unpacked)) for path in unpacked.rglob("*") if path.is_file()}
+        yield "" if sums.returncode == 0 else f"tools/package: {sums.stdout}{sums.stderr}"
+        yield "" if listed == files - {"SHA256SUMS"} else f"tools/package: sums of {listed}, and the files are {files}"
+        yield from faults_below(unpacked, programs)
+        # The kit lies below /opt. Where a folder can be hidden, the program runs without it.
+        hidden = ["unshare", "-rm", "sh", "-c", 'mount -t tmpfs none /opt && exec env -i "$0" "$1"']
+        if run("unshare", "-rm", "mount", "-t", "tmpfs", "none", "/opt").returncode == 0 and "gipsat" in programs:
+            (folder / "formula.cnf").write_bytes(FILES["formula.cnf"])
+            told = run(*hidden, unpacked / "bin" / "gipsat", folder / "formula.cnf")
+            is_well = (told.returncode, told.stdout, told.stderr) == (20, "s UNSATISFIABLE\n", "")
+            yield "" if is_well else f"tools/package: gipsat, where /opt is hidden: {told.stdout}{told.stderr}"
 
 
 def write():
-    for name in PROGRAMS:
+    for name in EXAMPLES:
         folder = ROOT / "crates" / name / "man"
         folder.mkdir(exist_ok=True)
-        for file, text in made(name)[0].items():
-            (folder / file).write_text(text)
+        for file, text in (made(name)[0] if name in PROGRAMS else {"gip.1": manual_of_gip()}).items():
+            path = folder / file
+            if not path.is_file() or undated(path.read_text()) != text:
+                path.write_text(HEADING.sub(rf'\1"{datetime.date.today()}"', text))
 
 
 def main():
@@ -163,11 +309,12 @@ def main():
     parser.add_argument("--write", action="store_true", help="write them anew")
     if parser.parse_args().write:
         write()
-    faults = [fault for name in PROGRAMS for fault in faults_of(name)]
-    if all((ROOT / "crates" / name / "out" / name).is_file() for name in (*PROGRAMS, "gip")):
-        faults += faults_of_install()
+    faults = [fault for name in PROGRAMS for fault in faults_of(name)] + [*faults_of_page("gip", manual_of_gip())]
+    built = [name for name in EXAMPLES if (ROOT / "crates" / name / "out" / name).is_file()]
+    if built:
+        faults += [*faults_of_examples(built), *faults_of_install(built), *faults_of_package(built)]
     else:
-        print("tools/install is not tried: the programs are not built")
+        print("the examples, tools/install and tools/package are not tried: no program is built")
     for fault in filter(None, faults):
         print(fault)
     failed = sum(map(bool, faults))
