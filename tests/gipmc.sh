@@ -1,11 +1,12 @@
 #!/usr/bin/env bash
 # Runs the model checker's program over circuits and into its faults.
 # GIPMC is the built program: crates/gipmc/out/gipmc, which both `rt ci` and `rt run` leave. It prints a line for each
-# case. The last line is 'N passed, M failed', and the status is 1 where a case failed.
+# case. The last line is 'N passed, M failed', and the status is 1 where a case failed. --list tells the names of the cases,
+# and --only runs those that it names, with what makes their files.
 set -u
 # shellcheck source=tests/usage.sh
 source "$(dirname "$0")/usage.sh"
-take_arguments "tests/gipmc.sh GIPMC" "$@"
+take_rows "tests/gipmc.sh GIPMC" "$@"
 gipmc=$1
 if [ ! -x "$gipmc" ]; then
     echo "no program $gipmc"
@@ -15,21 +16,15 @@ fi
 top=$(cd "$(dirname "$0")/.." && pwd) || exit 2
 rows=$top/tests/circuits.txt
 gipmc=$(realpath "$gipmc") || exit 2
+# Where rows are listed, nothing is run.
+[ -z "$is_listed" ] || { gipmc=true && exec 2> /dev/null; }
 work=$(mktemp -d) || exit 2
 trap 'rm -rf "$work"' EXIT
 cd "$work" || exit 2
-passed=0
-failed=0
 
-# NAME RESULT: counts a case.
-told() {
-    if [ "$2" = 0 ]; then
-        echo "ok: $1"
-        passed=$((passed + 1))
-    else
-        echo "FAILED: $1 (status $status, $(head -c 200 "$work/err"), $(head -c 200 "$work/out"))"
-        failed=$((failed + 1))
-    fi
+# What the last run did.
+seen() {
+    printf 'status %s, %s, %s' "${status-}" "$(head -c 200 "$work/err")" "$(head -c 200 "$work/out")"
 }
 
 # [FILE]: what it answers, without the lines `u N` that tell before an answer how far the search is. The last one before `2`
@@ -40,6 +35,11 @@ answers() {
 
 # NAME STATUS ERROR OUTPUT INPUT [ARGUMENT..]: runs the program on this text, and expects this of it.
 try() {
+    ! is_wanted "$1" || make "$@"
+}
+
+# The same, also where this row is not wanted, since others need what it leaves.
+make() {
     local name=$1 wanted=$2 error=$3 output=$4 input=$5
     shift 5
     printf '%b' "$input" | "$gipmc" "$@" > "$work/out" 2> "$work/err"
@@ -173,15 +173,17 @@ twins() {
 }
 
 # They are merged, latch by latch, where no certificate is wanted; without that the search is open for long.
-twins 16 > twins.aag
-"$gipmc" --quiet -t 60 twins.aag > out 2> err
-status=$?
-[ "$status" = 20 ] && [ ! -s err ] && [ "$(cat out)" = "$safe" ]
-told "two copies of a machine, merged" $?
-"$gipmc" --quiet -t 1 --certificate twins.cert twins.aag > out 2> err
-status=$?
-[ "$status" = 0 ] && [ ! -e twins.cert ]
-told "two copies of a machine are not merged where a certificate is wanted" $?
+if is_wanted "two copies of a machine, merged" "two copies of a machine are not merged where a certificate is wanted"; then
+    twins 16 > twins.aag
+    "$gipmc" --quiet -t 60 twins.aag > out 2> err
+    status=$?
+    [ "$status" = 20 ] && [ ! -s err ] && [ "$(cat out)" = "$safe" ]
+    told "two copies of a machine, merged" $?
+    "$gipmc" --quiet -t 1 --certificate twins.cert twins.aag > out 2> err
+    status=$?
+    [ "$status" = 0 ] && [ ! -e twins.cert ]
+    told "two copies of a machine are not merged where a certificate is wanted" $?
+fi
 
 # Witnesses of other programs.
 witness() { printf '%b' "$1" > wit; }
@@ -355,7 +357,7 @@ told "a certificate that is written" $?
 [ "$("$gipmc" --certify cert two.aag 2> err)" = "s NOT VERIFIED" ]
 told "a certificate of the first literal is none of both" $?
 rm -f circuit
-try "no circuit of a k" 1 "circuit: not written, since '--engine induction' finds a k, and a k has no circuit" "" "$kept" \
+make "no circuit of a k" 1 "circuit: not written, since '--engine induction' finds a k, and a k has no circuit" "" "$kept" \
     --engine induction --certificate circuit --aiger
 [ ! -e circuit ]
 told "no file of such a circuit" $?
@@ -367,13 +369,13 @@ told "a certificate that is written as a circuit" $?
 [ "$("$gipmc" --certify circuit two.aag 2> err)" = "s NOT VERIFIED" ]
 told "a certificate as a circuit of the first literal is none of both" $?
 cp cert kept
-try "a certificate, and a file that is there" 1 \
+make "a certificate, and a file that is there" 1 \
     "cert: cannot be made: entity already exists" "" "" --bad 0 --certificate cert two.aag
 cmp -s cert kept
 told "a file that is there is left" $?
 rm cert
 ln -s nowhere cert
-try "a certificate, and a link to nothing" 1 \
+make "a certificate, and a link to nothing" 1 \
     "cert: cannot be made: entity already exists" "" "" --bad 0 --certificate cert two.aag
 [ -L cert ] && [ ! -e nowhere ]
 told "a link to nothing is left" $?
@@ -411,7 +413,7 @@ told "no certificate of a circuit that fails" $?
 status=$?
 [ "$status" = 0 ] && [ "$(answers out)" = "$(open 3)" ] && [ ! -e cert ] && [ ! -s err ]
 told "no certificate where the answer is open" $?
-try "no certificate of a literal that is not there" 1 \
+make "no certificate of a literal that is not there" 1 \
     "two.aag: no bad literal 2, of 2" "" "" --bad 2 --certificate cert two.aag
 [ ! -e cert ]
 told "no file is left where nothing is answered" $?
@@ -438,93 +440,109 @@ rm -f cert
 endless=(--engine bmc --depth 999999999)
 printf '%b' "$kept" > kept.aag
 rm -f cert
-"$gipmc" "${endless[@]}" -t 2 --certificate cert kept.aag > out 2> err &
-await has_lines '^u' out 1 && [ ! -e cert ]
-told "a certificate has no name while it is searched for" $?
-wait $!
-status=$?
-[ "$status" = 0 ] && [ ! -e cert ] && [ ! -s err ]
-told "no certificate where the time is over" $?
+if is_wanted "a certificate has no name while it is searched for" "no certificate where the time is over"; then
+    "$gipmc" "${endless[@]}" -t 2 --certificate cert kept.aag > out 2> err &
+    await has_lines '^u' out 1 && [ ! -e cert ]
+    told "a certificate has no name while it is searched for" $?
+    wait $!
+    status=$?
+    [ "$status" = 0 ] && [ ! -e cert ] && [ ! -s err ]
+    told "no certificate where the time is over" $?
+fi
 # Standard output is a pipe that is full, so the certificate waits behind the answer. The other file comes when the program
 # is writing that.
-rm -f pid
-is_writing() {
-    grep -q '^1 0x1 ' "/proc/$(cat pid)/syscall"
-}
-{
-    head -c 65536 /dev/zero
-    echo "$BASHPID" > pid
-    exec "$gipmc" --bad 0 --certificate cert two.aag 2> err
-} | {
-    await is_writing
-    echo precious > cert
-    tr -d '\0' > out
-}
-status=${PIPESTATUS[0]}
-[ "$status" = 1 ] && [ "$(answers out)" = "$safe" ] && [ "$(cat cert)" = precious ] &&
-    [ "$(cat err)" = "cert: another file came there meanwhile (see $(ls cert.*.part))" ] &&
-    [ "$("$gipmc" --certify "$(ls cert.*.part)" --bad 0 two.aag)" = "s VERIFIED" ]
-told "a file that came meanwhile stays" $?
-rm -f cert cert.*.part
+if is_wanted "a file that came meanwhile stays"; then
+    rm -f pid
+    is_writing() {
+        grep -q '^1 0x1 ' "/proc/$(cat pid)/syscall"
+    }
+    {
+        head -c 65536 /dev/zero
+        echo "$BASHPID" > pid
+        exec "$gipmc" --bad 0 --certificate cert two.aag 2> err
+    } | {
+        await is_writing
+        echo precious > cert
+        tr -d '\0' > out
+    }
+    status=${PIPESTATUS[0]}
+    [ "$status" = 1 ] && [ "$(answers out)" = "$safe" ] && [ "$(cat cert)" = precious ] &&
+        [ "$(cat err)" = "cert: another file came there meanwhile (see $(ls cert.*.part))" ] &&
+        [ "$("$gipmc" --certify "$(ls cert.*.part)" --bad 0 two.aag)" = "s VERIFIED" ]
+    told "a file that came meanwhile stays" $?
+    rm -f cert cert.*.part
+fi
 try "a certificate of an empty name" 1 ": cannot be made: no such file" "" "" --certificate "" two.aag
-"$gipmc" "${endless[@]}" --certificate killed kept.aag > out 2> err &
-await has_lines '^u' out 1
-is_begun=$?
-kill -KILL $!
-wait $! 2> /dev/null
-[ "$is_begun" = 0 ] && [ -z "$(ls killed* 2> /dev/null)" ]
-told "a run that is killed leaves no file" $?
+if is_wanted "a run that is killed leaves no file"; then
+    "$gipmc" "${endless[@]}" --certificate killed kept.aag > out 2> err &
+    await has_lines '^u' out 1
+    is_begun=$?
+    kill -KILL $!
+    wait $! 2> /dev/null
+    [ "$is_begun" = 0 ] && [ -z "$(ls killed* 2> /dev/null)" ]
+    told "a run that is killed leaves no file" $?
+fi
 
 # Answers are written as they are found, also where a later one is not: for want of time, or of memory.
 printf '%b' 'aag 3 1 2 0 0 2\n2\n4 4\n6 2\n6\n4\n' > swapped.aag
 first=$(printf '1\nb0\n00\n1\n0\n.')
-"$gipmc" "${endless[@]}" swapped.aag > out 2> err &
-is_first() {
-    [ "$(answers out)" = "$first" ]
-}
-await is_first
-told "an answer is written when it is found" $?
-kill -KILL $!
-wait $! 2> /dev/null
-SECONDS=0
-"$gipmc" "${endless[@]}" --time 1 swapped.aag > out 2> err
-status=$?
-[ "$status" = 10 ] && [ "$SECONDS" -lt 20 ] && [ "$(answers out | head -n 6)" = "$first" ] && [ ! -s err ] &&
-    [ "$(answers out | sed 1,6d | tr '\n' '#' | sed 's/u[0-9]*/u/')" = 'u#2#b1#.#' ]
-told "an answer before the time is over" $?
+if is_wanted "an answer is written when it is found"; then
+    "$gipmc" "${endless[@]}" swapped.aag > out 2> err &
+    is_first() {
+        [ "$(answers out)" = "$first" ]
+    }
+    await is_first
+    told "an answer is written when it is found" $?
+    kill -KILL $!
+    wait $! 2> /dev/null
+fi
+if is_wanted "an answer before the time is over"; then
+    SECONDS=0
+    "$gipmc" "${endless[@]}" --time 1 swapped.aag > out 2> err
+    status=$?
+    [ "$status" = 10 ] && [ "$SECONDS" -lt 20 ] && [ "$(answers out | head -n 6)" = "$first" ] && [ ! -s err ] &&
+        [ "$(answers out | sed 1,6d | tr '\n' '#' | sed 's/u[0-9]*/u/')" = 'u#2#b1#.#' ]
+    told "an answer before the time is over" $?
+fi
 # A latch that keeps 0, and a chain of two million gates behind it. A round of simulation has 64 moments, and takes many
 # seconds of a processor.
-gates=2000000
-{
-    printf 'aig %s 4 1 0 %s 1\n10\n%s\n' $((gates + 5)) "$gates" $((2 * gates + 10))
-    head -c $((2 * gates)) /dev/zero | tr '\0' '\2'
-} > chain.aig
-rm -f cert
-within='^c b0: \(round 1; \)\?[0-9]* moments of round [12]; [0-9]*[.][0-9][0-9][0-9] s$'
-"$gipmc" --engine sim --time 6 --stats --certificate cert chain.aig > out 2> err
-status=$?
-[ "$status" = 0 ] && [ "$(cat out)" = "$(printf '2\nb0\n.')" ] && [ ! -e cert ] && has_lines "$within" err 1
-told "the time is over within a round of simulation" $?
-"$gipmc" --engine sim --verbose chain.aig > out 2> err &
-await has_lines "$within" err 1
-told "progress within a round of simulation" $?
-kill -KILL $!
-wait $! 2> /dev/null
-rm chain.aig
-(ulimit -v 200000; exec "$gipmc" "${endless[@]}" swapped.aag) > out 2> err
-status=$?
-[ "$status" = 10 ] && [ "$(cat err)" = "memory: refused (b1 is left open)" ] && [ "$(answers out | head -n 6)" = "$first" ] &&
-    [ "$(answers out | sed 1,6d | tr '\n' '#' | sed 's/u[0-9]*/u/')" = 'u#2#b1#.#' ]
-told "an answer before memory is refused" $?
+if is_wanted "the time is over within a round of simulation" "progress within a round of simulation"; then
+    gates=2000000
+    {
+        printf 'aig %s 4 1 0 %s 1\n10\n%s\n' $((gates + 5)) "$gates" $((2 * gates + 10))
+        head -c $((2 * gates)) /dev/zero | tr '\0' '\2'
+    } > chain.aig
+    rm -f cert
+    within='^c b0: \(round 1; \)\?[0-9]* moments of round [12]; [0-9]*[.][0-9][0-9][0-9] s$'
+    "$gipmc" --engine sim --time 6 --stats --certificate cert chain.aig > out 2> err
+    status=$?
+    [ "$status" = 0 ] && [ "$(cat out)" = "$(printf '2\nb0\n.')" ] && [ ! -e cert ] && has_lines "$within" err 1
+    told "the time is over within a round of simulation" $?
+    "$gipmc" --engine sim --verbose chain.aig > out 2> err &
+    await has_lines "$within" err 1
+    told "progress within a round of simulation" $?
+    kill -KILL $!
+    wait $! 2> /dev/null
+    rm chain.aig
+fi
+if is_wanted "an answer before memory is refused"; then
+    (ulimit -v 200000; exec "$gipmc" "${endless[@]}" swapped.aag) > out 2> err
+    status=$?
+    [ "$status" = 10 ] && [ "$(cat err)" = "memory: refused (b1 is left open)" ] && [ "$(answers out | head -n 6)" = "$first" ] &&
+        [ "$(answers out | sed 1,6d | tr '\n' '#' | sed 's/u[0-9]*/u/')" = 'u#2#b1#.#' ]
+    told "an answer before memory is refused" $?
+fi
 "$gipmc" -t 0 swapped.aag > out 2> err
 status=$?
 [ "$status" = 0 ] && [ "$(answers out)" = "$(printf '2\nb0\n.\n2\nb1\n.')" ]
 told "no time" $?
-"$gipmc" "${endless[@]}" -v kept.aag > out 2> err &
-await has_lines '^c b0: depth [0-9]*, [0-9]* clauses kept, [0-9]* learned; [0-9]*[.][0-9][0-9][0-9] s$' err 2
-told "progress in a file, every five seconds" $?
-kill -KILL $!
-wait $! 2> /dev/null
+if is_wanted "progress in a file, every five seconds"; then
+    "$gipmc" "${endless[@]}" -v kept.aag > out 2> err &
+    await has_lines '^c b0: depth [0-9]*, [0-9]* clauses kept, [0-9]* learned; [0-9]*[.][0-9][0-9][0-9] s$' err 2
+    told "progress in a file, every five seconds" $?
+    kill -KILL $!
+    wait $! 2> /dev/null
+fi
 
 # Lines that tell before an answer how far the search is: where it is no terminal, and also there by --verbose.
 deep=(--engine bmc --depth 7 kept.aag)
@@ -678,17 +696,23 @@ told "induction within 0" $?
     printf '44 40 35\n46 41 34\n48 45 47\n'
     for ((n = 25; n <= 43; n++)); do echo "$((2 * n)) $((n == 25 ? 2 : 2 * n - 2)) $((2 * n - 46))"; done
 } > hard.aag
-timeout -s KILL 60 "$gipmc" --engine ic3 -t 5 hard.aag > out 2> err
-[ "$(answers out | head -n 3)" = "$safe" ]
-told "a literal that is safe beside a hard one, by IC3" $?
+if is_wanted "a literal that is safe beside a hard one, by IC3"; then
+    timeout -s KILL 60 "$gipmc" --engine ic3 -t 5 hard.aag > out 2> err
+    [ "$(answers out | head -n 3)" = "$safe" ]
+    told "a literal that is safe beside a hard one, by IC3" $?
+fi
 sed '/^42$/d; s/^86$/&\n42/' hard.aag > hard_first.aag
-timeout -s KILL 60 "$gipmc" --engine ic3 -t 5 hard_first.aag > out 2> err
-[ "$(answers out | tail -n 3)" = "$(printf '0\nb1\n.')" ]
-told "a literal that is safe behind a hard one, by IC3" $?
-timeout -s KILL 60 "$gipmc" --quiet --bad 1 -t 2 hard.aag > out 2> err
-status=$?
-[ "$status" = 0 ] && [ ! -s err ] && [ "$(tr '\n' '#' < out | sed 's/^u[1-9][0-9]*#/u#/')" = 'u#2#b1#.#' ]
-told "how far all engines came by turns" $?
+if is_wanted "a literal that is safe behind a hard one, by IC3"; then
+    timeout -s KILL 60 "$gipmc" --engine ic3 -t 5 hard_first.aag > out 2> err
+    [ "$(answers out | tail -n 3)" = "$(printf '0\nb1\n.')" ]
+    told "a literal that is safe behind a hard one, by IC3" $?
+fi
+if is_wanted "how far all engines came by turns"; then
+    timeout -s KILL 60 "$gipmc" --quiet --bad 1 -t 2 hard.aag > out 2> err
+    status=$?
+    [ "$status" = 0 ] && [ ! -s err ] && [ "$(tr '\n' '#' < out | sed 's/^u[1-9][0-9]*#/u#/')" = 'u#2#b1#.#' ]
+    told "how far all engines came by turns" $?
+fi
 
 # Standard streams that are closed. No file that is opened takes their place.
 unheard='<stdout>: cannot be written: closed, or open the other way alone'
@@ -814,7 +838,7 @@ try "no witness of the bad literal" 1 "all: no witness of bad literal 0, which '
 
 # Certificates of justice properties: the latches of a chain that counts stand behind those of the circuit.
 rm -f counts
-try "a certificate of a justice property" 20 "" "$is_live" "$fair" --certificate counts
+make "a certificate of a justice property" 20 "" "$is_live" "$fair" --certificate counts
 try "it certifies the property" 0 "" "s VERIFIED" "$fair" --certify counts --justice 0
 printf '%b' "$starves" | "$gipmc" --certify counts --justice 0 > out 2> err
 status=$?
@@ -827,7 +851,7 @@ try "a count that is too small" 1 "counts: j0: the clauses allow one literal mor
 counter='aag 16 1 3 0 12 0 0 1\n2\n4 20\n6 26\n8 32\n1\n14\n10 4 6\n12 10 8\n14 2 13\n16 14 4\n18 15 5\n20 17 19\n22 16 6\n'
 counter+='24 17 7\n26 23 25\n28 22 8\n30 23 9\n32 29 31\n'
 rm -f counts
-try "a certificate of an invariant that excludes lassos" 20 "" "$is_live" "$counter" --certificate counts
+make "a certificate of an invariant that excludes lassos" 20 "" "$is_live" "$counter" --certificate counts
 [ "$(head -n 1 counts)" = "c no lasso" ]
 told "a line tells that it excludes lassos" $?
 try "it certifies that the counter stays" 0 "" "s VERIFIED" "$counter" --certify counts --justice 0
@@ -838,7 +862,7 @@ status=$?
 [ "$status" = 1 ] && [ "$(cat out)" = "s NOT VERIFIED" ]
 told "without the line it is taken for a count" $?
 rm -f counts
-try "no certificate of several properties" 1 \
+make "no certificate of several properties" 1 \
     "counts: not written, since '--justice' asks for the property that it is to be of" \
     "$(printf '0\nj0\n.\n0\nj1\n.')" 'aag 1 0 1 0 0 0 0 2\n2 2\n1\n1\n2\n2\n' --certificate counts
 [ ! -e counts ]
@@ -1034,7 +1058,7 @@ for form in "" --aiger; do
     done
 done
 rm -f cert
-try "a certificate of the second of two justice properties" 20 "" "$(printf '0\nj1\n.')" "${circuits[granted]}" \
+make "a certificate of the second of two justice properties" 20 "" "$(printf '0\nj1\n.')" "${circuits[granted]}" \
     --justice 1 --certificate cert
 try "it certifies the second property" 0 "" "s VERIFIED" "${circuits[granted]}" --certify cert --justice 1
 rm -f cert
@@ -1188,26 +1212,30 @@ for data in 'gzip \037\213' 'xz \375\067zXZ' 'bzip2 BZh'; do
 done
 
 # Twenty latches that stay, each of them bad, beside gates that matter to none.
-{
-    printf 'aag 20022 2 20 0 20000 20\n2\n4\n'
-    for ((n = 3; n <= 22; n++)); do echo "$((2 * n)) $((2 * n))"; done
-    for ((n = 3; n <= 22; n++)); do echo $((2 * n)); done
-    for ((n = 23; n <= 20022; n++)); do echo "$((2 * n)) $((n > 23 ? 2 * n - 1 : 2)) $((2 + n % 2 * 2))"; done
-} > many.aag
-"$gipmc" --time 100 many.aag > out 2> err
-status=$?
-[ "$status" = 20 ] && [ ! -s err ] && [ "$(grep -c '^0$' out)" = 20 ]
-told "many bad literals beside gates that do not matter" $?
-rm -f cert
-"$gipmc" --certificate cert many.aag > out 2> err
-status=$?
-[ "$status" = 20 ] && [ ! -s err ] && [ "$("$gipmc" --certify cert many.aag)" = "s VERIFIED" ]
-told "a certificate of many bad literals beside gates that do not matter" $?
-rm -f cert
+if is_wanted "many bad literals beside gates that do not matter" \
+    "a certificate of many bad literals beside gates that do not matter"; then
+    {
+        printf 'aag 20022 2 20 0 20000 20\n2\n4\n'
+        for ((n = 3; n <= 22; n++)); do echo "$((2 * n)) $((2 * n))"; done
+        for ((n = 3; n <= 22; n++)); do echo $((2 * n)); done
+        for ((n = 23; n <= 20022; n++)); do echo "$((2 * n)) $((n > 23 ? 2 * n - 1 : 2)) $((2 + n % 2 * 2))"; done
+    } > many.aag
+    "$gipmc" --time 100 many.aag > out 2> err
+    status=$?
+    [ "$status" = 20 ] && [ ! -s err ] && [ "$(grep -c '^0$' out)" = 20 ]
+    told "many bad literals beside gates that do not matter" $?
+    rm -f cert
+    "$gipmc" --certificate cert many.aag > out 2> err
+    status=$?
+    [ "$status" = 20 ] && [ ! -s err ] && [ "$("$gipmc" --certify cert many.aag)" = "s VERIFIED" ]
+    told "a certificate of many bad literals beside gates that do not matter" $?
+    rm -f cert
+fi
 
 # A short text whose numbers are great takes a byte for each number, where its gates are in order.
 # NUMBER KILOBYTES: a circuit of one input of this number, within so much memory.
 great() {
+    is_wanted "a number of $1 within $2 kB of memory" || return 0
     printf 'aag %s 1 0 0 0 1\n%s\n%s\n' "$1" $((2 * $1)) $((2 * $1)) > great.aag
     (ulimit -v "$2"; exec "$gipmc" great.aag) > out 2> err
     status=$?
@@ -1217,31 +1245,39 @@ great() {
 great 1048576 100000
 great 16777216 300000
 great 67108864 1000000
-printf 'aag 16777216 1 0 0 0 0 0 1\n33554432\n1\n33554432\n' > great.aag
-(ulimit -v 300000; exec "$gipmc" great.aag) > out 2> err
-status=$?
-[ "$status" = 10 ] && [ ! -s err ] && [ "$("$gipmc" --replay out great.aag)" = "s VERIFIED" ]
-told "a justice property of a great number, and little memory" $?
-printf 'aig 1048576 1048576 0 0 0 1\n2\n' > wide.aig
-(ulimit -v 800000; exec "$gipmc" wide.aig) > out 2> err
-status=$?
-[ "$status" = 10 ] && [ ! -s err ] && [ "$("$gipmc" --replay out wide.aig)" = "s VERIFIED" ]
-told "many inputs that do not matter" $?
+if is_wanted "a justice property of a great number, and little memory"; then
+    printf 'aag 16777216 1 0 0 0 0 0 1\n33554432\n1\n33554432\n' > great.aag
+    (ulimit -v 300000; exec "$gipmc" great.aag) > out 2> err
+    status=$?
+    [ "$status" = 10 ] && [ ! -s err ] && [ "$("$gipmc" --replay out great.aag)" = "s VERIFIED" ]
+    told "a justice property of a great number, and little memory" $?
+fi
+if is_wanted "many inputs that do not matter"; then
+    printf 'aig 1048576 1048576 0 0 0 1\n2\n' > wide.aig
+    (ulimit -v 800000; exec "$gipmc" wide.aig) > out 2> err
+    status=$?
+    [ "$status" = 10 ] && [ ! -s err ] && [ "$("$gipmc" --replay out wide.aig)" = "s VERIFIED" ]
+    told "many inputs that do not matter" $?
+fi
 # Where memory is refused, nothing else is told.
-printf 'aag 2147483647 1 0 0 0 1\n4294967294\n4294967294\n' > great.aag
-rm -f cert
-(ulimit -v 200000; exec "$gipmc" --certificate cert great.aag) > out 2> err
-status=$?
-[ "$status" = 1 ] && [ "$(cat err)" = "memory: refused" ] && [ ! -s out ] && [ ! -e cert ]
-told "the greatest number, and little memory" $?
-printf 'aag 16777216 0 2 0 0 1\n33554432 33554432\n4 4\n33554432\n' > stays.aag
-rm -f cert
-(ulimit -v 200000; exec "$gipmc" --certificate cert stays.aag) > out 2> err
-status=$?
-[ "$status" = 20 ] && [ ! -s err ] &&
-    [ "$(ulimit -v 200000; exec "$gipmc" --certify cert stays.aag)" = "s VERIFIED" ]
-told "a certificate where numbers are great, and little memory" $?
-rm -f cert
+if is_wanted "the greatest number, and little memory"; then
+    printf 'aag 2147483647 1 0 0 0 1\n4294967294\n4294967294\n' > great.aag
+    rm -f cert
+    (ulimit -v 200000; exec "$gipmc" --certificate cert great.aag) > out 2> err
+    status=$?
+    [ "$status" = 1 ] && [ "$(cat err)" = "memory: refused" ] && [ ! -s out ] && [ ! -e cert ]
+    told "the greatest number, and little memory" $?
+fi
+if is_wanted "a certificate where numbers are great, and little memory"; then
+    printf 'aag 16777216 0 2 0 0 1\n33554432 33554432\n4 4\n33554432\n' > stays.aag
+    rm -f cert
+    (ulimit -v 200000; exec "$gipmc" --certificate cert stays.aag) > out 2> err
+    status=$?
+    [ "$status" = 20 ] && [ ! -s err ] &&
+        [ "$(ulimit -v 200000; exec "$gipmc" --certify cert stays.aag)" = "s VERIFIED" ]
+    told "a certificate where numbers are great, and little memory" $?
+    rm -f cert
+fi
 
 # Files that are not there.
 try "no such file" 1 "none.aag: no such file" "" "" none.aag
@@ -1300,6 +1336,7 @@ told "the help fits into 80 columns" $?
 # the last one.
 summary() {
     local name=$1 wanted=$2 lines=$3
+    is_wanted "$name" || return 0
     shift 3
     "$gipmc" --stats "$@" > out 2> err
     status=$?
@@ -1358,6 +1395,7 @@ statuses() {
 # ENGINE [ARGUMENT..]: asks about row.aag, and expects what the row says of each property.
 ask() {
     local by=$1 wanted='' wanted_status=20 word one
+    is_wanted "$name $said, by $by" || return 0
     shift
     for word in ${said//,/ }; do
         case $by,$word in
@@ -1385,6 +1423,7 @@ ask() {
 
 # K STATUS ERROR: puts it to row.aag that its bad literal is K-inductive.
 put() {
+    is_wanted "$name $said, for k = $1" || return 0
     echo "k $1" > inv
     "$gipmc" --certify inv row.aag > out 2> err
     status=$?
@@ -1396,6 +1435,7 @@ put() {
 # HOW [ARGUMENT..]: expects a certificate of row.aag where all is safe, and shown so, and else none.
 certify() {
     local how=$1 wanted=20
+    is_wanted "$name $said, a certificate $how" || return 0
     case $how,$said in
         *fails*) wanted=10 ;;
         "by induction",*safe:-*) wanted=0 ;;
@@ -1422,14 +1462,16 @@ while read -r name said text; do
     rm -f cert
     if [[ $said == *live* || $said == *lasso* ]]; then
         ask "all engines"
-        "$gipmc" --justice 0 --certificate cert row.aag > out 2> err
-        status=$?
-        if [ "$(tr , '\n' <<< "$said" | grep -m 1 '^l')" = lasso ]; then
-            [ "$status" = 10 ] && [ ! -e cert ]
-        else
-            [ "$status" = 20 ] && [ "$("$gipmc" --certify cert --justice 0 row.aag)" = "s VERIFIED" ]
+        if is_wanted "$name $said, a certificate"; then
+            "$gipmc" --justice 0 --certificate cert row.aag > out 2> err
+            status=$?
+            if [ "$(tr , '\n' <<< "$said" | grep -m 1 '^l')" = lasso ]; then
+                [ "$status" = 10 ] && [ ! -e cert ]
+            else
+                [ "$status" = 20 ] && [ "$("$gipmc" --certify cert --justice 0 row.aag)" = "s VERIFIED" ]
+            fi
+            told "$name $said, a certificate" $?
         fi
-        told "$name $said, a certificate" $?
         continue
     fi
     ask bmc --engine bmc --depth 64
@@ -1449,7 +1491,8 @@ while read -r name said text; do
     [[ $said != *fails* ]] || ask sim --engine sim
     [[ $said != *fails* ]] || ask shortest --shortest
     ask "all engines" --certificate cert
-    if [[ $said != *fails* ]]; then
+    if [[ $said != *fails* ]] && is_wanted "$name $said, a certificate"; then
+        [ -e cert ] || "$gipmc" --certificate cert row.aag > out 2> err
         [ "$("$gipmc" --certify cert row.aag)" = "s VERIFIED" ]
         told "$name $said, a certificate" $?
     fi
@@ -1472,10 +1515,11 @@ done < "$rows"
 told "all rows of circuits" $?
 
 # Circuits with justice properties beside the stored ones: their runs are enumerated now.
-"$top/tools/circuits.py" --justice 500 "$gipmc" > out 2> err
-status=$?
-[ "$status" = 0 ] && grep -q '^500 passed, 0 failed; ' out
-told "justice properties of 500 more circuits" $?
+if is_wanted "justice properties of 500 more circuits"; then
+    "$top/tools/circuits.py" --justice 500 "$gipmc" > out 2> err
+    status=$?
+    [ "$status" = 0 ] && grep -q '^500 passed, 0 failed; ' out
+    told "justice properties of 500 more circuits" $?
+fi
 
-echo "$passed passed, $failed failed"
-[ "$failed" = 0 ]
+end_rows
