@@ -477,7 +477,9 @@ try "a proof to a full device" 1 "/dev/full: cannot be written: no space left" "
 sparse='p cnf 1000003 4\n1000001 1000003 0\n1000001 -1000003 0\n-1000001 1000003 0\n-1000001 -1000003 0\n'
 printf '%b' "$sparse" > "$work/sparse"
 make "a proof of a formula with great numbers is written" 20 "" "s UNSATISFIABLE" "" -q --proof "$work/written" "$work/sparse"
-try "the proof of a formula with great numbers is checked" 0 "" "s VERIFIED" "" --check "$work/sparse" "$work/written"
+try "the proof of a formula with great numbers is checked" 0 \
+    "c $work/written: read as DRAT, though its first number may be a name of LRAT" "s VERIFIED" "" \
+    --check "$work/sparse" "$work/written"
 try "a model of a formula with great numbers" 10 "" "$(printf 's SATISFIABLE\nv -1 -2 -3 -4 5 -6 -7 8 -9 0')" \
     'p cnf 9 2\n8 0\n-8 5 0\n'
 printf 'p cnf 16777216 1\n16777216 0\n' > "$work/great"
