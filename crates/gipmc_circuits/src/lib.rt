@@ -3,6 +3,7 @@
 
 pub mod certificate;
 pub mod circuit;
+mod cone;
 pub mod diagnosis;
 pub mod encoding;
 pub mod netlist;

@@ -14,4 +14,4 @@ returns g c =
     c.in_ok-add_pair.ensures (rw (c.deref.ensures.value) at c.in_ok-add_invariant.ensures)
     c.in_ok-add_transition.ensures.adds (rw (c.deref-2.ensures.value) at c.in_ok-add_links.ensures)
     c.in_ok-add_pair-2.ensures))
-    (rw (c.deref-3.ensures.value) at c.first_doubt.ensures)
+    (rw (c.deref-4.ensures.value) at c.first_doubt.ensures)
