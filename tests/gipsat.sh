@@ -1008,7 +1008,7 @@ try_limit "a limit of five conflicts among models" 10 $'s SATISFIABLE\ns UNKNOWN
 try_limit "a limit of five conflicts for each question" 10 $'s UNKNOWN\ns SATISFIABLE\ns UNKNOWN' 10 "$work/asked" \
     --conflicts 5
 
-# Questions: lines that begin with an a, behind a header p inccnf. Each is asked of the clauses before it.
+# Questions: from an a, with which a line begins, to a 0, behind a header p inccnf. Each is asked of the clauses before it.
 asked='c two\nc comments\n\np inccnf\n1 2 3 0\n-1 2\n0\na 0\n-2 -3 0\na 3 0\na 3 2 0\na -3 -2 0\n'
 try "questions" 10 "" "$(printf 's SATISFIABLE\nv 1 2 -3 0\ns SATISFIABLE\nv -1 -2 3 0\ns UNSATISFIABLE\ns UNSATISFIABLE')" "$asked"
 printf '%b' "$asked" > "$work/asked"
@@ -1016,7 +1016,19 @@ try "questions in a file, without values" 10 "" "$(printf 's SATISFIABLE\ns SATI
     "" -n "$work/asked"
 try "questions that nothing satisfies" 20 "" "$(printf 's UNSATISFIABLE\ns UNSATISFIABLE')" 'p inccnf\n1 0\na -1 0\n2 0\na -2 0\n'
 try "no question" 0 "" "" 'p inccnf\n1 0\n-1 0\n'
-try "a question without its 0" 10 "" "$(printf 's SATISFIABLE\nv -1 0')" 'p inccnf\na -1\n'
+try "a question over lines" 20 "" "s UNSATISFIABLE" 'p inccnf\n1 2 0\na -1\n-2 0\n'
+try "a question over lines, with comments" 10 "" "$(printf 's SATISFIABLE\nv -1 2 0\ns UNSATISFIABLE')" \
+    'p inccnf\n1 2 0\na c 1 0\n\nc 2 0\n -1\n0 c 0\n-2 0\na -1\n0\n'
+try "a question without its 0" 1 "<stdin>:2: a clause without its 0" "" 'p inccnf\na -1\n'
+try "a question that the file cuts off" 1 "<stdin>:3: a clause without its 0" "$(printf 's SATISFIABLE\nv 1 0')" \
+    'p inccnf\na 1 0\na 1\n2\n'
+try "a question within another" 1 "<stdin>:2: a clause without its 0" "" 'p inccnf\na 1\na 2 0\n'
+try "a literal behind a question" 1 "<stdin>:2: more clauses than the header says" "" 'p inccnf\na -1 -2 0 1 0\n'
+try "a clause behind a question over lines" 1 "<stdin>:3: more clauses than the header says" "" 'p inccnf\na -1\n0 1 0\n'
+try "a second 0 behind a question" 1 "<stdin>:2: more clauses than the header says" "" 'p inccnf\na 1 0 0\n'
+try "no word in a question's next line" 1 "<stdin>:3: not a number" "" 'p inccnf\na 1\n2 x 0\n'
+try "a header in a question" 1 "<stdin>:2: a second header" "" 'p inccnf\na p cnf 1 1\n0\n'
+try "the end of a text in a question" 1 "<stdin>:2: not a number" "" 'p inccnf\na % 0\n'
 try "questions with carriage returns" 10 "" "$(printf 's SATISFIABLE\nv 1 0')" 'p inccnf\r\n1 0\r\na 1 0\r\n'
 try "no conflict is allowed for a question" 0 "" "s UNKNOWN" 'p inccnf\n1 2 0\n1 -2 0\n-1 2 0\n-1 -2 0\na 0\n' --conflicts 0
 try "questions up to an error" 1 "<stdin>:5: not a number" "$(printf 's SATISFIABLE\nv 1 0')" 'p inccnf\n1 0\na 0\n2 0\nx 0\na 0\n'
@@ -1041,7 +1053,7 @@ for _ in range(40):
             clauses.append([random.choice((1, -1)) * random.randint(1, n) for _ in range(3)])
             lines.append(" ".join(map(str, clauses[-1])) + " 0")
         assumed = [random.choice((1, -1)) * random.randint(1, n) for _ in range(random.randint(0, 3))]
-        lines.append(" ".join(["a", *map(str, assumed), "0"]))
+        lines.append("a" + "".join(random.choice((" ", "\n")) + str(l) for l in [*assumed, 0]))
         wanted.append((list(clauses), assumed))
     ran = subprocess.run([sys.argv[1], "-q"], input="\n".join(lines) + "\n", capture_output=True, text=True)
     replies = [part.split() for part in ran.stdout.split("s ")[1:]]

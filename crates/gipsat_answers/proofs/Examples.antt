@@ -9,7 +9,7 @@ use Rattle.gipsat_answers.specs.Answers.{IsRightText, laid_out, values_text, ver
 use Rattle.gipsat_answers.specs.Assumed.{assuming, first_variables, literals_in}
 use Rattle.gipsat_answers.specs.Enumeration.{IsModelsText, IsRightVerdict, differing, first_verdict}
 use Rattle.gipsat_answers.specs.Names.{name_in, named}
-use Rattle.gipsat_answers.specs.Questions.{AreAskedOf, AreRightReplies, IsRightReply, Question, is_header, is_silent, questions_of, verdict_with}
+use Rattle.gipsat_answers.specs.Questions.{AreAskedOf, AreRightReplies, AsksSoFar, IsRightReply, Question, is_header, is_silent, part_in, questions_of, verdict_with}
 use Rattle.gipsat_answers.specs.declared.answers.Verdict.TheVariants.{Satisfiable, Unsatisfiable, Unknown, Stopped}
 
 -- the values of two variables
@@ -122,6 +122,52 @@ asked : questions_of (codes "c\np inccnf\n1 2 0\na -1 0\n-2\n0\na 0\n")
     ≡ Some (record { formula = (yes 0 ∷ yes 1 ∷ []) ∷ []; assumed = not_ 0 ∷ [] }
     ∷ record { formula = (yes 0 ∷ yes 1 ∷ []) ∷ (not_ 1 ∷ []) ∷ []; assumed = [] } ∷ [])
 asked = refl
+
+-- a question over the ends of lines, with comments, and a clause behind it
+asked-lines : questions_of (codes "p inccnf\na -1 c 0\n\nc 2\n2\n0 c 1\n1 0\na 0")
+    ≡ Some (record { formula = []; assumed = not_ 0 ∷ yes 1 ∷ [] } ∷ record { formula = (yes 0 ∷ []) ∷ []; assumed = [] } ∷ [])
+asked-lines = refl
+
+asked-cut_off : questions_of (codes "p inccnf\n1 0\na 1\n") ≡ None
+asked-cut_off = refl
+
+asked-twice : questions_of (codes "p inccnf\na 1\na 2 0\n") ≡ None
+asked-twice = refl
+
+asked-behind : questions_of (codes "p inccnf\na 1 0 2 0\n") ≡ None
+asked-behind = refl
+
+asked-behind_lines : questions_of (codes "p inccnf\na 1\n0 2 0\n") ≡ None
+asked-behind_lines = refl
+
+-- what a line of a question says
+part : part_in (codes " 1 -2") ≡ Some (yes 0 ∷ not_ 1 ∷ [], false)
+part = refl
+
+part-ended : part_in (codes "-2 0 c 1") ≡ Some (not_ 1 ∷ [], true)
+part-ended = refl
+
+part-nothing : part_in [] ≡ Some ([], false)
+part-nothing = refl
+
+part-zeros : part_in (codes "0 0") ≡ None
+part-zeros = refl
+
+part-word : part_in (codes "1 x 0") ≡ None
+part-word = refl
+
+part-header : part_in (codes "p cnf 1 1") ≡ None
+part-header = refl
+
+part-end_of_text : part_in (codes "% 0") ≡ None
+part-end_of_text = refl
+
+-- a question that has not its 0 behind the first of two lines
+so_far : AsksSoFar (codes "a 1" ∷ codes "0" ∷ []) (yes 0 ∷ []) false (codes "0" ∷ [])
+so_far formula begun = refl
+
+so_far-ended : AsksSoFar (codes "a 1" ∷ codes "0" ∷ []) (yes 0 ∷ []) true []
+so_far-ended formula begun = refl
 
 asked-none : questions_of (codes "p inccnf\n1 0\n") ≡ Some []
 asked-none = refl

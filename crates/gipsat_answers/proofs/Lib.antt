@@ -1,3 +1,4 @@
+mod Asking
 mod Assuming
 pub mod Below
 mod Enumerating

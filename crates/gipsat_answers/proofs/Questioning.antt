@@ -1,5 +1,5 @@
 -- Questions one after another: which were asked and replied to so far, and what is left.
-use Rattle.std.proofs.Common.{◌≡◌, ◌+◌, ◌-◌, ◌<◌, ◌≤◌, ℕ, Bool, true, false, List, [], ◌∷◌, ◌++◌, drop, length, take, refl, sym, ap, ◌∙◌, subst, ⊎_elim, inl, inr, IsTrue, unwrap_or, arith}
+use Rattle.std.proofs.Common.{◌≡◌, ◌+◌, ◌-◌, ◌<◌, ◌≤◌, ℕ, Bool, true, false, List, [], ◌∷◌, ◌++◌, length, take, refl, sym, ap, ◌∙◌, subst, ⊎_elim, inl, inr, IsTrue, unwrap_or, arith}
 use Rattle.std.specs.Prelude.{Option, Some, None, codes, slice_get, ⊤}
 use Rattle.std.specs.Option.{option_map}
 use Rattle.std.proofs.lemmas.List.{append_assoc, append-nil, take_more}
@@ -8,8 +8,7 @@ use Rattle.std.proofs.lemmas.Bool.{false≢true}
 use Rattle.gipsat_cnf.specs.Assumptions.{IsSatisfiableUnder}
 use Rattle.gipsat_cnf.specs.Formulas.{Clause, Formula}
 use Rattle.gipsat_cnf.specs.Literals.{Lit}
-use Rattle.gipsat_answers.specs.Assumed.{literals_in}
-use Rattle.gipsat_answers.specs.Questions.{Question, asks, clauses_in, first_of, questions_after, is_stop, verdict_with}
+use Rattle.gipsat_answers.specs.Questions.{Question, AsksSoFar, asks, clauses_in, first_of, questions_after, is_stop, verdict_with}
 use Rattle.gipsat_answers.specs.Questions.{AreAskedOf, AreNoneSatisfiable, AreRightReplies, IsAnySatisfiable, IsRightOfAll, IsRightReply, WritesReplies, WritesReply}
 use Rattle.gipsat_answers.specs.declared.answers.Verdict.{Verdict}
 use Rattle.gipsat_answers.specs.declared.answers.Verdict.TheVariants.{Satisfiable, Unsatisfiable, Unknown, Stopped}
@@ -216,12 +215,12 @@ module _ (witness : Bool) (limit : ℕ) (all : Option (List Question)) (old : Op
   }
 
   module _ (formula : Formula) (begun line : List ℕ) (lines : List (List ℕ)) (learned : ℕ) (stop : Bool) (verdict : Option Verdict)
-      (now : Option (List ℕ)) (so_far : Asked witness limit all old formula (questions_after formula begun (line ∷ lines)) learned stop verdict now) where
+      (now : Option (List ℕ)) (so_far : Asked witness limit all old formula (questions_after formula begun None (line ∷ lines)) learned stop verdict now) where
     -- a line of clauses was read
     pub Asked-line : asks line ≡ false
-        → Asked witness limit all old formula (questions_after formula (begun ++ line ++ codes "\n") lines) learned stop verdict now
+        → Asked witness limit all old formula (questions_after formula (begun ++ line ++ codes "\n") None lines) learned stop verdict now
     Asked-line asks_none =
-        let same : questions_after formula begun (line ∷ lines) ≡ questions_after formula (begun ++ line ++ codes "\n") lines = rw asks_none refl in
+        let same : questions_after formula begun None (line ∷ lines) ≡ questions_after formula (begun ++ line ++ codes "\n") None lines = rw asks_none refl in
         record {
           asked = so_far.asked;
           together = so_far.together ∙ ap (option_map (λ more. so_far.asked ++ more)) same;
@@ -231,16 +230,16 @@ module _ (witness : Bool) (limit : ℕ) (all : Option (List Question)) (old : Op
         }
 
     -- a question was replied to
-    pub Asked-more : (added : Formula) (assumed : List Lit) (later : ℕ) (last : Verdict) (then : Option (List ℕ)) → asks line ≡ true
-        → clauses_in begun ≡ Some added → literals_in (drop 1 line) ≡ Some assumed → learned ≤ later → later - learned ≤ limit
+    pub Asked-more : (rest : List (List ℕ)) (added : Formula) (assumed : List Lit) (later : ℕ) (last : Verdict) (then : Option (List ℕ))
+        → AsksSoFar (line ∷ lines) assumed true rest → clauses_in begun ≡ Some added → learned ≤ later → later - learned ≤ limit
         → (IsTrue stop → last ≡ Stopped)
         → WritesReply witness limit (later - learned) true (record { formula = formula ++ added; assumed = assumed }) last now then
-        → Asked witness limit all old (formula ++ added) (questions_after (formula ++ added) [] lines) later (is_stop last)
+        → Asked witness limit all old (formula ++ added) (questions_after (formula ++ added) [] None rest) later (is_stop last)
         (Some (verdict_with verdict last)) then
-    Asked-more added assumed later last then asks_it has names more most stays reply =
+    Asked-more rest added assumed later last then asks_it has more most stays reply =
         let q : Question = record { formula = formula ++ added; assumed = assumed } in
-        let same : questions_after formula begun (line ∷ lines) ≡ first_of (formula ++ added) assumed (questions_after (formula ++ added) [] lines)
-        = rw (asks_it, has, names) refl in
+        let same : questions_after formula begun None (line ∷ lines) ≡ first_of (formula ++ added) assumed (questions_after (formula ++ added) [] None rest)
+        = asks_it formula begun ∙ rw has refl in
         let wider : IsTrue stop → IsTrue (is_stop last) = λ stopped. subst (λ v. IsTrue (is_stop v)) (sym (stays stopped)) refl in
         let (text, are, wrote) = so_far.written in
         let (words, right, writes) = reply-itself witness limit (later - learned) q last now then reply in
@@ -248,7 +247,7 @@ module _ (witness : Bool) (limit : ℕ) (all : Option (List Question)) (old : Op
         record {
           asked = so_far.asked ++ q ∷ [];
           together = so_far.together ∙ ap (option_map (λ more. so_far.asked ++ more)) same
-              ∙ one_left so_far.asked (formula ++ added) assumed (questions_after (formula ++ added) [] lines);
+              ∙ one_left so_far.asked (formula ++ added) assumed (questions_after (formula ++ added) [] None rest);
           written = (
             text ++ words,
             subst (λ n. AreRightReplies witness limit n (is_stop last) (so_far.asked ++ q ∷ []) (text ++ words)) sum
@@ -264,13 +263,13 @@ module _ (witness : Bool) (limit : ℕ) (all : Option (List Question)) (old : Op
   -- behind the last line, once the clauses behind the last question were added
   pub Asked-end : (formula added f1 : Formula) (begun : List ℕ) (left : List (List ℕ)) (learned later : ℕ) (stop : Bool)
       (verdict : Option Verdict) (now : Option (List ℕ))
-      → Asked witness limit all old formula (questions_after formula begun left) learned stop verdict now
+      → Asked witness limit all old formula (questions_after formula begun None left) learned stop verdict now
       → left ≡ [] → clauses_in begun ≡ Some added → f1 ≡ formula ++ added → later ≡ learned
       → (asked : List Question) × (all ≡ Some asked) × WritesReplies witness limit later stop asked old now
       × IsRightOfAll asked (unwrap_or verdict Unknown) × AreAskedOf f1 asked
   Asked-end formula added f1 begun left learned later stop verdict now so_far ended has is same =
-      let none : questions_after formula begun [] ≡ Some [] = rw has refl in
-      let rest : questions_after formula begun left ≡ Some [] = ap (λ lines. questions_after formula begun lines) ended ∙ none in (
+      let none : questions_after formula begun None [] ≡ Some [] = rw has refl in
+      let rest : questions_after formula begun None left ≡ Some [] = ap (λ lines. questions_after formula begun None lines) ended ∙ none in (
         so_far.asked,
         so_far.together ∙ ap (option_map (λ more. so_far.asked ++ more)) rest ∙ ap Some (append-nil so_far.asked),
         subst (λ n. WritesReplies witness limit n stop so_far.asked old now) (sym same) so_far.written,
@@ -280,34 +279,34 @@ module _ (witness : Bool) (limit : ℕ) (all : Option (List Question)) (old : Op
 
 module _ (witness : Bool) (limit : ℕ) (all : Option (List Question)) (old : Option (List ℕ)) (formula f1 f2 : Formula)
     (begun line next : List ℕ) (left lines : List (List ℕ)) (learned : ℕ) (stop : Bool) (verdict : Option Verdict) (now : Option (List ℕ))
-    (so_far : Asked witness limit all old formula (questions_after formula begun left) learned stop verdict now) (split : left ≡ line ∷ lines) where
-  before : Asked witness limit all old formula (questions_after formula begun (line ∷ lines)) learned stop verdict now
-  before = subst (λ ls. Asked witness limit all old formula (questions_after formula begun ls) learned stop verdict now) split so_far
+    (so_far : Asked witness limit all old formula (questions_after formula begun None left) learned stop verdict now) (split : left ≡ line ∷ lines) where
+  before : Asked witness limit all old formula (questions_after formula begun None (line ∷ lines)) learned stop verdict now
+  before = subst (λ ls. Asked witness limit all old formula (questions_after formula begun None ls) learned stop verdict now) split so_far
 
   -- a line of clauses was read, and stands behind those before
   pub Asked-line-on : asks line ≡ false → next ≡ begun ++ line ++ codes "\n"
-      → Asked witness limit all old formula (questions_after formula next lines) learned stop verdict now
+      → Asked witness limit all old formula (questions_after formula next None lines) learned stop verdict now
   Asked-line-on asks_none is =
-      subst (λ b. Asked witness limit all old formula (questions_after formula b lines) learned stop verdict now) (sym is)
+      subst (λ b. Asked witness limit all old formula (questions_after formula b None lines) learned stop verdict now) (sym is)
       (Asked-line witness limit all old formula begun line lines learned stop verdict now before asks_none)
 
   -- a question was replied to, once the clauses before it were added
-  pub Asked-more-on : (rest : List ℕ) (added : Formula) (assumed : List Lit) (later : ℕ) (last : Verdict) (then : Option (List ℕ))
-      (verdict2 : Option Verdict) (stop2 : Bool) → asks line ≡ true → rest ≡ drop 1 line → clauses_in begun ≡ Some added
-      → f1 ≡ formula ++ added → f2 ≡ f1 → next ≡ [] → literals_in rest ≡ Some assumed → learned ≤ later → later - learned ≤ limit
+  pub Asked-more-on : (rest : List (List ℕ)) (added : Formula) (assumed : List Lit) (later : ℕ) (last : Verdict)
+      (then : Option (List ℕ)) (verdict2 : Option Verdict) (stop2 : Bool) → AsksSoFar (line ∷ lines) assumed true rest
+      → clauses_in begun ≡ Some added → f1 ≡ formula ++ added → f2 ≡ f1 → next ≡ [] → learned ≤ later → later - learned ≤ limit
       → (IsTrue stop → last ≡ Stopped)
       → WritesReply witness limit (later - learned) true (record { formula = f1; assumed = assumed }) last now then
       → verdict2 ≡ Some (verdict_with verdict last) → stop2 ≡ is_stop last
-      → Asked witness limit all old f2 (questions_after f2 next lines) later stop2 verdict2 then
-  Asked-more-on rest added assumed later last then verdict2 stop2 asks_it behind has is1 is2 none names more most stays reply is_verdict is_stop2 =
+      → Asked witness limit all old f2 (questions_after f2 next None rest) later stop2 verdict2 then
+  Asked-more-on rest added assumed later last then verdict2 stop2 asks_it has is1 is2 none more most stays reply is_verdict is_stop2 =
       let same : f2 ≡ formula ++ added = is2 ∙ is1 in
-      let core = Asked-more witness limit all old formula begun line lines learned stop verdict now before added assumed later last then
-      asks_it has (subst (λ r. literals_in r ≡ Some assumed) behind names) more most stays
+      let core = Asked-more witness limit all old formula begun line lines learned stop verdict now before rest added assumed later last then
+      asks_it has more most stays
       (subst (λ f. WritesReply witness limit (later - learned) true (record { formula = f; assumed = assumed }) last now then) is1 reply) in
-      subst (λ f. Asked witness limit all old f (questions_after f next lines) later stop2 verdict2 then) (sym same)
-      (subst (λ b. Asked witness limit all old (formula ++ added) (questions_after (formula ++ added) b lines) later stop2 verdict2 then) (sym none)
-      (subst (λ s. Asked witness limit all old (formula ++ added) (questions_after (formula ++ added) [] lines) later s verdict2 then) (sym is_stop2)
-      (subst (λ v. Asked witness limit all old (formula ++ added) (questions_after (formula ++ added) [] lines) later (is_stop last) v then)
+      subst (λ f. Asked witness limit all old f (questions_after f next None rest) later stop2 verdict2 then) (sym same)
+      (subst (λ b. Asked witness limit all old (formula ++ added) (questions_after (formula ++ added) b None rest) later stop2 verdict2 then) (sym none)
+      (subst (λ s. Asked witness limit all old (formula ++ added) (questions_after (formula ++ added) [] None rest) later s verdict2 then) (sym is_stop2)
+      (subst (λ v. Asked witness limit all old (formula ++ added) (questions_after (formula ++ added) [] None rest) later (is_stop last) v then)
       (sym is_verdict) core)))
 
 -- only a search that was stopped has this verdict

@@ -10,7 +10,6 @@ use Rattle.gipsat_cnf.specs.Literals.{Lit}
 use Rattle.gipsat_dimacs.specs.Texts.{begins, comment_byte, problem_by}
 use Rattle.gipsat_dimacs.specs.declared.rule.HeaderRule.TheVariants.{Relaxed}
 use Rattle.gipsat_answers.specs.Answers.{witness_text}
-use Rattle.gipsat_answers.specs.Assumed.{literals_in}
 use Rattle.gipsat_answers.specs.Enumeration.{Extends}
 use Rattle.gipsat_answers.specs.declared.answers.Verdict.{Verdict}
 use Rattle.gipsat_answers.specs.declared.answers.Verdict.TheVariants.{Satisfiable, Unsatisfiable, Unknown, Stopped}
@@ -20,7 +19,7 @@ pub record Question : Type 0 where
   pub formula : Formula
   pub assumed : List Lit
 
--- the line is a question: it begins with an `a`
+-- a question begins in the line, with an `a`
 abbrev pub asks : List ℕ → Bool
 asks line = begins (byte "a") line
 
@@ -28,20 +27,59 @@ asks line = begins (byte "a") line
 abbrev pub clauses_in : List ℕ → Option Formula
 clauses_in text = option_map (λ problem. problem.clauses) (problem_by Relaxed text)
 
+-- what the clauses say that a line of a question writes between two zeros: its literals, and whether its 0 stands behind
+-- them. Where it does, a clause without a literal is left of the second zero
+abbrev pub part_of : Formula → Option (List Lit × Bool)
+part_of (first ∷ literals ∷ []) = Some (literals, false)
+part_of (first ∷ literals ∷ [] ∷ []) = Some (literals, true)
+part_of clauses = None
+
+-- a line between two zeros
+abbrev pub between_zeros : List ℕ → List ℕ
+between_zeros line = codes "0\n" ++ line ++ codes "\n0"
+
+-- what a line of a question says, behind its `a` if it begins with one. Nothing but a comment stands behind the 0
+abbrev pub part_in : List ℕ → Option (List Lit × Bool)
+part_in line = option_and_then part_of (clauses_in (between_zeros line))
+
+-- the line belongs to a question: one has begun, and these are its literals so far, or one begins here
+abbrev pub belongs : Option (List Lit) → List ℕ → Bool
+belongs None line = asks line
+belongs (Some literals) line = true
+
+-- what a question says up to this line, which belongs to it
+abbrev pub part_with : Option (List Lit) → List ℕ → Option (List Lit × Bool)
+part_with None line = part_in (drop 1 line)
+part_with (Some literals) line = option_map (λ part. (literals ++ part.0, part.1)) (part_in line)
+
 -- a question before others, if there are any
 abbrev pub first_of : Formula → List Lit → Option (List Question) → Option (List Question)
 first_of formula assumed questions = option_map (λ more. record { formula = formula; assumed = assumed } ∷ more) questions
 
--- the questions that some lines ask of a formula; `begun` are the lines of clauses since the last question. Each
--- question is asked of all clauses before it
-abbrev pub questions_after : Formula → List ℕ → List (List ℕ) → Option (List Question)
-questions_after formula begun [] = option_map (λ added. []) (clauses_in begun)
-questions_after formula begun (line ∷ lines) =
-    if asks line
-    then option_and_then (λ added. option_and_then (λ assumed.
-    first_of (formula ++ added) assumed (questions_after (formula ++ added) [] lines)) (literals_in (drop 1 line)))
+-- the questions that some lines ask of a formula; `begun` are the lines of clauses since the last question, and `asked`
+-- the literals of a question that has begun, and needs its 0. Each is asked of all clauses before it
+abbrev pub questions_after : Formula → List ℕ → Option (List Lit) → List (List ℕ) → Option (List Question)
+questions_after formula begun asked [] = if is_some asked then None else option_map (λ added. []) (clauses_in begun)
+questions_after formula begun asked (line ∷ lines) =
+    if belongs asked line
+    then option_and_then (λ part. if part.1
+    then option_and_then (λ added. first_of (formula ++ added) part.0 (questions_after (formula ++ added) [] None lines))
     (clauses_in begun)
-    else questions_after formula (begun ++ line ++ codes "\n") lines
+    else questions_after formula begun (Some part.0) lines) (part_with asked line)
+    else questions_after formula (begun ++ line ++ codes "\n") None lines
+
+-- the same, where a question says this up to the lines that are left
+abbrev pub questions_behind : Formula → List ℕ → List Lit → Bool → List (List ℕ) → Option (List Question)
+questions_behind formula begun literals ended lines =
+    if ended
+    then option_and_then (λ added. first_of (formula ++ added) literals (questions_after (formula ++ added) [] None lines))
+    (clauses_in begun)
+    else questions_after formula begun (Some literals) lines
+
+-- a question begins with the first line, and says this up to the lines that are left
+abbrev pub AsksSoFar : List (List ℕ) → List Lit → Bool → List (List ℕ) → Type 0
+AsksSoFar lines literals ended left = (formula : Formula) → (begun : List ℕ)
+    → questions_after formula begun None lines ≡ questions_behind formula begun literals ended left
 
 -- the byte of a carriage return, with which some systems end lines
 abbrev pub carriage_return : ℕ
@@ -59,7 +97,7 @@ is_header line = bytes_eq line (codes "p inccnf") || bytes_eq line (codes "p inc
 abbrev pub questions_in : List (List ℕ) → Option (List Question)
 questions_in [] = None
 questions_in (line ∷ lines) =
-    if is_silent line then questions_in lines else if is_header line then questions_after [] [] lines else None
+    if is_silent line then questions_in lines else if is_header line then questions_after [] [] None lines else None
 
 -- the questions that a text asks, if it has the form
 abbrev pub questions_of : List ℕ → Option (List Question)
@@ -82,9 +120,9 @@ OfQuestions input P = IfSome input (λ text. IfSome (questions_of text) P)
 abbrev pub AreFalseFrom : ℕ → Assignment → Type 0
 AreFalseFrom variables a = (v : ℕ) → variables ≤ v → a v ≡ false
 
--- the text of a right reply, for which so many clauses were learned: values that satisfy the formula and make the literals
--- true, if they are wanted, or that there are none, or that it is open: as many clauses were learned as the limit says, or
--- the search was stopped
+-- the text of a right reply, as far as this number of learned clauses tells: values that satisfy the formula and make the
+-- literals true, if they are wanted, or that there are none, or that it is open, where the number is the limit, or the
+-- search was stopped
 abbrev pub IsRightReply : Bool → ℕ → ℕ → Bool → Question → Verdict → List ℕ → Type 0
 IsRightReply witness limit spent stop question Satisfiable text =
     (a : Assignment) × ((variables : ℕ) × IsTrue (satisfies a question.formula)
@@ -100,8 +138,8 @@ abbrev pub WritesReply : Bool → ℕ → ℕ → Bool → Question → Verdict 
 WritesReply witness limit spent stop question verdict old new =
     (text : List ℕ) × IsRightReply witness limit spent stop question verdict text × Appends old new text
 
--- the text of right replies, one to each question in order, for each of which at most as many clauses were learned as the
--- limit says, and for all of them together so many
+-- the text of right replies, one to each question in order: there are numbers of learned clauses, one for each, of which
+-- none is above the limit, and whose sum is this
 abbrev pub AreRightReplies : Bool → ℕ → ℕ → Bool → List Question → List ℕ → Type 0
 AreRightReplies witness limit learned stop [] text = (text ≡ []) × (learned ≡ 0)
 AreRightReplies witness limit learned stop (question ∷ more) text =

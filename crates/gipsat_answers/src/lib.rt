@@ -3,6 +3,7 @@
 #![tactic(auto)]
 
 pub mod answers;
+mod asked;
 pub mod assumed;
 pub mod models;
 mod names;

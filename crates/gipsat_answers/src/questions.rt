@@ -1,6 +1,5 @@
 //! Questions that a text asks one after another, of the clauses before each.
-ghost use Rattle.std.specs.Prelude.{◌≡◌, ◌++◌, ◌+◌, ◌-◌, [], ◌≤◌, ◌<◌, ℕ, List, true, false, drop, length, codes, Some, None, IfNone, IfOk, IfSome, IsTrue, MatchOption, OnOk};
-ghost use Rattle.std.specs.Bool.{OnTrue};
+ghost use Rattle.std.specs.Prelude.{◌≡◌, ◌++◌, ◌+◌, ◌-◌, [], ◌≤◌, ◌<◌, ℕ, List, true, false, length, codes, Some, None, IfNone, IfOk, IfSome, IsTrue, MatchOption, OnOk};
 ghost use Rattle.std.specs.Option.{option_map};
 ghost use Rattle.std.specs.Io.KnownBytes.{Appends, IsAtEnd};
 ghost use Rattle.giputils_text.specs.Lines.{text_lines};
@@ -8,12 +7,11 @@ ghost use Rattle.gipsat_cnf.specs.Answers.{IsRightOr};
 ghost use Rattle.gipsat_cnf.specs.Formulas.{Formula};
 ghost use Rattle.gipsat_cnf.specs.Literals.{Lit};
 ghost use Rattle.gipsat_solver.specs.Answers.{HasMore, HasNoFewer};
-ghost use Rattle.gipsat_answers.specs.Assumed.{literals_in};
 ghost use Rattle.gipsat_answers.specs.Questions.{asks, clauses_in, is_header, is_silent, is_stop, questions_after, questions_in, questions_of, verdict_with, Question};
 ghost use Rattle.gipsat_answers.specs.Questions.{AreAskedOf, AsksQuestions, IsRightOfAll, IsRightReply, OfQuestions, WritesReplies, WritesReply};
 
 use crate::answers::{Verdict, bytes, model_text, write};
-use crate::assumed::read_literals;
+use crate::asked::{asks, read_question};
 use crate::naming::report_of;
 use crate::task::Task;
 use gipsat_cnf::{AnswerUnder, Budget, Cnf, Literal};
@@ -48,13 +46,14 @@ struct Told {
 /// Reads a text to its end, and answers its questions in order, within as many learned clauses for each as the task
 /// allows. Once the search is stopped, the questions that are left are told as open.
 ///
-/// The text begins with a line `p inccnf`, behind which it has clauses in the DIMACS form, and lines that begin with an
-/// `a`, behind which stand literals and a 0. Each such line asks whether something satisfies all clauses before it and
-/// makes these literals true.
+/// The text begins with a line `p inccnf`, behind which it has clauses in the DIMACS form, and questions. A question
+/// begins in a line that begins with an `a`, behind which stand literals and a 0, over as many lines as it takes. It asks
+/// whether something satisfies all clauses before it and makes these literals true.
 ///
 /// # Errors
 /// - [`DimacsError::Input`] where a read fails.
-/// - [`DimacsError::Line`] with the number of the line at which the text has another form, and why.
+/// - [`DimacsError::Line`] with the number of the line at which the text has another form, and why: as an open clause
+///   where a question has no 0, in the line where it begins, and as a clause too many where a word stands behind that.
 /// - [`DimacsError::Memory`] where memory is refused.
 /// - [`DimacsError::Output`] where a write fails.
 ///
@@ -124,7 +123,7 @@ fn answer_text<W: Write, P: Progress>(
 
 // What stands behind the header, and behind how many lines.
 fn behind_header(text: &[u8]) -> Result<(usize, &[u8]), DimacsError>
-    ensures { IfOk result (λ found. questions_of text.now ≡ questions_after [] [] (text_lines found.1.now)) }
+    ensures { IfOk result (λ found. questions_of text.now ≡ questions_after [] [] None (text_lines found.1.now)) }
 {
     let mut lines = 0usize;
     let mut left = text;
@@ -194,7 +193,7 @@ fn answer_lines<W: Write, P: Progress>(
     requires empty { solver.old.formula ≡ [] }
     requires new { solver.old.learned ≡ 0 }
     ensures right { IfOk result (λ told. (asked : List Question)
-        × (questions_after [] [] (text_lines text.now) ≡ Some asked)
+        × (questions_after [] [] None (text_lines text.now) ≡ Some asked)
         × WritesReplies task.witness task.limit solver.new.learned told.is_stopped asked
         (W.contents writer.old) (W.contents writer.new) × IsRightOfAll asked told.verdict
         × AreAskedOf solver.new.formula asked) }
@@ -212,15 +211,17 @@ fn answer_lines<W: Write, P: Progress>(
     while let Some((line, rest)) = split_line(left) {
         left = rest;
         lines = lines.saturating_add(1);
-        let Some(literals) = question(line) else {
+        if !asks(line) {
             begun.push(line)?;
             continue;
-        };
+        }
         add_begun(alloc, solver, &mut begun)?;
+        let question = read_question(alloc, line, rest, lines)?;
+        left = question.rest;
+        lines = question.lines;
         begun.lines_before = lines;
         let asked = Asked {
-            literals,
-            line: lines,
+            literals: &question.literals,
             variables: begun.variables,
             is_stopped,
         };
@@ -257,25 +258,6 @@ fn is_stop(verdict: Verdict) -> bool
     match verdict {
         Verdict::Stopped => true,
         Verdict::Satisfiable | Verdict::Unsatisfiable | Verdict::Unknown => false,
-    }
-}
-
-// What a line asks: what stands behind the `a` that it begins with.
-fn question(line: &[u8]) -> Option<&[u8]>
-    ensures some { IfSome result (λ rest. (asks line.now ≡ true) × (rest.now ≡ drop 1 line.now)) }
-    ensures none { IfNone result (asks line.now ≡ false) }
-{
-    if asks(line) { Some(&line[1..]) } else { None }
-}
-
-// Whether a line asks something.
-fn asks(line: &[u8]) -> bool
-    ensures asks { result ≡ asks line.now }
-    ensures some { OnTrue result (0 < length line.now) }
-{
-    match line {
-        [first, ..] => *first == b'a',
-        [] => false,
     }
 }
 
@@ -319,9 +301,7 @@ fn add_clauses(solver: &mut Solver, clauses: &Cnf) -> Result<(), AllocError>
 // A question, and what is known where it is asked.
 #[derive(Clone, Copy)]
 struct Asked<'a> {
-    // The text of the literals, in this line.
-    literals: &'a [u8],
-    line: usize,
+    literals: &'a [Literal],
     // So many variables occurred before.
     variables: u32,
     // Whether the search was stopped before.
@@ -338,10 +318,9 @@ fn reply_to<W: Write, P: Progress>(
     progress: &mut P,
 ) -> Result<Verdict, DimacsError>
     requires stopped { IsTrue asked.is_stopped → IsTrue (P.wants_stop progress.old) }
-    ensures written { IfOk result (λ verdict. (assumed : List Lit)
-        × (literals_in asked.entry.literals.now ≡ Some assumed)
-        × WritesReply task.witness task.limit (solver.new.learned - solver.old.learned) true
-        (record { formula = solver.old.formula; assumed = assumed }) verdict
+    ensures written { IfOk result (λ verdict. WritesReply task.witness task.limit
+        (solver.new.learned - solver.old.learned) true
+        (record { formula = solver.old.formula; assumed = asked.entry.literals.now }) verdict
         (W.contents writer.old) (W.contents writer.new)) }
     ensures stays { IfOk result (λ verdict. IsTrue asked.entry.is_stopped → verdict ≡ Verdict.Stopped) }
     ensures stopped { IfOk result (λ verdict. verdict ≡ Verdict.Stopped → IsTrue (P.wants_stop progress.new)) }
@@ -349,25 +328,20 @@ fn reply_to<W: Write, P: Progress>(
     ensures learned { HasNoFewer solver.old solver.new }
     ensures most { OnOk result (solver.new.learned ≤ solver.old.learned + task.limit) }
 {
-    let assumed = match read_literals(alloc, asked.literals) {
-        Ok(assumed) => assumed,
-        Err(error) => return Err(at_line(asked.line, error)),
-    };
     if asked.is_stopped {
         write(writer, b"s UNKNOWN\n")?;
         return Ok(Verdict::Stopped);
     }
-    let (verdict, text) = reply(alloc, solver, &assumed, asked.variables, task, progress)?;
+    let (verdict, text) = reply(
+        alloc,
+        solver,
+        asked.literals,
+        asked.variables,
+        task,
+        progress,
+    )?;
     write(writer, &text)?;
     Ok(verdict)
-}
-
-// An error in a text that is a part of this line.
-fn at_line(line: usize, error: DimacsError) -> DimacsError {
-    match error {
-        DimacsError::Line(_, reason) => DimacsError::Line(line, reason),
-        other => other,
-    }
 }
 
 // Whether these literals can all be true, and the text of this reply.

@@ -1,5 +1,5 @@
 -- Which questions were asked and replied to so far; once the search is stopped, that stays.
-use Rattle.std.proofs.Common.{length, IsTrue, []}
+use Rattle.std.proofs.Common.{length, IsTrue, [], None}
 use Rattle.giputils_text.specs.Lines.{text_lines}
 use Rattle.gipsat_answers.specs.Questions.{questions_after}
 use Rattle.gipsat_answers.proofs.Questioning.{Asked}
@@ -7,8 +7,8 @@ use Rattle.gipsat_answers.proofs.questions.answer_lines.Given as goal
 
 abbrev pub invariant-loop-line : goal.invariant-loop-line
 invariant-loop-line g l = record {
-  asked : Asked l.task.witness l.task.limit (questions_after [] [] (text_lines l.text)) (g.W.Write.contents l.initial.writer)
-      l.solver.formula (questions_after l.solver.formula l.begun.text.items (text_lines l.left)) l.solver.learned l.is_stopped l.verdict
+  asked : Asked l.task.witness l.task.limit (questions_after [] [] None (text_lines l.text)) (g.W.Write.contents l.initial.writer)
+      l.solver.formula (questions_after l.solver.formula l.begun.text.items None (text_lines l.left)) l.solver.learned l.is_stopped l.verdict
       (g.W.Write.contents l.writer);
   stopped : IsTrue l.is_stopped → IsTrue (g.P.Progress.wants_stop l.progress);
 }
