@@ -5,6 +5,7 @@ use crate::derive::{Resolution, derive_resolvents};
 use crate::elimination::Elimination;
 use crate::reduce::delete;
 use crate::root::settle_root;
+use crate::rounds::Rounds;
 use crate::settings::SETTINGS;
 use crate::state::State;
 use crate::subsume::{Subsumption, find_subsumed};
@@ -80,7 +81,7 @@ fn add_resolvents(
     for _ in state.clauses.known()..kernel.len() {
         state.clauses.keep_next()?;
     }
-    elimination.connect_new(kernel, &state.trail, &state.clauses)
+    elimination.connect_new(kernel, state)
 }
 
 // Drops the clauses that follow from one that waits, and strengthens others by it, until none waits.
@@ -126,10 +127,10 @@ fn subsume_by(
     )?;
     add_resolvents(kernel, state, elimination, &found.strengthened)?;
     for other in &found.subsumed {
-        elimination.delete(kernel, state, *other);
+        elimination.delete(kernel, state, *other)?;
     }
     for resolution in &found.strengthened {
-        elimination.delete(kernel, state, resolution.first);
+        elimination.delete(kernel, state, resolution.first)?;
     }
     Ok(())
 }
@@ -151,15 +152,16 @@ fn eliminate_variable(
     found.positive.extend_from_slice(&found.negative)?;
     state.eliminated.push(l, &found.positive)?;
     state.activity.take_out(l.variable());
-    elimination.occurrences.freeze(l.variable());
+    state.candidates.freeze(l.variable());
     elimination.steps = elimination.steps.max(SETTINGS.variable_steps);
     for id in &found.positive {
-        elimination.take_out(kernel, state, *id);
+        elimination.take_out(kernel, state, *id)?;
     }
     Ok(())
 }
 
-// Eliminates variables one after another, those of the fewest clauses first, until none is left or the steps are spent.
+// Eliminates variables one after another, those of the fewest resolvents first, until the steps are spent or all were
+// tried. Then they are to be tried again, and may leave more clauses.
 fn eliminate_each(
     alloc: Global,
     kernel: &mut Kernel,
@@ -173,7 +175,8 @@ fn eliminate_each(
             return Ok(());
         }
         elimination.spend(SETTINGS.occurrence_steps);
-        let Some(variable) = elimination.occurrences.next_candidate() else {
+        let Some(variable) = state.candidates.next(&elimination.occurrences)? else {
+            retry_all(state);
             return Ok(());
         };
         let Some(l) = positive(variable) else {
@@ -186,6 +189,13 @@ fn eliminate_each(
     Ok(())
 }
 
+// All candidates were tried: they are to be tried again, where they may leave more clauses.
+fn retry_all(state: &mut State) {
+    if state.rounds.raise_bound() {
+        state.candidates.retry();
+    }
+}
+
 // The positive literal of a variable.
 fn positive(variable: u32) -> Option<Literal> {
     if variable >= 1 << 31 {
@@ -194,8 +204,8 @@ fn positive(variable: u32) -> Option<Literal> {
     Some(Literal::new(variable, true))
 }
 
-// Asks each clause which others follow from it, for half of the steps at most, and then eliminates variables.
-fn subsume_and_eliminate(
+// Asks each clause which others follow from it, for half of the steps at most.
+fn subsume_first(
     alloc: Global,
     kernel: &mut Kernel,
     state: &mut State,
@@ -206,9 +216,8 @@ fn subsume_and_eliminate(
     let half = elimination.steps / 2;
     elimination.steps = half;
     subsume_all(alloc, kernel, state, elimination)?;
-    elimination.waiting.clear();
     elimination.steps = elimination.steps.saturating_add(half);
-    eliminate_each(alloc, kernel, state, elimination)
+    Ok(())
 }
 
 // Whether a clause has an eliminated variable.
@@ -231,30 +240,53 @@ fn delete_learned(kernel: &Kernel, state: &mut State) {
     }
 }
 
-// Eliminates variables but for the frozen ones, in so many steps. No clause takes part in the elimination yet.
-fn eliminate_but(
+// Eliminates variables. No clause takes part in the elimination yet. Those of the first round are asked what follows from
+// them; later ones only those that come.
+fn eliminate_candidates(
     alloc: Global,
     kernel: &mut Kernel,
     state: &mut State,
     elimination: &mut Elimination,
-    frozen: &[u32],
-    steps: u64,
+    is_first: bool,
 ) -> Result<(), AllocError>
     ensures { kernel.new ≡ kernel.old }
 {
-    for variable in frozen {
-        elimination.occurrences.freeze(*variable);
+    elimination.connect_new(kernel, state)?;
+    elimination.steps = state.rounds.steps();
+    if is_first {
+        subsume_first(alloc, kernel, state, elimination)?;
     }
-    elimination.connect_new(kernel, &state.trail, &state.clauses)?;
-    elimination.steps = steps;
-    state.clauses.detach_all();
-    state.watches.clear();
-    subsume_and_eliminate(alloc, kernel, state, elimination)?;
+    elimination.waiting.clear();
+    state
+        .candidates
+        .begin(alloc, state.trail.variables(), &elimination.occurrences)?;
+    eliminate_each(alloc, kernel, state, elimination)?;
+    state.candidates.end(alloc);
     delete_learned(kernel, state);
     Ok(())
 }
 
-// Propagates what has to be true, eliminates variables but for the frozen ones, and lets all clauses be watched anew.
+// Propagates what has to be true, eliminates variables, and lets all clauses be watched anew.
+fn eliminate_round(
+    alloc: Global,
+    kernel: &mut Kernel,
+    state: &mut State,
+    is_first: bool,
+) -> Result<(), AllocError>
+    ensures { kernel.new ≡ kernel.old }
+{
+    state.rounds.end(state.stats.propagations);
+    if !settle_root(alloc, kernel, state)? {
+        return Ok(());
+    }
+    state.eliminated.tidy(alloc)?;
+    state.clauses.detach_all();
+    state.watches.free(alloc);
+    let mut elimination = Elimination::new(alloc, kernel, state)?;
+    eliminate_candidates(alloc, kernel, state, &mut elimination, is_first)
+}
+
+// Eliminates variables but for the frozen ones, in so many steps, and asks for further rounds.
 pub(crate) fn eliminate(
     alloc: Global,
     kernel: &mut Kernel,
@@ -264,10 +296,24 @@ pub(crate) fn eliminate(
 ) -> Result<(), AllocError>
     ensures { kernel.new ≡ kernel.old }
 {
-    if !settle_root(alloc, kernel, state)? {
-        return Ok(());
+    state.rounds = Rounds::of(steps);
+    state.candidates.reset(state.trail.variables(), frozen)?;
+    eliminate_round(alloc, kernel, state, true)
+}
+
+// Takes the elimination up again, if a round of it is due: all eliminated variables are to be asked for values, and the
+// root is settled.
+pub(crate) fn eliminate_again(
+    alloc: Global,
+    kernel: &mut Kernel,
+    state: &mut State,
+) -> Result<(), AllocError>
+    ensures { kernel.new ≡ kernel.old }
+{
+    if state.rounds.is_due(state.stats.propagations) {
+        eliminate_round(alloc, kernel, state, false)?;
+        state.eliminated.rewind();
+        settle_root(alloc, kernel, state)?;
     }
-    state.eliminated.tidy(alloc)?;
-    let mut elimination = Elimination::new(alloc, state.trail.variables())?;
-    eliminate_but(alloc, kernel, state, &mut elimination, frozen, steps)
+    Ok(())
 }

@@ -1,6 +1,7 @@
 //! What an elimination of variables works on: the clauses that take part, and those that may subsume others.
 
-use crate::clauses::{Clauses, Status};
+use crate::candidates::Candidates;
+use crate::clauses::Status;
 use crate::derive::Resolution;
 use crate::occurrences::Occurrences;
 use crate::reduce::delete;
@@ -22,6 +23,8 @@ pub(crate) struct Elimination {
     known: usize,
     // How many steps are left.
     pub steps: u64,
+    // How many clauses more the elimination of a variable may leave.
+    bound: usize,
 }
 
 // One call in its owners' proofs, in place of one for each field.
@@ -33,20 +36,23 @@ impl Drop for Elimination {
             waiting,
             known: _,
             steps: _,
+            bound: _,
         } = self;
     }
 }
 
 impl Elimination {
-    // Of no clause yet and so many variables, with no steps.
-    pub(crate) fn new(alloc: Global, variables: usize) -> Result<Self, AllocError> {
+    // Of no clause yet, with the steps of a round.
+    pub(crate) fn new(alloc: Global, kernel: &Kernel, state: &State) -> Result<Self, AllocError> {
+        let variables = state.trail.variables();
         let marks = Marks::new(alloc, variables)?;
         Ok(Elimination {
-            occurrences: Occurrences::new(alloc, variables)?,
+            occurrences: Occurrences::new(alloc, kernel, &state.clauses, variables)?,
             marks,
             waiting: Vec::new(alloc),
             known: 0,
-            steps: 0,
+            steps: state.rounds.steps(),
+            bound: state.rounds.bound(),
         })
     }
 
@@ -59,13 +65,12 @@ impl Elimination {
     pub(crate) fn connect_new(
         &mut self,
         kernel: &Kernel,
-        trail: &Trail,
-        clauses: &Clauses,
+        state: &mut State,
     ) -> Result<(), AllocError> {
         for id in self.known..kernel.len() {
             let clause = kernel.clause(id).unwrap_or(&[]);
-            if clauses.is_kept(id) && !trail.is_satisfied(clause) {
-                self.connect(trail, clause, id)?;
+            if state.clauses.is_kept(id) && !state.trail.is_satisfied(clause) {
+                self.connect(state, clause, id)?;
             }
         }
         self.known = kernel.len();
@@ -73,25 +78,23 @@ impl Elimination {
     }
 
     // Lets a clause take part, unless it has a literal twice. The variables of such a clause stay, and those of a unit.
-    fn connect(&mut self, trail: &Trail, clause: &[Literal], id: usize) -> Result<(), AllocError> {
+    fn connect(
+        &mut self,
+        state: &mut State,
+        clause: &[Literal],
+        id: usize,
+    ) -> Result<(), AllocError> {
         let has_twice = self.marks.has_twice(clause);
         if has_twice || clause.len() == 1 {
-            self.freeze(clause);
+            freeze(&mut state.candidates, clause);
         }
         if has_twice {
             return Ok(());
         }
         self.spend(clause.len().saturating_mul(SETTINGS.occurrence_steps));
-        self.occurrences.connect(trail, clause, id)?;
+        self.occurrences.connect(&state.trail, clause, id)?;
         self.waiting.push(short(id))?;
         Ok(())
-    }
-
-    // The variables of a clause stay.
-    fn freeze(&mut self, clause: &[Literal]) {
-        for l in clause {
-            self.occurrences.freeze(l.variable());
-        }
     }
 
     // Lists the clauses that have a literal, where none is listed yet.
@@ -101,23 +104,42 @@ impl Elimination {
         self.occurrences.list(l, clauses)
     }
 
-    // A clause takes no part any more.
-    fn disconnect(&mut self, kernel: &Kernel, trail: &Trail, id: u32) {
+    // A clause takes no part any more. Its variables are to be tried.
+    fn disconnect(
+        &mut self,
+        kernel: &Kernel,
+        state: &mut State,
+        id: u32,
+    ) -> Result<(), AllocError> {
         let clause = kernel.clause(id as usize).unwrap_or(&[]);
         self.spend(clause.len().saturating_mul(SETTINGS.occurrence_steps));
-        self.occurrences.disconnect(trail, clause, id);
+        self.occurrences.disconnect(&state.trail, clause, id);
+        for l in clause {
+            state.candidates.touch(l.variable())?;
+        }
+        Ok(())
     }
 
     // Takes a clause out that was eliminated.
-    pub(crate) fn take_out(&mut self, kernel: &Kernel, state: &mut State, id: u32) {
+    pub(crate) fn take_out(
+        &mut self,
+        kernel: &Kernel,
+        state: &mut State,
+        id: u32,
+    ) -> Result<(), AllocError> {
         state.clauses.set_status(id as usize, Status::Eliminated);
-        self.disconnect(kernel, &state.trail, id);
+        self.disconnect(kernel, state, id)
     }
 
     // Deletes a clause that takes part.
-    pub(crate) fn delete(&mut self, kernel: &Kernel, state: &mut State, id: u32) {
+    pub(crate) fn delete(
+        &mut self,
+        kernel: &Kernel,
+        state: &mut State,
+        id: u32,
+    ) -> Result<(), AllocError> {
         delete(kernel, state, id as usize);
-        self.disconnect(kernel, &state.trail, id);
+        self.disconnect(kernel, state, id)
     }
 
     // Lists the resolvents that stand for the clauses of a variable. Whether they are not too many, and none is too
@@ -135,7 +157,10 @@ impl Elimination {
             let clause = kernel.clause(*first as usize).unwrap_or(&[]);
             self.spend(clause.len());
             self.marks.set(trail, clause, true);
-            let most = firsts.len().saturating_add(seconds.len());
+            let most = firsts
+                .len()
+                .saturating_add(seconds.len())
+                .saturating_add(self.bound);
             let done = self.resolutions_with(
                 kernel,
                 trail,
@@ -172,7 +197,7 @@ impl Elimination {
                 continue;
             };
             if resolutions.len() >= most
-                || size.saturating_add(more) > SETTINGS.resolvent_literals
+                || (size as usize).saturating_add(more) > SETTINGS.resolvent_literals
             {
                 return Ok(false);
             }
@@ -198,5 +223,12 @@ impl Elimination {
             more = more.saturating_add(usize::from(!self.marks.has(*l)));
         }
         Some(more)
+    }
+}
+
+// The variables of a clause stay.
+fn freeze(candidates: &mut Candidates, clause: &[Literal]) {
+    for l in clause {
+        candidates.freeze(l.variable());
     }
 }

@@ -1,16 +1,17 @@
 //! Occurrences: for each literal the clauses that have it.
 
+use crate::clauses::Clauses;
 use crate::trail::{Trail, short};
 use gipsat_cnf::Literal;
-use giputils_bounded::{BoundedHeap, ByRank};
+use gipsat_kernel::Kernel;
 use std::alloc::{AllocError, Global};
 
-// How many literals a clause has that are not false, and a digit for each of their variables, by its number modulo 64.
+// How many literals a clause has that are not false, and a digit for each of their variables, by its number modulo 32.
 // The size 0 is that of a clause which takes no part.
 #[derive(Clone, Copy)]
 pub(crate) struct Outline {
-    pub size: usize,
-    pub signature: u64,
+    pub size: u32,
+    pub signature: u32,
 }
 
 impl Outline {
@@ -24,12 +25,12 @@ impl Outline {
 
     // Of a clause.
     fn of(trail: &Trail, clause: &[Literal]) -> Self {
-        let mut size = 0usize;
+        let mut size = 0u32;
         let mut signature = 0;
         for l in clause {
             if trail.is_unset(*l) {
                 size = size.saturating_add(1);
-                signature |= 1u64 << (l.variable() % 64);
+                signature |= 1u32 << (l.variable() % 32);
             }
         }
         Outline { size, signature }
@@ -41,18 +42,13 @@ impl Outline {
     }
 }
 
-// For each literal the clauses that have it, and the queue of the variables that may be eliminated, those of the fewest
-// clauses first.
+// For each literal the clauses that have it.
 pub(crate) struct Occurrences {
     // Also those that were taken out since.
     lists: Vec<Vec<u32>>,
     // For each literal how many clauses have it.
-    counts: Vec<usize>,
+    counts: Vec<u32>,
     outlines: Vec<Outline>,
-    candidates: BoundedHeap<u32>,
-    ranks: Vec<u32>,
-    // For each variable whether it may not be eliminated.
-    is_frozen: Vec<bool>,
 }
 
 // One call in its owners' proofs, in place of one for each field.
@@ -62,46 +58,58 @@ impl Drop for Occurrences {
             lists,
             counts,
             outlines,
-            candidates,
-            ranks,
-            is_frozen,
         } = self;
     }
 }
 
+// For each literal of so many variables how many clauses have it that are watched for good.
+fn count_all(
+    alloc: Global,
+    kernel: &Kernel,
+    clauses: &Clauses,
+    variables: usize,
+) -> Result<Vec<u32>, AllocError> {
+    let mut counts = Vec::new(alloc);
+    counts.resize(variables.saturating_mul(2), 0)?;
+    for id in 0..kernel.len() {
+        if clauses.is_kept(id) {
+            count(&mut counts, kernel.clause(id).unwrap_or(&[]));
+        }
+    }
+    Ok(counts)
+}
+
+// One clause more has these literals.
+fn count(counts: &mut Vec<u32>, clause: &[Literal]) {
+    for l in clause {
+        if let Some(count) = counts.get_mut(l.code()) {
+            *count = count.saturating_add(1);
+        }
+    }
+}
+
 impl Occurrences {
-    // No clause, and so many variables.
-    pub(crate) fn new(alloc: Global, variables: usize) -> Result<Self, AllocError> {
-        let bound = u32::try_from(variables).unwrap_or(u32::MAX);
-        let mut occurrences = Occurrences {
-            candidates: BoundedHeap::with_bound(alloc, bound)?,
-            lists: Vec::new(alloc),
-            counts: Vec::new(alloc),
-            outlines: Vec::new(alloc),
-            ranks: Vec::new(alloc),
-            is_frozen: Vec::new(alloc),
-        };
-        occurrences.grow(alloc, variables)?;
-        Ok(occurrences)
-    }
-
-    // Makes room for the literals of so many variables.
-    fn grow(&mut self, alloc: Global, variables: usize) -> Result<(), AllocError> {
-        let codes = variables.saturating_mul(2);
-        for _ in 0..codes {
-            self.lists.push(Vec::new(alloc))?;
+    // No clause, with room for those that are watched for good and the literals of so many variables.
+    pub(crate) fn new(
+        alloc: Global,
+        kernel: &Kernel,
+        clauses: &Clauses,
+        variables: usize,
+    ) -> Result<Self, AllocError> {
+        let mut counts = count_all(alloc, kernel, clauses, variables)?;
+        let mut lists: Vec<Vec<u32>> = Vec::new(alloc);
+        for count in &counts {
+            let list = Vec::with_capacity(alloc, *count as usize)?;
+            lists.push(list)?;
         }
-        self.counts.resize(codes, 0)?;
-        self.ranks.resize(variables, 0)?;
-        self.is_frozen.resize(variables, false)?;
-        Ok(())
-    }
-
-    // A variable may not be eliminated.
-    pub(crate) fn freeze(&mut self, variable: u32) {
-        if let Some(is_frozen) = self.is_frozen.get_mut(variable as usize) {
-            *is_frozen = true;
-        }
+        counts.fill(0);
+        let mut outlines = Vec::new(alloc);
+        outlines.resize(kernel.len(), Outline::none())?;
+        Ok(Occurrences {
+            lists,
+            counts,
+            outlines,
+        })
     }
 
     // The outline of the clause at a place.
@@ -127,10 +135,36 @@ impl Occurrences {
 
     // How many clauses have a literal.
     pub(crate) fn count(&self, l: Literal) -> usize {
-        match self.counts.get(l.code()) {
-            Some(count) => *count,
+        self.count_code(l.code())
+    }
+
+    // How many clauses have the literal with a code.
+    fn count_code(&self, code: usize) -> usize {
+        match self.counts.get(code) {
+            Some(count) => *count as usize,
             None => 0,
         }
+    }
+
+    // How many clauses have the negation of a variable, and how many the variable itself.
+    fn counts_of(&self, variable: u32) -> (usize, usize) {
+        let code = (variable as usize).saturating_mul(2);
+        (
+            self.count_code(code),
+            self.count_code(code.saturating_add(1)),
+        )
+    }
+
+    // Whether a clause has a variable.
+    pub(crate) fn has_variable(&self, variable: u32) -> bool {
+        let (negative, positive) = self.counts_of(variable);
+        negative > 0 || positive > 0
+    }
+
+    // How many resolvents the elimination of a variable may give.
+    pub(crate) fn resolvents(&self, variable: u32) -> usize {
+        let (negative, positive) = self.counts_of(variable);
+        negative.saturating_mul(positive)
     }
 
     // How many clauses have a variable.
@@ -165,7 +199,6 @@ impl Occurrences {
         if let Some(count) = self.counts.get_mut(l.code()) {
             *count = count.saturating_add(1);
         }
-        self.requeue(l);
         Ok(())
     }
 
@@ -179,33 +212,8 @@ impl Occurrences {
                 if let Some(count) = self.counts.get_mut(l.code()) {
                     *count = count.saturating_sub(1);
                 }
-                self.requeue(*l);
             }
         }
-    }
-
-    // A variable has another number of clauses.
-    fn requeue(&mut self, l: Literal) {
-        let variable = l.variable();
-        let cost = self.count(l).saturating_mul(self.count(l.negated()));
-        if let Some(rank) = self.ranks.get_mut(variable as usize) {
-            *rank = u32::MAX - u32::try_from(cost).unwrap_or(u32::MAX);
-        }
-        if variable < self.candidates.bound() {
-            self.candidates
-                .push_or_update(variable, &ByRank(&self.ranks));
-        }
-    }
-
-    // A variable that may be eliminated, of the fewest clauses. None where none waits.
-    pub(crate) fn next_candidate(&mut self) -> Option<u32> {
-        for _ in 0..self.candidates.len() {
-            let variable = self.candidates.pop(&ByRank(&self.ranks))?;
-            if let Some(false) = self.is_frozen.get(variable as usize) {
-                return Some(variable);
-            }
-        }
-        None
     }
 
     // Lists the clauses that have a literal, where none is listed yet. Those that were taken out leave its own list.

@@ -5,7 +5,7 @@ ghost use Rattle.gipsat_cnf.specs.Simplifying.{SaysSame};
 use crate::assume::{Assumed, clause_of_failed, next_assumption};
 use crate::collect::{collect, is_deleted, wants_collection};
 use crate::decide::literal_to_decide;
-use crate::eliminate::eliminate;
+use crate::eliminate::{eliminate, eliminate_again};
 use crate::learn::learn;
 use crate::propagate::propagate;
 use crate::reduce::reduce;
@@ -43,6 +43,11 @@ impl Query<'_> {
             propagations: u64::MAX,
             is_guess: false,
         }
+    }
+
+    // Whether it assumes nothing, and all variables may be decided.
+    fn is_plain(&self) -> bool {
+        self.assumptions.is_empty() && self.domain.is_none()
     }
 }
 
@@ -201,14 +206,14 @@ fn resume(
     }
     state.grow(alloc, variables)?;
     state.restore(kernel, query.assumptions, query.domain.unwrap_or(&[]))?;
-    let is_plain = query.assumptions.is_empty() && query.domain.is_none();
-    state.restart_policy.modes.allow(is_plain);
+    state.restart_policy.modes.allow(query.is_plain());
     state.eliminated.rewind();
     settle_root(alloc, kernel, state)?;
     state.activity.limit_to(query.domain, query.assumptions)
 }
 
-// Begins a call, with its budget, at the root.
+// Begins a call, with its budget, at the root. An elimination that was begun is taken up again, if that is due and the
+// query is plain.
 fn begin(
     alloc: Global,
     kernel: &mut Kernel,
@@ -218,7 +223,11 @@ fn begin(
     ensures { kernel.new ≡ kernel.old }
 {
     state.end = state.stats.propagations.saturating_add(query.propagations);
-    resume(alloc, kernel, state, query)
+    resume(alloc, kernel, state, query)?;
+    if query.is_plain() {
+        eliminate_again(alloc, kernel, state)?;
+    }
+    Ok(())
 }
 
 // The clause of the formula without a true literal. None if there is none.
@@ -360,7 +369,9 @@ impl Search {
         done
     }
 
-    /// Eliminates variables but for the frozen ones, in about so many steps: their clauses give way to resolvents.
+    /// Eliminates variables but for the frozen ones, in about so many steps: their clauses give way to resolvents. The
+    /// elimination is taken up again where [`Search::begin`] is called for all variables, after twice as many propagations
+    /// each time, with as many steps. Once all variables were tried, such a round may leave some clauses more.
     ///
     /// # Errors
     /// `AllocError` where memory is refused. The search forgets what it knows of the clauses.

@@ -63,6 +63,10 @@ pub struct Settings {
     pub literal_steps: u64,
     pub variable_steps: u64,
     pub occurrence_steps: usize,
+    /// An elimination is taken up again after twice as many propagations, and at least so many more. Once all variables
+    /// were tried, one may leave 1, 2, 4 .. clauses more, but no more than so many.
+    pub elimination_interval: u64,
+    pub most_clauses_more: usize,
     /// A variable is not eliminated if more clauses have one of its literals, or if a resolvent has more literals.
     pub occurrences: usize,
     pub resolvent_literals: usize,
@@ -122,13 +126,17 @@ pub const SETTINGS: Settings = Settings {
     // To shorten clauses of higher glue costs more than it gains, and so does a greater share of the propagations.
     vivified_glue: 6,
     vivification_share: 20,
-    // About a tenth of a second, and for a large formula about as long as it took to read it.
+    // About a tenth of a second, and for a large formula less than it took to read it.
     elimination_steps: 10_000_000,
-    literal_steps: 50,
+    literal_steps: 10,
     // Elimination goes on while it takes variables out at this rate.
     variable_steps: 5_000,
-    // The queue of its variables is a heap.
-    occurrence_steps: 8,
+    // A list and a count change.
+    occurrence_steps: 2,
+    // A short search is not held up, and the rounds of a long one take a small part of it.
+    elimination_interval: 1_000_000,
+    // Each clause more makes conflicts dearer, and each variable fewer makes them cheaper.
+    most_clauses_more: 16,
     // With more, most pairs of clauses are tried in vain.
     occurrences: 100,
     resolvent_literals: 100,

@@ -1,6 +1,7 @@
 //! The state of a search.
 
 use crate::activity::Activity;
+use crate::candidates::Candidates;
 use crate::chains::Chains;
 use crate::clauses::Clauses;
 use crate::eliminated::Eliminated;
@@ -8,6 +9,7 @@ use crate::glue::Glue;
 use crate::phases::Phases;
 use crate::reason_sides::ReasonSides;
 use crate::restart_policy::RestartPolicy;
+use crate::rounds::Rounds;
 use crate::stamps::Stamps;
 use crate::stats::Stats;
 use crate::trail::Trail;
@@ -28,6 +30,8 @@ pub(crate) struct State {
     pub restart_policy: RestartPolicy,
     pub phases: Phases,
     pub eliminated: Eliminated,
+    pub candidates: Candidates,
+    pub rounds: Rounds,
     // The literals, by their codes, of the clause at hand.
     pub met: Stamps,
     // How many of the root literals are clauses.
@@ -58,6 +62,8 @@ impl Drop for State {
             restart_policy: _,
             phases,
             eliminated,
+            candidates,
+            rounds: _,
             met,
             units: _,
             assumed: _,
@@ -84,6 +90,8 @@ impl State {
             restart_policy: RestartPolicy::new(),
             phases: Phases::new(alloc),
             eliminated: Eliminated::new(alloc),
+            candidates: Candidates::new(alloc),
+            rounds: Rounds::new(),
             met: Stamps::new(alloc),
             units: 0,
             assumed: 0,

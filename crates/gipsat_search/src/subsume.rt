@@ -173,7 +173,7 @@ fn look_through(
             continue;
         };
         *steps = steps.saturating_sub(clause.len() as u64);
-        match relation_to(marks, outline.size, clause) {
+        match relation_to(marks, outline.size as usize, clause) {
             Relation::None => {}
             Relation::Subsumes => found.subsumed.push(*other)?,
             Relation::Strengthens(without) => found.strengthened.push(Resolution {
