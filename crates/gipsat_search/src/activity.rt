@@ -55,7 +55,7 @@ impl Activity {
             .raise_bound(u32::try_from(variables).unwrap_or(u32::MAX))?;
         for variable in old..variables {
             if let Ok(variable) = u32::try_from(variable) {
-                self.put_back(variable);
+                self.push(variable);
             }
         }
         Ok(())
@@ -93,12 +93,21 @@ impl Activity {
         self.domain.excludes(variable)
     }
 
-    // Queues a variable, unless it is taken out.
+    // Queues a variable that has no value any more, unless it is taken out: in a domain in that alone, since no variable
+    // leaves the other queue there.
     pub(crate) fn put_back(&mut self, variable: u32) {
         if self.is_out(variable) {
             return;
         }
-        self.domain.put_back(variable, &self.scores);
+        if self.domain.is_set() {
+            self.domain.put_back(variable, &self.scores);
+        } else {
+            self.push(variable);
+        }
+    }
+
+    // Puts a variable into the queue of all.
+    fn push(&mut self, variable: u32) {
         if variable < self.queue.bound() {
             self.queue.push(variable, &ByScore(&self.scores));
         }
@@ -121,7 +130,7 @@ impl Activity {
         if let Some(is_out) = self.is_out.get_mut(variable as usize) {
             *is_out = false;
         }
-        self.put_back(variable);
+        self.push(variable);
     }
 
     // Whether only the variables of a domain may be decided.
@@ -132,7 +141,9 @@ impl Activity {
     // Queues all variables.
     pub(crate) fn put_all_back(&mut self) {
         for variable in 0..self.queue.bound() {
-            self.put_back(variable);
+            if !self.is_out(variable) {
+                self.push(variable);
+            }
         }
     }
 
@@ -165,11 +176,11 @@ impl Activity {
     }
 
     // Takes a variable of greatest score out of the queue, or out of that of the domain. None if it is empty.
-    pub(crate) fn pick(&mut self) -> Option<u32> {
+    pub(crate) fn pick(&mut self, trail: &Trail) -> Result<Option<u32>, AllocError> {
         if self.domain.is_set() {
-            return self.domain.pick(&self.scores);
+            return self.domain.pick(trail, &self.scores);
         }
-        self.queue.pop(&ByScore(&self.scores))
+        Ok(self.queue.pop(&ByScore(&self.scores)))
     }
 
     // A variable of greatest score that has no value and is not taken out. Those before it leave the queue.

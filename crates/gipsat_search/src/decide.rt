@@ -3,6 +3,7 @@
 use crate::state::State;
 use gipsat_cnf::Literal;
 use gipsat_kernel::Kernel;
+use std::alloc::AllocError;
 
 // The literal of a variable that is decided: with the phase of the longest trail in the stable mode, else with the saved
 // one. None if the variable has a value.
@@ -20,30 +21,35 @@ fn literal_of(state: &State, variable: u32) -> Option<Literal> {
 }
 
 // The most active variable without a value, with its phase. None if none waits.
-fn most_active(state: &mut State) -> Option<Literal> {
+fn most_active(state: &mut State) -> Result<Option<Literal>, AllocError> {
     for _ in 0..state.activity.waiting() {
-        let variable = state.activity.pick()?;
+        let Some(variable) = state.activity.pick(&state.trail)? else {
+            return Ok(None);
+        };
         if state.activity.is_out(variable) {
             continue;
         }
         let l = literal_of(state, variable);
         if l.is_some() {
-            return l;
+            return Ok(l);
         }
     }
-    None
+    Ok(None)
 }
 
 // The literal to decide: the most active one. Where none waits, that of the last one of the eliminated variables, unless
 // only a domain is decided.
-pub(crate) fn literal_to_decide(kernel: &Kernel, state: &mut State) -> Option<Literal> {
-    let l = most_active(state);
+pub(crate) fn literal_to_decide(
+    kernel: &Kernel,
+    state: &mut State,
+) -> Result<Option<Literal>, AllocError> {
+    let l = most_active(state)?;
     if l.is_some() {
         state.eliminated.rewind();
-        return l;
+        return Ok(l);
     }
     if state.activity.is_limited() {
-        return None;
+        return Ok(None);
     }
-    state.eliminated.next(kernel, &state.trail)
+    Ok(state.eliminated.next(kernel, &state.trail))
 }

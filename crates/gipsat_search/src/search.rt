@@ -116,7 +116,7 @@ fn decide(
         return Ok(Choice::Ends(Turn::Spent));
     }
     state.stats.decisions = state.stats.decisions.saturating_add(1);
-    if let Some(l) = literal_to_decide(kernel, state) {
+    if let Some(l) = literal_to_decide(kernel, state)? {
         state.trail.decide(l)?;
         return Ok(Choice::Decided);
     }
