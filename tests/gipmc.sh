@@ -404,7 +404,18 @@ if [ -e /dev/full ]; then
     status=$?
     [ "$status" = 1 ] && [ "$(cat err)" = "<stdout>: cannot be written: no space left" ]
     told "an answer that cannot be written ends the search" $?
+    printf '%b' "$kept" > kept.aag
+    timeout -s KILL 60 "$gipmc" --engine bmc --depth 999999999 kept.aag > /dev/full 2> err
+    status=$?
+    [ "$status" = 1 ] && [ "$(cat err)" = "<stdout>: cannot be written: no space left" ]
+    told "a line of progress that cannot be written ends the search" $?
 fi
+printf '%b' "$kept" > kept.aag
+timeout -s KILL 60 "$gipmc" --engine bmc --depth 999999999 --stats kept.aag 2> err | head -n 1 > out
+status=${PIPESTATUS[0]}
+[ "$status" = 1 ] && [ "$(cat out)" = u0 ] && [ "$(tail -n 1 err)" = "<stdout>: cannot be written: broken pipe" ] &&
+    [ "$(grep -c '^c b0: ' err)" = 1 ]
+told "a reader that leaves ends the search" $?
 "$gipmc" --certificate cert two.aag > out 2> err
 status=$?
 [ "$status" = 10 ] && [ ! -e cert ] && [ ! -s err ]

@@ -326,6 +326,7 @@ fn tell_at<S: SatSolver + Drop, L: Listener, W: Write>(
     let bad = query.bads[at];
     let wanted = wanted_of(query, at, place, output.wanted(), listener);
     let mut text = tell_depths(alloc, query, at, bad, wanted, listener, output)?;
+    let wanted = wanted_still(wanted, output, listener);
     let known = query.find_out(alloc, at, wanted, listener);
     let told = tell(alloc, place, &known, output)?;
     text.extend_from_slice(&told.text)?;
@@ -357,11 +358,24 @@ fn wanted_at<L: Listener>(place: usize, wanted: Wanted, listener: &mut L) -> Wan
     wanted
 }
 
+// What is to be found out yet where this was, and progress was written: nothing if the search is over since then.
+fn wanted_still<L: Listener, W: Write>(
+    wanted: Wanted,
+    output: &Output<W>,
+    listener: &mut L,
+) -> Wanted {
+    if wanted == Wanted::Nothing || !output.is_over() {
+        return wanted;
+    }
+    listener.end(false);
+    Wanted::Nothing
+}
+
 // How often a number can be doubled.
 const DOUBLINGS: usize = 64;
 
 // Goes on with the search about the literal at one of its places, if progress is to be written, and tells up to which
-// depths nothing fails, each of which is more than twice the one before.
+// depths nothing fails, each of which is more than twice the one before. It stops where a write ends the search.
 fn tell_depths<S: SatSolver + Drop, L: Listener, W: Write>(
     alloc: Global,
     query: &mut Query<'_, S>,
@@ -385,6 +399,9 @@ fn tell_depths<S: SatSolver + Drop, L: Listener, W: Write>(
     }
     let mut next: usize = 0;
     for _ in 0..DOUBLINGS {
+        if output.is_over() {
+            return Ok(text);
+        }
         let Some(depth) = query.clear(alloc, at, next, listener) else {
             return Ok(text);
         };
