@@ -79,11 +79,11 @@ pub fn witness_doubt(
 }
 
 /// How many witnesses a text has, and why one of them is no counterexample to the circuit that the other text writes, at
-/// one of the bad literals that it names. None if all are. There may be no witness, of a circuit without a bad literal too;
-/// else this is what [`witness_doubt`] finds out where no literal is asked for.
+/// one of the bad literals that it names. None if all are. There may be no witness; else this is what [`witness_doubt`]
+/// finds out where no literal is asked for.
 ///
 /// # Errors
-/// Those of [`witness_doubt`], but that a lack of witnesses is none.
+/// Those of [`witness_doubt`] but for the lack of a witness.
 pub fn replay_all(
     alloc: Global,
     bytes: &[u8],
@@ -92,21 +92,10 @@ pub fn replay_all(
     ensures { IfOk result (λ found. IfNone found.1 (ReplaysAll bytes.now text.now found.0)) }
 {
     let netlist = netlist_in(alloc, bytes)?;
-    let read = claims_in(alloc, &netlist, text);
-    if !is_without(&read) {
-        has_asked(&netlist, None)?;
-    }
-    let claims = read?;
+    has_asked(&netlist, None)?;
+    let claims = claims_in(alloc, &netlist, text)?;
     let doubt = first_doubt(alloc, &netlist, &claims, None)?;
     Ok((claims.len(), doubt))
-}
-
-// Whether a text was read, and has no witness.
-fn is_without(read: &Result<Vec<Claim>, TaskError>) -> bool {
-    match read {
-        Ok(claims) => claims.is_empty(),
-        Err(_) => false,
-    }
 }
 
 // Tests that the circuit has the bad literal that is asked for, or one at all.

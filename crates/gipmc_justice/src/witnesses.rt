@@ -116,11 +116,11 @@ pub fn lasso_doubt(
 }
 
 /// How many witnesses of justice properties a text has, and which of them shows no failure of one that it names, of the
-/// circuit that the other text writes. None if all do. There may be no witness, of a circuit without a property too; else
-/// this is what [`lasso_doubt`] finds out where no property is asked for.
+/// circuit that the other text writes. None if all do. There may be no witness; else this is what [`lasso_doubt`] finds
+/// out where no property is asked for.
 ///
 /// # Errors
-/// Those of [`lasso_doubt`], but that a lack of witnesses is none.
+/// Those of [`lasso_doubt`] but for the lack of a witness.
 pub fn replay_all(
     alloc: Global,
     bytes: &[u8],
@@ -129,21 +129,10 @@ pub fn replay_all(
     ensures { IfOk result (λ found. IfNone found.1 (ReplaysAll bytes.now text.now found.0)) }
 {
     let read = properties_in(alloc, bytes)?;
-    let lassos = claims_in(alloc, &read.0.circuit, text);
-    if !is_without(&lassos) {
-        has_asked(&read.1, None)?;
-    }
-    let claims = lassos?;
+    has_asked(&read.1, None)?;
+    let claims = claims_in(alloc, &read.0.circuit, text)?;
     let doubt = first_doubt(alloc, &read.0, &read.1, &claims, None)?;
     Ok((claims.len(), doubt))
-}
-
-// Whether a text was read, and has no witness.
-fn is_without(lassos: &Result<Vec<Claim>, JusticeError>) -> bool {
-    match lassos {
-        Ok(claims) => claims.is_empty(),
-        Err(_) => false,
-    }
 }
 
 // Tests that the circuit has the property that is asked for, or one at all.
