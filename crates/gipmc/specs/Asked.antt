@@ -1,6 +1,7 @@
 -- What is answered, replayed and certified of what a command line asks for: bad literals, justice properties, or both.
-use Rattle.std.specs.Prelude.{◌≡◌, ◌==◌, ◌⊎◌, ℕ, ◌+◌, ◌<◌, Bool, true, false, List, if◌then◌else◌, Option, Some, None}
+use Rattle.std.specs.Prelude.{◌≡◌, ◌==◌, ◌⊎◌, ℕ, ◌+◌, ◌<◌, Bool, true, false, List, [], if◌then◌else◌, Option, Some, None}
 use Rattle.gipmc_aiger.specs.Circuits.{IsHeaderOf}
+use Rattle.gipmc_aiger.specs.Claims.{claims_of, lassos_of}
 use Rattle.gipmc_aiger.specs.declared.header.Header.{Header}
 use Rattle.gipmc_answers.specs.Answers as bads
 use Rattle.gipmc_answers.specs.Certificates as bads_certified
@@ -67,10 +68,30 @@ IsAnsweredAsked bytes bad asked outcome =
     (one : Outcome) × (other : Outcome) × AreBadsAnswered bytes bad asked one
     × IsJusticeAnswered bytes bad asked other × (outcome ≡ both one other)
 
+-- the bytes write a header by which a search is about no bad literal, and the text no witness of one
+abbrev pub HasNoTrace : List ℕ → List ℕ → Type 0
+HasNoTrace bytes text =
+    (h : Header) × IsHeaderOf bytes h × (asks_of_bads h None None ≡ false)
+    × (claims_of h.sizes.latches h.sizes.inputs text ≡ Some [])
+
+-- or one by which it is about no justice property, and the text no witness of one
+abbrev pub HasNoLasso : List ℕ → List ℕ → Type 0
+HasNoLasso bytes text =
+    (h : Header) × IsHeaderOf bytes h × (asks_of_justice h None None ≡ false)
+    × (lassos_of h.sizes.latches h.sizes.inputs text ≡ Some [])
+
+-- the text writes m witnesses of bad literals, and all are right; where a search is about none, m is 0
+abbrev pub AreBadsReplayed : List ℕ → List ℕ → ℕ → Type 0
+AreBadsReplayed bytes text m = bads_replayed.ReplaysAll bytes text m ⊎ (HasNoTrace bytes text × (m ≡ 0))
+
+-- and n of justice properties
+abbrev pub IsJusticeReplayed : List ℕ → List ℕ → ℕ → Type 0
+IsJusticeReplayed bytes text n = justice_replayed.ReplaysAll bytes text n ⊎ (HasNoLasso bytes text × (n ≡ 0))
+
 -- the text writes witnesses of bad literals, of justice properties, or of both, and all of them are right
 abbrev pub ReplaysEach : List ℕ → List ℕ → Type 0
 ReplaysEach bytes text =
-    (m : ℕ) × (n : ℕ) × bads_replayed.ReplaysAll bytes text m × justice_replayed.ReplaysAll bytes text n × (0 < m + n)
+    (m : ℕ) × (n : ℕ) × AreBadsReplayed bytes text m × IsJusticeReplayed bytes text n × (0 < m + n)
 
 -- it writes witnesses of the bad literal or of the justice property that is asked for, or of each that it names
 abbrev pub ReplaysAsked : List ℕ → List ℕ → Option ℕ → Option ℕ → Type 0

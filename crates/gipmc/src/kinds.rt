@@ -1,5 +1,6 @@
 //! Which properties a task is about: those of the kind that is asked for, or all that the circuit has.
-ghost use Rattle.std.specs.Prelude.{◌≡◌, false};
+ghost use Rattle.std.specs.Prelude.{◌≡◌, false, IfSome, None};
+ghost use Rattle.gipmc_aiger.specs.Circuits.{IsHeaderOf};
 ghost use Rattle.gipmc.specs.Asked.{AreBadsLeftOut, IsJusticeLeftOut, asks_of_bads, asks_of_justice};
 
 use gipmc_aiger::{Header, read_header};
@@ -22,6 +23,26 @@ pub fn is_of_justice(bytes: &[u8], bad: Option<usize>, justice: Option<usize>) -
     match read_header(bytes) {
         Ok(header) => asks_of_justice(&header, bad, justice),
         Err(_) => true,
+    }
+}
+
+/// The header of a circuit, if a search of all is not about bad literals.
+pub fn header_without_bads(bytes: &[u8]) -> Option<Header>
+    ensures { IfSome result (λ h. IsHeaderOf bytes.now h × (asks_of_bads h None None ≡ false)) }
+{
+    match read_header(bytes) {
+        Ok(header) if !asks_of_bads(&header, None, None) => Some(header),
+        _ => None,
+    }
+}
+
+/// The header of a circuit, if it is not about justice properties.
+pub fn header_without_justice(bytes: &[u8]) -> Option<Header>
+    ensures { IfSome result (λ h. IsHeaderOf bytes.now h × (asks_of_justice h None None ≡ false)) }
+{
+    match read_header(bytes) {
+        Ok(header) if !asks_of_justice(&header, None, None) => Some(header),
+        _ => None,
     }
 }
 

@@ -6,18 +6,19 @@
 #![tactic(auto)]
 
 ghost use Rattle.std.specs.Prelude.{◌≡◌, ◌+◌, ◌<◌, false, map, string_bytes, IfNone, IfOk, IfSome, IsTrue, None, OnOk};
-ghost use Rattle.std.specs.Prelude.{Some};
+ghost use Rattle.std.specs.Prelude.{Some, []};
 ghost use Rattle.std.specs.Option.{option_map};
 ghost use Rattle.std.specs.Process.{exit_status};
 ghost use Rattle.gip_program.specs.Statuses.{IsEndedStatus};
+ghost use Rattle.gipmc_aiger.specs.Claims.{claims_of, lassos_of};
 ghost use Rattle.gipmc_answers.specs.Answers.{Answers, IsCircuitIn};
 ghost use Rattle.gipmc_answers.specs.Certificates.{Certifies};
-ghost use Rattle.gipmc_answers.specs.Witnesses.{Replays, ReplaysAll};
+ghost use Rattle.gipmc_answers.specs.Witnesses.{Replays};
 ghost use Rattle.gipmc_task.specs.declared.outcome.Outcome.TheVariants.{Fails, Safe};
 ghost use Rattle.gipmc_justice.specs.Certificates as certificates;
 ghost use Rattle.gipmc_justice.specs.Witnesses as justice;
-ghost use Rattle.gipmc.specs.Asked.{AreBadsLeftOut, CertifiesAsked, IsAnsweredAsked, IsFoundFor, ReplaysAsked};
-ghost use Rattle.gipmc.specs.Asked.{ReplaysEach, outcome_of_bads};
+ghost use Rattle.gipmc.specs.Asked.{AreBadsLeftOut, AreBadsReplayed, CertifiesAsked, IsAnsweredAsked, IsFoundFor};
+ghost use Rattle.gipmc.specs.Asked.{IsJusticeReplayed, ReplaysAsked, ReplaysEach, outcome_of_bads};
 ghost use Rattle.gipmc.specs.Runs.{Ask, Finds, IsCertified, IsFound, IsReplayed, Verifies};
 ghost use Rattle.gipmc.specs.Statuses.{outcome_status, search_status, verified_status};
 ghost use Rattle.gipmc.specs.Texts.{IsTextOf};
@@ -35,6 +36,7 @@ mod traces;
 use errors::Failure;
 use files::{Files, Texts, new_file, write_out, write_whole};
 use gip_program::{Clock, NewFile, begin, explain, refuse, tell};
+use gipmc_aiger::{Header, read_claims, read_lassos};
 use gipmc_answers::{
     Answered, answer, certificate_of, doubt_of, replay_all, witness_circuit_of, witness_doubt,
 };
@@ -44,7 +46,7 @@ use gipmc_justice::{JusticeError, lasso_doubt};
 use gipmc_task::{Outcome, Output, TaskError};
 use gipsat_solver::Solver;
 use justice::{justice_failure, keep_of_justice, outcome_of_justice, search_justice};
-use kinds::{is_of_bads, is_of_justice};
+use kinds::{header_without_bads, header_without_justice, is_of_bads, is_of_justice};
 use progress::Teller;
 use settings::{output_of, plan_of};
 use std::fmt::Display;
@@ -523,7 +525,8 @@ fn replay_each<'a>(
     verified_text(rt, true)
 }
 
-// Replays the witnesses of justice properties. How many there are, unless one is not verified, which is written.
+// Replays the witnesses of justice properties. How many there are, unless one is not verified, which is written. There
+// may be none where the circuit has no such property.
 fn replay_lassos<'a>(
     rt: &HostRuntime,
     options: &Options<'a>,
@@ -531,11 +534,37 @@ fn replay_lassos<'a>(
     bytes: &[u8],
     witness: &[u8],
 ) -> Result<Option<usize>, Failure<'a>>
-    ensures { IfOk result (λ count. IfSome count (justice.ReplaysAll bytes.now witness.now)) }
+    ensures { IfOk result (λ count. IfSome count (IsJusticeReplayed bytes.now witness.now)) }
 {
+    if let Some(header) = header_without_justice(bytes) {
+        return no_lassos(rt, options, name, &header, witness);
+    }
     match gipmc_justice::replay_all(rt.alloc(), bytes, witness) {
         Ok(found) => undoubted(rt, name, found.0, &found.1),
         Err(error) => Err(justice_failure(options.file, name, error)),
+    }
+}
+
+// That there is no witness of a justice property, of a circuit with this header, which has none.
+fn no_lassos<'a>(
+    rt: &HostRuntime,
+    options: &Options<'a>,
+    name: Option<&'a str>,
+    header: &Header,
+    witness: &[u8],
+) -> Result<Option<usize>, Failure<'a>>
+    ensures { IfOk result (λ count. IfSome count (λ n.
+        (lassos_of header.now.sizes.latches header.now.sizes.inputs witness.now ≡ Some []) × (n ≡ 0))) }
+{
+    match read_lassos(
+        rt.alloc(),
+        header.sizes.latches as usize,
+        header.sizes.inputs as usize,
+        witness,
+    ) {
+        Ok(lassos) if lassos.is_empty() => Ok(Some(0)),
+        Ok(_) => Err(justice_failure(options.file, name, JusticeError::NoProperties)),
+        Err(error) => Err(failure(options.file, name, TaskError::of_witness(error))),
     }
 }
 
@@ -547,11 +576,37 @@ fn replay_traces<'a>(
     bytes: &[u8],
     witness: &[u8],
 ) -> Result<Option<usize>, Failure<'a>>
-    ensures { IfOk result (λ count. IfSome count (ReplaysAll bytes.now witness.now)) }
+    ensures { IfOk result (λ count. IfSome count (AreBadsReplayed bytes.now witness.now)) }
 {
+    if let Some(header) = header_without_bads(bytes) {
+        return no_traces(rt, options, name, &header, witness);
+    }
     match replay_all(rt.alloc(), bytes, witness) {
         Ok(found) => undoubted(rt, name, found.0, &found.1),
         Err(error) => Err(failure(options.file, name, error)),
+    }
+}
+
+// That there is no witness of a bad literal, of a circuit with this header, which has none.
+fn no_traces<'a>(
+    rt: &HostRuntime,
+    options: &Options<'a>,
+    name: Option<&'a str>,
+    header: &Header,
+    witness: &[u8],
+) -> Result<Option<usize>, Failure<'a>>
+    ensures { IfOk result (λ count. IfSome count (λ n.
+        (claims_of header.now.sizes.latches header.now.sizes.inputs witness.now ≡ Some []) × (n ≡ 0))) }
+{
+    match read_claims(
+        rt.alloc(),
+        header.sizes.latches as usize,
+        header.sizes.inputs as usize,
+        witness,
+    ) {
+        Ok(claims) if claims.is_empty() => Ok(Some(0)),
+        Ok(_) => Err(failure(options.file, name, TaskError::NoBads)),
+        Err(error) => Err(failure(options.file, name, TaskError::of_witness(error))),
     }
 }
 
