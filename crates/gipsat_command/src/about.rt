@@ -47,9 +47,9 @@ pub const ABOUT: About<'static, Switch, Number, Text> = About {
         "Reads a formula in the DIMACS form from the file FORMULA, or from standard input where none is named or its name \
          is -, and writes `s SATISFIABLE` and values that satisfy it, `s UNSATISFIABLE`, or `s UNKNOWN` where a limit \
          ended the search.",
-        "Lines that begin with `a`, behind a header `p inccnf`, are questions: each is answered, under the assumptions that \
-         the line has, as a formula of the clauses before it. The status is 10 where one is satisfiable, and 20 where all \
-         are unsatisfiable.",
+        "A line that begins with `a`, behind a header `p inccnf`, begins a question, which ends with a 0: it is answered, \
+         under the assumptions that it has, as a formula of the clauses before it. The status is 10 where one is \
+         satisfiable, and 20 where all are unsatisfiable.",
     ],
     options: &OPTIONS,
     note: "The value of a long option may also stand behind `=`, and that of a short one right behind it: --time=60, \
