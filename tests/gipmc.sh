@@ -1181,7 +1181,7 @@ u0\n\n1\n|2: no line `1`, with which a witness begins
 1\nb0\n0\n00\nu1\nc\n0\n.\n|7: more or fewer values than the circuit has latches or inputs
 1\nb0\n0\nc\n\n|5: more or fewer values than the circuit has latches or inputs
 1\nb0\n0\nc\n0x2|5: more or fewer values than the circuit has latches or inputs
-1\nj0\n1\n1\n1\n.\n1\nb0\n0\n0\n.\n|10: more or fewer values than the circuit has latches or inputs
+1\nj0\n1\n1\n1\n.\n1\nb0\n0\n0\n.\n|4: more or fewer values than the circuit has latches or inputs
 3\nb0\n.\n|1: no line `1`, with which a witness begins
 0\nb0\n.\n1\n0\n0\n|5: no line `b` with the number of a bad literal
 2\nb0\n.\n1\nb0b\n0\n00\n.\n|5: not a number
@@ -1195,7 +1195,7 @@ refuse "a lasso" --replay 'aag 3 2 1 0 0 0 0 1\n2\n4\n6 6\n1\n6\n' << 'END'
 1\nj\n0\n00\n.\n|2: not a number
 1\nj0b1\n0\n00\n.\n|2: no line `b` with the number of a bad literal
 1\nb0\n0\n00\n.\n1\nj0\n0\n0\n.\n|9: more or fewer values than the circuit has latches or inputs
-1\nj0\n0\n00# DONE\n|4: more or fewer values than the circuit has latches or inputs
+1\nj0\n0\n00# DONE\n|2: a value that is neither 0, nor 1, nor x
 END
 refuse "an invariant" --certify 'aag 2 0 2 0 0 1\n2 2\n4 4\n2\n' << 'END'
 |1: no header `p cnf LATCHES CLAUSES` that says what follows
