@@ -106,6 +106,8 @@ for argument in bits ''; do
     try "an argument more" 2 "usage: gip [bits]" "" bits "$argument" < "$work/other_form"
 done
 try "a beginning of an argument" 2 "usage: gip [bits]" "" bit < "$work/other_form"
+try "the usage line" 0 "" "usage: gip [bits]" --help < "$work/other_form"
+try "an argument behind --help" 2 "usage: gip [bits]" "" --help bits < "$work/other_form"
 
 # A program that is found by a path that is no text.
 built=$gip
