@@ -13,6 +13,7 @@ pub mod items;
 pub mod memory;
 pub mod new_file;
 pub mod options;
+pub mod printable;
 pub mod streams;
 
 pub use about::About;
@@ -25,4 +26,5 @@ pub use items::{Fault, Info, Item, Items};
 pub use memory::Peak;
 pub use new_file::{Existing, FinishError, NewFile};
 pub use options::{Kind, Opt};
+pub use printable::Printable;
 pub use streams::hold_standard_streams;

@@ -53,6 +53,16 @@ struct Named {
     name: String,
 }
 
+impl Named {
+    // The number of the part, if that is there.
+    fn left(&self, rt: &HostRuntime) -> Option<u32> {
+        match fs::symlink_metadata(rt, self.name.as_str()) {
+            Ok(_) => Some(self.number),
+            Err(_) => None,
+        }
+    }
+}
+
 // The name of a part: that of the new file, and the part's number.
 #[derive(Clone, Copy)]
 struct PartName<'a>(&'a str, u32);
@@ -69,6 +79,20 @@ impl Display for PartName<'_> {
     }
 }
 
+// Where the bytes are that are left of a new file, if they are: its name, and the number of its part.
+#[derive(Clone, Copy)]
+struct PartLeft<'a>(&'a str, Option<u32>);
+
+impl Display for PartLeft<'_> {
+    fn fmt<W: fmt::Write>(&self, f: &mut fmt::Formatter<W>) -> fmt::Result {
+        let PartLeft(name, number) = *self;
+        match number {
+            Some(number) => write!(f, " (see {})", PartName(name, number)),
+            None => Ok(()),
+        }
+    }
+}
+
 // By what the system tells files from each other.
 #[derive(Clone, Copy, PartialEq, Eq)]
 struct Identity {
@@ -82,11 +106,11 @@ pub enum FinishError<'a> {
     /// Nothing was written to this name, and the system refused to make the file.
     Unmade(&'a str, io::Error),
     /// The file under this name was made or exchanged meanwhile, and stays. What was written is in the file with this
-    /// number.
-    Taken(&'a str, u32),
+    /// number, if that is there.
+    Taken(&'a str, Option<u32>),
     /// The system refused to write the rest, or to give the file this name. What was written is in the file with this
-    /// number.
-    Refused(&'a str, u32, io::Error),
+    /// number, if that is there.
+    Refused(&'a str, Option<u32>, io::Error),
 }
 
 impl Display for FinishError<'_> {
@@ -97,14 +121,14 @@ impl Display for FinishError<'_> {
             }
             FinishError::Taken(name, number) => write!(
                 f,
-                "{name}: another file came there meanwhile (see {})",
-                PartName(name, number)
+                "{name}: another file came there meanwhile{}",
+                PartLeft(name, number)
             ),
             FinishError::Refused(name, number, error) => write!(
                 f,
-                "{name}: cannot be written: {} (see {})",
+                "{name}: cannot be written: {}{}",
                 Cause(Some(error)),
-                PartName(name, number)
+                PartLeft(name, number)
             ),
         }
     }
@@ -187,7 +211,7 @@ impl<'a> NewFile<'a> {
     ///
     /// # Errors
     /// Where something else has the name by now, and where the system refuses it. What was written stays then, in the
-    /// file that the error names.
+    /// file that the error names, unless that was removed meanwhile.
     pub fn finish(mut self) -> Result<(), FinishError<'a>> {
         let name = self.name;
         let part = match self.part.take() {
@@ -203,8 +227,8 @@ impl<'a> NewFile<'a> {
         };
         match self.appear(&file, named.name.as_str()) {
             Ok(true) => Ok(()),
-            Ok(false) => Err(FinishError::Taken(name, named.number)),
-            Err(error) => Err(FinishError::Refused(name, named.number, error)),
+            Ok(false) => Err(FinishError::Taken(name, named.left(&self.rt))),
+            Err(error) => Err(FinishError::Refused(name, named.left(&self.rt), error)),
         }
     }
 
