@@ -125,7 +125,14 @@ chmod a-r "$work/broken"
 if [ ! -r "$work/broken" ]; then # the superuser reads it
     try "a file that may not be read" 1 "$work/broken: permission denied" "" "" "$work/broken"
 fi
-try "an argument that is no text" 1 "arguments: not UTF-8 text" "" "$clash" $'\xff'
+try "an argument that is no text" 1 "arguments: not UTF-8 text: word 1, '_'" "" "$clash" $'\xff'
+try "an argument that is no text, behind others" 1 "arguments: not UTF-8 text: word 3, 'r__t.cnf'" "" "$clash" \
+    -q -n $'r\xf6\x1bt.cnf'
+try "a name that a terminal would take for commands" 1 "e_[31mred_x__y: no such file" "" "" $'e\e[31mred\nx\u202e\u009by'
+try "a name in another script" 1 "größe.cnf: no such file" "" "" größe.cnf
+try "an option that a terminal would take for a command" 2 "gipsat: unknown option '--_[2J' (try --help)" "" "" $'--\e[2J'
+printf '1 x 0\n' > "$work/"$'a\nb'
+try "a formula of such a name" 1 "$work/a_b:1: no header \`p cnf VARIABLES CLAUSES\`" "" "" "$work/"$'a\nb'
 
 # The command line. Options stand in any order, and the last of two values counts.
 try "standard input by a minus" 20 "" "s UNSATISFIABLE" "$clash" -
@@ -640,6 +647,15 @@ if is_wanted "a proof has no name before it is whole" "a file that came meanwhil
     told "a file that came meanwhile stays" $?
     rm "$work"/late.*.part
 fi
+if is_wanted "a proof whose folder is removed meanwhile"; then
+    mkdir "$work/gone"
+    "$gipsat" -q --time 2 --proof "$work/gone/late" "$work/many" > "$work/out" 2> "$work/err" &
+    await compgen -G "$work/gone/l*.part"
+    rm -r "$work/gone"
+    wait $!
+    [ "$?" = 1 ] && [ ! -s "$work/out" ] && [ "$(cat "$work/err")" = "$work/gone/late: cannot be written: no such file" ]
+    told "a proof whose folder is removed meanwhile" $?
+fi
 echo precious > "$work/late"
 if is_wanted "an old proof that is exchanged meanwhile stays"; then
     "$gipsat" -q --time 2 --force --proof "$work/late" "$work/many" > "$work/out" 2> "$work/err" &
@@ -1019,13 +1035,13 @@ try "no question" 0 "" "" 'p inccnf\n1 0\n-1 0\n'
 try "a question over lines" 20 "" "s UNSATISFIABLE" 'p inccnf\n1 2 0\na -1\n-2 0\n'
 try "a question over lines, with comments" 10 "" "$(printf 's SATISFIABLE\nv -1 2 0\ns UNSATISFIABLE')" \
     'p inccnf\n1 2 0\na c 1 0\n\nc 2 0\n -1\n0 c 0\n-2 0\na -1\n0\n'
-try "a question without its 0" 1 "<stdin>:2: a clause without its 0" "" 'p inccnf\na -1\n'
-try "a question that the file cuts off" 1 "<stdin>:3: a clause without its 0" "$(printf 's SATISFIABLE\nv 1 0')" \
+try "a question without its 0" 1 "<stdin>:2: a question without its 0" "" 'p inccnf\na -1\n'
+try "a question that the file cuts off" 1 "<stdin>:3: a question without its 0" "$(printf 's SATISFIABLE\nv 1 0')" \
     'p inccnf\na 1 0\na 1\n2\n'
-try "a question within another" 1 "<stdin>:2: a clause without its 0" "" 'p inccnf\na 1\na 2 0\n'
-try "a literal behind a question" 1 "<stdin>:2: more clauses than the header says" "" 'p inccnf\na -1 -2 0 1 0\n'
-try "a clause behind a question over lines" 1 "<stdin>:3: more clauses than the header says" "" 'p inccnf\na -1\n0 1 0\n'
-try "a second 0 behind a question" 1 "<stdin>:2: more clauses than the header says" "" 'p inccnf\na 1 0 0\n'
+try "a question within another" 1 "<stdin>:2: a question without its 0" "" 'p inccnf\na 1\na 2 0\n'
+try "a literal behind a question" 1 "<stdin>:2: a word behind the 0 of a question" "" 'p inccnf\na -1 -2 0 1 0\n'
+try "a clause behind a question over lines" 1 "<stdin>:3: a word behind the 0 of a question" "" 'p inccnf\na -1\n0 1 0\n'
+try "a second 0 behind a question" 1 "<stdin>:2: a word behind the 0 of a question" "" 'p inccnf\na 1 0 0\n'
 try "no word in a question's next line" 1 "<stdin>:3: not a number" "" 'p inccnf\na 1\n2 x 0\n'
 try "a header in a question" 1 "<stdin>:2: a second header" "" 'p inccnf\na p cnf 1 1\n0\n'
 try "the end of a text in a question" 1 "<stdin>:2: not a number" "" 'p inccnf\na % 0\n'

@@ -5,9 +5,8 @@ ghost use Rattle.gipsat_answers.specs.Questions.{AreAskedOf, AsksQuestions, IsRi
 
 use crate::solve::task_of;
 use crate::watch::{TimeLimit, Watch};
-use gipsat_answers::{Replies, answer_questions};
+use gipsat_answers::{QuestionsError, Replies, answer_questions};
 use gipsat_command::Options;
-use gipsat_dimacs::DimacsError;
 use gipsat_solver::progress::Both;
 use std::io::{Read, Write};
 
@@ -18,7 +17,7 @@ pub fn answer<R: Read, W: Write>(
     options: &Options,
     reader: &mut R,
     writer: &mut W,
-) -> Result<Replies, DimacsError>
+) -> Result<Replies, QuestionsError>
     ensures read_to_end { OnOk result (IsAtEnd (R.remaining reader.new)) }
     ensures has_form { OnOk result (AsksQuestions (R.remaining reader.old)) }
     ensures written { IfOk result (λ told. OfQuestions (R.remaining reader.old) (λ questions.

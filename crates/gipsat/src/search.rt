@@ -12,7 +12,7 @@ use crate::questions::answer;
 use crate::solve::{SolveError, solve};
 use crate::watch::WatchedReader;
 use gip_program::refuse;
-use gipsat_answers::Verdict;
+use gipsat_answers::{QuestionsError, Verdict};
 use gipsat_cnf::Literal;
 use gipsat_command::{Failure, Options, Output, Source};
 use std::io::{Read, Write};
@@ -136,7 +136,7 @@ fn answer_in<'a, R: Read + Drop, W: Write>(
     let mut reader = WatchedReader::new(rt, options, source);
     match answer(rt, options, &mut reader, output) {
         Ok(replies) => Ok(replies.verdict),
-        Err(error) => Err(reader.reader.failure(output, error)),
+        Err(error) => Err(questions_failure(&reader.reader, output, error)),
     }
 }
 
@@ -150,6 +150,20 @@ fn of_one_formula(options: &Options) -> Option<&'static str> {
         Some("--assume")
     } else {
         None
+    }
+}
+
+// Why the questions from this source were not answered to their end.
+fn questions_failure<'a, R: Read, W: Write>(
+    source: &Source<'a, R>,
+    output: &Output<W>,
+    error: QuestionsError,
+) -> Failure<'a> {
+    match error {
+        QuestionsError::Dimacs(error) => source.failure(output, error),
+        QuestionsError::Question(line, flaw) => {
+            Failure::Question(source.name(), line, flaw.text())
+        }
     }
 }
 

@@ -5,6 +5,7 @@ ghost use Rattle.giputils_text.specs.Lines.{text_lines};
 ghost use Rattle.gipsat_cnf.specs.Literals.{Lit};
 ghost use Rattle.gipsat_answers.specs.Questions.{AsksSoFar, asks, between_zeros, part_in, part_of};
 
+use crate::error::{QuestionFlaw, QuestionsError};
 use gipsat_cnf::{Cnf, Literal};
 use gipsat_dimacs::{DimacsError, HeaderRule, Reason, read_instance_by};
 use giputils_text::split_line;
@@ -38,7 +39,7 @@ pub fn read_question<'a>(
     line: &[u8],
     behind: &'a [u8],
     number: usize,
-) -> Result<ReadQuestion<'a>, DimacsError>
+) -> Result<ReadQuestion<'a>, QuestionsError>
     requires asks { IsTrue (asks line.now) }
     requires some { 0 < length line.now }
     ensures question { IfOk result (λ read.
@@ -51,10 +52,10 @@ pub fn read_question<'a>(
     let mut lines = number;
     while !has_end {
         let Some((line, left)) = split_line(rest) else {
-            return Err(DimacsError::Line(number, Reason::OpenClause));
+            return Err(QuestionsError::Question(number, QuestionFlaw::NoEnd));
         };
         if asks(line) {
-            return Err(DimacsError::Line(number, Reason::OpenClause));
+            return Err(QuestionsError::Question(number, QuestionFlaw::NoEnd));
         }
         rest = left;
         lines = lines.saturating_add(1);
@@ -73,7 +74,7 @@ fn add_part(
     literals: &mut Vec<Literal>,
     line: &[u8],
     number: usize,
-) -> Result<bool, DimacsError>
+) -> Result<bool, QuestionsError>
     ensures { IfOk result (λ has_end. (added : List Lit) × (part_in line.now ≡ Some (added, has_end))
         × (literals.new.items ≡ literals.old.items ++ added)) }
 {
@@ -115,17 +116,17 @@ fn part_of(clauses: &Cnf) -> Option<(&[Literal], bool)>
 
 // Why the line of this number has no part of a question: it ends the text before the second zero, as a `%` does, or has
 // words behind the 0.
-fn misplaced(number: usize, clauses: &Cnf) -> DimacsError {
+fn misplaced(number: usize, clauses: &Cnf) -> QuestionsError {
     if clauses.len() < 2 {
-        return DimacsError::Line(number, Reason::Word);
+        return QuestionsError::Dimacs(DimacsError::Line(number, Reason::Word));
     }
-    DimacsError::Line(number, Reason::MoreClauses)
+    QuestionsError::Question(number, QuestionFlaw::NoLineEnd)
 }
 
 // An error in a text that is made of the line of this number.
-fn at_line(number: usize, error: DimacsError) -> DimacsError {
+fn at_line(number: usize, error: DimacsError) -> QuestionsError {
     match error {
-        DimacsError::Line(_, reason) => DimacsError::Line(number, reason),
-        other => other,
+        DimacsError::Line(_, reason) => QuestionsError::Dimacs(DimacsError::Line(number, reason)),
+        other => QuestionsError::Dimacs(other),
     }
 }

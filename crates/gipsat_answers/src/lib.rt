@@ -5,6 +5,7 @@
 pub mod answers;
 mod asked;
 pub mod assumed;
+pub mod error;
 pub mod models;
 mod names;
 mod naming;
@@ -13,6 +14,7 @@ pub mod task;
 
 pub use answers::{Solved, Verdict};
 pub use assumed::{are_named, assume, first_variables, read_literals};
+pub use error::{QuestionFlaw, QuestionsError};
 pub use models::{Enumerated, Models, write_models};
 pub use questions::{Replies, answer_questions};
 pub use task::{Task, solve_instance, solve_text};

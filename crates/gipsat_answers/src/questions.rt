@@ -1,5 +1,6 @@
 //! Questions that a text asks one after another, of the clauses before each.
-ghost use Rattle.std.specs.Prelude.{◌≡◌, ◌++◌, ◌+◌, ◌-◌, [], ◌≤◌, ◌<◌, ℕ, List, true, false, length, codes, Some, None, IfNone, IfOk, IfSome, IsTrue, MatchOption, OnOk};
+ghost use Rattle.std.specs.Prelude.{◌≡◌, ◌++◌, ◌+◌, ◌-◌, [], ◌≤◌, ◌<◌, ℕ, List, true, false, drop, length, codes, Some, None, IfNone, IfOk, IfSome, IsTrue, MatchOption, OnOk};
+ghost use Rattle.std.specs.Bool.{OnTrue};
 ghost use Rattle.std.specs.Option.{option_map};
 ghost use Rattle.std.specs.Io.KnownBytes.{Appends, IsAtEnd};
 ghost use Rattle.giputils_text.specs.Lines.{text_lines};
@@ -12,6 +13,7 @@ ghost use Rattle.gipsat_answers.specs.Questions.{AreAskedOf, AsksQuestions, IsRi
 
 use crate::answers::{Verdict, bytes, model_text, write};
 use crate::asked::{asks, read_question};
+use crate::error::QuestionsError;
 use crate::naming::report_of;
 use crate::task::Task;
 use gipsat_cnf::{AnswerUnder, Budget, Cnf, Literal};
@@ -52,10 +54,11 @@ struct Told {
 ///
 /// # Errors
 /// - [`DimacsError::Input`] where a read fails.
-/// - [`DimacsError::Line`] with the number of the line at which the text has another form, and why: as an open clause
-///   where a question has no 0, in the line where it begins, and as a clause too many where a word stands behind that.
+/// - [`DimacsError::Line`] with the number of the line at which the text has another form, and why.
 /// - [`DimacsError::Memory`] where memory is refused.
 /// - [`DimacsError::Output`] where a write fails.
+/// - [`QuestionsError::Question`] with the number of the line in which a question begins that has no 0, or in which a word
+///   stands behind that, and which of the two.
 ///
 /// The replies to the questions before that were written then.
 pub fn answer_questions<R: Read, W: Write, P: Progress>(
@@ -64,7 +67,7 @@ pub fn answer_questions<R: Read, W: Write, P: Progress>(
     writer: &mut W,
     task: Task,
     progress: &mut P,
-) -> Result<Replies, DimacsError>
+) -> Result<Replies, QuestionsError>
     ensures read_to_end { OnOk result (IsAtEnd (R.remaining reader.new)) }
     ensures has_form { OnOk result (AsksQuestions (R.remaining reader.old)) }
     ensures written { IfOk result (λ told. OfQuestions (R.remaining reader.old) (λ questions.
@@ -108,7 +111,7 @@ fn answer_text<W: Write, P: Progress>(
     writer: &mut W,
     task: Task,
     progress: &mut P,
-) -> Result<Told, DimacsError>
+) -> Result<Told, QuestionsError>
     requires empty { solver.old.formula ≡ [] }
     requires new { solver.old.learned ≡ 0 }
     ensures right { IfOk result (λ told. (asked : List Question) × (questions_of text.now ≡ Some asked)
@@ -189,7 +192,7 @@ fn answer_lines<W: Write, P: Progress>(
     writer: &mut W,
     task: Task,
     progress: &mut P,
-) -> Result<Told, DimacsError>
+) -> Result<Told, QuestionsError>
     requires empty { solver.old.formula ≡ [] }
     requires new { solver.old.learned ≡ 0 }
     ensures right { IfOk result (λ told. (asked : List Question)

@@ -13,7 +13,7 @@ use crate::convert::convert;
 use crate::errors::Failure;
 use crate::files::{Output, Source};
 use crate::options::Options;
-use gip_program::refuse;
+use gip_program::{Printable, refuse};
 use gipsat_dimacs::{DimacsError, Reason};
 use gipsat_drat::error::{DratError, Notes, Outcome};
 use gipsat_drat::task::check_text_noting;
@@ -152,6 +152,7 @@ fn end_check(rt: &HostRuntime, proof: Option<&str>, outcome: Outcome) -> ExitCod
 // passed over.
 fn warn(rt: &HostRuntime, proof: Option<&str>, notes: Notes) {
     let name = proof.unwrap_or("<stdin>");
+    let name = Printable(&name);
     if notes.may_be_lrat {
         let _ = eprintln!(rt;
             "c {name}: read as DRAT, though its first number may be a name of LRAT"

@@ -61,6 +61,8 @@ pub enum Failure<'a> {
     Write(Option<&'a str>, Option<io::Error>),
     /// At this line, counted from 1, the formula of this input has another form.
     Line(Option<&'a str>, usize, Reason),
+    /// At this line a question of this input lacks its form, as this text says.
+    Question(Option<&'a str>, usize, &'static str),
     /// At this line the formula of a check, in this input, is compressed.
     Compressed(Option<&'a str>, usize, Compression),
     /// Behind this option stands no list of literals, for this reason.
@@ -97,6 +99,9 @@ impl Display for Failure<'_> {
             ),
             Failure::Line(name, line, reason) => {
                 write!(f, "{}:{line}: {reason}", name.unwrap_or("<stdin>"))
+            }
+            Failure::Question(name, line, flaw) => {
+                write!(f, "{}:{line}: {flaw}", name.unwrap_or("<stdin>"))
             }
             Failure::Compressed(name, line, compression) => {
                 let name = name.unwrap_or("<stdin>");
