@@ -14,7 +14,7 @@ use gipmc_aiger::{
 };
 use gipmc_circuits::certificate::Verdict;
 use gipmc_circuits::{Circuit, Netlist, WitnessCircuit, certify_by};
-use gipmc_part::certify_all;
+use gipmc_part::{certify_all, certify_all_by};
 use gipmc_task::TaskError;
 use gipsat_cnf::{Literal, SatSolver};
 use std::alloc::{AllocError, Global};
@@ -419,12 +419,11 @@ fn all_by_circuit<S: SatSolver + Drop>(
     ensures { IfOk result (λ doubt. IfNone doubt
         (AreShownSafe netlist.now.circuit (certificate.Circuit other.now) netlist.now.circuit.bads.items)) }
 {
-    for place in 0..netlist.circuit.bads.len() {
-        if let Some(doubt) = by_circuit::<S>(alloc, netlist, other, place, limit)? {
-            return Ok(Some(doubt));
-        }
-    }
-    Ok(None)
+    let said = certify_all_by::<S>(alloc, netlist, &netlist.circuit.bads, other, limit)?;
+    let Some(verdicts) = said else {
+        return Err(TaskError::NoSimulation);
+    };
+    Ok(first_doubt(&verdicts, 0))
 }
 
 // Why the circuit is not known to be safe by another one.

@@ -2,3 +2,4 @@ pub mod Carried
 mod Examples
 mod Judged
 mod Renamed
+mod Stilled

@@ -75,7 +75,7 @@ fn verdicts_on<S: SatSolver + Drop>(
 }
 
 // A verdict that is not that the circuit is safe.
-fn doubted(doubt: Verdict) -> Verdict
+pub(crate) fn doubted(doubt: Verdict) -> Verdict
     ensures { is_certified result ≡ false }
 {
     match doubt {

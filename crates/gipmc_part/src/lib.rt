@@ -6,7 +6,9 @@ mod cone;
 pub mod names;
 pub mod part;
 mod places;
+pub mod witnessed;
 
 pub use certificate::certify_all;
 pub use names::Names;
 pub use part::Part;
+pub use witnessed::certify_all_by;
