@@ -146,6 +146,118 @@ told "a trace that may not be a shortest one" $?
 try "a shortest trace of one moment" 10 "" "$(printf '1\nb0\n1\n\n.')" 'aag 1 0 1 0 0 1\n2 2 1\n2\n' --shortest
 try "a shortest trace where nothing fails" 20 "" "$safe" "$kept" --shortest
 
+# A counter of N bits goes on where one of two inputs is true, beside a register of W bits that are mixed with a third
+# input. It is bad where the counter is at T, and three bits of the register are what they rarely are.
+deep() {
+    awk -v n="$1" -v w="$2" -v t="$3" '
+    function and(a, b) { m++; gates[++count] = 2 * m " " a " " b; return 2 * m }
+    function not(a) { return a % 2 ? a - 1 : a + 1 }
+    function xor(a, b) { return and(not(and(a, b)), not(and(not(a), not(b)))) }
+    BEGIN {
+        m = 3 + n + w
+        carry = not(and(3, 5))
+        bad = 1
+        for (i = 0; i < n; i++) {
+            q = 2 * (4 + i)
+            rows[i] = q " " xor(q, carry)
+            carry = and(q, carry)
+            bad = and(bad, int(t / 2 ^ i) % 2 ? q : not(q))
+        }
+        r = 2 * (4 + n)
+        for (i = 0; i < w; i++) {
+            before = i ? r + 2 * (i - 1) : xor(r + 2 * (w - 1), 6)
+            mixed = and(r + 2 * ((7 * i + 3) % w), not(r + 2 * ((5 * i + 1) % w)))
+            rows[n + i] = r + 2 * i " " xor(before, mixed) " " i % 2
+        }
+        bad = and(and(bad, r), and(r + 2 * int(w / 2), not(r + 2 * (w - 1))))
+        print "aag", m, 3, n + w, 0, count, 1 "\n2\n4\n6"
+        for (i = 0; i < n + w; i++) print rows[i]
+        print bad
+        for (i = 1; i <= count; i++) print gates[i]
+    }'
+}
+
+# The first rounds of simulation have 256 moments. Beside other engines longer ones follow.
+deep 9 24 267 > deep.aag
+"$gipmc" --engine sim deep.aag > out 2> err
+status=$?
+[ "$status" = 0 ] && [ "$(cat out)" = "$(printf '2\nb0\n.')" ]
+told "a bug behind the first rounds of simulation" $?
+if is_wanted "simulation goes on beside the other engines"; then
+    "$gipmc" --stats deep.aag > sim.wit 2> err
+    status=$?
+    [ "$status" = 10 ] && grep -q '^c b0: round [0-9].* decided by sim; ' err && [ "$(answers sim.wit | wc -l)" -gt 267 ] &&
+        [ "$("$gipmc" --replay sim.wit deep.aag)" = "s VERIFIED" ]
+    told "simulation goes on beside the other engines" $?
+fi
+# Latch 40 is true once the input was true at 40 moments in turn, which is rare where each has chance 1/2.
+{
+    printf 'aag 80 1 40 0 39 1\n2\n4 2\n'
+    for ((n = 2; n <= 40; n++)); do echo "$((2 * n + 2)) $((2 * n + 80))"; done
+    echo 82
+    for ((n = 2; n <= 40; n++)); do echo "$((2 * n + 80)) $((2 * n)) 2"; done
+} > run.aag
+"$gipmc" --engine sim run.aag > sim.wit 2> err
+status=$?
+[ "$status" = 10 ] && [ "$("$gipmc" --replay sim.wit run.aag)" = "s VERIFIED" ]
+told "simulation by inputs that are mostly true or held" $?
+# A constraint wants that the input is what a latch is, which changes at each moment. It is bad behind 40 of them.
+{
+    printf 'aag 45 1 41 0 3 1 1\n2\n4 5\n6 1\n'
+    for ((n = 2; n <= 40; n++)); do echo "$((2 * n + 4)) $((2 * n + 2))"; done
+    printf '84\n91\n86 2 4\n88 3 5\n90 87 89\n'
+} > told.aag
+"$gipmc" --engine sim told.aag > sim.wit 2> err
+status=$?
+[ "$status" = 10 ] && [ "$("$gipmc" --replay sim.wit told.aag)" = "s VERIFIED" ]
+told "inputs that a constraint forbids are drawn again" $?
+
+# A latch that holds whether two products of numbers of N bits differ, whose factors are exchanged.
+products() {
+    awk -v n="$1" '
+    function and(a, b) { m++; gates[++count] = 2 * m " " a " " b; return 2 * m }
+    function not(a) { return a % 2 ? a - 1 : a + 1 }
+    function either(a, b) { return not(and(not(a), not(b))) }
+    function xor(a, b) { return and(not(and(a, b)), either(a, b)) }
+    function multiply(c, x, y,    i, j, p, s, carry) {
+        for (i = 0; i < 2 * n; i++) made[c, i] = 0
+        for (j = 0; j < n; j++) {
+            carry = 0
+            for (i = 0; i < n; i++) {
+                p = and(x + 2 * i, y + 2 * j)
+                s = xor(made[c, i + j], p)
+                p = either(and(made[c, i + j], p), and(s, carry))
+                made[c, i + j] = xor(s, carry)
+                carry = p
+            }
+            made[c, n + j] = carry
+        }
+    }
+    BEGIN {
+        m = 2 * n + 1
+        multiply(0, 2, 2 + 2 * n)
+        multiply(1, 2 + 2 * n, 2)
+        for (i = 0; i < 2 * n; i++) differ = either(differ + 0, xor(made[0, i], made[1, i]))
+        print "aag", m, 2 * n, 1, 0, count, 1
+        for (i = 1; i <= 2 * n; i++) print 2 * i
+        print 4 * n + 2 " " differ
+        print 4 * n + 2
+        for (i = 1; i <= count; i++) print gates[i]
+    }'
+}
+
+# One question about them takes minutes. It may take ten seconds of the processor here until all is told.
+products 11 > products.aag
+for engine in ic3 bmc induction all; do
+    is_wanted "the time is over within a question: $engine" || continue
+    words=(--engine "$engine")
+    [ "$engine" = all ] && words=()
+    (ulimit -t 10; exec timeout -s KILL 100 "$gipmc" --quiet "${words[@]}" -t 1 products.aag) > out 2> err
+    status=$?
+    [ "$status" = 0 ] && [ ! -s err ] && [ "$(tail -n 3 out)" = "$(printf '2\nb0\n.')" ]
+    told "the time is over within a question: $engine" $?
+done
+
 # Two copies of a machine with N latches, whose next values are mixed; it is bad if they differ in the last latch.
 twins() {
     awk -v n="$1" '
@@ -206,9 +318,9 @@ try "a witness from standard input that is none" 1 "<stdin>: witness 1, b0: no m
     '1\nb0\n0\n.\n' --replay - held.aag
 witness '1\nb3\n0\n1\n0\n.\n'
 try "a witness of a literal that is not there" 1 \
-    "wit: it names bad literal 3, and the circuit has 1" "" "$held" --replay wit
+    "wit:2: it names bad literal 3, and the circuit has 1" "" "$held" --replay wit
 try "a witness of a literal that is not there, from standard input" 1 \
-    "<stdin>: it names bad literal 3, and the circuit has 1" "" '1\nb3\n0\n1\n0\n.\n' --replay - held.aag
+    "<stdin>:2: it names bad literal 3, and the circuit has 1" "" '1\nb3\n0\n1\n0\n.\n' --replay - held.aag
 try "a witness, and a literal that is not there" 1 "<stdin>: no bad literal 7, of 1" "" "$held" --replay wit --bad 7
 try "a witness, and no bad literal at all" 1 "<stdin>: no bad literal" "" 'aag 1 1 0 0 0\n2\n' --replay wit
 witness '1\nb1\n00\n1\n0\n.\n'
@@ -663,6 +775,37 @@ read_back() {
     fi
 }
 read_back "a wave that GTKWave reads"
+mv wave drawn
+for words in --names "--names --witness closed-"; do
+    # shellcheck disable=SC2086
+    "$gipmc" --engine bmc --vcd wave $words named.aag >&- 2> err
+    status=$?
+    [ "$status" = 1 ] && [ "$(cat err)" = "<stdout>: cannot be written: closed, or open the other way alone" ] && cmp -s wave drawn
+    told "a wave where the table cannot be written, beside $words" $?
+    rm -f wave closed-*
+done
+: > taken-b0.aiw
+"$gipmc" --engine bmc --vcd wave --witness taken- named.aag > out 2> err
+status=$?
+[ "$status" = 1 ] && [ "$(cat err)" = "taken-b0.aiw: cannot be written: entity already exists" ] && cmp -s wave drawn
+told "a wave where the file of a witness cannot be written" $?
+mv drawn wave
+printf '%b' 'aag 2 1 1 0 0 1\n2\n4 2\n4\ni0 $end\nl0 $end.$end\n' > ended.aag
+"$gipmc" --engine bmc --vcd ended ended.aag > out 2> err
+status=$?
+# shellcheck disable=SC2016
+[ "$status" = 10 ] && [ "$(grep _end ended)" = '$var wire 1 ! _end  $end
+$scope module _end $end
+$var reg 1 " _end  $end' ]
+told "a wave of signals that are called \$end" $?
+for words in "--certificate twin --vcd twin" "--witness twi --vcd twib0.aiw" "--witness ./tw --certificate ./twj17.aiw"; do
+    name=${words##* }
+    # shellcheck disable=SC2086
+    "$gipmc" $words named.aag > out 2> err
+    status=$?
+    [ "$status" = 1 ] && [ ! -s out ] && [ "$(cat err)" = "$name: two files would have this name" ] && [ ! -e "$name" ]
+    told "two files of one name, $words" $?
+done
 try "a wave, and a file that is there" 1 "wave: cannot be made: entity already exists" "" "" --vcd wave named.aag
 rm -f wave
 "$gipmc" --vcd wave kept.aag > out 2> err
@@ -682,6 +825,15 @@ status=$?
 [ "$status" = 1 ] && [ "$(cat err)" = "traces/b1.aiw: cannot be written: entity already exists" ] &&
     grep -qx b1 out
 told "a file of a witness that is there" $?
+printf '%b' 'aag 3 1 2 0 0 2\n2\n6 2\n4 4\n6\n4\n' > first.aag
+if is_wanted "a file of a witness is there when its answer is"; then
+    "$gipmc" --engine bmc --depth 999999999 --witness early- first.aag > out 2> err &
+    await test -e early-b0.aiw
+    [ "$("$gipmc" --replay early-b0.aiw --bad 0 first.aag)" = "s VERIFIED" ] && kill -0 $! && [ ! -e early-b1.aiw ]
+    told "a file of a witness is there when its answer is" $?
+    kill -KILL $!
+    wait $! 2> /dev/null
+fi
 for option in --names --vcd=a --witness=a; do
     try "$option beside --replay" 2 \
         "gipmc: '$option' goes with neither '--replay' nor '--certify' (try --help)" "" "" --replay a "$option"
@@ -946,10 +1098,10 @@ status=$?
 told "names of a bad literal and of a justice property" $?
 try "a latch that is not there" 1 "<stdin>:2: not a number" "" 'aag 1 0 1 0 0\n'
 try "a literal that is too great" 1 "<stdin>:3: a number that is too great" "" 'aag 1 0 1 0 0 1\n2 2\n4\n'
-try "a variable that is not defined" 1 "<stdin>: variable 1 is not defined" "" 'aag 1 0 0 0 0 1\n2\n'
-try "a variable that is defined twice" 1 "<stdin>: variable 1 is defined twice" "" 'aag 2 1 1 0 0 1\n2\n2 2\n2\n'
+try "a variable that is not defined" 1 "<stdin>:2: variable 1 is not defined" "" 'aag 1 0 0 0 0 1\n2\n'
+try "a variable that is defined twice" 1 "<stdin>:3: variable 1 is defined twice" "" 'aag 2 1 1 0 0 1\n2\n2 2\n2\n'
 try "a gate that depends on itself" 1 \
-    "<stdin>: the gate of variable 1 depends on itself" "" 'aag 1 0 0 0 1 1\n2\n2 2 2\n'
+    "<stdin>:3: the gate of variable 1 depends on itself" "" 'aag 1 0 0 0 1 1\n2\n2 2 2\n'
 
 # What is judged, line by line: NAME|CIRCUIT|TEXT|ARGUMENTS|SAID, of a circuit of this name. Nothing is said of what is
 # verified; behind `!` stands why a text is not judged at all.
@@ -1053,7 +1205,7 @@ a circuit of resets in a circle|gated|aag 5 1 2 0 2 1\n2\n4 4 6\n6 6 4\n10\n8 7 
 a circuit of a latch that begins at its negation|gated|aag 4 1 1 0 2 1\n2\n4 4 5\n8\n6 4 4\n8 6 4\ni0 = 2\n||!text: a reset that depends on itself, or a name `= n` that does not fit
 a circuit of a latch with two names|gated|aag 4 0 2 0 2 1\n2 2\n4 4\n8\n6 4 2\n8 6 2\nl0 = 4\nl0 = 6\n||!text: a reset that depends on itself, or a name `= n` that does not fit
 a circuit of a name that nothing has|gated|aag 4 0 2 0 2 1\n2 2\n4 4\n8\n6 4 2\n8 6 2\nl0 = 4\nl1 = 18\n||!text: a reset that depends on itself, or a name `= n` that does not fit
-a circuit of an operand that nothing defines|gated|aag 4 0 1 0 2 1\n2 2\n8\n6 4 2\n8 6 2\nl0 = 4\n||!text: variable 2 is not defined
+a circuit of an operand that nothing defines|gated|aag 4 0 1 0 2 1\n2 2\n8\n6 4 2\n8 6 2\nl0 = 4\n||!text:4: variable 2 is not defined
 END
 # Certificates that are found of these circuits: of latches whose numbers fall, and of the second of two properties.
 printf '%b' "${circuits[falling]}" > falling.aag
@@ -1085,7 +1237,7 @@ a grant at the end of the loop|granted|1\nj0\n1\n0\n1\n0\n1\n.\n|--justice 0|
 a grant in the longer one of two loops|granted|1\nj0\n1\n1\n1\n0\n.\n|--justice 0|
 a grant outside the loop|granted|1\nj0\n1\n1\n0\n.\n|--justice 0|text: witness 1, j0: fairness constraint 0 is false from moment 1 on, where the loop begins
 the stem of it alone|changes|1\nj0\n0\n\n.\n|--justice 0|text: witness 1, j0: behind the last moment the latches hold what they held at none before
-a property that is not there|starves|1\nj2\n01\n\n.\n||!text: it names justice property 2, and the circuit has 1
+a property that is not there|starves|1\nj2\n01\n\n.\n||!text:2: it names justice property 2, and the circuit has 1
 the other of two properties|granted|1\nj0\n1\n1\n1\n.\n|--justice 1|!text: no witness of justice property 1, which '--justice' asks for
 no lasso|starves|0\nj0\n.\n|--justice 0|!text: no witness of justice property 0, which '--justice' asks for
 a lasso beside no property|none|1\nj0\n01\n\n.\n|--justice 0|!<stdin>: no justice property 0, of 0
@@ -1148,12 +1300,12 @@ aag 2 1 0 0 1\n2\n4 2 2 2\n|3: not a space or a line end where one is wanted
 aag 1 1 0 0 0\n2\ni1 a\n|3: neither a symbol nor a comment behind the gates
 aag 1 1 0 0 0\n2\n4 2 2\n|3: neither a symbol nor a comment behind the gates
 aag 1 1 0 0 0\n2\n\n|3: neither a symbol nor a comment behind the gates
-aag 2 2 0 0 0\n2\n2\n| variable 1 is defined twice
-aag 2 1 0 1 0\n2\n4\n| variable 2 is not defined
-aag 2 0 1 0 0\n2 4\n| variable 2 is not defined
-aag 2 0 0 0 1\n2 4 0\n| variable 2 is not defined
-aag 1 0 0 0 1\n2 2 0\n| the gate of variable 1 depends on itself
-aag 2 0 0 0 2\n2 4 4\n4 2 2\n| the gate of variable 1 depends on itself
+aag 2 2 0 0 0\n2\n2\n|3: variable 1 is defined twice
+aag 2 1 0 1 0\n2\n4\n|3: variable 2 is not defined
+aag 2 0 1 0 0\n2 4\n|2: variable 2 is not defined
+aag 2 0 0 0 1\n2 4 0\n|2: variable 2 is not defined
+aag 1 0 0 0 1\n2 2 0\n|2: the gate of variable 1 depends on itself
+aag 2 0 0 0 2\n2 4 4\n4 2 2\n|2: the gate of variable 1 depends on itself
 aig 1 0 0 0 1\n\x00\x00| byte 14: a gate whose operands are not below it, the greater first
 aig 1 0 0 0 1\n\x03\x00| byte 14: a gate whose operands are not below it, the greater first
 aig 1 0 0 0 1\n\x02| byte 15: no number in groups of 7 bits
@@ -1163,10 +1315,10 @@ aag 1 1 0 0 0 0 0 1\n2\n2147483647\n2\n|5: not a number
 aag 1 1 0 0 0 0 0 1\n2\n2147483648\n2\n|3: a number that is too great
 aag 1 1 0 0 0 0 0 1\n2\n1\n4\n|4: a number that is too great
 aag 0 0 0 0 0 0 0 1\n0\nj1 x\n|3: neither a symbol nor a comment behind the gates
-aag 2 1 0 0 0 0 0 1\n2\n1\n4\n| variable 2 is not defined
-aag 2 2 0 0 0 0 0 1\n2\n2\n0\n| variable 1 is defined twice
-aag 1 0 0 0 1 0 0 1\n1\n2\n2 2 0\n| the gate of variable 1 depends on itself
-aag 2 1 0 0 0 0 0 1 1\n2\n0\n5\n| variable 2 is not defined
+aag 2 1 0 0 0 0 0 1\n2\n1\n4\n|4: variable 2 is not defined
+aag 2 2 0 0 0 0 0 1\n2\n2\n0\n|3: variable 1 is defined twice
+aag 1 0 0 0 1 0 0 1\n1\n2\n2 2 0\n|4: the gate of variable 1 depends on itself
+aag 2 1 0 0 0 0 0 1 1\n2\n0\n5\n|4: variable 2 is not defined
 END
 refuse "a witness" --replay 'aag 3 2 1 0 0 1\n2\n4\n6 6\n6\n' << 'END'
 1\nb0 \n0\n00\n.\n|2: no line `b` with the number of a bad literal
@@ -1216,7 +1368,7 @@ p cnf 2 1\n1 2147483648 0\n|2: a number that is too great
 END
 
 # Data that are compressed, told by their first bytes.
-for data in 'gzip \037\213' 'xz \375\067zXZ' 'bzip2 BZh'; do
+for data in 'gzip \037\213' 'xz \375\067zXZ' 'bzip2 BZh' 'zstd \050\265\057\375'; do
     printf '%b' "${data#* }9" > packed
     try "a circuit in ${data%% *}" 1 "packed:1: ${data%% *} data (try: ${data%% *} -dc FILE)" "" "" packed
     try "a witness in ${data%% *}" 1 "packed:1: ${data%% *} data (try: ${data%% *} -dc FILE)" "" "$kept" --replay packed
@@ -1314,7 +1466,11 @@ try "no time behind the option" 2 "gipmc: '--time' needs a number behind it (try
 try "a short option with = in it" 2 "gipmc: '--time' takes a number below 2^64, not '=9' (try --help)" "" "" -t=9
 try "a depth that is no number" 2 "gipmc: '--depth' takes a number below 2^64, not 'x' (try --help)" "" "" --depth x
 try "two files" 2 "gipmc: one file too many, 'b' (try --help)" "" "" a b
-try "a word that is no text" 1 "arguments: not UTF-8 text" "" "" $'\377'
+try "a word that is no text" 1 "arguments: not UTF-8 text: word 2, 'a_.aag'" "" "" -q $'a\377.aag'
+try "a name that a terminal would take for commands" 1 "e_[31mred_x: no such file" "" "" $'e\e[31mred\nx'
+printf '%b' "$two" > $'two\n.aag'
+printf '1\nb1\n00\n.\n' > $'wit\n'
+try "a witness of such a name" 1 "wit_: witness 1, b1: no moment" "s NOT VERIFIED" "" --replay $'wit\n' $'two\n.aag'
 try "a witness and a certificate" 2 \
     "gipmc: '--replay' and '--certify' exclude each other (try --help)" "" "" --replay a --certify b
 try "a witness, and a file for a certificate" 2 \

@@ -23,15 +23,21 @@ pub enum Failure<'a> {
     /// A write to the file of this name failed.
     WriteFile(&'a str, io::Error),
     /// The witness of the property of this letter and place was not written to the file whose name begins so.
-    Witness(&'a str, &'static str, u32, io::Error),
+    Witness(&'a str, char, usize, io::Error),
+    /// Two files that are wanted would have this name.
+    OneName(&'a str),
     /// A file was written, and did not get its name.
     Finish(FinishError<'a>),
     /// No certificate was written to this file.
     NoCertificate(Option<&'a str>, TaskError),
     /// The task on the text in this input was not done.
     Task(Option<&'a str>, TaskError),
+    /// The task on the text in this input was not done, for what it has in this line, counted from 1.
+    TaskAt(Option<&'a str>, usize, TaskError),
     /// The task on justice properties was not done, for what this input has.
     Justice(Option<&'a str>, JusticeError),
+    /// The task on justice properties was not done, for what this input has in this line.
+    JusticeAt(Option<&'a str>, usize, JusticeError),
     /// No certificate is written to this file, since that of a justice property is no circuit.
     NoCircuit(&'a str),
     /// No certificate is written to this file, since a k, which induction finds, has no circuit.
@@ -72,6 +78,7 @@ impl Display for Failure<'_> {
                 "{prefix}{letter}{place}.aiw: cannot be written: {}",
                 Cause(Some(error))
             ),
+            Failure::OneName(name) => write!(f, "{name}: two files would have this name"),
             Failure::Finish(error) => Display::fmt(&error, f),
             Failure::NoCertificate(name, TaskError::Memory) => write!(
                 f,
@@ -102,6 +109,12 @@ impl Display for Failure<'_> {
                     Some((line, reason)) => write!(f, "{name}:{line}: {reason}"),
                     None => write!(f, "{name}: {error}"),
                 }
+            }
+            Failure::TaskAt(name, line, error) => {
+                write!(f, "{}:{line}: {error}", name.unwrap_or("<stdin>"))
+            }
+            Failure::JusticeAt(name, line, error) => {
+                write!(f, "{}:{line}: {error}", name.unwrap_or("<stdin>"))
             }
             Failure::Justice(name, JusticeError::NoWitnessOf(asked)) => write!(
                 f,

@@ -7,7 +7,8 @@ ghost use Rattle.giputils_text.specs.Lines.{text_lines};
 
 use crate::errors::Failure;
 use gip_program::{Existing, NewFile, open_file};
-use giputils_text::split_line;
+use gipmc_command::Options;
+use giputils_text::{number, split_line};
 use std::alloc::AllocError;
 use std::fs::File;
 use std::io::{ErrorKind, Read, Write};
@@ -68,6 +69,7 @@ fn tool_of(bytes: &[u8]) -> Option<&'static str> {
         [0x1f, 0x8b, ..] => Some("gzip"),
         [0xfd, b'7', b'z', b'X', b'Z', ..] => Some("xz"),
         [b'B', b'Z', b'h', ..] => Some("bzip2"),
+        [0x28, 0xb5, 0x2f, 0xfd, ..] => Some("zstd"),
         _ => None,
     }
 }
@@ -151,6 +153,45 @@ pub fn write_out<'a>(rt: &HostRuntime, text: &[u8]) -> Result<(), Failure<'a>> {
     match rt.stdout().write_all(text) {
         Ok(()) => Ok(()),
         Err(error) => Err(Failure::Write(error)),
+    }
+}
+
+/// Tests that no two files that the options want would have one name.
+///
+/// # Errors
+/// [`Failure::OneName`] where two would have it.
+pub fn check_names<'a>(options: &Options<'a>) -> Result<(), Failure<'a>> {
+    if let Some(name) = options.certificate {
+        if options.vcd == Some(name) {
+            return Err(Failure::OneName(name));
+        }
+        check_beside(options.witness, name)?;
+    }
+    match options.vcd {
+        Some(name) => check_beside(options.witness, name),
+        None => Ok(()),
+    }
+}
+
+// Tests that no file of a witness, if these are wanted, would have this name.
+fn check_beside<'a>(prefix: Option<&str>, name: &'a str) -> Result<(), Failure<'a>> {
+    match prefix {
+        Some(prefix) if is_of_witness(prefix, name) => Err(Failure::OneName(name)),
+        _ => Ok(()),
+    }
+}
+
+// Whether a name is that of the file of a witness, where such names begin so: it goes on with a letter and a place.
+fn is_of_witness(prefix: &str, name: &str) -> bool {
+    let Some(rest) = name.strip_prefix(prefix) else {
+        return false;
+    };
+    let Some(property) = rest.strip_suffix(".aiw") else {
+        return false;
+    };
+    match property.as_bytes() {
+        [b'b' | b'j', place @ ..] => number(place, u32::MAX).is_some(),
+        _ => false,
     }
 }
 

@@ -39,7 +39,7 @@ pub fn search_justice<'a>(
     rt: &HostRuntime,
     options: &Options<'a>,
     bytes: &[u8],
-    teller: &mut Teller,
+    teller: &mut Teller<'_, '_>,
     output: &mut Output<Stdout>,
 ) -> Result<Option<Answered>, Failure<'a>>
     ensures none { IfOk result (λ found. IfNone found

@@ -28,14 +28,16 @@ mod errors;
 mod files;
 mod justice;
 mod kinds;
+mod located;
 mod progress;
 mod settings;
 mod snapshot;
 mod traces;
+mod witnesses;
 
 use errors::Failure;
-use files::{Files, Texts, new_file, write_out, write_whole};
-use gip_program::{Clock, NewFile, begin, explain, refuse, tell};
+use files::{Files, Texts, check_names, new_file, write_out, write_whole};
+use gip_program::{Clock, NewFile, Printable, begin, explain, refuse, tell};
 use gipmc_aiger::{Header, read_claims, read_lassos};
 use gipmc_answers::{
     Answered, answer, certificate_of, doubt_of, replay_all, witness_circuit_of, witness_doubt,
@@ -47,6 +49,7 @@ use gipmc_task::{Outcome, Output, TaskError};
 use gipsat_solver::Solver;
 use justice::{justice_failure, keep_of_justice, outcome_of_justice, search_justice};
 use kinds::{header_without_bads, header_without_justice, is_of_bads, is_of_justice};
+use located::located;
 use progress::Teller;
 use settings::{output_of, plan_of};
 use std::fmt::Display;
@@ -101,7 +104,7 @@ fn search_in(rt: &HostRuntime, options: &Options, clock: Clock, bytes: &[u8]) ->
     ensures fails { exit_status result ≡ 10 →
         IsAnsweredAsked bytes.now options.now.bad options.now.justice Fails }
 {
-    end_search(rt, search_circuit(rt, options, clock, bytes))
+    end_search(rt, bytes, search_circuit(rt, options, clock, bytes))
 }
 
 // The status of a replay of the witness in the file of this name, or in standard input.
@@ -133,7 +136,12 @@ fn replay_in(
         ReplaysAsked bytes.now witness.now options.now.bad options.now.justice }
     ensures ends { IsEndedStatus (exit_status result) }
 {
-    end_check(rt, replay(rt, options, name, bytes, witness))
+    end_check(
+        rt,
+        bytes,
+        witness,
+        replay(rt, options, name, bytes, witness),
+    )
 }
 
 // The status of a certification by the certificate in the file of this name, or in standard input.
@@ -165,7 +173,7 @@ fn certify_in(
         CertifiesAsked bytes.now text.now options.now.bad options.now.justice }
     ensures ends { IsEndedStatus (exit_status result) }
 {
-    end_check(rt, certify(rt, options, name, bytes, text))
+    end_check(rt, bytes, text, certify(rt, options, name, bytes, text))
 }
 
 // The texts of the circuit that the options name and of the file of this name, each or standard input.
@@ -196,24 +204,29 @@ fn status_of(outcome: Outcome) -> u8
     }
 }
 
-// The status after a search. Writes why nothing is answered.
-fn end_search(rt: &HostRuntime, ended: Result<Outcome, Failure>) -> ExitCode
+// The status after a search in the circuit of a text. Writes why nothing is answered.
+fn end_search(rt: &HostRuntime, circuit: &[u8], ended: Result<Outcome, Failure>) -> ExitCode
     ensures { exit_status result ≡ search_status ended.entry }
 {
     match ended {
         Ok(outcome) => ExitCode::from(status_of(outcome)),
-        Err(error) => refuse(rt, &error),
+        Err(error) => refuse(rt, &located(error, circuit, &[])),
     }
 }
 
-// The status after a check of an answer. Writes why it was not checked.
-fn end_check(rt: &HostRuntime, ended: Result<bool, Failure>) -> ExitCode
+// The status after a check of the text of an answer, beside that of a circuit. Writes why it was not checked.
+fn end_check(
+    rt: &HostRuntime,
+    circuit: &[u8],
+    beside: &[u8],
+    ended: Result<bool, Failure>,
+) -> ExitCode
     ensures { exit_status result ≡ verified_status ended.entry }
 {
     match ended {
         Ok(true) => ExitCode::SUCCESS,
         Ok(false) => ExitCode::from(REFUSED),
-        Err(error) => refuse(rt, &error),
+        Err(error) => refuse(rt, &located(error, circuit, beside)),
     }
 }
 
@@ -240,6 +253,7 @@ fn search_circuit<'a>(
 ) -> Result<Outcome, Failure<'a>>
     ensures { IfOk result (IsAnsweredAsked bytes.now options.now.bad options.now.justice) }
 {
+    check_names(options)?;
     let certificate = certificate_file(rt, options)?;
     let wave = new_file(rt, options.vcd)?;
     search_for(rt, options, clock, bytes, certificate, wave)
@@ -271,9 +285,11 @@ fn search_for<'a>(
     ensures { IfOk result (IsAnsweredAsked bytes.now options.now.bad options.now.justice) }
 {
     let mut output = output_of(rt, options);
-    let found = search(rt, options, clock, bytes, &mut output)?;
+    let mut teller = Teller::new(rt, options, clock);
+    let found = search(rt, options, bytes, &mut teller, &mut output)?;
     let kept = keep_found(rt, options, bytes, &found, certificate, wave);
     written(&output)?;
+    teller.kept()?;
     kept?;
     Ok(found.outcome)
 }
@@ -359,8 +375,8 @@ impl Drop for Found {
 fn search<'a>(
     rt: &HostRuntime,
     options: &Options<'a>,
-    clock: Clock,
     bytes: &[u8],
+    teller: &mut Teller<'_, '_>,
     output: &mut Output<Stdout>,
 ) -> Result<Found, Failure<'a>>
     ensures circuit { IfOk result (λ f. IfSome f.bads (λ a. IsCircuitIn bytes.now a.netlist.circuit)) }
@@ -368,9 +384,8 @@ fn search<'a>(
     ensures answers { IfOk result
         (λ f. IsAnsweredAsked bytes.now options.now.bad options.now.justice f.outcome) }
 {
-    let mut teller = Teller::new(rt, options, clock);
-    let bads = search_bads(rt, options, bytes, &mut teller, output)?;
-    let justice = search_justice(rt, options, bytes, &mut teller, output)?;
+    let bads = search_bads(rt, options, bytes, teller, output)?;
+    let justice = search_justice(rt, options, bytes, teller, output)?;
     teller.sum_up();
     let outcome = outcome_of_bads(&bads).and(outcome_of_justice(&justice));
     Ok(Found {
@@ -395,7 +410,7 @@ fn search_bads<'a>(
     rt: &HostRuntime,
     options: &Options<'a>,
     bytes: &[u8],
-    teller: &mut Teller,
+    teller: &mut Teller<'_, '_>,
     output: &mut Output<Stdout>,
 ) -> Result<Option<Answered>, Failure<'a>>
     ensures none { IfOk result (λ found. IfNone found
@@ -421,7 +436,7 @@ fn search_bads<'a>(
 fn tell_of_none(rt: &HostRuntime, options: &Options, answer: &Answered) {
     if answer.netlist.circuit.bads.is_empty() {
         let none = Failure::Task(options.file, TaskError::NoBads);
-        let _ = eprintln!(rt; "c {none}");
+        let _ = eprintln!(rt; "c {}", Printable(&none));
     }
 }
 
@@ -746,7 +761,10 @@ fn certify_bads<'a>(
 fn tell_left_out(rt: &HostRuntime, options: &Options, bytes: &[u8]) {
     if options.bad.is_none() && is_of_justice(bytes, None, None) {
         let name = options.file.unwrap_or("<stdin>");
-        let _ = eprintln!(rt; "c {name}: its bad literals alone are certified");
+        let _ = eprintln!(rt;
+            "c {}: its bad literals alone are certified",
+            Printable(&name)
+        );
     }
 }
 
@@ -760,7 +778,7 @@ fn doubted<'a, D: Display>(
 {
     let verified = verified_text(rt, false)?;
     let name = name.unwrap_or("<stdin>");
-    let _ = eprintln!(rt; "{name}: {doubt}");
+    let _ = eprintln!(rt; "{}: {doubt}", Printable(&name));
     Ok(verified)
 }
 

@@ -1,5 +1,7 @@
 //! How far a search is, in lines on standard error.
+use crate::errors::Failure;
 use crate::snapshot::{Decided, Framed, Held, Inductive, Simulated, Snapshot, Unrolled};
+use crate::witnesses::Witnesses;
 use gip_program::{Clock, Comments, Peak, Seconds, every_interval};
 use gipmc_command::Options;
 use gipmc_engines::{Engine, Watch};
@@ -12,8 +14,8 @@ use std::ops::ControlFlow;
 use std::time::Duration;
 
 /// Writes now and then how far a search is, where standard error is a terminal or that is asked for, and a summary of
-/// each, if that is wanted. It stops a search when the time is over.
-pub struct Teller<'a> {
+/// each, if that is wanted, and the files of witnesses. It stops a search when the time is over.
+pub struct Teller<'a, 'n> {
     rt: &'a HostRuntime,
     // It began as the program did.
     clock: Clock<'a>,
@@ -29,10 +31,11 @@ pub struct Teller<'a> {
     // It began with the search about this property. How far that is.
     begun: Clock<'a>,
     snapshot: Snapshot,
+    witnesses: Witnesses<'n>,
 }
 
 // One call in its owners' proofs, in place of one for each field.
-impl Drop for Teller<'_> {
+impl Drop for Teller<'_, '_> {
     fn drop(self) {
         let Teller {
             rt: _,
@@ -44,13 +47,14 @@ impl Drop for Teller<'_> {
             letter,
             begun,
             snapshot: _,
+            witnesses: _,
         } = self;
     }
 }
 
-impl<'a> Teller<'a> {
+impl<'a, 'n> Teller<'a, 'n> {
     /// Before the searches, of a program that began as the clock did.
-    pub fn new(rt: &'a HostRuntime, options: &Options, clock: Clock<'a>) -> Self {
+    pub fn new(rt: &'a HostRuntime, options: &Options<'n>, clock: Clock<'a>) -> Self {
         Teller {
             rt,
             clock,
@@ -61,7 +65,16 @@ impl<'a> Teller<'a> {
             letter: 'b',
             begun: clock,
             snapshot: Snapshot::new('b', 0),
+            witnesses: Witnesses::new(options.witness),
         }
+    }
+
+    /// Whether each witness was written to its file, if that is wanted.
+    ///
+    /// # Errors
+    /// Why the first one was not that was not.
+    pub fn kept(&self) -> Result<(), Failure<'n>> {
+        self.witnesses.kept()
     }
 
     /// Goes on with justice properties.
@@ -98,7 +111,7 @@ impl<'a> Teller<'a> {
     }
 }
 
-impl Listener for Teller<'_> {
+impl Listener for Teller<'_, '_> {
     fn begin(&mut self, place: usize) -> ControlFlow<()> {
         self.begun = Clock::start(self.rt);
         self.snapshot = Snapshot::new(self.letter, place);
@@ -116,6 +129,10 @@ impl Listener for Teller<'_> {
         }
     }
 
+    fn note_witness(&mut self, place: usize, text: &[u8]) {
+        self.witnesses.keep(self.rt, self.letter, place, text);
+    }
+
     fn end(&mut self, is_refused: bool) {
         if is_refused {
             let Snapshot { letter, place, .. } = self.snapshot;
@@ -128,7 +145,7 @@ impl Listener for Teller<'_> {
     }
 }
 
-impl Watch for Teller<'_> {
+impl Watch for Teller<'_, '_> {
     fn note_round(&mut self, rounds: usize) -> ControlFlow<()> {
         if rounds != self.snapshot.simulated.rounds {
             self.snapshot.simulated = Simulated { rounds, moments: 0 };

@@ -1,19 +1,18 @@
-//! What is told of the traces that were found, beside the answers: tables with names, a wave, and files of witnesses.
+//! What is told of the traces that were found, beside the answers: tables with names, and a wave.
 ghost use Rattle.std.specs.Prelude.{◌<◌, ◌≤◌, length, IfOk, IfSome};
 ghost use Rattle.gipmc_traces.specs.Rows.{Shows};
 
 use crate::Found;
 use crate::errors::Failure;
 use crate::files::{write_out, write_whole};
-use gip_program::{Existing, FinishError, NewFile};
-use gipmc_aiger::{Claim, Liveness, read_claims, read_lassos, write_lasso, write_witness};
+use gip_program::NewFile;
+use gipmc_aiger::{Claim, Liveness, read_claims, read_lassos};
 use gipmc_circuits::Netlist;
 use gipmc_command::Options;
 use gipmc_liveness::closed;
 use gipmc_traces::{Names, Property, Scene, known_text, latch_rows, table_text, vcd_text};
 use giputils_text::{number, split_line};
 use std::alloc::AllocError;
-use std::io::{self, ErrorKind, Write};
 
 // The answers about the properties of one kind.
 #[derive(Clone, Copy)]
@@ -42,7 +41,32 @@ impl Answers<'_> {
     }
 }
 
-/// Tells of each trace that was found what the options ask for. The wave is that of the first one.
+// The answers about bad literals, if these were asked about.
+fn answers_of_bads(found: &Found) -> Option<Answers<'_>> {
+    match &found.bads {
+        Some(answer) => Some(Answers {
+            netlist: &answer.netlist,
+            liveness: None,
+            text: &answer.said.text,
+        }),
+        None => None,
+    }
+}
+
+// The answers about justice properties, if these were asked about.
+fn answers_of_justice(found: &Found) -> Option<Answers<'_>> {
+    match &found.justice {
+        Some(answer) => Some(Answers {
+            netlist: &answer.netlist,
+            liveness: Some(&answer.liveness),
+            text: &answer.said.text,
+        }),
+        None => None,
+    }
+}
+
+/// Tells of each trace that was found what the options ask for. The wave is that of the first one. It is written whether
+/// or not the tables were.
 pub fn tell_traces<'a>(
     rt: &HostRuntime,
     options: &Options<'a>,
@@ -50,81 +74,71 @@ pub fn tell_traces<'a>(
     found: &Found,
     wave: Option<NewFile<'a>>,
 ) -> Result<(), Failure<'a>> {
-    let drawn = tell_found(rt, options, bytes, found);
-    match wave {
-        Some(file) => keep_wave(file, drawn),
-        None => {
-            drawn?;
-            Ok(())
-        }
-    }
+    let told = if options.names {
+        tell_tables(rt, bytes, found)
+    } else {
+        Ok(())
+    };
+    let kept = match wave {
+        Some(file) => keep_wave(rt, bytes, found, file),
+        None => Ok(()),
+    };
+    told?;
+    kept
 }
 
-// Writes the wave that was drawn to a file, if one was.
+// Writes tables about the bad literals, and then about the justice properties.
+fn tell_tables<'a>(rt: &HostRuntime, bytes: &[u8], found: &Found) -> Result<(), Failure<'a>> {
+    if let Some(answers) = answers_of_bads(found) {
+        tell_named(rt, bytes, &answers)?;
+    }
+    if let Some(answers) = answers_of_justice(found) {
+        tell_named(rt, bytes, &answers)?;
+    }
+    Ok(())
+}
+
+// Writes the wave of the first trace to the file, if a trace was found.
 fn keep_wave<'a>(
+    rt: &HostRuntime,
+    bytes: &[u8],
+    found: &Found,
     file: NewFile<'a>,
-    drawn: Result<Option<Vec<u8>>, Failure<'a>>,
 ) -> Result<(), Failure<'a>> {
-    match drawn? {
+    match first_wave(rt, bytes, found)? {
         Some(text) => write_whole(file, &text),
         None => Ok(()),
     }
 }
 
-// Tells of the bad literals, and then of the justice properties. The wave of the first trace, if one is wanted.
-fn tell_found<'a>(
+// The wave of the first trace that was found, if one was.
+fn first_wave<'a>(
     rt: &HostRuntime,
-    options: &Options<'a>,
     bytes: &[u8],
     found: &Found,
 ) -> Result<Option<Vec<u8>>, Failure<'a>> {
-    if !options.names && options.witness.is_none() && options.vcd.is_none() {
-        return Ok(None);
+    let of_bads = wave_in(rt, bytes, answers_of_bads(found))?;
+    if of_bads.is_some() {
+        return Ok(of_bads);
     }
-    let of_bads = match &found.bads {
-        Some(answer) => {
-            let answers = Answers {
-                netlist: &answer.netlist,
-                liveness: None,
-                text: &answer.said.text,
-            };
-            tell_answers(rt, options, bytes, &answers)?
-        }
-        None => None,
-    };
-    let of_justice = match &found.justice {
-        Some(answer) => {
-            let answers = Answers {
-                netlist: &answer.netlist,
-                liveness: Some(&answer.liveness),
-                text: &answer.said.text,
-            };
-            tell_answers(rt, options, bytes, &answers)?
-        }
-        None => None,
-    };
-    Ok(of_bads.or(of_justice))
+    wave_in(rt, bytes, answers_of_justice(found))
 }
 
-// Tells of the traces of some answers. The wave of the first one, if one is wanted.
-fn tell_answers<'a>(
+// The wave of the first trace of some answers, if they have one.
+fn wave_in<'a>(
     rt: &HostRuntime,
-    options: &Options<'a>,
     bytes: &[u8],
-    answers: &Answers,
+    answers: Option<Answers<'_>>,
 ) -> Result<Option<Vec<u8>>, Failure<'a>> {
-    let claims = claims_of(rt, answers)?;
-    for claim in &claims {
-        keep_witness(rt, options, answers, claim)?;
-    }
+    let Some(answers) = answers else {
+        return Ok(None);
+    };
+    let claims = claims_of(rt, &answers)?;
+    let Some(claim) = claims.first() else {
+        return Ok(None);
+    };
     let names = Names::read(rt.alloc(), &answers.netlist.circuit, bytes)?;
-    if options.names {
-        tell_named(rt, answers, &names, &claims)?;
-    }
-    match claims.first() {
-        Some(claim) if options.vcd.is_some() => wave_of(rt, answers, &names, claim),
-        _ => Ok(None),
-    }
+    wave_of(rt, &answers, &names, claim)
 }
 
 // The witnesses that the text of some answers has.
@@ -142,70 +156,26 @@ fn claims_of<'a>(rt: &HostRuntime, answers: &Answers) -> Result<Vec<Claim>, Fail
     }
 }
 
-// Writes a trace to a file of its own, if that is wanted.
-fn keep_witness<'a>(
-    rt: &HostRuntime,
-    options: &Options<'a>,
-    answers: &Answers,
-    claim: &Claim,
-) -> Result<(), Failure<'a>> {
-    let Some(prefix) = options.witness else {
-        return Ok(());
-    };
-    let letter = answers.letter();
-    let place = property_of(claim);
-    let text = witness_text(rt, answers, claim)?;
-    let name = format!(in rt.alloc(); "{prefix}{letter}{place}.aiw")?;
-    match new_text(rt, name.as_str(), &text) {
-        Ok(()) => Ok(()),
-        Err(error) => Err(Failure::Witness(prefix, letter, place, error)),
-    }
-}
-
-// The text of a witness.
-fn witness_text(rt: &HostRuntime, answers: &Answers, claim: &Claim) -> Result<Vec<u8>, AllocError> {
-    let place = property_of(claim);
-    match answers.liveness {
-        Some(_) => write_lasso(rt.alloc(), place, &claim.trace),
-        None => write_witness(rt.alloc(), place, &claim.trace),
-    }
-}
-
 // The place of the property that a witness of an answer names: it names one.
 fn property_of(claim: &Claim) -> u32 {
     claim.properties.first().copied().unwrap_or(0)
 }
 
-// Writes a text to a file of this name, which is not there yet.
-fn new_text(rt: &HostRuntime, name: &str, text: &[u8]) -> io::Result<()> {
-    let mut file = NewFile::begin(rt, name, Existing::Refuse)?;
-    file.write_all(text)?;
-    match file.finish() {
-        Ok(()) => Ok(()),
-        Err(FinishError::Unmade(_, error)) => Err(error),
-        Err(FinishError::Refused(_, _, error)) => Err(error),
-        Err(FinishError::Taken(_, _)) => Err(io::Error::from(ErrorKind::AlreadyExists)),
-    }
-}
-
 // Writes of each answer, in turn, the table of its trace, or what is known of a property that has a name.
-fn tell_named<'a>(
-    rt: &HostRuntime,
-    answers: &Answers,
-    names: &Names,
-    claims: &[Claim],
-) -> Result<(), Failure<'a>> {
-    let mut claims = claims.iter();
+fn tell_named<'a>(rt: &HostRuntime, bytes: &[u8], answers: &Answers) -> Result<(), Failure<'a>> {
+    let found = claims_of(rt, answers)?;
+    let names = Names::read(rt.alloc(), &answers.netlist.circuit, bytes)?;
+    let mut claims = found.iter();
     let mut rest = answers.text;
     while let Some((status, place, after)) = next_answer(rest, answers.letter()) {
         match status {
             [b'1'] => {
                 if let Some(claim) = claims.next() {
-                    write_table(rt, answers, names, claim)?;
+                    write_table(rt, answers, &names, claim)?;
                 }
             }
-            [b'0'] => write_known(rt, names, answers.property(place), b"safe")?,
-            _ => write_known(rt, names, answers.property(place), b"open")?,
+            [b'0'] => write_known(rt, &names, answers.property(place), b"safe")?,
+            _ => write_known(rt, &names, answers.property(place), b"open")?,
         }
         rest = after;
     }

@@ -329,6 +329,7 @@ fn tell_at<S: SatSolver + Drop, L: Listener, W: Write>(
     let wanted = wanted_still(wanted, output, listener);
     let known = query.find_out(alloc, at, wanted, listener);
     let told = tell(alloc, place, &known, output)?;
+    note_witness(place, &told, listener);
     text.extend_from_slice(&told.text)?;
     Ok(Told {
         text,
@@ -369,6 +370,13 @@ fn wanted_still<L: Listener, W: Write>(
     }
     listener.end(false);
     Wanted::Nothing
+}
+
+// Tells a listener of what is told of the bad literal at a place, if that is a witness.
+fn note_witness<L: Listener>(place: usize, told: &Told, listener: &mut L) {
+    if told.outcome == Outcome::Fails {
+        listener.note_witness(place, &told.text);
+    }
 }
 
 // How often a number can be doubled.

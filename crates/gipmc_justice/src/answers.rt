@@ -224,11 +224,19 @@ fn answer_about<S: SatSolver + Drop, L: Listener, W: Write>(
     let text = verdict_text(alloc, place, &verdict)?;
     output.tell(&text);
     let outcome = outcome_of(&verdict);
+    note_witness(place, outcome, &text, listener);
     Ok(Said {
         text,
         outcome,
         found: found_in(alloc, place, verdict)?,
     })
+}
+
+// Tells a listener of the text of what is known of the property at a place, if that is a witness.
+fn note_witness<L: Listener>(place: usize, outcome: Outcome, text: &[u8], listener: &mut L) {
+    if outcome == Outcome::Fails {
+        listener.note_witness(place, text);
+    }
 }
 
 // What is found out about the property at a place: nothing where the time is over, or memory is refused.

@@ -14,6 +14,9 @@ pub trait Listener: Watch {
     /// is answered is known to be one.
     fn end_shortening(&mut self, _is_shortest: bool) {}
 
+    /// The property at this place fails. Its witness has this text, and was told, unless a write failed.
+    fn note_witness(&mut self, _place: usize, _text: &[u8]) {}
+
     /// The search does not go on for this literal. Whether memory was refused, and the literal is left open for that.
     fn end(&mut self, is_refused: bool);
 }

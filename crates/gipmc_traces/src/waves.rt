@@ -71,11 +71,19 @@ fn write_scopes(text: &mut Vec<u8>, last: &[u8], next: &[u8]) -> Result<(), Allo
 // Enters a scope.
 fn write_scope(text: &mut Vec<u8>, name: &[u8]) -> Result<(), AllocError> {
     text.extend_from_slice(b"$scope module ")?;
-    for byte in name {
+    for byte in unended(name) {
         text.push(if byte.is_ascii_graphic() { *byte } else { b'_' })?;
     }
     text.extend_from_slice(b" $end\n")?;
     Ok(())
+}
+
+// A name that does not end the command in which it stands.
+fn unended(name: &[u8]) -> &[u8] {
+    match name {
+        b"$end" => b"_end",
+        _ => name,
+    }
 }
 
 // Writes what a variable is.
@@ -93,7 +101,7 @@ fn write_variable(
     write!(text, "$var {kind} {width} ").map_err(|_| AllocError)?;
     write_code(text, place)?;
     text.push(b' ')?;
-    signal.write_name(name, text)?;
+    signal.write_name(unended(name), text)?;
     text.push(b' ')?;
     signal.write_index(text)?;
     text.extend_from_slice(b" $end\n")?;
