@@ -258,6 +258,36 @@ for engine in ic3 bmc induction all; do
     told "the time is over within a question: $engine" $?
 done
 
+# A latch that holds what the input was, and a chain of gates each of which is true where both are; the last one is bad, and
+# with `1` its negation is a constraint. A question makes its formula in parts.
+long_chain() {
+    local gates=300000
+    printf 'aig %s 1 1 0 %s 1%s\n2\n%s\n%s' $((gates + 2)) "$gates" "${1:+ 1}" $((2 * gates + 4)) "${1:+$((2 * gates + 5))$'\n'}"
+    head -c $((2 * gates)) /dev/zero | tr '\0' '\2'
+}
+if is_wanted "a formula in parts, by bmc" "a formula in parts, by bmc with a limit" "a constraint in parts, by bmc" \
+    "a constraint in parts, by induction"; then
+    long_chain > chain.aig
+    "$gipmc" --engine bmc chain.aig > out 2> err
+    status=$?
+    [ "$status" = 10 ] && [ ! -s err ] && [ "$(answers out)" = "$(printf '1\nb0\n0\n1\n1\n.')" ]
+    told "a formula in parts, by bmc" $?
+    "$gipmc" --engine bmc --limit 1 chain.aig > out 2> err
+    status=$?
+    [ "$status" = 10 ] && [ ! -s err ] && [ "$(answers out)" = "$(printf '1\nb0\n0\n1\n1\n.')" ]
+    told "a formula in parts, by bmc with a limit" $?
+    long_chain 1 > chain.aig
+    "$gipmc" --engine bmc --depth 3 chain.aig > out 2> err
+    status=$?
+    [ "$status" = 0 ] && [ ! -s err ] && [ "$(answers out)" = "$(open 3)" ]
+    told "a constraint in parts, by bmc" $?
+    "$gipmc" --engine induction chain.aig > out 2> err
+    status=$?
+    [ "$status" = 20 ] && [ ! -s err ] && [ "$(answers out)" = "$safe" ]
+    told "a constraint in parts, by induction" $?
+    rm chain.aig
+fi
+
 # Two copies of a machine with N latches, whose next values are mixed; it is bad if they differ in the last latch.
 twins() {
     awk -v n="$1" '

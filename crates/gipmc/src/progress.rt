@@ -146,6 +146,10 @@ impl Listener for Teller<'_, '_> {
 }
 
 impl Watch for Teller<'_, '_> {
+    fn note_turn(&mut self) -> ControlFlow<()> {
+        self.go_on(self.clock.now())
+    }
+
     fn note_round(&mut self, rounds: usize) -> ControlFlow<()> {
         if rounds != self.snapshot.simulated.rounds {
             self.snapshot.simulated = Simulated { rounds, moments: 0 };

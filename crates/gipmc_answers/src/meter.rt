@@ -23,6 +23,10 @@ impl<'a, W: Watch> Meter<'a, W> {
 }
 
 impl<'a, W: Watch> Watch for Meter<'a, W> {
+    fn note_turn(&mut self) -> ControlFlow<()> {
+        self.watch.note_turn()
+    }
+
     fn note_round(&mut self, rounds: usize) -> ControlFlow<()> {
         self.watch.note_round(rounds)
     }

@@ -5,6 +5,11 @@ use std::ops::ControlFlow;
 
 /// A listener: it is told how far a search is, and may stop it.
 pub trait Watch {
+    /// An engine is to go on. `Break` stops all searches.
+    fn note_turn(&mut self) -> ControlFlow<()> {
+        ControlFlow::Continue(())
+    }
+
     /// So many rounds of simulation found nothing. `Break` stops the simulation.
     fn note_round(&mut self, rounds: usize) -> ControlFlow<()>;
 

@@ -23,6 +23,11 @@ impl<W: Watch> Hearing<'_, W> {
 }
 
 impl<W: Watch> Watch for Hearing<'_, W> {
+    fn note_turn(&mut self) -> ControlFlow<()> {
+        let flow = self.watch.note_turn();
+        self.noted(flow)
+    }
+
     fn note_round(&mut self, rounds: usize) -> ControlFlow<()> {
         let flow = self.watch.note_round(rounds);
         self.noted(flow)
