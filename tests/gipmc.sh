@@ -246,6 +246,20 @@ products() {
     }'
 }
 
+# Latches that stay, each with a bad literal: a moment has much work and no gate.
+if is_wanted "a thousand latches that stay, each with a bad literal"; then
+    {
+        echo "aag 1000 0 1000 0 0 1000"
+        seq 2 2 2000 | sed 's/.*/& &/'
+        seq 2 2 2000
+    } > stay.aag
+    (ulimit -t 20; exec "$gipmc" --quiet stay.aag) > out 2> err
+    status=$?
+    [ "$status" = 20 ] && [ ! -s err ] && [ "$(grep -c '^0$' out)" = 1000 ]
+    told "a thousand latches that stay, each with a bad literal" $?
+    rm stay.aag
+fi
+
 # One question about them takes minutes. It may take ten seconds of the processor here until all is told.
 products 11 > products.aag
 for engine in ic3 bmc induction all; do
