@@ -10,9 +10,12 @@ use std::alloc::{AllocError, Global};
 // Once a bump would add as much, all scores are scaled down.
 const GREATEST_INCREMENT: f64 = 1e100;
 
-// The decision queue: variables in a heap by their scores (VSIDS).
+// The decision queue: variables by their scores (VSIDS), those of one score by their numbers, the greatest first. The ones
+// that were bumped wait in a heap. All others have the score 0, and come behind them.
 pub(crate) struct Activity {
-    queue: BoundedHeap<u32>,
+    heap: BoundedHeap<u32>,
+    // The variables of the score 0 that wait are below this one.
+    end: u32,
     scores: Vec<f64>,
     // What a bump adds. It grows, so that recent bumps count more.
     increment: f64,
@@ -25,7 +28,8 @@ pub(crate) struct Activity {
 impl Drop for Activity {
     fn drop(self) {
         let Activity {
-            queue,
+            heap,
+            end: _,
             scores,
             increment: _,
             domain,
@@ -38,7 +42,8 @@ impl Activity {
     // No variable.
     pub(crate) fn new(alloc: Global) -> Result<Self, AllocError> {
         Ok(Activity {
-            queue: BoundedHeap::with_bound(alloc, 0)?,
+            heap: BoundedHeap::with_bound(alloc, 0)?,
+            end: 0,
             scores: Vec::new(alloc),
             increment: 1.0,
             domain: Domain::new(alloc)?,
@@ -51,12 +56,10 @@ impl Activity {
         let old = self.scores.len();
         self.scores.resize(old.max(variables), 0.0)?;
         self.is_out.resize(old.max(variables), false)?;
-        self.queue
-            .raise_bound(u32::try_from(variables).unwrap_or(u32::MAX))?;
-        for variable in old..variables {
-            if let Ok(variable) = u32::try_from(variable) {
-                self.push(variable);
-            }
+        let bound = u32::try_from(variables).unwrap_or(u32::MAX);
+        self.heap.raise_bound(bound)?;
+        if variables > old {
+            self.end = bound;
         }
         Ok(())
     }
@@ -79,12 +82,12 @@ impl Activity {
         }
     }
 
-    // How many variables wait to be decided.
+    // How many variables may be picked until one without a value is, or none waits.
     pub(crate) fn waiting(&self) -> usize {
         if self.domain.is_set() {
             self.domain.waiting()
         } else {
-            self.queue.len()
+            self.heap.len().saturating_add(1)
         }
     }
 
@@ -106,10 +109,12 @@ impl Activity {
         }
     }
 
-    // Puts a variable into the queue of all.
+    // Puts a variable into the queue of all: into the heap, if it was bumped.
     fn push(&mut self, variable: u32) {
-        if variable < self.queue.bound() {
-            self.queue.push(variable, &ByScore(&self.scores));
+        if self.score(variable) == 0.0 {
+            self.end = self.end.max(variable.saturating_add(1));
+        } else if variable < self.heap.bound() {
+            self.heap.push(variable, &ByScore(&self.scores));
         }
     }
 
@@ -140,7 +145,7 @@ impl Activity {
 
     // Queues all variables.
     pub(crate) fn put_all_back(&mut self) {
-        for variable in 0..self.queue.bound() {
+        for variable in 0..self.heap.bound() {
             if !self.is_out(variable) {
                 self.push(variable);
             }
@@ -152,13 +157,18 @@ impl Activity {
         ByScore(&self.scores).score(variable)
     }
 
-    // Raises the score of a variable.
+    // Raises the score of a variable, which has a value. If that was 0, it waits in the heap from now on.
     pub(crate) fn bump(&mut self, variable: u32) {
-        if let Some(score) = self.scores.get_mut(variable as usize) {
-            *score += self.increment;
-            self.queue.up(variable, &ByScore(&self.scores));
-            self.domain.up(variable, &self.scores);
+        let Some(score) = self.scores.get_mut(variable as usize) else {
+            return;
+        };
+        let was_zero = *score == 0.0;
+        *score += self.increment;
+        if was_zero {
+            self.push(variable);
         }
+        self.heap.up(variable, &ByScore(&self.scores));
+        self.domain.up(variable, &self.scores);
     }
 
     // A conflict was met: later bumps count more than earlier ones, by this part.
@@ -170,7 +180,7 @@ impl Activity {
             for score in self.scores.iter_mut() {
                 *score /= GREATEST_INCREMENT;
             }
-            self.queue.rebuild(&ByScore(&self.scores));
+            self.heap.rebuild(&ByScore(&self.scores));
             self.domain.rebuild(&self.scores);
         }
     }
@@ -180,18 +190,33 @@ impl Activity {
         if self.domain.is_set() {
             return self.domain.pick(trail, &self.scores);
         }
-        Ok(self.queue.pop(&ByScore(&self.scores)))
+        match self.heap.pop(&ByScore(&self.scores)) {
+            Some(variable) => Ok(Some(variable)),
+            None => Ok(self.last(trail)),
+        }
+    }
+
+    // The variable of the greatest number below the end that has no value and is not taken out. The end falls to it.
+    fn last(&mut self, trail: &Trail) -> Option<u32> {
+        for variable in (0..self.end).rev() {
+            if trail.has_no_value(variable) && !self.is_out(variable) {
+                self.end = variable.saturating_add(1);
+                return Some(variable);
+            }
+        }
+        self.end = 0;
+        None
     }
 
     // A variable of greatest score that has no value and is not taken out. Those before it leave the queue.
     pub(crate) fn next(&mut self, trail: &Trail) -> Option<u32> {
-        for _ in 0..self.queue.len() {
-            let variable = self.queue.peek()?;
+        for _ in 0..self.heap.len() {
+            let variable = self.heap.peek()?;
             if trail.has_no_value(variable) && !self.is_out(variable) {
                 return Some(variable);
             }
-            self.queue.pop(&ByScore(&self.scores));
+            self.heap.pop(&ByScore(&self.scores));
         }
-        None
+        self.last(trail)
     }
 }
