@@ -9,8 +9,9 @@
                                                   that it writes; GIPSAT checks the proofs of CADICAL, if that is given
 
 FORMULAS is a folder of DIMACS files, or the name of a list: `tuning`, on which the settings of gipsat were chosen;
-`report`, whose formulas have other sizes and seeds, and in part other families; or `fresh`, which has other families
-alone. No setting is chosen on these two. Of FORMULAS these take a part, and they stand behind all other words:
+`report`, whose formulas have other sizes and seeds, and in part other families; `fresh`, which has other families
+alone; or `further`, which has others again, and large texts. No setting is chosen on these three. Of FORMULAS these
+take a part, and they stand behind all other words:
 
     --family NAME,..    the formulas of these families (how their names begin)
     --sample N          N formulas, spread over the list
@@ -48,7 +49,7 @@ import tempfile
 from pathlib import Path
 from typing import NamedTuple
 
-from lib import families, fresh
+from lib import families, fresh, further
 from lib.families import colouring, mixed, one_model, parity, parity_chains, pigeonhole, random_clauses, units
 
 SECONDS = 100
@@ -69,10 +70,10 @@ class Row(NamedTuple):
     sizes: tuple
 
     def write(self, path):
-        module = fresh if hasattr(fresh, self.family) else families
+        module = next(module for module in (further, fresh, families) if hasattr(module, self.family))
         made = getattr(module, self.family)(random.Random(self.seed), *self.sizes)
         with path.open("w") as file:
-            file.writelines(made if self.family == "easy_text" else lines_of(made))
+            file.writelines(lines_of(made) if isinstance(made, list) else made)
 
 
 def rows(family, known, *sizes, seeds=(1,)):
@@ -301,7 +302,84 @@ FRESH = [
     *rows("automata", "sat", (11, 11, 400, 16)),
 ]
 
-LISTS = {"tuning": TUNING, "report": REPORT, "fresh": FRESH}
+FURTHER = [
+    # Data flow, and ways on a grid.
+    *rows("reaching", "", (1200, 40, 60, 150, False)),
+    *rows("points_to", "", (40, 25, 200, 300, False)),
+    *rows("routing", "sat", (24, 5, 60, 0)),
+    # Orders of a graph's nodes.
+    *rows("bandwidths", "sat", (46, 44, 7, False)),
+    *rows("bandwidths", "", (26, 22, 6, True)),
+    *rows("treewidths", "sat", (40, 220, 8)),
+    *rows("grid_treewidths", "unsat", (4, 8, 3)),
+    *rows("cutwidths", "", (20, 3, 4)),
+    *rows("book_pages", "", (12, 40, 3), (14, 42, 3)),
+    # Codes, and sets of words.
+    *rows("parity_checks", "", (120, 6, 10, 2)),
+    *rows("covering_codes", "sat", (2, 6, 12), (3, 4, 9)),
+    *rows("weight_codes", "sat", (10, 4, 2, 20)),
+    *rows("linear_codes", "sat", (18, 6, 8)),
+    *rows("linear_codes", "", (13, 5, 6)),
+    *rows("autocorrelations", "", (22, 2), (26, 2)),
+    *rows("covering_arrays", "", (10, 5, 3)),
+    *rows("haplotypes", "sat", (50, 40, 20, 0)),
+    *rows("superstrings", "", (3, 12, 10, 50, 3)),
+    *rows("superstrings", "sat", (3, 14, 10, 54, 0)),
+    # Designs, and labels of graphs.
+    *rows("costas_arrays", "sat", (15, 0)),
+    *rows("queens_that_guard", "sat", (9, 5)),
+    *rows("queens_that_guard", "unsat", (8, 4)),
+    *rows("cliques", "sat", (100, 0.5, 12, 12), (140, 0.5, 13, 13)),
+    *rows("subgraphs", "sat", (100, 3, 40, 0)),
+    *rows("subgraphs", "", (100, 3, 30, 1)),
+    *rows("edge_colourings", "", (300, 5, False)),
+    *rows("edge_colourings", "unsat", (30, 4, True)),
+    *rows("graceful_labels", "", (11, 25)),
+    *rows("odd_pairs", "unsat", (13,)),
+    # Things that are sought.
+    *rows("sorting_networks", "sat", (8, 6)),
+    *rows("matrix_products", "sat", (10,)),
+    *rows("substitution_boxes", "sat", (4, 4)),
+    *rows("edge_puzzles", "sat", (9, 6, False)),
+    *rows("cell_rows", "sat", (140, 28, 110, 0)),
+    *rows("gene_networks", "", (50, 3, 8)),
+    # Ciphers and equations.
+    *rows("quadratic_equations", "sat", (24, 28, 12, True)),
+    *rows("quadratic_equations", "", (20, 30, 10, False), (24, 30, 12, False)),
+    *rows("stop_and_go", "sat", (28, 8, 9, 10)),
+    *rows("keeloq", "sat", (128, 2, 26)),
+    # Circuits and programs that are made in two ways.
+    *rows("field_products", "sat", (14, True)),
+    *rows("field_products", "unsat", (8, False)),
+    *rows("remainders", "unsat", (16, 7)),
+    *rows("filters", "unsat", (3, 6)),
+    *rows("bit_tricks", "unsat", (16,)),
+    *rows("binary_searches", "unsat", (16, 8, False)),
+    *rows("binary_searches", "sat", (64, 14, True)),
+    *rows("heap_sinks", "unsat", (7, 6, 3, False)),
+    *rows("text_matches", "unsat", (3, 10, 60)),
+    # Protocols, plans and schedules.
+    *rows("alternating_bits", "unsat", (22, 4, False)),
+    *rows("ring_elections", "unsat", (4, 3, 12)),
+    *rows("single_tracks", "", (10, 8, 4, 50)),
+    *rows("live_ranges", "", (50, 7, 100, 10, 9)),
+    *rows("partner_units", "", (24, 24, 8, 9, 3)),
+    *rows("votes", "unsat", (2, 4, False)),
+    *rows("votes", "sat", (2, 4, True)),
+    # Large texts.
+    *rows("implications", "sat", (1500000, 2900000, True)),
+    *rows("implications", "", (2700000, 2900000, False)),
+    *rows("horn_rules", "unsat", (700000, 1500000, True)),
+    *rows("horn_rules", "sat", (700000, 1500000, False)),
+    *rows("features", "sat", (300000, 1500000, 500, 0)),
+    *rows("versions", "sat", (60000, 6, 4, 1, True)),
+    *rows("reaching", "sat", (2700, 80, 200, 400, True)),
+    *rows("points_to", "sat", (80, 70, 350, 300, True)),
+    *rows("petri_nets", "sat", (150, 10, 1500, 120, 120, 0)),
+    *rows("mines", "sat", (210, 0.2, 0.2, False)),
+]
+
+LISTS = {"tuning": TUNING, "report": REPORT, "fresh": FRESH, "further": FURTHER}
 
 
 def count_of(clauses):
