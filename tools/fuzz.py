@@ -1,7 +1,7 @@
 #!/usr/bin/env python3
 """Compares gipsat, under random options, with other solvers on random formulas.
 
-    tools/fuzz.py --many 10000 --seed 1 crates/gipsat/out/gipsat minisat cadical
+    tools/fuzz.py --many 10000 crates/gipsat/out/gipsat minisat cadical
 
 The formulas are small: random clauses of many ratios, exclusive or, pigeons, horn clauses, and joins of these. The
 answers have to be equal. Each model is tried on its formula here, and each proof is judged by `--check` of gipsat. The
