@@ -246,17 +246,17 @@ products() {
     }'
 }
 
-# Latches that stay, each with a bad literal: a moment has much work and no gate.
-if is_wanted "a thousand latches that stay, each with a bad literal"; then
+# Latches that stay, each with a bad literal: a moment has much work and no gate, and each is decided with the others.
+if is_wanted "ten thousand latches that stay, each with a bad literal"; then
     {
-        echo "aag 1000 0 1000 0 0 1000"
-        seq 2 2 2000 | sed 's/.*/& &/'
-        seq 2 2 2000
+        echo "aag 10000 0 10000 0 0 10000"
+        seq 2 2 20000 | sed 's/.*/& &/'
+        seq 2 2 20000
     } > stay.aag
     (ulimit -t 20; exec "$gipmc" --quiet stay.aag) > out 2> err
     status=$?
-    [ "$status" = 20 ] && [ ! -s err ] && [ "$(grep -c '^0$' out)" = 1000 ]
-    told "a thousand latches that stay, each with a bad literal" $?
+    [ "$status" = 20 ] && [ ! -s err ] && [ "$(grep -c '^0$' out)" = 10000 ]
+    told "ten thousand latches that stay, each with a bad literal" $?
     rm stay.aag
 fi
 
@@ -1565,10 +1565,14 @@ printf '%b' "$kept" > kept.aag
 summary "a summary" 0 "c b0: $bmc$took" --engine bmc --depth 5 kept.aag
 summary "a summary of simulation" 0 "c b0: round [0-9]*; $took" --engine sim kept.aag
 summary "a summary of simulation that decides" 10 "c b0: \(round [0-9]*; \)*decided by sim; $took" --engine sim held.aag
-summary "a summary of IC3 where its first calls decide" 20 "c b0: ${ic3}decided by ic3; $took" --engine ic3 kept.aag
-printf '%b' 'aag 0 0 0 0 0 1\n0\n' > constant.aag
+summary "a summary where a constant decides" 20 "c b0: decided by ic3; $took" --engine ic3 kept.aag
+# Two latches that are equal, and change.
+printf '%b' 'aag 3 0 2 0 1 1\n2 3\n4 5\n6\n6 5 2\n' > twins.aag
+summary "a summary of IC3 where its first calls decide" 20 "c b0: ${ic3}decided by ic3; $took" --engine ic3 twins.aag
+# An input is not other than itself.
+printf '%b' 'aag 3 1 0 0 2 1\n2\n6\n4 2 2\n6 5 2\n' > same.aag
 summary "a summary of IC3 without a lemma" 20 \
-    "c b0: frame [0-9]*, [0-9]* calls, [0-9]* obligations; decided by ic3; $took" --engine ic3 constant.aag
+    "c b0: frame [0-9]*, [0-9]* calls, [0-9]* obligations; decided by ic3; $took" --engine ic3 same.aag
 # `tools/pdr.py --family queue_length 4` made it.
 summary "a summary of IC3" 20 "c b0: ${ic3}decided by ic3; $took" --engine ic3 "$top/tests/queue.aag"
 # `tools/pdr.py --family traffic 4` made it. Bounded model checking comes far beyond a depth of 5 before IC3 decides.

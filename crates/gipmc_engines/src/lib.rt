@@ -11,6 +11,7 @@ mod rounds;
 pub mod several;
 pub mod simulation;
 mod steps;
+mod ternary;
 mod turns;
 pub mod verdict;
 pub mod watch;

@@ -88,16 +88,18 @@ fn finds_out_about_each(rt: HostRuntime) -> Result<(), AllocError> {
     assert!(rt; simulated == [open, fails, now, fails, open]);
     let by_ic3 = found_out(rt.alloc(), &plan(Engine::Ic3, 1, 9), 4)?;
     assert!(rt; by_ic3 == [Said::Safe, fails, now, fails, open]);
-    // No moment at all makes the first one true.
     for &rounds in &[0, 1] {
         let by_all = found_out(rt.alloc(), &plan(Engine::All, rounds, 9), 4)?;
-        assert!(rt; by_all == [Said::Inductive(0), fails, now, fails, open]);
+        assert!(rt; by_all == [Said::Safe, fails, now, fails, open]);
     }
+    // No moment at all makes the first one true.
+    let by_induction = found_out(rt.alloc(), &plan(Engine::Induction, 1, 9), 4)?;
+    assert!(rt; by_induction == [Said::Inductive(0), fails, now, fails, open]);
     Ok(())
 }
 
 #[test]
-fn finds_out_about_none_without_calls(rt: HostRuntime) -> Result<(), AllocError> {
+fn finds_constants_alone_without_calls(rt: HostRuntime) -> Result<(), AllocError> {
     let without = Plan {
         bounds: Bounds {
             calls: 0,
@@ -105,7 +107,8 @@ fn finds_out_about_none_without_calls(rt: HostRuntime) -> Result<(), AllocError>
         },
         ..plan(Engine::Ic3, 1, 9)
     };
-    assert!(rt; found_out(rt.alloc(), &without, 4)? == [Said::Unknown; 5]);
+    let open = Said::Unknown;
+    assert!(rt; found_out(rt.alloc(), &without, 4)? == [Said::Safe, open, open, open, open]);
     Ok(())
 }
 
@@ -136,7 +139,7 @@ fn tells_which_engine_decided(rt: HostRuntime) -> Result<(), AllocError> {
         (Engine::Bounded, [bmc, bmc, bmc, bmc]),
         (Engine::Ic3, [ic3, ic3, ic3, ic3]),
         (Engine::Induction, [step, bmc, bmc, bmc]),
-        (Engine::All, [step, sim, sim, sim]),
+        (Engine::All, [ic3, sim, sim, sim]),
     ] {
         assert!(rt; engines_of(rt.alloc(), engine)? == wanted);
     }

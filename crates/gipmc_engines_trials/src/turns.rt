@@ -99,14 +99,12 @@ const OF_FULL: &[Decider] = &[
     Decider::ByTurns(0, 200),
 ];
 
-// What is said where the bad literal is never true.
-const OF_NEVER: &[(Decider, Said)] = &[
-    (Decider::Alone(200), Said::Safe),
-    // No call is needed.
-    (Decider::ByTurns(9, 200), Said::Inductive(0)),
-    (Decider::ByTurns(0, 0), Said::Inductive(0)),
-    // All calls are made.
-    (Decider::Alone(0), Said::Unknown),
+// Who says that the bad literal which is a constant is never true. No call is needed.
+const OF_NEVER: &[Decider] = &[
+    Decider::Alone(200),
+    Decider::ByTurns(9, 200),
+    Decider::ByTurns(0, 0),
+    Decider::Alone(0),
 ];
 
 #[test]
@@ -114,9 +112,11 @@ fn finds_traces_and_invariants(rt: HostRuntime) -> Result<(), AllocError> {
     for &decider in OF_FULL {
         assert!(rt; say(rt.alloc(), full(), decider)? == Said::Fails(3));
     }
-    for &(decider, said) in OF_NEVER {
-        assert!(rt; say(rt.alloc(), never(), decider)? == said);
+    for &decider in OF_NEVER {
+        assert!(rt; say(rt.alloc(), never(), decider)? == Said::Safe);
     }
+    // All calls are made.
+    assert!(rt; say(rt.alloc(), full(), Decider::Alone(0))? == Said::Unknown);
     Ok(())
 }
 
@@ -166,15 +166,14 @@ fn told(alloc: Global, bad: Literal, calls: usize) -> Result<(usize, usize), All
 
 #[test]
 fn tells_of_each_slice(rt: HostRuntime) -> Result<(), AllocError> {
-    // Of the one that finds a trace or an invariant, and of the one behind which all calls are made; of none where
-    // induction decides.
-    for &(bad, calls, turns) in &[
+    // Of the one that finds a trace, and of the one behind which all calls are made; of none where a constant decides.
+    for &(bad, calls, slices) in &[
         (full(), 200, 1),
         (full(), 0, 1),
         (never(), 200, 0),
         (never(), 0, 0),
     ] {
-        assert!(rt; told(rt.alloc(), bad, calls)? == (1, turns));
+        assert!(rt; told(rt.alloc(), bad, calls)? == (slices, slices));
     }
     Ok(())
 }

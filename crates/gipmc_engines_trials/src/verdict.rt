@@ -27,6 +27,6 @@ fn decides_both_ways(rt: HostRuntime) -> Result<(), AllocError> {
     let netlist = crate::small::made(rt.alloc(), crate::small::SHIFTER)?;
     let (full, never) = (Literal::new(4, true), Literal::new(0, true));
     assert!(rt; matches!(verdict(rt.alloc(), &netlist, full)?, Verdict::Fails(_)));
-    assert!(rt; matches!(verdict(rt.alloc(), &netlist, never)?, Verdict::Inductive(0)));
+    assert!(rt; matches!(verdict(rt.alloc(), &netlist, never)?, Verdict::Safe(_)));
     Ok(())
 }
