@@ -88,6 +88,8 @@ printf '\xfd7zXZ\x00\x00' > "$work/packed.xz"
 try "a formula in xz" 1 "$work/packed.xz:1: xz data (try: xz -dc FILE | gipsat)" "" "" "$work/packed.xz"
 printf 'BZh91AY&SY' > "$work/packed.bz2"
 try "a formula in bzip2" 1 "$work/packed.bz2:1: bzip2 data (try: bzip2 -dc FILE | gipsat)" "" "" "$work/packed.bz2"
+printf '\x28\xb5\x2f\xfd\x04\x58' > "$work/packed.zst"
+try "a formula in zstd" 1 "$work/packed.zst:1: zstd data (try: zstd -dc FILE | gipsat)" "" "" "$work/packed.zst"
 try "a byte order mark" 1 "$none" "" '\xef\xbb\xbfp cnf 1 1\n1 0\n'
 try "a formula in UTF-16" 1 "$none" "" 'p\0 \0c\0n\0f\0 \0001\0 \0001\0\n\0'
 try "lines that end with carriage returns alone" 1 "$none" "" 'p cnf 2 2\r1 0\r-1 2 0\r'
@@ -270,6 +272,9 @@ printf '%b' '\x1f\x8b\x08\x00' > "$work/squares.gz"
 try "a proof beside a formula in gzip" 1 \
     "$work/squares.gz:1: gzip data (try: gzip -dc FORMULA | gipsat --check - PROOF)" "" "" \
     --check "$work/squares.gz" "$work/proof"
+try "a proof beside a formula in zstd" 1 \
+    "$work/packed.zst:1: zstd data (try: zstd -dc FORMULA | gipsat --check - PROOF)" "" "" \
+    --check "$work/packed.zst" "$work/proof"
 try_check "a proof beside a broken formula" 1 "$work/formula:2: not a number" "" 'p cnf 1 1\nx 0\n' '0\n'
 printf '%b' "$squares" > "$work/formula"
 try "no proof" 1 "$work/none: no such file" "" "" --check "$work/formula" "$work/none"

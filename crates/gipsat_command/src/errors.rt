@@ -155,5 +155,6 @@ fn tool_of(compression: Compression) -> &'static str {
         Compression::Gzip => "gzip",
         Compression::Xz => "xz",
         Compression::Bzip2 => "bzip2",
+        Compression::Zstd => "zstd",
     }
 }

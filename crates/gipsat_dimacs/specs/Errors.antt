@@ -2,7 +2,7 @@
 use Rattle.std.specs.Prelude.{ℕ, List, ◌++◌, codes, decimal}
 use Rattle.gipsat_dimacs.specs.declared.error.Reason.{Reason}
 use Rattle.gipsat_dimacs.specs.declared.error.Reason.TheVariants.{Header, SecondHeader, Word, Number, Variable, MoreClauses, FewerClauses, OpenClause, Compressed}
-use Rattle.gipsat_dimacs.specs.declared.error.Compression.TheVariants.{Gzip, Xz, Bzip2}
+use Rattle.gipsat_dimacs.specs.declared.error.Compression.TheVariants.{Gzip, Xz, Bzip2, Zstd}
 use Rattle.gipsat_dimacs.specs.declared.error.DimacsError.{DimacsError}
 use Rattle.gipsat_dimacs.specs.declared.error.DimacsError.TheVariants.{Input, Line, Memory, Output}
 use Rattle.gipsat_dimacs.specs.declared.error.Stop.{Stop}
@@ -21,6 +21,7 @@ reason_text OpenClause = codes "a clause without its 0"
 reason_text (Compressed Gzip) = codes "gzip data (try: gzip -dc FILE | gipsat)"
 reason_text (Compressed Xz) = codes "xz data (try: xz -dc FILE | gipsat)"
 reason_text (Compressed Bzip2) = codes "bzip2 data (try: bzip2 -dc FILE | gipsat)"
+reason_text (Compressed Zstd) = codes "zstd data (try: zstd -dc FILE | gipsat)"
 
 -- the text of an error
 abbrev pub error_text : DimacsError → List ℕ

@@ -16,6 +16,8 @@ pub enum Compression {
     Xz,
     /// By bzip2.
     Bzip2,
+    /// By zstd.
+    Zstd,
 }
 
 /// Why a text has not the form.
@@ -62,6 +64,9 @@ impl fmt::Display for Reason {
             }
             Reason::Compressed(Compression::Bzip2) => {
                 f.write_str("bzip2 data (try: bzip2 -dc FILE | gipsat)")
+            }
+            Reason::Compressed(Compression::Zstd) => {
+                f.write_str("zstd data (try: zstd -dc FILE | gipsat)")
             }
         }
     }

@@ -30,6 +30,7 @@ pub fn compression_of(word: &[u8]) -> Option<Compression> {
         [0x1f, 0x8b, ..] => Some(Compression::Gzip),
         [0xfd, b'7', b'z', b'X', b'Z', ..] => Some(Compression::Xz),
         [b'B', b'Z', b'h', ..] => Some(Compression::Bzip2),
+        [0x28, 0xb5, 0x2f, 0xfd, ..] => Some(Compression::Zstd),
         _ => None,
     }
 }
