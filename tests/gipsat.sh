@@ -492,6 +492,31 @@ make "a proof of a formula with great numbers is written" 20 "" "s UNSATISFIABLE
 try "the proof of a formula with great numbers is checked" 0 \
     "c $work/written: read as DRAT, though its first number may be a name of LRAT" "s VERIFIED" "" \
     --check "$work/sparse" "$work/written"
+# NAME FORMULA PROOF [HINTS]: expects that little memory is enough to verify this proof, and to turn it into one with hints.
+try_far() {
+    is_wanted "$1" || return 0
+    printf '%b' "$2" > "$work/far.cnf"
+    printf '%b' "$3" > "$work/far"
+    (ulimit -v 200000; exec "$gipsat" --check "$work/far.cnf" "$work/far") > "$work/out" 2> "$work/err" &&
+        [ "$(cat "$work/out")" = "s VERIFIED" ] && { [ -z "${4-}" ] || hints_are "$4"; }
+    told "$1" $?
+}
+# HINTS: whether little memory is enough to turn that proof into one with hints, and it has these.
+hints_are() {
+    rm -f "$work/hinted"
+    (ulimit -v 200000; exec "$gipsat" --lrat-from-drat "$work/hinted" "$work/far.cnf" "$work/far") > "$work/out" 2> "$work/err" &&
+        printf '%b' "$1" | cmp -s - "$work/hinted"
+}
+near='p cnf 2 4\n1 2 0\n-1 2 0\n1 -2 0\n-1 -2 0\n'
+far='p cnf 2147483647 4\n2147483647 7 0\n-2147483647 7 0\n2147483647 -7 0\n-2147483647 -7 0\n'
+steps='1500000000 -7 0\n-1500000000 2147483647 0\n7 0\n0\n'
+try_far "great numbers in a proof take little memory" "$near" '2147483647 1 0\nd 2147483646 1 0\n1 0\n0\n' \
+    '6 1 0 1 3 0\n6 d 1 3 0\n7 0 6 2 4 0\n'
+try_far "great numbers in a formula take little memory where a proof is checked" "$far" "$steps" \
+    '7 7 0 1 2 0\n7 d 1 2 0\n8 0 7 3 4 0\n'
+try_far "great numbers in a proof with hints take little memory" "$near" '5 2147483647 1 0 1 3 0\n6 1 0 1 3 0\n7 0 6 2 4 0\n'
+try_far "great numbers beside hints take little memory" "$far" '5 1500000000 7 0 1 2 0\n6 7 0 1 2 0\n7 0 6 3 4 0\n'
+try_far "great numbers in a binary proof take little memory" "$far" 'a\x80\xbc\xc1\x96\x0b\x0f\x00a\x0e\x00a\x00'
 try "a model of a formula with great numbers" 10 "" "$(printf 's SATISFIABLE\nv -1 -2 -3 -4 5 -6 -7 8 -9 0')" \
     'p cnf 9 2\n8 0\n-8 5 0\n'
 printf 'p cnf 16777216 1\n16777216 0\n' > "$work/great"

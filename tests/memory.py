@@ -35,6 +35,10 @@ QUESTIONS = b"p inccnf\n1 2 3 0\n-1 2 0\na 0\n-2 -3 0\na 3 2 0\na -3 -2 0\n"
 DRAT = b"1 0\n0\n"
 LRAT = b"5 1 0 1 2 0\n6 0 5 3 4 0\n"
 NO_PROOF = b"3 0\n"
+# Numbers of which most have no variable.
+FAR = b"p cnf 2147483647 4\n2147483647 7 0\n-2147483647 7 0\n2147483647 -7 0\n-2147483647 -7 0\n"
+FAR_DRAT = b"1500000000 -7 0\n7 0\n0\n"
+FAR_LRAT = b"5 1500000000 7 0 1 2 0\n6 7 0 1 2 0\n7 0 6 3 4 0\n"
 
 # A latch that stays 0, and one that holds next what the input was; each is bad. A counter of two bits that goes from 2
 # to 0: it is never 3, is 2 after two transitions.
@@ -89,6 +93,8 @@ def runs():
     yield solver("a proof that is checked", ["--check", f, p], files={f: UNSATISFIABLE, p: DRAT})
     yield solver("a proof with hints that is checked", ["--check", f, p], files={f: UNSATISFIABLE, p: LRAT})
     yield solver("a proof that is none", ["--check", f, p], files={f: UNSATISFIABLE, p: NO_PROOF})
+    yield solver("a proof of great numbers that is checked", ["--check", f, p], files={f: FAR, p: FAR_DRAT})
+    yield solver("a proof of great numbers with hints", ["--check", f, p], files={f: FAR, p: FAR_LRAT})
     words = ["--lrat-from-drat", "hinted", f, p]
     yield solver("hints that are written", words, files={f: UNSATISFIABLE, p: DRAT}, written="hinted",
                  verified=["--check", f, "hinted"])

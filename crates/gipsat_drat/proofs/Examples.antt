@@ -1,7 +1,8 @@
 -- Worked examples of the definitions: accepted and refused ones.
-use Rattle.std.proofs.Common.{◌≡◌, true, [], ◌∷◌, codes, refl}
+use Rattle.std.proofs.Common.{◌≡◌, true, false, [], ◌∷◌, codes, nat_eq, refl}
 use Rattle.std.specs.Fmt.{digits}
-use Rattle.gipsat_cnf.specs.Formulas.{Formula}
+use Rattle.gipsat_cnf.specs.Formulas.{Clause, Formula}
+use Rattle.gipsat_drat.specs.Numbers.{SaysOfNumbers, by_number}
 use Rattle.gipsat_drat.specs.Outcomes.{IsRight, error_text, outcome_text, refusal_text}
 use Rattle.gipsat_drat.specs.declared.error.DratError.TheVariants.{Form}
 use Rattle.gipsat_drat.specs.declared.error.Flaw.TheVariants.{Unnamed, NotShown}
@@ -36,3 +37,20 @@ refused_in_binary = refl
 -- the error of another form shows what to type
 other_form : error_text (Form Gzip) ≡ codes "proof: gzip data (try: gzip -dc PROOF | gipsat --check FORMULA -)"
 other_form = refl
+
+-- two variables that have the numbers 5 and 9: the second one has the value of 9, and the third is its number
+second : by_number (5 ∷ 9 ∷ []) (λ number. nat_eq number 9) 1 ≡ true
+second = refl
+
+third : by_number (5 ∷ 9 ∷ []) (λ number. nat_eq number 2) 2 ≡ true
+third = refl
+
+-- the clause of the second one says what the clause of 9 says
+abbrev not_second : Clause
+not_second = record { variable = 1; positive = false } ∷ []
+
+abbrev not_nine : Clause
+not_nine = record { variable = 9; positive = false } ∷ []
+
+says_of_nine : SaysOfNumbers (5 ∷ 9 ∷ []) not_second not_nine
+says_of_nine = λ a. refl

@@ -1,4 +1,5 @@
 mod Examples
 mod HeldLemmas
+mod NumberLemmas
 mod OutcomeLemmas
 mod RatExamples

@@ -5,6 +5,7 @@ ghost use Rattle.gipsat_drat.specs.Held.{IsConsistent, Keeps, StaysRefuted, held
 
 use crate::index::Index;
 use crate::log::Log;
+use crate::numbering::{Numbered, Numbering, renumber};
 use crate::rat::add_rat;
 use crate::rup::{add_rup, enter};
 use crate::trail::Trail;
@@ -29,6 +30,7 @@ pub struct Checker {
     trail: Trail,
     watches: Watches,
     index: Index,
+    numbering: Numbering,
     // The steps, if they are wanted.
     log: Log,
     // Whether the empty clause was shown.
@@ -44,6 +46,7 @@ impl Drop for Checker {
             trail,
             watches,
             index,
+            numbering,
             log,
             refuted: _,
         } = self;
@@ -66,7 +69,7 @@ impl Checker {
     pub fn new(alloc: Global, variables: u32) -> Result<Self, AllocError>
         ensures { IfOk result (λ c. c ≡ held_of []) }
     {
-        let mut checker = Checker::of(alloc, RatKernel::new(alloc));
+        let mut checker = Checker::of(alloc, RatKernel::new(alloc), Numbering::new(alloc));
         checker.cover_variables(variables as usize)?;
         Ok(checker)
     }
@@ -78,19 +81,33 @@ impl Checker {
     pub fn over(alloc: Global, formula: Cnf) -> Result<Self, AllocError>
         ensures { IfOk result (Keeps (held_of formula)) }
     {
-        Checker::over_with(alloc, formula, false)
+        Checker::over_with(alloc, formula, Numbering::new(alloc), false)
     }
 
-    // The same, and the steps are noted if they are wanted.
-    pub(crate) fn over_with(
+    // The same, and variables are numbered anew where the formula has few of those that are below its greatest. The steps
+    // are noted if they are wanted.
+    pub(crate) fn over_numbered(
         alloc: Global,
         formula: Cnf,
         keeps_log: bool,
     ) -> Result<Self, AllocError>
         ensures { IfOk result (Keeps (held_of formula)) }
     {
+        let Numbered { numbering, formula } = renumber(alloc, formula)?;
+        Checker::over_with(alloc, formula, numbering, keeps_log)
+    }
+
+    // A checker that holds the clauses of a formula of variables with these numbers.
+    fn over_with(
+        alloc: Global,
+        formula: Cnf,
+        numbering: Numbering,
+        keeps_log: bool,
+    ) -> Result<Self, AllocError>
+        ensures { IfOk result (Keeps (held_of formula)) }
+    {
         let kernel = RatKernel::over(alloc, formula)?;
-        let mut checker = Checker::of(alloc, kernel);
+        let mut checker = Checker::of(alloc, kernel, numbering);
         checker.enter_given(keeps_log)?;
         Ok(checker)
     }
@@ -98,6 +115,18 @@ impl Checker {
     // The steps, if they were wanted.
     pub(crate) fn log(&self) -> &Log {
         &self.log
+    }
+
+    // The numbers of the variables.
+    pub(crate) fn numbering(&self) -> &Numbering {
+        &self.numbering
+    }
+
+    // Turns a clause of a text into one of the variables that are held.
+    pub(crate) fn number(&mut self, clause: &mut [Literal]) -> Result<(), AllocError>
+        ensures { self.new ≡ self.old }
+    {
+        self.numbering.apply(self.alloc, clause)
     }
 
     // Notes the steps from now on, if they are wanted.
@@ -123,7 +152,7 @@ impl Checker {
     }
 
     // A checker of a kernel whose clauses were not entered, with room for no variable.
-    fn of(alloc: Global, kernel: RatKernel) -> Self
+    fn of(alloc: Global, kernel: RatKernel, numbering: Numbering) -> Self
         ensures { result ≡ held_of kernel }
     {
         Checker {
@@ -132,6 +161,7 @@ impl Checker {
             trail: Trail::new(alloc),
             watches: Watches::new(alloc),
             index: Index::new(alloc),
+            numbering,
             log: Log::new(alloc),
             refuted: false,
         }

@@ -16,6 +16,7 @@ mod lrat_parser;
 mod lrat_step;
 pub mod lrat_writer;
 mod names;
+mod numbering;
 mod parser;
 mod propagation;
 mod rat;

@@ -7,6 +7,7 @@ use crate::checker::list_ids;
 use crate::error::{Flaw, Stop};
 use crate::hints::{Hint, add_hinted};
 use crate::names::Names;
+use crate::numbering::{Numbered, Numbering, renumber};
 use crate::trail::Trail;
 use gipsat_cnf::{Cnf, Literal};
 use gipsat_kernel::RatKernel;
@@ -20,6 +21,7 @@ pub(crate) struct LratChecker {
     kernel: RatKernel,
     trail: Trail,
     names: Names,
+    numbering: Numbering,
     // The greatest name of all that were given.
     last: u64,
     // How many literals the clauses have.
@@ -36,6 +38,7 @@ impl Drop for LratChecker {
             kernel,
             trail,
             names: _,
+            numbering,
             last: _,
             literals: _,
             refuted: _,
@@ -55,18 +58,20 @@ impl Model for LratChecker {
 const FEW_LITERALS: usize = 65_536;
 
 impl LratChecker {
-    // A checker that holds the clauses of a formula, named from 1 on. It takes the formula over without a copy.
+    // A checker that holds the clauses of a formula, named from 1 on. Variables are numbered anew where the formula has
+    // few of those that are below its greatest.
     pub(crate) fn over(alloc: Global, formula: Cnf) -> Result<Self, AllocError>
-        ensures { IfOk result (λ c. c ≡ held_of formula) }
+        ensures { IfOk result (Keeps (held_of formula)) }
     {
+        let Numbered { numbering, formula } = renumber(alloc, formula)?;
         let kernel = RatKernel::over(alloc, formula)?;
-        let mut checker = LratChecker::of(alloc, kernel);
+        let mut checker = LratChecker::of(alloc, kernel, numbering);
         checker.name_given()?;
         Ok(checker)
     }
 
     // A checker of a kernel whose clauses have no names, with room for no variable.
-    fn of(alloc: Global, kernel: RatKernel) -> Self
+    fn of(alloc: Global, kernel: RatKernel, numbering: Numbering) -> Self
         ensures { result ≡ held_of kernel }
     {
         LratChecker {
@@ -74,6 +79,7 @@ impl LratChecker {
             kernel,
             trail: Trail::new(alloc),
             names: Names::new(alloc),
+            numbering,
             last: 0,
             literals: 0,
             refuted: false,
@@ -98,6 +104,13 @@ impl LratChecker {
         ensures refutes { OnTrue result (¬ (IsConsistent self.now)) }
     {
         self.refuted
+    }
+
+    // Turns a clause of a text into one of the variables that are held.
+    pub(crate) fn number(&mut self, clause: &mut [Literal]) -> Result<(), AllocError>
+        ensures { self.new ≡ self.old }
+    {
+        self.numbering.apply(self.alloc, clause)
     }
 
     // Adds a clause that its hints show, with a name that is greater than all before.

@@ -136,6 +136,7 @@ impl LratStep {
         if self.part == Part::Names {
             checker.delete_all(&self.hints)?;
         } else {
+            checker.number(&mut self.clause)?;
             checker.add(self.name, &self.clause, &self.hints)?;
         }
         self.part = Part::Start;

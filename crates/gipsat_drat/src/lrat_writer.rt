@@ -3,6 +3,7 @@ ghost use Rattle.std.specs.Prelude.{◌≡◌, ◌≢◌, IfErr};
 
 use crate::error::Failure;
 use crate::log::{Added, Log, Trim, Use};
+use crate::numbering::Numbering;
 use gipsat_cnf::Literal;
 use giputils_text::write_groups;
 use std::alloc::{AllocError, Global};
@@ -25,6 +26,7 @@ pub enum LratFormat {
 pub(crate) fn write_log<W: Write>(
     alloc: Global,
     log: &Log,
+    numbering: &Numbering,
     format: LratFormat,
     writer: &mut W,
 ) -> Result<(), Failure>
@@ -33,12 +35,15 @@ pub(crate) fn write_log<W: Write>(
     let mut trim = log.trim(alloc)?;
     let mut gone = Vec::new(alloc);
     let mut bytes = Vec::new(alloc);
-    write_steps(log, format, writer, &mut trim, &mut gone, &mut bytes)
+    write_steps(
+        log, numbering, format, writer, &mut trim, &mut gone, &mut bytes,
+    )
 }
 
 // Writes the needed steps, with the names of clauses that wait to be deleted, and bytes that wait to be written.
 fn write_steps<W: Write>(
     log: &Log,
+    numbering: &Numbering,
     format: LratFormat,
     writer: &mut W,
     trim: &mut Trim,
@@ -55,7 +60,7 @@ fn write_steps<W: Write>(
         if !trim.is_needed(step.name) {
             continue;
         }
-        write_step(bytes, format, log.given(), step, trim, gone)?;
+        write_step(bytes, numbering, format, log.given(), step, trim, gone)?;
         if bytes.len() >= BUFFER_SIZE {
             flush(bytes, writer)?;
         }
@@ -77,6 +82,7 @@ fn list_unneeded(log: &Log, trim: &Trim, names: &mut Vec<u32>) -> Result<(), All
 // wait may be candidates of a clause that is RAT, and go before it then.
 fn write_step(
     bytes: &mut Vec<u8>,
+    numbering: &Numbering,
     format: LratFormat,
     given: u32,
     step: Added<'_>,
@@ -87,7 +93,7 @@ fn write_step(
         write_deletion(bytes, format, given, gone)?;
         gone.clear();
     }
-    write_addition(bytes, format, step)?;
+    write_addition(bytes, numbering, format, step)?;
     for used in step.uses {
         if trim.ends(used.name, step.name) {
             gone.push(used.name)?;
@@ -167,6 +173,7 @@ fn write_name(bytes: &mut Vec<u8>, format: LratFormat, name: u32) -> Result<(), 
 // Writes a step that adds a clause.
 fn write_addition(
     bytes: &mut Vec<u8>,
+    numbering: &Numbering,
     format: LratFormat,
     step: Added<'_>,
 ) -> Result<(), AllocError> {
@@ -174,18 +181,20 @@ fn write_addition(
         bytes.push(b'a')?;
     }
     write_name(bytes, format, step.name)?;
-    write_literals(bytes, format, step.literals)?;
+    write_literals(bytes, numbering, format, step.literals)?;
     write_hints(bytes, format, step.uses)
 }
 
 // Writes the literals of a clause.
 fn write_literals(
     bytes: &mut Vec<u8>,
+    numbering: &Numbering,
     format: LratFormat,
     literals: &[Literal],
 ) -> Result<(), AllocError> {
     for l in literals {
-        write_signed(bytes, format, l.variable() + 1, l.is_positive())?;
+        let number = numbering.number(l.variable()).saturating_add(1);
+        write_signed(bytes, format, number, l.is_positive())?;
     }
     end_list(bytes, format, b"0 ")
 }

@@ -1,4 +1,5 @@
-//! Which clause of the kernel has a name of the proof. A wrong answer makes a step fail, and no more.
+//! Which clause of the kernel has a name of the proof, or which variable has a number of it. No verdict rests on it: by a
+//! wrong answer a step fails, or says something else, which is shown all the same.
 
 use crate::watches::GONE;
 use std::alloc::{AllocError, Global};

@@ -58,6 +58,7 @@ impl Step {
     pub(crate) fn end(&mut self, checker: &mut Checker, place: Place) -> Result<(), Stop>
         ensures { Keeps checker.old checker.new }
     {
+        checker.number(&mut self.clause)?;
         if self.deletes {
             let found = checker.delete(&self.clause)?;
             self.count_missing(found, place);

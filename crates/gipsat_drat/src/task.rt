@@ -139,7 +139,7 @@ fn convert<P: Read, W: Write>(
     ensures failed { IfErr result (λ why. why ≢ Failure.Output → why ≢ Failure.Memory → writer.new ≡ writer.old) }
 {
     let clauses = formula.len();
-    let mut checker = Checker::over_with(alloc, formula, true)?;
+    let mut checker = Checker::over_numbered(alloc, formula, true)?;
     convert_steps(alloc, &mut checker, clauses, proof, format, writer, notes)
 }
 
@@ -160,7 +160,7 @@ fn convert_steps<P: Read, W: Write>(
     let outcome = check_unhinted(alloc, checker, clauses, proof, notes)?;
     match outcome {
         Outcome::Verified => {
-            write_log(alloc, checker.log(), format, writer)?;
+            write_log(alloc, checker.log(), checker.numbering(), format, writer)?;
             Ok(outcome)
         }
         Outcome::Refused(_) => Ok(outcome),
@@ -250,7 +250,7 @@ fn check_plain<P: Read>(
     ensures { IfOk result (IsRight formula) }
 {
     let clauses = formula.len();
-    let mut checker = Checker::over(alloc, formula)?;
+    let mut checker = Checker::over_numbered(alloc, formula, false)?;
     check_steps(alloc, &mut checker, clauses, form, start, proof, notes)
 }
 
