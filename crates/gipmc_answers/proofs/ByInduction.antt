@@ -4,8 +4,8 @@ use Rattle.gipsat_cnf.specs.Formulas.{Assignment}
 use Rattle.gipsat_cnf.specs.Literals.{Lit}
 use Rattle.gipmc_circuits.specs.declared.circuit.Circuit.{Circuit}
 use Rattle.gipmc_engines.specs.Verdicts.{IsSafeByInduction}
-use Rattle.gipmc_part.specs.Parts.{IsPartOf, literal_named, read}
-use Rattle.gipmc_part.proofs.Carried.{FailsAfter-part, IsSafe-part, is_moment-read, is_transition-read}
+use Rattle.gipmc_reduce.specs.Cone.{IsPartOf, literal_named, read}
+use Rattle.gipmc_reduce.proofs.ThroughNames.{FailsAfter-part, IsSafe-part, is_moment-read, is_transition-read}
 use Rattle.gipmc_unroll.specs.Induction.{IsKInductive, IsPath}
 
 -- a path of the whole circuit, read through the names, is one of the part

@@ -9,10 +9,10 @@ use Rattle.gipsat_cnf.specs.Literals.{Lit}
 use Rattle.gipsat_cnf.proofs.Places.{same_some}
 use Rattle.gipmc_circuits.specs.Circuit.{FailsAfter}
 use Rattle.gipmc_circuits.specs.declared.circuit.Circuit.{Circuit}
-use Rattle.gipmc_part.specs.Parts.{IsPartOf, literal_named}
-use Rattle.gipmc_part.proofs.Carried.{FailsAfter-part}
-use Rattle.gipmc_sweep.specs.Merges.{IsSweptOf, merged}
-use Rattle.gipmc_sweep.proofs.Carried.{FailsAfter-swept}
+use Rattle.gipmc_reduce.specs.Cone.{IsPartOf, literal_named}
+use Rattle.gipmc_reduce.proofs.ThroughNames.{FailsAfter-part}
+use Rattle.gipmc_reduce.specs.Correspondence.{IsSweptOf, merged}
+use Rattle.gipmc_reduce.proofs.ThroughMerges.{FailsAfter-swept}
 use Rattle.gipmc_answers.specs.Left.{StandFor}
 
 -- what a function makes of the item at a place is the item there of the list that it makes

@@ -7,8 +7,8 @@ use Rattle.gipmc_circuits.specs.declared.circuit.Circuit.{Circuit}
 use Rattle.gipmc_circuits.specs.declared.certificate.Verdict.{Verdict}
 use Rattle.gipmc_circuits.specs.declared.certificate.Verdict.TheVariants.{Certified}
 use Rattle.gipmc_circuits.specs.declared.witness_circuit.WitnessCircuit.{WitnessCircuit}
-use Rattle.gipmc_part.specs.Parts.{AreSafeByClauses}
-use Rattle.gipmc_part.specs.Witnessed.{AreSafeBy}
+use Rattle.gipmc_reduce.specs.Verdicts.{AreSafeByClauses}
+use Rattle.gipmc_reduce.specs.Witnessed.{AreSafeBy}
 use Rattle.gipmc_answers.specs.Certificates.{AreShownSafe, ShowsSafe, ShowsSafeAt}
 use Rattle.gipmc_answers.specs.declared.certificates.Certificate.{Certificate}
 use Rattle.gipmc_answers.specs.declared.certificates.Certificate.TheVariants as certificate

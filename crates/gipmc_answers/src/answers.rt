@@ -13,7 +13,7 @@ use crate::query::Query;
 use gipmc_aiger::{read_circuit, write_witness};
 use gipmc_circuits::Netlist;
 use gipmc_engines::{Engine, Plan};
-use gipmc_part::Part;
+use gipmc_reduce::Cone;
 use gipmc_task::{Certifying, Listener, Outcome, Output, TaskError, Wanted};
 use gipsat_cnf::{Literal, SatSolver};
 use std::alloc::{AllocError, Global};
@@ -153,7 +153,7 @@ fn answer_by<S: SatSolver + Drop, L: Listener, W: Write>(
     netlist: &Netlist,
     bads: &[Literal],
     asked: Option<usize>,
-    part: &Part,
+    part: &Cone,
     plan: &Plan,
     listener: &mut L,
     output: &mut Output<W>,

@@ -14,7 +14,7 @@ use gipmc_aiger::{
 };
 use gipmc_circuits::certificate::Verdict;
 use gipmc_circuits::{Circuit, Netlist, WitnessCircuit, certify_by};
-use gipmc_part::{certify_all, certify_all_by};
+use gipmc_reduce::{certify_all, certify_all_by};
 use gipmc_task::TaskError;
 use gipsat_cnf::{Literal, SatSolver};
 use std::alloc::{AllocError, Global};

@@ -1,13 +1,13 @@
 //! Certificates that are a number: a bad literal is shown to be k-inductive.
 ghost use Rattle.std.specs.Prelude.{◌≡◌, ◌∷◌, [], IfNone, IfOk, IfSome, ◌⊎◌};
 ghost use Rattle.gipmc_circuits.specs.declared.certificate.Verdict.TheVariants.{Certified};
-ghost use Rattle.gipmc_part.specs.Parts.{IsPartOf};
+ghost use Rattle.gipmc_reduce.specs.Cone.{IsPartOf};
 ghost use Rattle.gipmc_answers.specs.Certificates.{BeginsWithK, k_in, k_of};
 ghost use Rattle.gipmc_engines.specs.Verdicts.{IsSafeByInduction};
 
 use gipmc_circuits::Netlist;
 use gipmc_circuits::certificate::Verdict as ClauseVerdict;
-use gipmc_part::Part;
+use gipmc_reduce::Cone;
 use gipmc_unroll::{Verdict, certify_by_induction};
 use gipsat_cnf::{Literal, SatSolver};
 use giputils_text::{number, split_line, split_once};
@@ -83,7 +83,7 @@ fn induction_doubt<S: SatSolver + Drop>(
 ) -> Result<Option<InductionDoubt>, AllocError>
     ensures { IfOk result (λ doubt. IfNone doubt (IsSafeByInduction whole.now.circuit k bad)) }
 {
-    match Part::new(alloc, whole, &[bad])? {
+    match Cone::new(alloc, whole, &[bad])? {
         Some(part) => doubt_by_part::<S>(alloc, whole, &part, bad, k, limit),
         None => doubt_on::<S>(alloc, whole, bad, k, limit),
     }
@@ -93,7 +93,7 @@ fn induction_doubt<S: SatSolver + Drop>(
 fn doubt_by_part<S: SatSolver + Drop>(
     alloc: Global,
     whole: &Netlist,
-    part: &Part,
+    part: &Cone,
     bad: Literal,
     k: usize,
     limit: usize,

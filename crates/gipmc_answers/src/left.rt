@@ -1,21 +1,20 @@
 //! What is left of a circuit where equal variables are merged.
 ghost use Rattle.std.specs.Prelude.{IfSome};
 ghost use Rattle.gipmc_answers.specs.Left.{StandFor};
-ghost use Rattle.gipmc_sweep.specs.Merges.{IsSweptOf, merged};
+ghost use Rattle.gipmc_reduce.specs.Correspondence.{IsSweptOf, merged};
 
 use crate::parted::part_of;
 use gipmc_circuits::{Netlist, Trace};
-use gipmc_part::Part;
-use gipmc_sweep::{Bounds, Sweep};
+use gipmc_reduce::{Bounds, Cone, Correspondence};
 use gipsat_cnf::SatSolver;
 use std::alloc::{AllocError, Global};
 
 /// What is left of a circuit.
 #[derive(Drop)]
 pub(crate) struct Left {
-    sweep: Sweep,
+    sweep: Correspondence,
     /// The part of that which its bad literals depend on.
-    pub(crate) part: Part,
+    pub(crate) part: Cone,
 }
 
 impl Left {
@@ -28,14 +27,14 @@ impl Left {
             work,
             ..Bounds::default()
         };
-        match Sweep::new::<S>(alloc, whole, &whole.circuit.bads, bounds) {
+        match Correspondence::new::<S>(alloc, whole, &whole.circuit.bads, bounds) {
             Ok(Some(sweep)) => Left::in_part(alloc, sweep),
             _ => None,
         }
     }
 
     // The same, by a sweep.
-    fn in_part(alloc: Global, sweep: Sweep) -> Option<Self>
+    fn in_part(alloc: Global, sweep: Correspondence) -> Option<Self>
         ensures { IfSome result (λ left. StandFor left.part.netlist.circuit left.part.netlist.circuit.bads.items
             sweep.netlist.circuit sweep.netlist.circuit.bads.items) }
     {

@@ -6,14 +6,14 @@ ghost use Rattle.gipmc_answers.specs.Left.{StandFor, StandsFor};
 ghost use Rattle.gipmc_answers.specs.declared.known.Known.TheVariants.{NoFailureWithin};
 ghost use Rattle.gipmc_engines.specs.Several.{verdict_by};
 ghost use Rattle.gipmc_engines.specs.Verdicts.{IsRightVerdict, NeverFailsWithin};
-ghost use Rattle.gipmc_part.specs.Parts.{IsPartOf, literal_named};
+ghost use Rattle.gipmc_reduce.specs.Cone.{IsPartOf, literal_named};
 
 use crate::known::Known;
 use crate::left::Left;
 use crate::meter::Meter;
 use gipmc_circuits::{Netlist, Trace, replay};
 use gipmc_engines::{Bounds, Finding, Joint, Plan, Tries, Verdict, search};
-use gipmc_part::Part;
+use gipmc_reduce::Cone;
 use gipmc_task::{Listener, Wanted};
 use gipsat_cnf::{Literal, SatSolver};
 use std::alloc::{AllocError, Global};
@@ -32,12 +32,12 @@ const SHARE: u64 = 2;
 
 /// The part of a circuit that some of its literals depend on. None where memory is refused, or where one of them is of no
 /// variable of the circuit.
-pub(crate) fn part_of(alloc: Global, whole: &Netlist, bads: &[Literal]) -> Option<Part>
+pub(crate) fn part_of(alloc: Global, whole: &Netlist, bads: &[Literal]) -> Option<Cone>
     ensures part { IfSome result (λ p. IsPartOf p.names.names.items p.netlist.circuit whole.now.circuit) }
     ensures bads { IfSome result
         (λ p. map (literal_named p.names.names.items) p.netlist.circuit.bads.items ≡ bads.now) }
 {
-    match Part::new(alloc, whole, bads) {
+    match Cone::new(alloc, whole, bads) {
         Ok(part) => part,
         Err(_) => None,
     }
@@ -51,7 +51,7 @@ pub(crate) struct Parted<'a, S: SatSolver + Drop> {
     /// Its literals.
     pub(crate) bads: &'a [Literal],
     /// The part.
-    pub(crate) part: &'a Part,
+    pub(crate) part: &'a Cone,
     // What is left of it, if the search is about that.
     left: Option<&'a Left>,
     // The search about the literals that stand for those of the circuit.
@@ -72,7 +72,7 @@ impl<'a, S: SatSolver + Drop> Parted<'a, S> {
         alloc: Global,
         whole: &'a Netlist,
         bads: &'a [Literal],
-        part: &'a Part,
+        part: &'a Cone,
         plan: &Plan,
     ) -> Result<Self, AllocError>
         requires { StandFor part.now.netlist.circuit part.now.netlist.circuit.bads.items whole.now.circuit bads.now }
@@ -98,7 +98,7 @@ impl<'a, S: SatSolver + Drop> Parted<'a, S> {
         alloc: Global,
         whole: &'a Netlist,
         bads: &'a [Literal],
-        part: &'a Part,
+        part: &'a Cone,
         left: &'a Left,
         plan: &Plan,
     ) -> Result<Self, AllocError>

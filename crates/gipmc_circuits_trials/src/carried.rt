@@ -2,7 +2,7 @@
 
 use crate::traces::two_latches;
 use gipmc_circuits::{Netlist, Verdict, certify};
-use gipmc_part::{Part, certify_all};
+use gipmc_reduce::{Cone, certify_all};
 use gipsat_cnf::Literal;
 use gipsat_plain::Plain;
 use std::alloc::{AllocError, Global};
@@ -27,7 +27,7 @@ fn clauses(alloc: Global, numbers: &[&[i16]]) -> Result<Vec<Vec<Literal>>, Alloc
 }
 
 // What is said of clauses of the part for the first bad literal.
-fn said_of_part(alloc: Global, part: &Part, own: &[Vec<Literal>]) -> Result<Verdict, AllocError> {
+fn said_of_part(alloc: Global, part: &Cone, own: &[Vec<Literal>]) -> Result<Verdict, AllocError> {
     let bad = part
         .netlist
         .circuit
@@ -58,7 +58,7 @@ fn is_said(
     named: &[Vec<Literal>],
     verdict: Verdict,
 ) -> Result<bool, AllocError> {
-    let part = Part::new(alloc, whole, &[bad])?.ok_or(AllocError)?;
+    let part = Cone::new(alloc, whole, &[bad])?.ok_or(AllocError)?;
     let own = part.names.clauses(alloc, named)?.ok_or(AllocError)?;
     let back = part.names.clauses_of(alloc, &own)?;
     let of_part = said_of_part(alloc, &part, &own)?;
@@ -108,7 +108,7 @@ fn is_of_part(
     bad: Literal,
     numbers: &[&[i16]],
 ) -> Result<bool, AllocError> {
-    let part = Part::new(alloc, whole, &[bad])?.ok_or(AllocError)?;
+    let part = Cone::new(alloc, whole, &[bad])?.ok_or(AllocError)?;
     let named = clauses(alloc, numbers)?;
     Ok(part.names.clauses(alloc, &named)?.is_some())
 }

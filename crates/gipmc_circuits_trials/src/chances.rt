@@ -2,7 +2,7 @@
 
 use crate::chosen::{bits, chance, circuit, clauses};
 use gipmc_circuits::{Netlist, Trace, Verdict, certify, replay};
-use gipmc_sweep::{Bounds, Sweep};
+use gipmc_reduce::{Bounds, Correspondence};
 use gipsat_cnf::Literal;
 use gipsat_plain::Plain;
 use std::alloc::{AllocError, Global};
@@ -11,7 +11,7 @@ use std::alloc::{AllocError, Global};
 #[derive(Drop)]
 struct Pair {
     whole: Netlist,
-    sweep: Sweep,
+    sweep: Correspondence,
 }
 
 fn by_chance(alloc: Global, seed: &mut u32) -> Result<Pair, AllocError> {
@@ -22,7 +22,8 @@ fn by_chance(alloc: Global, seed: &mut u32) -> Result<Pair, AllocError> {
         moments: chance(seed, 8) as usize,
         ..Bounds::default()
     };
-    let sweep = Sweep::new::<Plain>(alloc, &whole, &whole.circuit.bads, bounds)?.ok_or(AllocError)?;
+    let made = Correspondence::new::<Plain>(alloc, &whole, &whole.circuit.bads, bounds)?;
+    let sweep = made.ok_or(AllocError)?;
     Ok(Pair { whole, sweep })
 }
 

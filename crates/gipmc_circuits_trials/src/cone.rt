@@ -4,7 +4,7 @@ ghost use Rattle.gipmc_circuits.specs.Circuit.{IsSafe};
 ghost use Rattle.gipmc_circuits.specs.declared.certificate.Verdict.TheVariants.{Certified};
 
 use gipmc_circuits::{And, Circuit, Latch, Netlist, Verdict};
-use gipmc_part::certify_all;
+use gipmc_reduce::certify_all;
 use gipsat_cnf::Literal;
 use gipsat_plain::Plain;
 use std::alloc::{AllocError, Global};

@@ -2,7 +2,7 @@
 
 use crate::merged::{copies, is_safe};
 use gipmc_circuits::{And, Circuit, Latch, Netlist};
-use gipmc_sweep::{Bounds, Merges, Sweep};
+use gipmc_reduce::{Bounds, Correspondence, Merges};
 use gipsat_cnf::Literal;
 use gipsat_plain::Plain;
 use std::alloc::{AllocError, Global};
@@ -39,16 +39,16 @@ fn netlist(alloc: Global, circuit: Circuit) -> Result<Netlist, AllocError> {
 }
 
 // What a sweep of these circuits merges.
-fn swept(alloc: Global, whole: &Netlist, with_gates: bool) -> Result<Sweep, AllocError> {
+fn swept(alloc: Global, whole: &Netlist, with_gates: bool) -> Result<Correspondence, AllocError> {
     let bounds = Bounds {
         with_gates,
         ..Bounds::default()
     };
-    Sweep::new::<Plain>(alloc, whole, &[], bounds)?.ok_or(AllocError)
+    Correspondence::new::<Plain>(alloc, whole, &[], bounds)?.ok_or(AllocError)
 }
 
 // Whether what stands for the variable is this literal.
-fn stands(sweep: &Sweep, variable: u32, l: Literal) -> bool {
+fn stands(sweep: &Correspondence, variable: u32, l: Literal) -> bool {
     sweep.merges.literal(Literal::new(variable % 64, true)) == l
 }
 
@@ -98,7 +98,7 @@ fn passes(alloc: Global, circuit: Circuit, variable: u32, l: Literal) -> Result<
             Literal::new(own, true)
         })?;
     }
-    let made = Sweep::by::<Plain>(alloc, &whole, &[], Merges { literals }, 1000)?;
+    let made = Correspondence::by::<Plain>(alloc, &whole, &[], Merges { literals }, 1000)?;
     Ok(made.is_some())
 }
 

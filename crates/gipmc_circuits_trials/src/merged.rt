@@ -3,7 +3,7 @@ ghost use Rattle.std.specs.Prelude.{IfOk, IfSome, IsTrue};
 ghost use Rattle.gipmc_circuits.specs.Circuit.{IsSafe};
 
 use gipmc_circuits::{And, Circuit, Latch, Netlist, Verdict, certify};
-use gipmc_sweep::{Bounds, Sweep};
+use gipmc_reduce::{Bounds, Correspondence};
 use gipsat_cnf::Literal;
 use gipsat_plain::Plain;
 use std::alloc::{AllocError, Global};
@@ -39,7 +39,8 @@ pub fn copies(alloc: Global) -> Result<Netlist, AllocError> {
 pub fn is_safe(alloc: Global, netlist: &Netlist, bad: Literal) -> Result<bool, AllocError>
     ensures { IfOk result (λ safe. IsTrue safe → IsSafe netlist.now.circuit bad) }
 {
-    let Some(sweep) = Sweep::new::<Plain>(alloc, netlist, &[bad], Bounds::default())? else {
+    let Some(sweep) = Correspondence::new::<Plain>(alloc, netlist, &[bad], Bounds::default())?
+    else {
         return Ok(false);
     };
     let own = sweep.merges.literal(bad);

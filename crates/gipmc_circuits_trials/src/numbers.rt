@@ -1,7 +1,7 @@
 //! What is in a part, and under which numbers.
 
 use gipmc_circuits::{And, Circuit, Latch, Netlist};
-use gipmc_part::Part;
+use gipmc_reduce::Cone;
 use gipsat_cnf::Literal;
 use std::alloc::{AllocError, Global};
 
@@ -29,7 +29,7 @@ fn part_for(
     alloc: Global,
     variable: u32,
     constraint: Option<u32>,
-) -> Result<Option<Part>, AllocError> {
+) -> Result<Option<Cone>, AllocError> {
     let mut circuit = apart(alloc)?;
     if let Some(constraint) = constraint {
         circuit
@@ -37,11 +37,11 @@ fn part_for(
             .push(Literal::new(constraint % 64, true))?;
     }
     let netlist = Netlist::new(alloc, circuit)?.ok_or(AllocError)?;
-    Part::new(alloc, &netlist, &[Literal::new(variable % 65_536, true)])
+    Cone::new(alloc, &netlist, &[Literal::new(variable % 65_536, true)])
 }
 
 // Whether a part has so many inputs, latches and gates, and these names.
-fn has(part: &Part, inputs: usize, latches: usize, gates: usize, names: &[u32]) -> bool {
+fn has(part: &Cone, inputs: usize, latches: usize, gates: usize, names: &[u32]) -> bool {
     let circuit = &part.netlist.circuit;
     circuit.inputs.len() == inputs
         && circuit.latches.len() == latches

@@ -15,7 +15,7 @@ use gipmc_circuits::certificate::Verdict;
 use gipmc_circuits::{Circuit, Netlist};
 use gipmc_liveness::{counting, to_safety};
 use gipmc_liveness_engines::Means;
-use gipmc_part::certify_all;
+use gipmc_reduce::certify_all;
 use gipmc_task::TaskError;
 use gipsat_cnf::{Literal, SatSolver};
 use giputils_text::{number, split_line};

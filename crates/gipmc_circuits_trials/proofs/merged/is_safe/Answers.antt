@@ -1,7 +1,7 @@
 -- What is safe after the merges is safe.
 use Rattle.std.proofs.Common.{refl, subst}
 use Rattle.gipmc_circuits.specs.Circuit.{IsSafe}
-use Rattle.gipmc_sweep.proofs.Carried.{IsSafe-swept}
+use Rattle.gipmc_reduce.proofs.ThroughMerges.{IsSafe-swept}
 use Rattle.gipmc_circuits_trials.proofs.merged.is_safe.Goals as goal
 
 pub returns-in-Certified : goal.returns-in-Certified

@@ -1,7 +1,7 @@
 -- What is shown of the part holds of the circuit, by the clauses over its variables.
 use Rattle.std.proofs.Common.{subst}
 use Rattle.gipmc_circuits.specs.Certificate.{IsSafeByClauses}
-use Rattle.gipmc_part.proofs.Carried.{IsSafeByClauses-part}
+use Rattle.gipmc_reduce.proofs.ThroughNames.{IsSafeByClauses-part}
 use Rattle.gipmc_liveness_engines.proofs.shown.show.Goals as goal
 
 pub returns-in-Safe : goal.returns-in-Safe

@@ -1,6 +1,6 @@
 -- What is left of the circuit stands for it, and the part of that for what is left.
 use Rattle.std.proofs.Common.{◌≡◌, map, subst}
-use Rattle.gipmc_sweep.specs.Merges.{merged}
+use Rattle.gipmc_reduce.specs.Correspondence.{merged}
 use Rattle.gipmc_answers.proofs.OnWhole.{StandFor-swept, StandFor-through, some_more}
 use Rattle.gipmc_answers.proofs.left.Left.of.Goals as goal
 

@@ -1,5 +1,0 @@
-pub mod Carried
-mod Examples
-mod Judged
-mod Renamed
-mod Stilled

@@ -1,0 +1,4 @@
+pub mod Cone
+pub mod Correspondence
+pub mod Verdicts
+pub mod Witnessed

@@ -1,4 +1,0 @@
-pub mod Carried
-mod Equalities
-mod Examples
-mod Left
