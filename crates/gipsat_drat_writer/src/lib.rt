@@ -1,6 +1,7 @@
 //! A writer of proofs that nothing satisfies a formula, which listens to a solver.
 #![tactic(auto)]
 
+mod decimal;
 mod lrat;
 mod names;
 mod steps;

@@ -1,15 +1,15 @@
 //! Steps of a proof in the LRAT form.
-ghost use Rattle.std.specs.Prelude.{◌≡◌, ◌++◌, OnOk};
+ghost use Rattle.std.specs.Prelude.{◌≡◌, ◌++◌, OnOk, codes, decimal};
 ghost use Rattle.gipsat_dimacs.specs.Writer.{literal_text};
 ghost use Rattle.gipsat_drat_writer.specs.Lrat.{hint_bytes, hints_bytes, literals_text, lrat_added, lrat_deleted};
 ghost use Rattle.gipsat_drat_writer.specs.Lrat.{name_bytes, zero_bytes};
 
+use crate::decimal::write_decimal;
 use crate::steps::write_bytes;
 use crate::writer::Format;
 use gipsat_cnf::Literal;
 use giputils_text::write_groups;
 use std::alloc::AllocError;
-use std::io::Write;
 
 // Writes that a clause is added under a name, with the names of those that it follows from.
 pub(crate) fn write_added(
@@ -57,12 +57,21 @@ pub(crate) fn write_deleted(
     write_zero(bytes, format)
 }
 
+// Writes a number in decimal digits, and a space behind it.
+fn write_word(bytes: &mut Vec<u8>, number: u32) -> Result<(), AllocError>
+    ensures { OnOk result (bytes.new.items ≡ bytes.old.items ++ (decimal number ++ codes " ")) }
+{
+    write_decimal(bytes, number)?;
+    bytes.push(b' ')?;
+    Ok(())
+}
+
 // Writes a name.
 fn write_name(bytes: &mut Vec<u8>, format: Format, name: u32) -> Result<(), AllocError>
     ensures { OnOk result (bytes.new.items ≡ bytes.old.items ++ name_bytes format name) }
 {
     match format {
-        Format::Text => write!(bytes, "{name} ").map_err(|_| AllocError),
+        Format::Text => write_word(bytes, name),
         Format::Binary => write_groups(bytes, u64::from(name)),
     }
 }
@@ -84,8 +93,7 @@ fn write_literal(bytes: &mut Vec<u8>, l: Literal) -> Result<(), AllocError>
     if !l.is_positive() {
         bytes.push(b'-')?;
     }
-    let number = l.variable() + 1;
-    write!(bytes, "{number} ").map_err(|_| AllocError)
+    write_word(bytes, l.variable() + 1)
 }
 
 // Writes hints, and the end of a step.
@@ -103,7 +111,7 @@ fn write_hint(bytes: &mut Vec<u8>, format: Format, hint: u32) -> Result<(), Allo
     ensures { OnOk result (bytes.new.items ≡ bytes.old.items ++ hint_bytes format hint) }
 {
     match format {
-        Format::Text => write!(bytes, "{hint} ").map_err(|_| AllocError),
+        Format::Text => write_word(bytes, hint),
         Format::Binary => write_groups(bytes, 2 * u64::from(hint)),
     }
 }
