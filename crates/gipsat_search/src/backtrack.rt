@@ -14,6 +14,17 @@ pub(crate) fn backtrack(trail: &mut Trail, activity: &mut Activity, level: usize
             activity.put_back(l.variable());
         }
     }
-    trail.level_starts.truncate(level);
-    trail.propagated = trail.propagated.min(trail.steps.len());
+    trail.end_at(level);
+}
+
+// Backtracks to the root, where a domain that is set is about to be set anew or unset: so none of it is queued again.
+pub(crate) fn backtrack_to_root(trail: &mut Trail, activity: &mut Activity) {
+    if !activity.is_limited() {
+        backtrack(trail, activity, 0);
+        return;
+    }
+    for _ in trail.root_len()..trail.steps.len() {
+        trail.pop();
+    }
+    trail.end_at(0);
 }

@@ -2,7 +2,7 @@
 ghost use Rattle.std.specs.Prelude.{◌≡◌};
 
 use crate::attach::attach_new;
-use crate::backtrack::backtrack;
+use crate::backtrack::backtrack_to_root;
 use crate::propagate::propagate;
 use crate::state::State;
 use crate::units::learn_units;
@@ -16,7 +16,7 @@ fn propagate_root(
     kernel: &Kernel,
     state: &mut State,
 ) -> Result<Option<u32>, AllocError> {
-    backtrack(&mut state.trail, &mut state.activity, 0);
+    backtrack_to_root(&mut state.trail, &mut state.activity);
     state.assumed = 0;
     if state.open.is_some() {
         state.open = None;

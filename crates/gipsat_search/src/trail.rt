@@ -270,6 +270,12 @@ impl Trail {
         Some(step.literal)
     }
 
+    // Drops the levels above one, whose literals are unassigned.
+    pub(crate) fn end_at(&mut self, level: usize) {
+        self.level_starts.truncate(level);
+        self.propagated = self.propagated.min(self.steps.len());
+    }
+
     // Saves other phases, if they are as many as the variables.
     pub(crate) fn set_phases(&mut self, phases: Vec<bool>) {
         if phases.len() == self.phases.len() {
