@@ -1,6 +1,6 @@
 //! Clauses that are not watched yet are watched, and units among them assigned, at the root.
 
-use crate::clauses::{Entry, Status};
+use crate::clauses::Status;
 use crate::learn::watch;
 use crate::stamps::Stamps;
 use crate::state::State;
@@ -35,15 +35,11 @@ fn is_tautology(met: &mut Stamps, clause: &[Literal]) -> bool {
 // it is falsified.
 fn attach(kernel: &Kernel, state: &mut State, id: usize) -> Result<bool, AllocError> {
     let clause = kernel.clause(id).unwrap_or(&[]);
-    let Some(span) = kernel.span(id) else {
-        return Ok(false);
-    };
     let Some(first) = non_false_but(&state.trail, clause, clause.len()) else {
         return Ok(true);
     };
     let free = non_false_but(&state.trail, clause, first);
     let second = free.unwrap_or(usize::from(first == 0));
-    state.clauses.set_entry(id, Entry::new(span, first, second));
     watch(state, clause, id, first, second)?;
     if free.is_none() {
         assign(&mut state.trail, clause, first, id)?;
@@ -73,7 +69,7 @@ fn push_next(kernel: &Kernel, state: &mut State, id: usize) -> Result<(), AllocE
     } else if kernel.is_original(id) {
         state.clauses.push_unwatched(Status::Kept)
     } else {
-        state.clauses.push_learned(Entry::unwatched(), u32::MAX)
+        state.clauses.push_learned(u32::MAX)
     }
 }
 

@@ -1,40 +1,14 @@
-//! What a search knows of each working clause: where it lies, which of its literals are watched, and what it is worth.
+//! What a search knows of each working clause: where its copy lies, which of its literals are watched, and what it is
+//! worth.
 
+use crate::arena::Arena;
 use crate::settings::SETTINGS;
 use crate::trail::short;
-use gipsat_cnf::{Literal, Span};
+use gipsat_cnf::Literal;
 use std::alloc::{AllocError, Global};
 
-// Where a clause lies among the literals of all clauses, and which two places of them are watched.
-#[derive(Clone, Copy)]
-pub(crate) struct Entry {
-    pub start: u32,
-    pub end: u32,
-    pub first: u32,
-    pub second: u32,
-}
-
-impl Entry {
-    // Of a clause at a span, whose literals at two places are watched.
-    pub(crate) fn new(span: Span, first: usize, second: usize) -> Self {
-        Entry {
-            start: span.start,
-            end: span.end,
-            first: span.start.saturating_add(short(first)),
-            second: span.start.saturating_add(short(second)),
-        }
-    }
-
-    // Of a clause that is not watched: no literal is at its places.
-    pub(crate) fn unwatched() -> Self {
-        Entry {
-            start: 0,
-            end: 0,
-            first: u32::MAX,
-            second: u32::MAX,
-        }
-    }
-}
+// The home of a clause that has none in the arena: it is not watched, or has two literals.
+const NONE: u32 = u32::MAX;
 
 // Which part a clause takes.
 #[derive(Clone, Copy)]
@@ -74,7 +48,9 @@ impl Rating {
 
 // What is known of the working clauses, by their ids.
 pub(crate) struct Clauses {
-    entries: Vec<Entry>,
+    // Those of three literals and more that are watched.
+    pub arena: Arena,
+    homes: Vec<u32>,
     ratings: Vec<Rating>,
     // Clauses that are to be watched again.
     waiting: Vec<u32>,
@@ -86,7 +62,8 @@ pub(crate) struct Clauses {
 impl Drop for Clauses {
     fn drop(self) {
         let Clauses {
-            entries,
+            arena,
+            homes,
             ratings,
             waiting,
             increment: _,
@@ -115,7 +92,8 @@ impl Clauses {
     // Of no clause. It takes no memory.
     pub(crate) fn new(alloc: Global) -> Self {
         Clauses {
-            entries: Vec::new(alloc),
+            arena: Arena::new(alloc),
+            homes: Vec::new(alloc),
             ratings: Vec::new(alloc),
             waiting: Vec::new(alloc),
             increment: 1.0,
@@ -124,7 +102,7 @@ impl Clauses {
 
     // How many clauses are watched or were looked at for that. Later ones are new.
     pub(crate) fn attached(&self) -> usize {
-        self.entries.len()
+        self.homes.len()
     }
 
     // How many clauses have a status.
@@ -132,44 +110,55 @@ impl Clauses {
         self.ratings.len()
     }
 
-    // Where a clause lies, and what is watched of it.
-    #[inline]
-    pub(crate) fn entry(&self, id: u32) -> Option<Entry> {
-        self.entries.get(id as usize).copied()
-    }
-
-    // Sets what is watched of a clause.
-    pub(crate) fn set_entry(&mut self, id: usize, new: Entry) {
-        if let Some(entry) = self.entries.get_mut(id) {
-            *entry = new;
+    // The home of a clause in the arena. No clause is there if it has none.
+    fn home(&self, id: usize) -> usize {
+        match self.homes.get(id) {
+            Some(home) => *home as usize,
+            None => NONE as usize,
         }
     }
 
-    // Watches other places of a clause.
-    #[inline]
-    pub(crate) fn set_places(&mut self, id: u32, first: u32, second: u32) {
-        if let Some(entry) = self.entries.get_mut(id as usize) {
-            entry.first = first;
-            entry.second = second;
+    // Copies a clause, whose literals at two places of it are watched, into the arena: its home.
+    pub(crate) fn settle(
+        &mut self,
+        clause: &[Literal],
+        id: usize,
+        first: usize,
+        second: usize,
+    ) -> Result<u32, AllocError> {
+        let home = self.arena.push(short(id), clause, first, second)?;
+        if let Some(old) = self.homes.get_mut(id) {
+            *old = home;
         }
+        Ok(home)
     }
 
-    // The next clause has this entry, and this rating, unless its rating is known.
-    fn push(&mut self, entry: Entry, rating: Rating) -> Result<(), AllocError> {
-        if self.ratings.len() <= self.entries.len() {
+    // The two watched literals of a clause, and the number by which a watch names it.
+    pub(crate) fn watched(&self, clause: &[Literal], id: usize) -> Option<(Literal, Literal, u32)> {
+        if clause.len() == 2 {
+            return Some((*clause.first()?, *clause.last()?, short(id)));
+        }
+        let home = self.home(id);
+        let (first, second) = self.arena.watched(home)?;
+        Some((first, second, short(home)))
+    }
+
+    // The next clause is not watched yet, and has this rating, unless its rating is known.
+    fn push(&mut self, rating: Rating) -> Result<(), AllocError> {
+        if self.ratings.len() <= self.homes.len() {
             self.ratings.push(rating)?;
         }
-        self.entries.push(entry)?;
+        self.homes.push(NONE)?;
         Ok(())
     }
 
-    // The next clause has this entry, and is watched for good, unless it has another status.
-    pub(crate) fn push_kept(&mut self, entry: Entry) -> Result<(), AllocError> {
-        self.push(entry, Rating::of(Status::Kept))
+    // The next clause is to be watched for good, unless it has another status.
+    pub(crate) fn push_kept(&mut self) -> Result<(), AllocError> {
+        self.push(Rating::of(Status::Kept))
     }
 
-    // The next clause has this entry, and was learned with this glue, unless it has another status.
-    pub(crate) fn push_learned(&mut self, entry: Entry, glue: u32) -> Result<(), AllocError> {
+    // The next clause is to be watched, and was learned with this glue, unless it has another status.
+    pub(crate) fn push_learned(&mut self, glue: u32) -> Result<(), AllocError> {
         let glue = in_byte(glue);
         let rating = Rating {
             activity: self.increment,
@@ -177,12 +166,12 @@ impl Clauses {
             turns: turns_of(glue),
             status: Status::Learned,
         };
-        self.push(entry, rating)
+        self.push(rating)
     }
 
     // The next clause has this status, unless it has another one, and is not watched yet.
     pub(crate) fn push_unwatched(&mut self, status: Status) -> Result<(), AllocError> {
-        self.push(Entry::unwatched(), Rating::of(status))
+        self.push(Rating::of(status))
     }
 
     // The next clause that has no status is watched for good.
@@ -247,13 +236,14 @@ impl Clauses {
     // Deletes a clause. It loses its watches when they are visited.
     pub(crate) fn delete(&mut self, id: usize) {
         self.set_status(id, Status::Deleted);
-        self.set_entry(id, Entry::unwatched());
+        let home = self.home(id);
+        self.arena.empty(home);
     }
 
     // An eliminated clause is to be watched again: with the others, where all are to be watched anew.
     pub(crate) fn restore(&mut self, id: u32) -> Result<(), AllocError> {
         self.set_status(id as usize, Status::Kept);
-        if (id as usize) < self.entries.len() {
+        if (id as usize) < self.homes.len() {
             self.waiting.push(id)?;
         }
         Ok(())
@@ -272,12 +262,13 @@ impl Clauses {
 
     // Lets the last clause be watched anew, by its status.
     pub(crate) fn detach_last(&mut self) {
-        self.entries.pop();
+        self.homes.pop();
     }
 
     // Lets all clauses be watched anew, by their statuses.
     pub(crate) fn detach_all(&mut self) {
-        self.entries.clear();
+        self.arena.clear();
+        self.homes.clear();
         self.waiting.clear();
     }
 
@@ -326,10 +317,4 @@ impl Clauses {
         }
         self.ratings.truncate(next);
     }
-}
-
-// The literal at a place of all literals.
-#[inline]
-pub(crate) fn literal_at(literals: &[Literal], place: u32) -> Option<Literal> {
-    literals.get(place as usize).copied()
 }

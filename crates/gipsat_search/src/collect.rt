@@ -66,6 +66,7 @@ fn forget_root(state: &mut State) {
 // Frees the memory of all watches, and lets all clauses be watched anew.
 pub(crate) fn free_watches(alloc: Global, state: &mut State) {
     state.clauses.detach_all();
+    state.clauses.arena.free(alloc);
     state.watches.free(alloc);
     forget_root(state);
 }

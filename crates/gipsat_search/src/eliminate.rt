@@ -281,6 +281,7 @@ fn eliminate_round(
     }
     state.eliminated.tidy(alloc)?;
     state.clauses.detach_all();
+    state.clauses.arena.free(alloc);
     state.watches.free(alloc);
     let mut elimination = Elimination::new(alloc, kernel, state)?;
     eliminate_candidates(alloc, kernel, state, &mut elimination, is_first)

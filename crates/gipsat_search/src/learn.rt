@@ -3,7 +3,6 @@ ghost use Rattle.std.specs.Prelude.{◌≡◌};
 
 use crate::analyze::analyze;
 use crate::backtrack::backtrack;
-use crate::clauses::Entry;
 use crate::state::State;
 use crate::trail::{Trail, short};
 use crate::watches::Watch;
@@ -43,19 +42,16 @@ pub(crate) fn watch_next(
     second: usize,
     glue: Option<u32>,
 ) -> Result<(), AllocError> {
-    let Some(span) = kernel.span(id) else {
-        return Ok(());
-    };
-    let entry = Entry::new(span, first, second);
     match glue {
-        Some(glue) => state.clauses.push_learned(entry, glue)?,
-        None => state.clauses.push_kept(entry)?,
+        Some(glue) => state.clauses.push_learned(glue)?,
+        None => state.clauses.push_kept()?,
     }
     let clause = kernel.clause(id).unwrap_or(&[]);
     watch(state, clause, id, first, second)
 }
 
-// Adds the two watches of a clause, if both literals are there.
+// Adds the two watches of a clause, if both literals are there: by its copy in the arena, or if it has two literals by
+// its id.
 pub(crate) fn watch(
     state: &mut State,
     clause: &[Literal],
@@ -70,8 +66,13 @@ pub(crate) fn watch(
         return Ok(());
     };
     let is_binary = clause.len() == 2;
-    state.watches.add(l, Watch::new(short(id), m, is_binary))?;
-    state.watches.add(m, Watch::new(short(id), l, is_binary))
+    let number = if is_binary {
+        short(id)
+    } else {
+        state.clauses.settle(clause, id, first, second)?
+    };
+    state.watches.add(l, Watch::new(number, m, is_binary))?;
+    state.watches.add(m, Watch::new(number, l, is_binary))
 }
 
 // Notes a learned clause before the backjump: its glue.

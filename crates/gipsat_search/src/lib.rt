@@ -3,6 +3,7 @@
 
 mod activity;
 mod analyze;
+mod arena;
 mod assume;
 mod attach;
 mod backtrack;

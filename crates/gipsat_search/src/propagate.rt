@@ -1,21 +1,20 @@
 //! Propagation: unit clauses assign their literals, until a clause is falsified or none is unit.
 
 use crate::activity::Activity;
-use crate::clauses::{Clauses, Entry, literal_at};
+use crate::arena::{Arena, HEADER, Header};
 use crate::state::State;
 use crate::trail::Trail;
 use crate::watches::{Watch, Watches};
 use gipsat_cnf::Literal;
-use gipsat_kernel::Kernel;
 use std::alloc::{AllocError, Global};
 
-// What becomes of a watch: it stays, it goes, it stays for another blocker, or its clause is falsified.
+// What becomes of a watch: it stays, it goes, it stays for another blocker, or its clause, which has this id, is falsified.
 #[derive(Clone, Copy)]
 enum Visit {
     Stays,
     Goes,
     Blocked(Literal),
-    Falsified,
+    Falsified(u32),
 }
 
 // Assigns the last literal of a clause that is not false, or tells that it is false too. Above the root, a literal that
@@ -28,7 +27,7 @@ fn assign_last(
     id: u32,
 ) -> Result<Visit, AllocError> {
     if trail.is_false(l) {
-        return Ok(Visit::Falsified);
+        return Ok(Visit::Falsified(id));
     }
     if trail.level() > 0 && activity.excludes(l.variable()) {
         return Ok(Visit::Blocked(l));
@@ -37,88 +36,77 @@ fn assign_last(
     Ok(Visit::Blocked(l))
 }
 
-// The first place, from `start` on and before `end`, but one, whose literal is not false.
+// The first place, from `start` on and before `end`, whose literal is not false.
 #[inline]
-fn non_false_between(
-    trail: &Trail,
-    literals: &[Literal],
-    but: u32,
-    start: u32,
-    end: u32,
-) -> Option<u32> {
+fn non_false_between(trail: &Trail, arena: &Arena, start: u32, end: u32) -> Option<u32> {
     for place in start..end {
-        let l = literal_at(literals, place)?;
-        if place != but && !trail.is_false(l) {
+        if !trail.is_false(arena.at(place as usize)?) {
             return Some(place);
         }
     }
     None
 }
 
-// A place of a clause but its two watched ones, whose literal is not false: the first behind the place `from`, or else
-// the first before it.
+// A place of the clause at a home behind its two watched literals whose literal is not false: the first from the place
+// on where the last search ended, or else the first before it.
 #[inline]
-fn replacement(
-    trail: &Trail,
-    literals: &[Literal],
-    entry: Entry,
-    other: u32,
-    from: u32,
-) -> Option<u32> {
-    match non_false_between(trail, literals, other, from, entry.end) {
+fn replacement(trail: &Trail, arena: &Arena, home: u32, header: Header) -> Option<u32> {
+    match non_false_between(trail, arena, header.from, header.end) {
         Some(place) => Some(place),
-        None => non_false_between(trail, literals, other, entry.start, from),
+        None => {
+            let start = home.saturating_add(HEADER as u32 + 2);
+            non_false_between(trail, arena, start, header.from)
+        }
     }
 }
 
 // Looks at a clause of more than two literals, one of whose watched literals has become false.
 fn visit_clause(
-    literals: &[Literal],
     trail: &mut Trail,
-    clauses: &mut Clauses,
+    arena: &mut Arena,
     watches: &mut Watches,
     activity: &Activity,
     watch: Watch,
     falsified: Literal,
 ) -> Result<Visit, AllocError> {
-    let id = watch.id();
-    let Some(entry) = clauses.entry(id) else {
+    let home = watch.number() as usize;
+    let Some(header) = arena.header(home) else {
         return Ok(Visit::Goes);
     };
-    let Some(first) = literal_at(literals, entry.first) else {
+    let Some((first, second)) = arena.watched(home) else {
         return Ok(Visit::Goes);
     };
-    let (own, other) = if first.code() == falsified.code() {
-        (entry.first, entry.second)
-    } else {
-        (entry.second, entry.first)
-    };
-    let Some(l) = literal_at(literals, other) else {
+    if header.end == 0 {
         return Ok(Visit::Goes);
-    };
-    if trail.is_true(l) {
-        return Ok(Visit::Blocked(l));
     }
-    let Some(place) = replacement(trail, literals, entry, other, own) else {
-        return assign_last(trail, activity, l, id);
+    let other = if first.code() == falsified.code() {
+        second
+    } else {
+        first
     };
-    let Some(new) = literal_at(literals, place) else {
+    if trail.is_true(other) {
+        return Ok(Visit::Blocked(other));
+    }
+    let Some(place) = replacement(trail, arena, watch.number(), header) else {
+        return assign_last(trail, activity, other, header.id);
+    };
+    let Some(new) = arena.at(place as usize) else {
         return Ok(Visit::Goes);
     };
+    arena.go_on_from(home, place);
     if trail.is_true(new) {
         return Ok(Visit::Blocked(new));
     }
-    clauses.set_places(id, other, place);
-    watches.add(new, watch.with(l))?;
+    arena.watch(home, other, new, place, falsified);
+    watches.add(new, watch.with(other))?;
     Ok(Visit::Goes)
 }
 
 // Looks at a watch of a literal that has become false.
 #[inline]
 fn visit_watch(
-    literals: &[Literal],
     trail: &mut Trail,
-    clauses: &mut Clauses,
+    arena: &mut Arena,
     watches: &mut Watches,
     activity: &Activity,
     watch: Watch,
@@ -128,19 +116,16 @@ fn visit_watch(
         return Ok(Visit::Stays);
     }
     if watch.is_binary() {
-        return assign_last(trail, activity, watch.blocker, watch.id());
+        return assign_last(trail, activity, watch.blocker, watch.number());
     }
-    visit_clause(
-        literals, trail, clauses, watches, activity, watch, falsified,
-    )
+    visit_clause(trail, arena, watches, activity, watch, falsified)
 }
 
 // Looks at the clauses that watch a literal which has become false. The id of a falsified clause, if one is met.
 fn visit_watches(
     alloc: Global,
-    literals: &[Literal],
     trail: &mut Trail,
-    clauses: &mut Clauses,
+    arena: &mut Arena,
     watches: &mut Watches,
     activity: &Activity,
     falsified: Literal,
@@ -154,9 +139,7 @@ fn visit_watches(
         };
         let mut stays = watch;
         if conflict.is_none() {
-            match visit_watch(
-                literals, trail, clauses, watches, activity, watch, falsified,
-            )? {
+            match visit_watch(trail, arena, watches, activity, watch, falsified)? {
                 Visit::Stays => {}
                 Visit::Goes => continue,
                 Visit::Blocked(l) => {
@@ -164,7 +147,7 @@ fn visit_watches(
                         stays = watch.with(l);
                     }
                 }
-                Visit::Falsified => conflict = Some(watch.id()),
+                Visit::Falsified(id) => conflict = Some(id),
             }
         }
         if let Some(home) = list.get_mut(kept) {
@@ -178,11 +161,7 @@ fn visit_watches(
 }
 
 // Propagates all assigned literals. The id of a falsified clause, if one is met.
-pub(crate) fn propagate(
-    alloc: Global,
-    kernel: &Kernel,
-    state: &mut State,
-) -> Result<Option<u32>, AllocError> {
+pub(crate) fn propagate(alloc: Global, state: &mut State) -> Result<Option<u32>, AllocError> {
     for _ in 0..usize::MAX {
         let Some(l) = state.trail.next() else {
             return Ok(None);
@@ -190,9 +169,8 @@ pub(crate) fn propagate(
         state.stats.propagations = state.stats.propagations.saturating_add(1);
         let conflict = visit_watches(
             alloc,
-            kernel.literals(),
             &mut state.trail,
-            &mut state.clauses,
+            &mut state.clauses.arena,
             &mut state.watches,
             &state.activity,
             l.negated(),

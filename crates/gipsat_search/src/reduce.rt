@@ -1,9 +1,8 @@
 //! Reductions: most of the learned clauses that were not used of late are deleted.
 
-use crate::clauses::{Clauses, Rating, literal_at};
+use crate::clauses::{Clauses, Rating};
 use crate::settings::SETTINGS;
 use crate::state::State;
-use crate::trail::short;
 use crate::watches::Watch;
 use gipsat_cnf::Literal;
 use gipsat_kernel::Kernel;
@@ -48,32 +47,17 @@ fn stays(clauses: &Clauses, clause: &[Literal], id: usize, least: u64) -> bool {
 }
 
 // Watches a clause again at its places.
-fn watch_again(
-    kernel: &Kernel,
-    state: &mut State,
-    id: usize,
-    is_binary: bool,
-) -> Result<(), AllocError> {
-    let Some(entry) = state.clauses.entry(short(id)) else {
+fn watch_again(state: &mut State, clause: &[Literal], id: usize) -> Result<(), AllocError> {
+    let Some((first, second, number)) = state.clauses.watched(clause, id) else {
         return Ok(());
     };
-    let literals = kernel.literals();
-    let Some(first) = literal_at(literals, entry.first) else {
-        return Ok(());
-    };
-    let Some(second) = literal_at(literals, entry.second) else {
-        return Ok(());
-    };
-    if entry.second >= entry.end {
-        return Ok(());
-    }
-    let home = short(id);
+    let is_binary = clause.len() == 2;
     state
         .watches
-        .add(first, Watch::new(home, second, is_binary))?;
+        .add(first, Watch::new(number, second, is_binary))?;
     state
         .watches
-        .add(second, Watch::new(home, first, is_binary))
+        .add(second, Watch::new(number, first, is_binary))
 }
 
 // Deletes a clause.
@@ -96,7 +80,7 @@ fn keep(kernel: &Kernel, state: &mut State, id: usize, least: u64) -> Result<(),
         delete(kernel, state, id);
         return Ok(());
     }
-    watch_again(kernel, state, id, clause.len() == 2)?;
+    watch_again(state, clause, id)?;
     state.clauses.age(id);
     Ok(())
 }

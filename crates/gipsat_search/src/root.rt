@@ -25,7 +25,7 @@ fn propagate_root(
     if let Some(conflict) = attach_new(kernel, state)? {
         return Ok(Some(conflict));
     }
-    propagate(alloc, kernel, state)
+    propagate(alloc, state)
 }
 
 // Backtracks to the root, watches all clauses, and propagates; each root literal becomes a clause, also where a clause is

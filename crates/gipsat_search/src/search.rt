@@ -177,7 +177,7 @@ fn run(
         return learn_and_go_on(alloc, kernel, state, conflict);
     }
     for _ in 0..usize::MAX {
-        if let Some(conflict) = propagate(alloc, kernel, state)? {
+        if let Some(conflict) = propagate(alloc, state)? {
             return learn_and_go_on(alloc, kernel, state, conflict);
         }
         if state.trail.level() == 0 {

@@ -47,7 +47,7 @@ fn falsify(
         return Ok(None);
     }
     state.trail.decide(l.negated())?;
-    match propagate(alloc, kernel, state)? {
+    match propagate(alloc, state)? {
         Some(conflict) => Ok(Some(Obstacle::Conflict(conflict))),
         None => Ok(None),
     }

@@ -8,7 +8,8 @@ use std::mem;
 const BINARY: u32 = 1 << 31;
 
 // A watched clause, and a blocker: while that literal is true, the clause need not be looked at. The blocker of a clause
-// of two literals is the other one, so that such a clause is never read.
+// of two literals is the other one, so that such a clause is never read: it is named by its id, and others by their homes
+// in the arena.
 #[derive(Clone, Copy)]
 pub(crate) struct Watch {
     tag: u32,
@@ -16,18 +17,18 @@ pub(crate) struct Watch {
 }
 
 impl Watch {
-    // Of the clause with an id.
-    pub(crate) fn new(id: u32, blocker: Literal, is_binary: bool) -> Self {
+    // Of the clause with this id or at this home.
+    pub(crate) fn new(number: u32, blocker: Literal, is_binary: bool) -> Self {
         let digit = if is_binary { BINARY } else { 0 };
         Watch {
-            tag: id | digit,
+            tag: number | digit,
             blocker,
         }
     }
 
-    // The id of the clause. One of 2^31 and more is not watched.
+    // The id of the clause, or its home. One of 2^31 and more is not watched.
     #[inline]
-    pub(crate) fn id(&self) -> u32 {
+    pub(crate) fn number(&self) -> u32 {
         self.tag & !BINARY
     }
 
