@@ -172,12 +172,27 @@ complete -o default -F _{name} {name}
 """
 
 
-def told_by(name, option):
-    """What a program writes at an option, built or not."""
+def answer_of(name, *words):
+    """A program's answer to some words, built or not."""
     folder = ROOT / "crates" / name
     built = folder / "out" / name
-    command = [built, option] if built.is_file() else ["rt", "try", "--", option]
-    return subprocess.run(command, cwd=folder, capture_output=True, text=True, check=True).stdout
+    command = [built, *words] if built.is_file() else ["rt", "try", "--", *words]
+    return subprocess.run(command, cwd=folder, stdin=subprocess.DEVNULL, capture_output=True, text=True)
+
+
+def told_by(name, option):
+    """What a program writes at an option."""
+    answer = answer_of(name, option)
+    answer.check_returncode()
+    return answer.stdout
+
+
+def faults_of_questions(name, told):
+    """Each option that the sources ask for is one of the help: the words of another one would be told as unknown."""
+    for path in sorted((ROOT / "crates").glob(f"{name}*/src/*.rt")):
+        for question in re.finditer(r'asked\s*\.(?:has|number|word)\(\s*"([^"]*)"', path.read_text()):
+            is_well = question[1] in told.names()
+            yield "" if is_well else f"{path.relative_to(ROOT)}: asks for {question[1]}, which is no option"
 
 
 def made(name):
@@ -208,6 +223,7 @@ def faults_of(name):
     texts, text = made(name)
     for line in text.split("\n"):
         yield f"{name} --help: too wide: {line}" if len(line) > WIDTH else ""
+    yield from faults_of_questions(name, Help(text))
     yield from faults_of_page(name, texts[f"{name}.1"])
     path = ROOT / "crates" / name / "man" / f"{name}.bash"
     is_well = path.is_file() and path.read_text() == texts[f"{name}.bash"]

@@ -83,7 +83,7 @@ PARTS = {
     "gipmc_engines": (EXAMPLE, PROVED, TESTED, CHOICES, COST),
     "gipmc_answers": (EXAMPLE, PROVED, TESTED, CHOICES, COST),
     "gipmc": (PROVED, TESTED),
-    "gip_program": (PROVED, TESTED, CHOICES),
+    "gip_cli": (PROVED, TESTED, CHOICES),
     "gip_lines": (PROVED, TESTED, CHOICES, COST),
     "gip": (EXAMPLE,),
     "giputils_uses": (PROVED, TESTED, CHOICES),

@@ -1,7 +1,7 @@
 -- What the status of a run says.
 use Rattle.std.proofs.Common.{◌≡◌, ℕ, ◌<◌, ⊎_elim, Bool, true, false, Ok, Err, IsTrue, arith, inl, inr, refl}
 use Rattle.std.specs.Prelude.{Result, IfOk}
-use Rattle.gip_program.specs.Statuses.{IsEndedStatus}
+use Rattle.gip_cli.specs.Statuses.{IsEndedStatus}
 use Rattle.gipmc.specs.Statuses.{search_status, verified_status}
 use Rattle.gipmc_task.specs.declared.outcome.Outcome.{Outcome}
 use Rattle.gipmc_task.specs.declared.outcome.Outcome.TheVariants.{Fails, Safe, Open}

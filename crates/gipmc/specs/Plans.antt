@@ -1,12 +1,38 @@
 -- What searches, and how far, by what the options ask for.
-use Rattle.std.specs.Prelude.{ℕ, ◌-◌, ◌^◌, ◌&&◌, Bool, Option, if◌then◌else◌, is_some, unwrap_or}
+use Rattle.std.specs.Prelude.{ℕ, ◌-◌, ◌^◌, ◌&&◌, Bool, List, Option, Some, None, codes, if◌then◌else◌, is_some, unwrap_or}
+use Rattle.std.specs.Str.{bytes_eq}
+use Rattle.gip_cli.specs.Asked.{asked_said, has, number, word}
 use Rattle.gipmc_command.specs.declared.options.Options.{Options}
 use Rattle.gipmc_engines.specs.declared.engines.Engine.{Engine}
 use Rattle.gipmc_engines.specs.declared.engines.Engine.TheVariants.{All, Bounded, Ic3, Induction, Invariants, Simulation}
 
 -- a certificate as a circuit is wanted
 abbrev pub wants_circuit : Options → Bool
-wants_circuit o = is_some o.certificate && o.aiger
+wants_circuit o = is_some (word (codes "--certificate") (asked_said o.asked)) && has (codes "--aiger") (asked_said o.asked)
+
+-- the engine of this name; all engines have none
+abbrev pub engine_named : Option (List ℕ) → Engine
+engine_named None = All
+engine_named (Some word) =
+    if bytes_eq word (codes "sim") then Simulation
+    else if bytes_eq word (codes "bmc") then Bounded
+    else if bytes_eq word (codes "ic3") then Ic3
+    else if bytes_eq word (codes "induction") then Induction
+    else All
+
+-- the engine that is asked for
+abbrev pub engine_asked : Options → Engine
+engine_asked o = engine_named (word (codes "--engine") (asked_said o.asked))
+
+-- the most transitions that are asked for, the most conflicts of a question, and the seed of simulation
+abbrev pub depth_asked : Options → Option ℕ
+depth_asked o = number (codes "--depth") (asked_said o.asked)
+
+abbrev pub limit_asked : Options → ℕ
+limit_asked o = unwrap_or (number (codes "--limit") (asked_said o.asked)) (2 ^ 64 - 1)
+
+abbrev pub seed_asked : Options → ℕ
+seed_asked o = unwrap_or (number (codes "--seed") (asked_said o.asked)) 0
 
 -- the engines that search: where all are to, and a circuit is wanted, those that show by an invariant what is safe
 abbrev pub engine_by : Bool → Engine → Engine

@@ -1,6 +1,6 @@
 -- The status that a run ends with.
 use Rattle.std.specs.Prelude.{ℕ, Bool, Result, Ok, Err, if◌then◌else◌}
-use Rattle.gip_program.specs.Statuses.{refused_status}
+use Rattle.gip_cli.specs.Statuses.{refused_status}
 use Rattle.gipmc_task.specs.declared.outcome.Outcome.{Outcome}
 use Rattle.gipmc_task.specs.declared.outcome.Outcome.TheVariants.{Fails, Safe, Open}
 

@@ -1,5 +1,5 @@
 //! Why nothing is answered, as it is told.
-use gip_program::{Cause, FinishError};
+use gip_cli::{Cause, FinishError};
 use gipmc_aiger::{AigerError, Place, Reason};
 use gipmc_justice::JusticeError;
 use gipmc_task::TaskError;

@@ -6,7 +6,7 @@ ghost use Rattle.gipmc.specs.Texts.{with_feeds, without_return};
 ghost use Rattle.giputils_text.specs.Lines.{text_lines};
 
 use crate::errors::Failure;
-use gip_program::{Existing, NewFile, open_file};
+use gip_cli::{Existing, NewFile, open_file};
 use gipmc_command::Options;
 use giputils_text::{number, split_line};
 use std::alloc::AllocError;
@@ -161,14 +161,14 @@ pub fn write_out<'a>(rt: &HostRuntime, text: &[u8]) -> Result<(), Failure<'a>> {
 /// # Errors
 /// [`Failure::OneName`] where two would have it.
 pub fn check_names<'a>(options: &Options<'a>) -> Result<(), Failure<'a>> {
-    if let Some(name) = options.certificate {
-        if options.vcd == Some(name) {
+    if let Some(name) = options.asked.word("--certificate") {
+        if options.asked.word("--vcd") == Some(name) {
             return Err(Failure::OneName(name));
         }
-        check_beside(options.witness, name)?;
+        check_beside(options.asked.word("--witness"), name)?;
     }
-    match options.vcd {
-        Some(name) => check_beside(options.witness, name),
+    match options.asked.word("--vcd") {
+        Some(name) => check_beside(options.asked.word("--witness"), name),
         None => Ok(()),
     }
 }

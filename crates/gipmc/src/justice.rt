@@ -10,7 +10,7 @@ use crate::files::write_whole;
 use crate::kinds::is_of_justice;
 use crate::progress::Teller;
 use crate::traces::next_answer;
-use gip_program::NewFile;
+use gip_cli::NewFile;
 use gipmc_command::Options;
 use gipmc_justice::{Answered, Found, JusticeError, answer, certificate_of};
 use gipmc_liveness_engines::{Bounds, Means};
@@ -55,9 +55,7 @@ pub fn search_justice<'a>(
     let bounds = Bounds::default();
     match answer::<Solver, _, _>(rt.alloc(), bytes, options.justice, bounds, teller, output) {
         Ok(answer) => {
-            if options.stats {
-                tell_decided(rt, &answer);
-            }
+            tell_decided(rt, options, &answer);
             Ok(Some(answer))
         }
         Err(error) => Err(justice_failure(options.file, None, error)),
@@ -77,8 +75,11 @@ impl Display for Shown {
     }
 }
 
-// Tells of each property that is decided what decided it.
-fn tell_decided(rt: &HostRuntime, answer: &Answered) {
+// Tells of each property that is decided what decided it, where summaries are wanted.
+fn tell_decided(rt: &HostRuntime, options: &Options, answer: &Answered) {
+    if !options.asked.has("--stats") {
+        return;
+    }
     let mut shown = answer.said.found.iter();
     let mut rest = answer.said.text.as_slice();
     while let Some((status, place, after)) = next_answer(rest, "j") {
@@ -124,7 +125,7 @@ pub fn keep_of_justice<'a>(
     if answer.said.outcome != Outcome::Safe {
         return Ok(());
     }
-    if options.aiger {
+    if options.asked.has("--aiger") {
         return Err(Failure::NoCircuit(file.name()));
     }
     let found = &answer.said.found;

@@ -9,7 +9,7 @@ ghost use Rattle.std.specs.Prelude.{◌≡◌, ◌+◌, ◌<◌, false, map, str
 ghost use Rattle.std.specs.Prelude.{Some, []};
 ghost use Rattle.std.specs.Option.{option_map};
 ghost use Rattle.std.specs.Process.{exit_status};
-ghost use Rattle.gip_program.specs.Statuses.{IsEndedStatus};
+ghost use Rattle.gip_cli.specs.Statuses.{IsEndedStatus};
 ghost use Rattle.gipmc_aiger.specs.Claims.{claims_of, lassos_of};
 ghost use Rattle.gipmc_answers.specs.Answers.{Answers, IsCircuitIn};
 ghost use Rattle.gipmc_answers.specs.Certificates.{Certifies};
@@ -37,13 +37,12 @@ mod witnesses;
 
 use errors::Failure;
 use files::{Files, Texts, check_names, new_file, write_out, write_whole};
-use gip_program::{Clock, NewFile, Printable, begin, explain, refuse, tell};
+use gip_cli::{Clock, NewFile, Printable, begin, explain, refuse, tell};
 use gipmc_aiger::{Header, read_claims, read_lassos};
 use gipmc_answers::{
     Answered, answer, certificate_of, doubt_of, replay_all, witness_circuit_of, witness_doubt,
 };
 use gipmc_command::{ABOUT, Options, Task};
-use gipmc_engines::Engine;
 use gipmc_justice::{JusticeError, lasso_doubt};
 use gipmc_task::{Outcome, Output, TaskError};
 use gipsat_solver::Solver;
@@ -51,7 +50,7 @@ use justice::{justice_failure, keep_of_justice, outcome_of_justice, search_justi
 use kinds::{header_without_bads, header_without_justice, is_of_bads, is_of_justice};
 use located::located;
 use progress::Teller;
-use settings::{output_of, plan_of};
+use settings::{limit_asked, output_of, plan_of};
 use std::fmt::Display;
 use std::io::Stdout;
 use std::process::ExitCode;
@@ -255,7 +254,7 @@ fn search_circuit<'a>(
 {
     check_names(options)?;
     let certificate = certificate_file(rt, options)?;
-    let wave = new_file(rt, options.vcd)?;
+    let wave = new_file(rt, options.asked.word("--vcd"))?;
     search_for(rt, options, clock, bytes, certificate, wave)
 }
 
@@ -264,9 +263,10 @@ fn certificate_file<'a>(
     rt: &HostRuntime,
     options: &Options<'a>,
 ) -> Result<Option<NewFile<'a>>, Failure<'a>> {
-    match options.certificate {
-        Some(name) if options.aiger && options.justice.is_some() => Err(Failure::NoCircuit(name)),
-        Some(name) if options.aiger && options.engine == Engine::Induction => {
+    let is_circuit = options.asked.has("--aiger");
+    match options.asked.word("--certificate") {
+        Some(name) if is_circuit && options.justice.is_some() => Err(Failure::NoCircuit(name)),
+        Some(name) if is_circuit && options.asked.word("--engine") == Some("induction") => {
             Err(Failure::NoCircuitOfK(name))
         }
         name => new_file(rt, name),
@@ -460,7 +460,7 @@ fn certificate_text(
 {
     let invariant = &answer.said.invariant;
     let (alloc, netlist, limit) = (rt.alloc(), &answer.netlist, usize::MAX);
-    if options.aiger {
+    if options.asked.has("--aiger") {
         return witness_circuit_of::<Solver>(alloc, netlist, invariant, options.bad, limit);
     }
     certificate_of::<Solver>(alloc, netlist, invariant, answer.said.k, options.bad, limit)
@@ -730,7 +730,7 @@ fn certify_property<'a>(
 ) -> Result<bool, Failure<'a>>
     ensures { IfOk result (λ verified. IsTrue verified → certificates.Certifies bytes.now text.now place) }
 {
-    match gipmc_justice::doubt_of::<Solver>(rt.alloc(), bytes, text, place, options.limit) {
+    match gipmc_justice::doubt_of::<Solver>(rt.alloc(), bytes, text, place, limit_asked(options)) {
         Ok(None) => verified_text(rt, true),
         Ok(Some(doubt)) => doubted(rt, name, &doubt),
         Err(error) => Err(justice_failure(options.file, name, error)),
@@ -747,7 +747,7 @@ fn certify_bads<'a>(
 ) -> Result<bool, Failure<'a>>
     ensures { IfOk result (λ verified. IsTrue verified → Certifies bytes.now text.now options.now.bad) }
 {
-    match doubt_of::<Solver>(rt.alloc(), bytes, text, options.bad, options.limit) {
+    match doubt_of::<Solver>(rt.alloc(), bytes, text, options.bad, limit_asked(options)) {
         Ok(None) => {
             tell_left_out(rt, options, bytes);
             verified_text(rt, true)

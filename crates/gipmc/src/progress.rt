@@ -2,7 +2,7 @@
 use crate::errors::Failure;
 use crate::snapshot::{Decided, Framed, Held, Inductive, Simulated, Snapshot, Unrolled};
 use crate::witnesses::Witnesses;
-use gip_program::{Clock, Comments, Peak, Seconds, every_interval};
+use gip_cli::{Clock, Comments, Peak, Seconds, every_interval};
 use gipmc_command::Options;
 use gipmc_engines::{Engine, Watch};
 use gipmc_ic3::Statistics;
@@ -59,13 +59,14 @@ impl<'a, 'n> Teller<'a, 'n> {
             rt,
             clock,
             logger: every_interval(),
-            time: options.time.map(Duration::from_secs),
-            is_told: options.verbose || (!options.quiet && rt.stderr().is_terminal()),
-            stats: options.stats,
+            time: time_asked(options),
+            is_told: options.asked.has("--verbose")
+                || (!options.asked.has("--quiet") && rt.stderr().is_terminal()),
+            stats: options.asked.has("--stats"),
             letter: 'b',
             begun: clock,
             snapshot: Snapshot::new('b', 0),
-            witnesses: Witnesses::new(options.witness),
+            witnesses: Witnesses::new(options.asked.word("--witness")),
         }
     }
 
@@ -108,6 +109,14 @@ impl<'a, 'n> Teller<'a, 'n> {
                 .log(&Comments::new(self.rt), now, Level::Info, &told);
         }
         self.go_on(now)
+    }
+}
+
+// How long all may take, if that is said.
+fn time_asked(options: &Options) -> Option<Duration> {
+    match options.asked.number("--time") {
+        Some(seconds) => Some(Duration::from_secs(seconds as u64)),
+        None => None,
     }
 }
 

@@ -1,6 +1,8 @@
 //! What the options say of a search, and of where its answers are written.
 ghost use Rattle.std.specs.Prelude.{◌≡◌};
-ghost use Rattle.gipmc.specs.Plans.{depth_alone, depth_by, engine_by, wants_circuit};
+ghost use Rattle.std.specs.Option.{option_map};
+ghost use Rattle.gipmc.specs.Plans.{depth_alone, depth_asked, depth_by, engine_asked, engine_by, engine_named};
+ghost use Rattle.gipmc.specs.Plans.{limit_asked, seed_asked, wants_circuit};
 
 use gipmc_command::Options;
 use gipmc_engines::{Bounds, Engine, Plan, Tries};
@@ -17,23 +19,23 @@ const DEPTH: usize = 100;
 
 /// What searches, and how far.
 pub fn plan_of(options: &Options) -> Plan
-    ensures engine { result.engine ≡ engine_by (wants_circuit options.now) options.now.engine }
-    ensures seed { result.tries.seed ≡ options.now.seed }
-    ensures depth { result.bounds.depth ≡ depth_by options.now.engine options.now.depth }
-    ensures limit { result.bounds.limit ≡ options.now.limit }
+    ensures engine { result.engine ≡ engine_by (wants_circuit options.now) (engine_asked options.now) }
+    ensures seed { result.tries.seed ≡ seed_asked options.now }
+    ensures depth { result.bounds.depth ≡ depth_by (engine_asked options.now) (depth_asked options.now) }
+    ensures limit { result.bounds.limit ≡ limit_asked options.now }
     ensures calls { result.bounds.calls ≡ usize.MAX }
     ensures gates { result.names_gates ≡ wants_circuit options.now }
 {
     Plan {
         engine: engine_of(options),
         tries: Tries {
-            seed: options.seed,
+            seed: seed_asked(options) as u64,
             rounds: ROUNDS,
             moments: MOMENTS,
         },
         bounds: Bounds {
-            depth: options.depth.unwrap_or(depth_alone(options.engine)),
-            limit: options.limit,
+            depth: depth_of(options),
+            limit: limit_asked(options),
             calls: usize::MAX,
         },
         // Without a certificate equal latches and gates are merged. Behind that, gates in lemmas gain nothing.
@@ -45,15 +47,69 @@ pub fn plan_of(options: &Options) -> Plan
 fn wants_circuit(options: &Options) -> bool
     ensures { result ≡ wants_circuit options.now }
 {
-    options.certificate.is_some() && options.aiger
+    options.asked.word("--certificate").is_some() && options.asked.has("--aiger")
+}
+
+// The seed of simulation.
+fn seed_asked(options: &Options) -> usize
+    ensures { result ≡ seed_asked options.now }
+{
+    options.asked.number("--seed").unwrap_or(0)
+}
+
+// The most transitions of bounded model checking.
+fn depth_of(options: &Options) -> usize
+    ensures { result ≡ depth_by (engine_asked options.now) (depth_asked options.now) }
+{
+    match options.asked.number("--depth") {
+        Some(depth) => depth,
+        None => depth_alone(engine_asked(options)),
+    }
+}
+
+/// How many conflicts a question to a solver may have.
+pub fn limit_asked(options: &Options) -> usize
+    ensures { result ≡ limit_asked options.now }
+{
+    options.asked.number("--limit").unwrap_or(usize::MAX)
+}
+
+// The engine that is asked for.
+fn engine_asked(options: &Options) -> Engine
+    ensures { result ≡ engine_asked options.now }
+{
+    engine_named(options.asked.word("--engine"))
+}
+
+// The engine of this name. All engines have none.
+fn engine_named(name: Option<&str>) -> Engine
+    ensures { result ≡ engine_named (option_map (λ n. n.now) name.entry) }
+{
+    let Some(name) = name else {
+        return Engine::All;
+    };
+    match name {
+        "sim" => Engine::Simulation,
+        "bmc" => Engine::Bounded,
+        "ic3" => Engine::Ic3,
+        "induction" => Engine::Induction,
+        _ => Engine::All,
+    }
 }
 
 // The engine. An invariant makes a certificate that is a circuit.
 fn engine_of(options: &Options) -> Engine
-    ensures { result ≡ engine_by (wants_circuit options.now) options.now.engine }
+    ensures { result ≡ engine_by (wants_circuit options.now) (engine_asked options.now) }
 {
-    match options.engine {
-        Engine::All => all_but_induction(wants_circuit(options)),
+    engine_by(wants_circuit(options), engine_asked(options))
+}
+
+// This engine; where all are to search, and a circuit is wanted, those that find invariants.
+fn engine_by(is_circuit: bool, engine: Engine) -> Engine
+    ensures { result ≡ engine_by is_circuit engine }
+{
+    match engine {
+        Engine::All => all_but_induction(is_circuit),
         engine => engine,
     }
 }
@@ -90,8 +146,8 @@ pub fn output_of(rt: &HostRuntime, options: &Options) -> Output<Stdout> {
 
 // What a certificate is to be made of, if one is wanted.
 fn certifying(options: &Options) -> Certifying {
-    match options.certificate {
-        Some(_) if options.aiger => Certifying::Circuit,
+    match options.asked.word("--certificate") {
+        Some(_) if options.asked.has("--aiger") => Certifying::Circuit,
         Some(_) => Certifying::Clauses,
         None => Certifying::Nothing,
     }
@@ -99,7 +155,8 @@ fn certifying(options: &Options) -> Certifying {
 
 // What becomes of the search where an answer cannot be written: it goes on for the files that are wanted.
 fn lost(options: &Options) -> Lost {
-    if options.certificate.is_some() || options.vcd.is_some() || options.witness.is_some() {
+    let asked = &options.asked;
+    if asked.has("--certificate") || asked.has("--vcd") || asked.has("--witness") {
         Lost::GoOn
     } else {
         Lost::Stop
@@ -108,7 +165,7 @@ fn lost(options: &Options) -> Lost {
 
 // Which traces are written.
 fn traces_asked(options: &Options) -> Traces {
-    if options.shortest {
+    if options.asked.has("--shortest") {
         Traces::Shortest
     } else {
         Traces::Found
@@ -117,5 +174,5 @@ fn traces_asked(options: &Options) -> Traces {
 
 // Whether lines tell, before an answer, how far the search has come: in a file or a pipe, or where that is asked for.
 fn tells_depths(rt: &HostRuntime, options: &Options) -> bool {
-    options.verbose || (!options.quiet && !rt.stdout().is_terminal())
+    options.asked.has("--verbose") || (!options.asked.has("--quiet") && !rt.stdout().is_terminal())
 }

@@ -5,7 +5,7 @@ ghost use Rattle.gipmc_traces.specs.Rows.{Shows};
 use crate::Found;
 use crate::errors::Failure;
 use crate::files::{write_out, write_whole};
-use gip_program::NewFile;
+use gip_cli::NewFile;
 use gipmc_aiger::{Claim, Liveness, read_claims, read_lassos};
 use gipmc_circuits::Netlist;
 use gipmc_command::Options;
@@ -74,7 +74,7 @@ pub fn tell_traces<'a>(
     found: &Found,
     wave: Option<NewFile<'a>>,
 ) -> Result<(), Failure<'a>> {
-    let told = if options.names {
+    let told = if options.asked.has("--names") {
         tell_tables(rt, bytes, found)
     } else {
         Ok(())

@@ -1,6 +1,6 @@
 //! Files of witnesses, each of which is there when its answer was told.
 use crate::errors::Failure;
-use gip_program::{Existing, FinishError, NewFile};
+use gip_cli::{Existing, FinishError, NewFile};
 use std::io::{self, ErrorKind, Write};
 
 /// The files of the witnesses of a run, whose names begin alike, and why one was not written.

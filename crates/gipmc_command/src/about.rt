@@ -1,41 +1,20 @@
 //! What the program tells of itself, and its options.
-use gip_program::{About, Kind, Opt};
+use gip_cli::{About, Kind, Opt};
 
-/// An option of one word.
-#[derive(Clone, Copy)]
-pub enum Switch {
-    Aiger,
-    Names,
-    Quiet,
-    Shortest,
-    Stats,
-    Verbose,
-}
+/// The scope of options that each task heeds.
+pub const EACH: &str = "each";
 
-/// An option that takes a number.
-#[derive(Clone, Copy)]
-pub enum Number {
-    Bad,
-    Depth,
-    Justice,
-    Limit,
-    Seed,
-    Time,
-}
+/// The scope of options that say which property is asked about. The last one counts.
+pub const PROPERTY: &str = "property";
 
-/// An option that takes a word.
-#[derive(Clone, Copy)]
-pub enum Text {
-    Certificate,
-    Certify,
-    Engine,
-    Replay,
-    Vcd,
-    Witness,
-}
+/// The scope of options that a search alone heeds.
+pub const SEARCH: &str = "search";
+
+/// The scope of options that all but a replay heed.
+pub const LIMIT: &str = "limit";
 
 /// What the program tells of itself.
-pub const ABOUT: About<'static, Switch, Number, Text> = About {
+pub const ABOUT: About = About {
     version: "gipmc 0.1.0",
     usage: &["gipmc [OPTION]... [FILE]"],
     summary: &[
@@ -51,7 +30,7 @@ pub const ABOUT: About<'static, Switch, Number, Text> = About {
          nor justice properties, its outputs are taken for bad literals; where it has no output either, no answer is \
          written.",
     ],
-    options: &OPTIONS,
+    options: OPTIONS,
     note: "The options --engine, --depth, --seed and --shortest, and --limit in a search, are about bad literals alone. The \
            value of a long option may also stand behind `=`, and that of a short one right behind it: --depth=20, -t9.",
     statuses: "Exit status: 10 unsafe, a bad state is reachable or a justice property fails; 20 safe, neither; 0 open, \
@@ -59,18 +38,20 @@ pub const ABOUT: About<'static, Switch, Number, Text> = About {
 };
 
 /// The options.
-pub const OPTIONS: [Opt<Switch, Number, Text>; 18] = [
+pub const OPTIONS: &[Opt] = &[
     Opt {
         long: "--bad",
         short: "",
-        kind: Kind::Number(Number::Bad, "I"),
+        kind: Kind::Number("I"),
+        scope: PROPERTY,
         section: "Input",
         help: "only the bad literal at place I",
     },
     Opt {
         long: "--justice",
         short: "",
-        kind: Kind::Number(Number::Justice, "I"),
+        kind: Kind::Number("I"),
+        scope: PROPERTY,
         section: "Input",
         help: "only the justice property at place I. Then the clauses of --certificate and --certify are over the latches \
                and further ones behind these: they count how often its literals and the fairness constraints were met in \
@@ -80,7 +61,8 @@ pub const OPTIONS: [Opt<Switch, Number, Text>; 18] = [
     Opt {
         long: "--engine",
         short: "",
-        kind: Kind::Text(Text::Engine, "ENGINE", "sim, bmc, ic3 or induction"),
+        kind: Kind::Choice("ENGINE", &["sim", "bmc", "ic3", "induction"]),
+        scope: SEARCH,
         section: "Search",
         help: "only this one: sim (random simulation), bmc (bounded model checking), ic3, or induction (k-induction, and bmc \
                for its base); without this, simulation for a moment, and then bmc, induction and ic3 by turns",
@@ -88,14 +70,16 @@ pub const OPTIONS: [Opt<Switch, Number, Text>; 18] = [
     Opt {
         long: "--depth",
         short: "",
-        kind: Kind::Number(Number::Depth, "N"),
+        kind: Kind::Number("N"),
+        scope: SEARCH,
         section: "Search",
         help: "bmc asks for traces of at most N transitions (100 with --engine bmc, else without bound)",
     },
     Opt {
         long: "--limit",
         short: "",
-        kind: Kind::Number(Number::Limit, "N"),
+        kind: Kind::Number("N"),
+        scope: LIMIT,
         section: "Search",
         help: "leave a question to a solver open after N conflicts, of bmc, induction, --shortest and --certify (--conflicts \
                of gipsat is about a whole search); without this there is no bound",
@@ -103,21 +87,24 @@ pub const OPTIONS: [Opt<Switch, Number, Text>; 18] = [
     Opt {
         long: "--time",
         short: "-t",
-        kind: Kind::Number(Number::Time, "SECONDS"),
+        kind: Kind::Number("SECONDS"),
+        scope: SEARCH,
         section: "Search",
         help: "give up so many seconds after the start: what is not known then is open. Each engine may do one step more",
     },
     Opt {
         long: "--seed",
         short: "",
-        kind: Kind::Number(Number::Seed, "N"),
+        kind: Kind::Number("N"),
+        scope: SEARCH,
         section: "Search",
         help: "the seed of random simulation (0)",
     },
     Opt {
         long: "--shortest",
         short: "",
-        kind: Kind::Switch(Switch::Shortest),
+        kind: Kind::Switch,
+        scope: SEARCH,
         section: "Search",
         help: "where a trace was found, look by bmc for a shortest one, and answer with that; where --time or --limit end \
                this, with the first one, and say so",
@@ -125,7 +112,8 @@ pub const OPTIONS: [Opt<Switch, Number, Text>; 18] = [
     Opt {
         long: "--replay",
         short: "",
-        kind: Kind::Text(Text::Replay, "WITNESS", "a file"),
+        kind: Kind::Input("WITNESS"),
+        scope: EACH,
         section: "Answers of other programs",
         help: "write `s VERIFIED` if each trace in the file WITNESS is a counterexample, or `s NOT VERIFIED`, and on \
                standard error why. With --bad or --justice, only what WITNESS has of this property counts, and it has to \
@@ -135,7 +123,8 @@ pub const OPTIONS: [Opt<Switch, Number, Text>; 18] = [
     Opt {
         long: "--certify",
         short: "",
-        kind: Kind::Text(Text::Certify, "FILE", "a file"),
+        kind: Kind::Input("FILE"),
+        scope: EACH,
         section: "Answers of other programs",
         help: "write `s VERIFIED` if the certificate in FILE shows that no bad state is reachable, or `s NOT VERIFIED`, \
                and on standard error why: it does not, or a question is left open by --limit. A certificate is clauses over \
@@ -147,7 +136,8 @@ pub const OPTIONS: [Opt<Switch, Number, Text>; 18] = [
     Opt {
         long: "--certificate",
         short: "",
-        kind: Kind::Text(Text::Certificate, "F", "a file"),
+        kind: Kind::Output("F"),
+        scope: SEARCH,
         section: "Output",
         help: "write a certificate to the file F, which must not be there, if no bad state is reachable, or the one justice \
                property that is asked about holds: clauses, which `--certify F` checks. The search may take longer then. A \
@@ -156,7 +146,8 @@ pub const OPTIONS: [Opt<Switch, Number, Text>; 18] = [
     Opt {
         long: "--aiger",
         short: "",
-        kind: Kind::Switch(Switch::Aiger),
+        kind: Kind::Switch,
+        scope: SEARCH,
         section: "Output",
         help: "write the certificate of --certificate as a circuit in the ascii form of AIGER: the same inputs and latches, \
                and a bad literal that is true outside of the invariant too. No k-induction searches then, since a k has no \
@@ -165,7 +156,8 @@ pub const OPTIONS: [Opt<Switch, Number, Text>; 18] = [
     Opt {
         long: "--names",
         short: "",
-        kind: Kind::Switch(Switch::Names),
+        kind: Kind::Switch,
+        scope: SEARCH,
         section: "Output",
         help: "write behind the answers, for each property, lines that begin with c: its name in the circuit's file, and \
                whether it is safe or open, if it has one; or, where it fails, what each input and latch is at first, and \
@@ -174,7 +166,8 @@ pub const OPTIONS: [Opt<Switch, Number, Text>; 18] = [
     Opt {
         long: "--vcd",
         short: "",
-        kind: Kind::Text(Text::Vcd, "F", "a file"),
+        kind: Kind::Output("F"),
+        scope: SEARCH,
         section: "Output",
         help: "write the trace of the first property that fails to the file F, which must not be there, as a value change \
                dump for a viewer of waves; in the loop of a lasso its signal lasso.again is true",
@@ -182,7 +175,8 @@ pub const OPTIONS: [Opt<Switch, Number, Text>; 18] = [
     Opt {
         long: "--witness",
         short: "",
-        kind: Kind::Text(Text::Witness, "PREFIX", "the front of file names"),
+        kind: Kind::Text("PREFIX", "the front of file names"),
+        scope: SEARCH,
         section: "Output",
         help: "write the witness of each property that fails to a file of its own, which must not be there: PREFIX, then b \
                or j and the property's place, then .aiw",
@@ -190,7 +184,8 @@ pub const OPTIONS: [Opt<Switch, Number, Text>; 18] = [
     Opt {
         long: "--quiet",
         short: "-q",
-        kind: Kind::Switch(Switch::Quiet),
+        kind: Kind::Switch,
+        scope: EACH,
         section: "Output",
         help: "write no progress; without this it is written where standard error is a terminal, and lines `u N` where \
                standard output is none",
@@ -198,7 +193,8 @@ pub const OPTIONS: [Opt<Switch, Number, Text>; 18] = [
     Opt {
         long: "--verbose",
         short: "-v",
-        kind: Kind::Switch(Switch::Verbose),
+        kind: Kind::Switch,
+        scope: EACH,
         section: "Output",
         help: "write progress every five seconds, and lines `u N`, whatever standard error and standard output are, and also \
                with -q",
@@ -206,7 +202,8 @@ pub const OPTIONS: [Opt<Switch, Number, Text>; 18] = [
     Opt {
         long: "--stats",
         short: "",
-        kind: Kind::Switch(Switch::Stats),
+        kind: Kind::Switch,
+        scope: SEARCH,
         section: "Output",
         help: "write a summary on standard error, in lines that begin with c: of each property that was searched for how far \
                each engine that ran came, what decided, and the time; and at the end the time and the most memory of all",

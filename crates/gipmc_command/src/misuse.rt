@@ -1,14 +1,12 @@
 //! Why the words of a command line have no meaning.
-use gip_program::{Fault, NO_NAME};
+use gip_cli::Fault;
 use std::fmt::{self, Display};
 
 /// Why the arguments have no meaning.
 #[derive(Clone, Copy)]
 pub enum UsageError<'a> {
-    /// Words that no options have.
+    /// Words that have no meaning by the table of options.
     Words(Fault<'a>),
-    /// This word names no engine.
-    NoEngine(&'a str),
     /// More files are named than are read.
     ExtraFile(&'a str),
     /// A witness and a certificate are given.
@@ -19,18 +17,12 @@ pub enum UsageError<'a> {
     NoLimit(&'a str),
     /// Standard input is named twice.
     InputTwice,
-    /// A file is to be written, and standard output is named.
-    OutputTwice,
 }
 
 impl Display for UsageError<'_> {
     fn fmt<W: fmt::Write>(&self, f: &mut fmt::Formatter<W>) -> fmt::Result {
         match *self {
             UsageError::Words(fault) => Display::fmt(&fault, f),
-            UsageError::NoEngine(word) => write!(
-                f,
-                "'--engine' takes sim, bmc, ic3 or induction, not '{word}'"
-            ),
             UsageError::ExtraFile(name) => write!(f, "one file too many, '{name}'"),
             UsageError::TwoTasks => f.write_str("'--replay' and '--certify' exclude each other"),
             UsageError::NoSearch(word) => {
@@ -38,7 +30,6 @@ impl Display for UsageError<'_> {
             }
             UsageError::NoLimit(word) => write!(f, "'{word}' does not go with '--replay'"),
             UsageError::InputTwice => f.write_str("one file at most is read from standard input"),
-            UsageError::OutputTwice => f.write_str(NO_NAME),
         }
     }
 }

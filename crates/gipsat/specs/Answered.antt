@@ -3,7 +3,7 @@ use Rattle.std.specs.Prelude.{◌≡◌, ℕ, List, codes, Bool, Option, Some, N
 use Rattle.std.specs.Io.KnownBytes.{Appends}
 use Rattle.gipsat_cnf.specs.Formulas.{Assignment, IsSatisfiable, satisfies}
 use Rattle.gipsat_cnf.specs.Literals.{Lit}
-use Rattle.gip_program.specs.Statuses.{refused_status}
+use Rattle.gip_cli.specs.Statuses.{refused_status}
 use Rattle.gipsat_dimacs.specs.Inputs.{HasForm, OfProblem}
 use Rattle.gipsat_dimacs.specs.Texts.{Problem}
 use Rattle.gipsat_dimacs.specs.declared.rule.HeaderRule.{HeaderRule}

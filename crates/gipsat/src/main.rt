@@ -15,12 +15,10 @@ mod search;
 mod solve;
 mod watch;
 
-use gip_program::{begin, explain, refuse, tell};
+use gip_cli::{begin, explain, refuse, tell};
 use gipsat_answers::read_literals;
 use gipsat_cnf::Literal;
-use gipsat_command::{
-    ABOUT, Failure, Options, Output, Source, Task, Text, check_files, convert_proof,
-};
+use gipsat_command::{ABOUT, Failure, Options, Output, Source, Task, check_files, convert_proof};
 use gipsat_dimacs::DimacsError;
 use search::search_in;
 use std::process::ExitCode;
@@ -41,11 +39,11 @@ fn main(rt: HostRuntime) -> ExitCode {
 
 // The status of a search in the file that the options name, or in standard input. The answer goes to standard output.
 fn run_search(rt: &HostRuntime, options: &Options) -> ExitCode {
-    let assumed = match literals(rt, Text::Assume, options.assume) {
+    let assumed = match literals(rt, "--assume", options.word("--assume")) {
         Ok(assumed) => assumed,
         Err(error) => return refuse(rt, &error),
     };
-    let projection = match literals(rt, Text::Project, options.project) {
+    let projection = match literals(rt, "--project", options.word("--project")) {
         Ok(projection) => projection,
         Err(error) => return refuse(rt, &error),
     };
@@ -53,10 +51,10 @@ fn run_search(rt: &HostRuntime, options: &Options) -> ExitCode {
         Ok(source) => source,
         Err(error) => return refuse(rt, &error),
     };
-    if !options.quiet {
+    if !options.has("--quiet") {
         source.announce(rt);
     }
-    let projection = options.project.map(|_| projection.as_slice());
+    let projection = options.word("--project").map(|_| projection.as_slice());
     let mut output = Output::new(rt.stdout());
     search_in(rt, options, &assumed, projection, source, &mut output)
 }
@@ -64,7 +62,7 @@ fn run_search(rt: &HostRuntime, options: &Options) -> ExitCode {
 // The literals that stand behind this option, if it is given.
 fn literals<'a>(
     rt: &HostRuntime,
-    option: Text,
+    option: &'static str,
     text: Option<&str>,
 ) -> Result<Vec<Literal>, Failure<'a>>
     ensures some { IfOk result (λ literals. IfSome text.entry (λ text. literals_in text.now ≡ Some literals.items)) }

@@ -9,11 +9,11 @@ ghost use Rattle.gipsat_answers.specs.Enumeration.{Extends, IsOpen, IsRightVerdi
 ghost use Rattle.gipsat_dimacs.specs.Inputs.{HasForm, IsRefusedAt, OfProblem, WritesNone};
 ghost use Rattle.gipsat.specs.Models.{projection_of};
 
-use crate::solve::{SolveError, read_assuming};
+use crate::solve::{ListOption, SolveError, read_assuming};
 use crate::watch::{TimeLimit, Watch};
 use gipsat_answers::{Enumerated, Models, are_named, first_variables, write_models};
 use gipsat_cnf::{Cnf, Literal};
-use gipsat_command::{Options, Text};
+use gipsat_command::Options;
 use gipsat_dimacs::{DimacsError, Instance, Reason};
 use gipsat_solver::progress::{Both, Progress};
 use std::alloc::AllocError;
@@ -84,7 +84,7 @@ fn projection<'a>(
         return Ok(first_variables(rt.alloc(), variables)?);
     };
     if !are_named(variables, wanted) {
-        return Err(SolveError::Unnamed(Text::Project));
+        return Err(SolveError::Unnamed(ListOption::Project));
     }
     let mut literals = Vec::new(rt.alloc());
     literals.extend_from_slice(wanted)?;

@@ -11,7 +11,7 @@ use crate::models::{Wanted, enumerate};
 use crate::questions::answer;
 use crate::solve::{SolveError, solve};
 use crate::watch::WatchedReader;
-use gip_program::refuse;
+use gip_cli::refuse;
 use gipsat_answers::{QuestionsError, Verdict};
 use gipsat_cnf::Literal;
 use gipsat_command::{Failure, Options, Output, Source};
@@ -142,11 +142,11 @@ fn answer_in<'a, R: Read + Drop, W: Write>(
 
 // An option that has a meaning for one formula alone, if one is given.
 fn of_one_formula(options: &Options) -> Option<&'static str> {
-    if options.proof.is_some() {
+    if options.has("--proof") {
         Some("--proof")
     } else if options.models.is_some() {
         Some("--models")
-    } else if options.assume.is_some() {
+    } else if options.has("--assume") {
         Some("--assume")
     } else {
         None
@@ -175,7 +175,7 @@ fn failure_of<'a, R: Read, W: Write>(
 ) -> Failure<'a> {
     match error {
         SolveError::Task(error) => source.failure(output, error),
-        SolveError::Unnamed(option) => Failure::Unnamed(source.name(), option),
+        SolveError::Unnamed(option) => Failure::Unnamed(source.name(), option.name()),
         SolveError::Proof(error) => Failure::Proof(error),
     }
 }

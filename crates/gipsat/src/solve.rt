@@ -10,11 +10,11 @@ ghost use Rattle.gipsat_dimacs.specs.declared.error.DimacsError.TheVariants as d
 ghost use Rattle.gipsat.specs.declared.solve.SolveError.TheVariants as solve_error;
 
 use crate::watch::{TimeLimit, Watch};
-use gip_program::NewFile;
+use gip_cli::NewFile;
 use gipsat_answers::{Solved, Task, Verdict, are_named, assume, solve_instance};
 use gipsat_cnf::{Cnf, Literal};
+use gipsat_command::Options;
 use gipsat_command::proof_file::{self, ProofError};
-use gipsat_command::{Options, Text};
 use gipsat_dimacs::{DimacsError, Instance, Reason, read_instance_by};
 use gipsat_drat_writer::{Fault, Form, Format, ProofWriter};
 use gipsat_solver::Inprocessing;
@@ -22,13 +22,32 @@ use gipsat_solver::progress::{Both, Progress};
 use std::alloc::AllocError;
 use std::io::{Read, Write};
 
+/// An option behind which a list of literals stands.
+#[derive(Clone, Copy)]
+pub enum ListOption {
+    /// `--assume`.
+    Assume,
+    /// `--project`.
+    Project,
+}
+
+impl ListOption {
+    /// Its name.
+    pub fn name(self) -> &'static str {
+        match self {
+            ListOption::Assume => "--assume",
+            ListOption::Project => "--project",
+        }
+    }
+}
+
 /// Why a formula was not solved.
 #[derive(Clone, Copy)]
 pub enum SolveError<'a> {
     /// It was not read, memory was refused, or no answer was written.
     Task(DimacsError),
     /// Behind this option a literal has a variable that the formula does not have.
-    Unnamed(Text),
+    Unnamed(ListOption),
     /// The proof was not written.
     Proof(ProofError<'a>),
 }
@@ -99,7 +118,7 @@ pub fn read_assuming<'a, R: Read>(
     };
     watch.note_read(&instance);
     if !are_named(instance.variables, assumed) {
-        return Err(SolveError::Unnamed(Text::Assume));
+        return Err(SolveError::Unnamed(ListOption::Assume));
     }
     match assume(&mut instance, assumed) {
         Ok(()) => Ok(instance),
@@ -116,7 +135,7 @@ fn open_proof<'a, R: Read>(
     requires read_to_end { IsAtEnd (R.remaining reader.now) }
     ensures other { (error : DimacsError) → ¬ (IsErrOf result (SolveError.Task error)) }
 {
-    let Some(path) = options.proof else {
+    let Some(path) = options.word("--proof") else {
         return Ok(None);
     };
     match proof_file::create(rt, options, path, reader) {
@@ -140,8 +159,8 @@ pub fn task_of(options: &Options) -> Task
 // What the search does at its pauses.
 fn inprocessing_of(options: &Options) -> Inprocessing {
     Inprocessing {
-        eliminates: options.eliminate,
-        vivifies: options.vivify,
+        eliminates: !options.has("--no-eliminate") && !options.has("--no-simplify"),
+        vivifies: !options.has("--no-vivify") && !options.has("--no-simplify"),
     }
 }
 
@@ -264,12 +283,7 @@ fn prove_to<'a, W: Write, P: Progress + Drop>(
         ¬ (IsErrOf result (SolveError.Task (DimacsError.Line line reason))) }
 {
     let path = file.name();
-    let form = if options.lrat { Form::Lrat } else { Form::Drat };
-    let format = if options.binary {
-        Format::Binary
-    } else {
-        Format::Text
-    };
+    let (form, format) = (form_of(options), format_of(options));
     let mut both = Both {
         first: progress,
         second: ProofWriter::in_form(rt.alloc(), file, form, format),
@@ -287,5 +301,23 @@ fn prove_to<'a, W: Write, P: Progress + Drop>(
         Ok(()) => Ok(Told { solved, progress }),
         Err(Fault::Memory) => Err(SolveError::Task(DimacsError::Memory)),
         Err(Fault::Output(error)) => Err(SolveError::Proof(ProofError::Write(path, error))),
+    }
+}
+
+// The form of the proof.
+fn form_of(options: &Options) -> Form {
+    if options.has("--lrat") {
+        Form::Lrat
+    } else {
+        Form::Drat
+    }
+}
+
+// How its steps are written.
+fn format_of(options: &Options) -> Format {
+    if options.has("--binary") {
+        Format::Binary
+    } else {
+        Format::Text
     }
 }

@@ -1,7 +1,8 @@
 //! How far a run is, in lines on standard error, and when its time is over.
-ghost use Rattle.std.specs.Prelude.{◌≡◌, ◌&&◌, false, not, IfOk};
+ghost use Rattle.std.specs.Prelude.{◌≡◌, false, IfOk};
+ghost use Rattle.gipsat.specs.Watched.{has_stats, is_quiet};
 
-use gip_program::{Clock, Comments, Peak, Seconds, every_interval};
+use gip_cli::{Clock, Comments, Peak, Seconds, every_interval};
 use gipsat_cnf::{Cnf, Literal};
 use gipsat_command::Options;
 use gipsat_dimacs::Instance;
@@ -80,7 +81,7 @@ impl<'a, R: Read> WatchedReader<'a, R> {
             reader,
             clock: Clock::start(rt),
             logger: every_interval(),
-            quiet: options.quiet && !options.verbose,
+            quiet: is_quiet(options),
             bytes: 0,
         }
     }
@@ -121,8 +122,8 @@ pub struct Watch<'a> {
 impl<'a> Watch<'a> {
     /// Before the formula is read: its time counts.
     pub fn new(rt: &'a HostRuntime, options: &Options) -> Result<Self, AllocError>
-        ensures stats { IfOk result (λ watch. watch.stats ≡ (options.now.stats && not options.now.quiet)) }
-        ensures quiet { IfOk result (λ watch. watch.quiet ≡ (options.now.quiet && not options.now.verbose)) }
+        ensures stats { IfOk result (λ watch. watch.stats ≡ has_stats options.now) }
+        ensures quiet { IfOk result (λ watch. watch.quiet ≡ is_quiet options.now) }
     {
         Ok(Watch {
             rt,
@@ -130,8 +131,8 @@ impl<'a> Watch<'a> {
             logger: every_interval(),
             lengths: MovingAverage::with_room(rt.alloc(), LAST)?,
             is_searching: false,
-            quiet: options.quiet && !options.verbose,
-            stats: options.stats && !options.quiet,
+            quiet: is_quiet(options),
+            stats: has_stats(options),
         })
     }
 
@@ -148,6 +149,20 @@ impl<'a> Watch<'a> {
             Seconds(now)
         );
     }
+}
+
+// Whether no progress is written.
+fn is_quiet(options: &Options) -> bool
+    ensures { result ≡ is_quiet options.now }
+{
+    options.has("--quiet") && !options.has("--verbose")
+}
+
+// Whether a summary is written at the end.
+fn has_stats(options: &Options) -> bool
+    ensures { result ≡ has_stats options.now }
+{
+    options.has("--stats") && !options.has("--quiet")
 }
 
 impl Progress for Watch<'_> {

@@ -2,7 +2,7 @@
 use Rattle.std.proofs.Common.{◌≡◌, ℕ, List, Option, Some, None, IfSome, Result, Ok, Err, inl, inr, refl, subst, sym}
 use Rattle.std.specs.Prelude.{IfOk, OnOk}
 use Rattle.std.specs.Io.KnownBytes.{Appends}
-use Rattle.gip_program.specs.Statuses.{IsEndedStatus}
+use Rattle.gip_cli.specs.Statuses.{IsEndedStatus}
 use Rattle.gipsat_dimacs.specs.Inputs.{HasForm, OfProblem}
 use Rattle.gipsat_dimacs.specs.Texts.{Problem, problem_by}
 use Rattle.gipsat_dimacs.specs.declared.rule.HeaderRule.{HeaderRule}

@@ -1,55 +1,72 @@
 -- Worked examples of command lines, and of the status of a check.
-use Rattle.std.proofs.Common.{◌≡◌, ◌^◌, ◌-◌, [], ◌∷◌, refl, codes, Some, None, Ok, Err, true, false}
+use Rattle.std.proofs.Common.{◌≡◌, ◌^◌, ◌-◌, ℕ, List, [], ◌∷◌, refl, codes, Some, None, Ok, Err, true, false}
 use Rattle.std.proofs.lemmas.Bool.{false≢true}
-use Rattle.gip_program.specs.Items.{UnknownOption, NoValue, NoNumber}
-use Rattle.gip_program.specs.declared.items.Info.TheVariants as info
+use Rattle.std.specs.Prelude.{Option}
+use Rattle.gip_cli.specs.Asked.{has, said_by, word}
+use Rattle.gip_cli.specs.Items.{NoNumber, NoOutput, NoValue, Said, UnknownOption}
+use Rattle.gip_cli.specs.declared.items.Info.TheVariants as info
+use Rattle.gipsat_dimacs.specs.declared.rule.HeaderRule.TheVariants.{Relaxed, Strict}
 use Rattle.gipsat_drat.specs.declared.error.Flaw.TheVariants.{NotShown}
 use Rattle.gipsat_drat.specs.declared.error.Outcome.TheVariants.{Verified, Refused}
 use Rattle.gipsat_drat.specs.declared.error.Place.TheVariants.{Line}
-use Rattle.gipsat_command.specs.Misuses.{Words, ExtraFile, MissingFile, MissingModels, MissingProof, ProofOfMore, NotForCheck, InputTwice, OutputTwice}
-use Rattle.gipsat_command.specs.Options.{no_request}
+use Rattle.gipsat_command.specs.Misuses.{Words, ExtraFile, MissingFile, MissingModels, MissingProof, ProofOfMore, NotForCheck, InputTwice}
+use Rattle.gipsat_command.specs.Options.{Request, table}
 use Rattle.gipsat_command.specs.Statuses.{TellsVerified, checking_status}
 use Rattle.gipsat_command.specs.Words.{work_asked, Tell, Solve, Check, Convert}
 
-nothing : work_asked [] ≡ Ok (Solve no_request)
+abbrev said : List (List ℕ) → List Said
+said words = said_by table words
+
+-- what words ask for that set no limit, nor how many models there are to be, about this file
+abbrev asked : List (List ℕ) → Option (List ℕ) → Request
+asked words file = record {
+  said = said words;
+  file = file;
+  conflicts = 2 ^ 64 - 1;
+  time = None;
+  witness = true;
+  models = None;
+  rule = Strict;
+  force = false;
+}
+
+nothing : work_asked [] ≡ Ok (Solve (asked [] None))
 nothing = refl
 
-all : work_asked (codes "--conflicts" ∷ codes "7" ∷ codes "-t" ∷ codes "9" ∷ codes "--proof" ∷ codes "p" ∷ codes "a" ∷ [])
-    ≡ Ok (Solve (record no_request { conflicts = 7; time = Some 9; proof = Some (codes "p"); file = Some (codes "a") }))
-all = refl
+abbrev limits : List (List ℕ)
+limits = codes "--conflicts" ∷ codes "7" ∷ codes "-t9" ∷ codes "--proof" ∷ codes "p" ∷ codes "a" ∷ []
 
-verbose : work_asked (codes "-q" ∷ codes "--verbose" ∷ []) ≡ Ok (Solve (record no_request { quiet = true; verbose = true }))
-verbose = refl
+limits-asked : work_asked limits ≡ Ok (Solve (record (asked limits (Some (codes "a"))) { conflicts = 7; time = Some 9 }))
+limits-asked = refl
 
-switches : work_asked (codes "a" ∷ codes "--stats" ∷ codes "-q" ∷ codes "-n" ∷ codes "-f" ∷ codes "--binary" ∷ [])
-    ≡ Ok (Solve (record no_request { stats = true; quiet = true; witness = false; force = true; binary = true; file = Some (codes "a") }))
-switches = refl
+limits-proof : word (codes "--proof") (said limits) ≡ Some (codes "p")
+limits-proof = refl
 
-lrat : work_asked (codes "--lrat" ∷ codes "--proof" ∷ codes "p" ∷ [])
-    ≡ Ok (Solve (record no_request { proof = Some (codes "p"); lrat = true }))
-lrat = refl
+abbrev switches : List (List ℕ)
+switches = codes "-" ∷ codes "--relaxed" ∷ codes "-q" ∷ codes "-n" ∷ []
 
-no_simplify : work_asked (codes "--no-simplify" ∷ []) ≡ Ok (Solve (record no_request { eliminate = false; vivify = false }))
-no_simplify = refl
+-- a minus is standard input
+switches-asked : work_asked switches ≡ Ok (Solve (record (asked switches None) { witness = false; rule = Relaxed }))
+switches-asked = refl
 
-no_eliminate : work_asked (codes "--no-eliminate" ∷ []) ≡ Ok (Solve (record no_request { eliminate = false }))
-no_eliminate = refl
+switches-quiet : has (codes "--quiet") (said switches) ≡ true
+switches-quiet = refl
 
-no_vivify : work_asked (codes "--no-vivify" ∷ []) ≡ Ok (Solve (record no_request { vivify = false }))
-no_vivify = refl
-
-assume : work_asked (codes "--assume" ∷ codes "1 -2" ∷ codes "a" ∷ [])
-    ≡ Ok (Solve (record no_request { assume = Some (codes "1 -2"); file = Some (codes "a") }))
-assume = refl
+switches-stats : has (codes "--stats") (said switches) ≡ false
+switches-stats = refl
 
 -- 0 stands for all models
-models : work_asked (codes "--models" ∷ codes "0" ∷ codes "--project=1 2" ∷ [])
-    ≡ Ok (Solve (record no_request { models = Some (2 ^ 64 - 1); project = Some (codes "1 2") }))
-models = refl
+abbrev all_models : List (List ℕ)
+all_models = codes "--models" ∷ codes "0" ∷ codes "--project=1 2" ∷ []
 
-models-some : work_asked (codes "--models=5" ∷ codes "--assume=3" ∷ [])
-    ≡ Ok (Solve (record no_request { models = Some 5; assume = Some (codes "3") }))
-models-some = refl
+all_models-asked : work_asked all_models ≡ Ok (Solve (record (asked all_models None) { models = Some (2 ^ 64 - 1) }))
+all_models-asked = refl
+
+abbrev some_models : List (List ℕ)
+some_models = codes "--models=5" ∷ codes "--assume=3" ∷ []
+
+some_models-asked : work_asked some_models ≡ Ok (Solve (record (asked some_models None) { models = Some 5 }))
+some_models-asked = refl
 
 refused-project : work_asked (codes "--project" ∷ codes "1" ∷ []) ≡ Err MissingModels
 refused-project = refl
@@ -60,43 +77,6 @@ refused-proof_of_models = refl
 refused-proof_of_assumptions : work_asked (codes "--proof=p" ∷ codes "--assume=1" ∷ []) ≡ Err ProofOfMore
 refused-proof_of_assumptions = refl
 
--- a long setting with its value in one word; the value is all behind the first equals sign
-joined : work_asked (codes "--conflicts=7" ∷ codes "--time=9" ∷ codes "--proof=p=q" ∷ codes "a" ∷ [])
-    ≡ Ok (Solve (record no_request { conflicts = 7; time = Some 9; proof = Some (codes "p=q"); file = Some (codes "a") }))
-joined = refl
-
-refused-joined_switch : work_asked (codes "--stats=1" ∷ []) ≡ Err (Words (UnknownOption (codes "--stats=1")))
-refused-joined_switch = refl
-
--- or all behind a short name
-joined_short : work_asked (codes "-t9" ∷ codes "a" ∷ [])
-    ≡ Ok (Solve (record no_request { time = Some 9; file = Some (codes "a") }))
-joined_short = refl
-
-refused-joined_short : work_asked (codes "-t=9" ∷ []) ≡ Err (Words (NoNumber (codes "--time") (codes "=9")))
-refused-joined_short = refl
-
-refused-joined_nothing : work_asked (codes "--time=" ∷ []) ≡ Err (Words (NoNumber (codes "--time") []))
-refused-joined_nothing = refl
-
--- the last limit counts
-twice : work_asked (codes "--conflicts" ∷ codes "7" ∷ codes "--conflicts" ∷ codes "0" ∷ [])
-    ≡ Ok (Solve (record no_request { conflicts = 0 }))
-twice = refl
-
--- what stands behind a setting is its value, whatever it is
-value-any : work_asked (codes "--proof" ∷ codes "--stats" ∷ [])
-    ≡ Ok (Solve (record no_request { proof = Some (codes "--stats") }))
-value-any = refl
-
--- a minus is standard input
-file-stdin : work_asked (codes "-" ∷ []) ≡ Ok (Solve no_request)
-file-stdin = refl
-
--- behind two minuses each word is a file
-file-any : work_asked (codes "--" ∷ codes "--stats" ∷ []) ≡ Ok (Solve (record no_request { file = Some (codes "--stats") }))
-file-any = refl
-
 check-two_files : work_asked (codes "a" ∷ codes "--check" ∷ codes "b" ∷ []) ≡ Ok (Check (Some (codes "a")) (Some (codes "b")))
 check-two_files = refl
 
@@ -104,13 +84,11 @@ check-stdin : work_asked (codes "--check" ∷ codes "-" ∷ codes "b" ∷ []) �
 check-stdin = refl
 
 -- a check that writes a proof with hints, with the options of that alone
-convert : work_asked (codes "--lrat-from-drat" ∷ codes "o" ∷ codes "a" ∷ codes "b" ∷ [])
-    ≡ Ok (Convert (record no_request { file = Some (codes "a") }) (Some (codes "b")) (codes "o"))
-convert = refl
+abbrev convert : List (List ℕ)
+convert = codes "--check" ∷ codes "--binary" ∷ codes "a" ∷ codes "-" ∷ codes "--lrat-from-drat=o" ∷ codes "-f" ∷ []
 
-convert-binary : work_asked (codes "--check" ∷ codes "--binary" ∷ codes "a" ∷ codes "-" ∷ codes "--lrat-from-drat=o" ∷ codes "-f" ∷ [])
-    ≡ Ok (Convert (record no_request { file = Some (codes "a"); binary = true; force = true }) None (codes "o"))
-convert-binary = refl
+convert-asked : work_asked convert ≡ Ok (Convert (record (asked convert (Some (codes "a"))) { force = true }) None (codes "o"))
+convert-asked = refl
 
 refused-check_in_binary : work_asked (codes "--check" ∷ codes "--binary" ∷ codes "a" ∷ codes "b" ∷ []) ≡ Err (NotForCheck (codes "--binary"))
 refused-check_in_binary = refl
@@ -123,24 +101,17 @@ refused-convert_with_option = refl
 help : work_asked (codes "--stats" ∷ codes "-h" ∷ codes "--other" ∷ []) ≡ Ok (Tell info.Help)
 help = refl
 
-version : work_asked (codes "--version" ∷ []) ≡ Ok (Tell info.Version)
-version = refl
-
 refused-option : work_asked (codes "--stat" ∷ []) ≡ Err (Words (UnknownOption (codes "--stat")))
 refused-option = refl
 
-refused-output_twice : work_asked (codes "--proof=-" ∷ codes "a" ∷ []) ≡ Err OutputTwice
-refused-output_twice = refl
+refused-stdout : work_asked (codes "--proof=-" ∷ codes "a" ∷ []) ≡ Err (Words NoOutput)
+refused-stdout = refl
 
 refused-no_value : work_asked (codes "a" ∷ codes "--proof" ∷ []) ≡ Err (Words (NoValue (codes "--proof")))
 refused-no_value = refl
 
 refused-number : work_asked (codes "--conflicts" ∷ codes "7x" ∷ []) ≡ Err (Words (NoNumber (codes "--conflicts") (codes "7x")))
 refused-number = refl
-
-refused-large_number : work_asked (codes "-t" ∷ codes "18446744073709551616" ∷ [])
-    ≡ Err (Words (NoNumber (codes "--time") (codes "18446744073709551616")))
-refused-large_number = refl
 
 refused-two_files : work_asked (codes "a" ∷ codes "b" ∷ []) ≡ Err (ExtraFile (codes "b"))
 refused-two_files = refl

@@ -1,12 +1,12 @@
 -- Why the words of a command line have no meaning.
 use Rattle.std.specs.Prelude.{ℕ, List}
-use Rattle.gip_program.specs.Items as items
+use Rattle.gip_cli.specs.Items as items
 use Rattle.gipsat_command.specs.declared.errors.UsageError.{UsageError}
 use Rattle.gipsat_command.specs.declared.errors.UsageError.TheVariants as error
 
--- words that no options have, a file too many or too few, `--lrat` without a proof, `--project` without `--models`, a
--- proof beside assumptions or several models, an option that a check does not take, standard input as both of its files,
--- and standard output for a proof
+-- words without a meaning by the table, a file too many or too few, `--lrat` without a proof, `--project` without
+-- `--models`, a proof beside assumptions or several models, an option that a check does not take, and standard input as
+-- both of its files
 pub data Misuse : Type 0 where
   Words : items.Misuse → Misuse
   ExtraFile : List ℕ → Misuse
@@ -16,7 +16,6 @@ pub data Misuse : Type 0 where
   ProofOfMore : Misuse
   NotForCheck : List ℕ → Misuse
   InputTwice : Misuse
-  OutputTwice : Misuse
 
 -- what an error tells
 abbrev pub misuse_of : UsageError → Misuse
@@ -28,4 +27,3 @@ misuse_of error.MissingModels = MissingModels
 misuse_of error.ProofOfMore = ProofOfMore
 misuse_of (error.NotForCheck word) = NotForCheck word.now
 misuse_of error.InputTwice = InputTwice
-misuse_of error.OutputTwice = OutputTwice

@@ -1,6 +1,6 @@
 -- The status that a check ends with, and what it says.
 use Rattle.std.specs.Prelude.{ℕ, List, Option}
-use Rattle.gip_program.specs.Statuses.{refused_status}
+use Rattle.gip_cli.specs.Statuses.{refused_status}
 use Rattle.gipsat_dimacs.specs.Inputs.{HasForm, OfProblem}
 use Rattle.gipsat_dimacs.specs.declared.rule.HeaderRule.TheVariants.{Strict}
 use Rattle.gipsat_drat.specs.Outcomes.{WritesOutcome}

@@ -1,42 +1,17 @@
 //! What the program tells of itself, and its options.
-use gip_program::{About, Kind, Opt};
+use gip_cli::{About, Kind, Opt};
 
-/// An option of one word.
-#[derive(Clone, Copy)]
-pub enum Switch {
-    Binary,
-    Check,
-    Force,
-    Lrat,
-    NoEliminate,
-    NoSimplify,
-    NoVivify,
-    NoWitness,
-    Quiet,
-    Relaxed,
-    Stats,
-    Verbose,
-}
+/// The scope of options that a check refuses.
+pub const SEARCH: &str = "search";
 
-/// An option that takes a number.
-#[derive(Clone, Copy)]
-pub enum Number {
-    Conflicts,
-    Models,
-    Time,
-}
+/// The scope of options that say how a proof is written. A check that writes none refuses them.
+pub const FORM: &str = "form";
 
-/// An option that takes a word.
-#[derive(Clone, Copy)]
-pub enum Text {
-    Assume,
-    LratFromDrat,
-    Project,
-    Proof,
-}
+/// The scope of options that ask for a check.
+pub const CHECK: &str = "check";
 
 /// What the program tells of itself.
-pub const ABOUT: About<'static, Switch, Number, Text> = About {
+pub const ABOUT: About = About {
     version: "gipsat 0.1.0",
     usage: &[
         "gipsat [OPTION]... [FORMULA]",
@@ -51,7 +26,7 @@ pub const ABOUT: About<'static, Switch, Number, Text> = About {
          under the assumptions that it has, as a formula of the clauses before it. The status is 10 where one is \
          satisfiable, and 20 where all are unsatisfiable.",
     ],
-    options: &OPTIONS,
+    options: OPTIONS,
     note: "The value of a long option may also stand behind `=`, and that of a short one right behind it: --time=60, \
            -t60.",
     statuses: "Exit status: 10 satisfiable, 20 unsatisfiable, 0 unknown, verified, or help; 1 an error, or not verified; 2 \
@@ -59,25 +34,28 @@ pub const ABOUT: About<'static, Switch, Number, Text> = About {
 };
 
 /// The options.
-pub const OPTIONS: [Opt<Switch, Number, Text>; 19] = [
+pub const OPTIONS: &[Opt] = &[
     Opt {
         long: "--relaxed",
         short: "",
-        kind: Kind::Switch(Switch::Relaxed),
+        kind: Kind::Switch,
+        scope: SEARCH,
         section: "Input",
         help: "take the counts of the header as hints; there may be no header",
     },
     Opt {
         long: "--assume",
         short: "",
-        kind: Kind::Text(Text::Assume, "LITERALS", "literals"),
+        kind: Kind::Text("LITERALS", "literals"),
+        scope: SEARCH,
         section: "Input",
         help: "solve with a clause of each of these literals besides, as in --assume '1 -2'",
     },
     Opt {
         long: "--models",
         short: "",
-        kind: Kind::Number(Number::Models, "N"),
+        kind: Kind::Number("N"),
+        scope: SEARCH,
         section: "Several answers",
         help: "write N models, no two of them alike, and behind the last one `s UNSATISFIABLE` where there are fewer; all \
                models for N = 0",
@@ -85,77 +63,88 @@ pub const OPTIONS: [Opt<Switch, Number, Text>; 19] = [
     Opt {
         long: "--project",
         short: "",
-        kind: Kind::Text(Text::Project, "VARIABLES", "variables"),
+        kind: Kind::Text("VARIABLES", "variables"),
+        scope: SEARCH,
         section: "Several answers",
         help: "let no two models agree on all of these variables, as in --project '1 2'; without it, on all variables",
     },
     Opt {
         long: "--no-eliminate",
         short: "",
-        kind: Kind::Switch(Switch::NoEliminate),
+        kind: Kind::Switch,
+        scope: SEARCH,
         section: "Search",
         help: "eliminate no variables",
     },
     Opt {
         long: "--no-vivify",
         short: "",
-        kind: Kind::Switch(Switch::NoVivify),
+        kind: Kind::Switch,
+        scope: SEARCH,
         section: "Search",
         help: "shorten no learned clauses",
     },
     Opt {
         long: "--no-simplify",
         short: "",
-        kind: Kind::Switch(Switch::NoSimplify),
+        kind: Kind::Switch,
+        scope: SEARCH,
         section: "Search",
         help: "as --no-eliminate and --no-vivify together",
     },
     Opt {
         long: "--conflicts",
         short: "",
-        kind: Kind::Number(Number::Conflicts, "N"),
+        kind: Kind::Number("N"),
+        scope: SEARCH,
         section: "Limits",
         help: "give up after N conflicts",
     },
     Opt {
         long: "--time",
         short: "-t",
-        kind: Kind::Number(Number::Time, "SECONDS"),
+        kind: Kind::Number("SECONDS"),
+        scope: SEARCH,
         section: "Limits",
         help: "give up when the search first pauses after so many seconds; reading is not cut short",
     },
     Opt {
         long: "--no-witness",
         short: "-n",
-        kind: Kind::Switch(Switch::NoWitness),
+        kind: Kind::Switch,
+        scope: SEARCH,
         section: "Output",
         help: "write no values (lines that begin with v)",
     },
     Opt {
         long: "--quiet",
         short: "-q",
-        kind: Kind::Switch(Switch::Quiet),
+        kind: Kind::Switch,
+        scope: SEARCH,
         section: "Output",
         help: "write no comments (lines that begin with c, on standard error)",
     },
     Opt {
         long: "--verbose",
         short: "-v",
-        kind: Kind::Switch(Switch::Verbose),
+        kind: Kind::Switch,
+        scope: SEARCH,
         section: "Output",
         help: "write progress every five seconds, whatever standard error is, and also with -q",
     },
     Opt {
         long: "--stats",
         short: "",
-        kind: Kind::Switch(Switch::Stats),
+        kind: Kind::Switch,
+        scope: SEARCH,
         section: "Output",
         help: "write a summary of the search at its end, on standard error",
     },
     Opt {
         long: "--proof",
         short: "",
-        kind: Kind::Text(Text::Proof, "PROOF", "a file"),
+        kind: Kind::Output("PROOF"),
+        scope: SEARCH,
         section: "Proofs",
         help: "write the steps of the search to the file PROOF, in the DRAT form, whatever the answer is: at `s \
                UNSATISFIABLE` they are a proof. The file appears at the end. A minus is refused, since standard output has \
@@ -164,14 +153,16 @@ pub const OPTIONS: [Opt<Switch, Number, Text>; 19] = [
     Opt {
         long: "--binary",
         short: "",
-        kind: Kind::Switch(Switch::Binary),
+        kind: Kind::Switch,
+        scope: FORM,
         section: "Proofs",
         help: "write it in the binary form",
     },
     Opt {
         long: "--lrat",
         short: "",
-        kind: Kind::Switch(Switch::Lrat),
+        kind: Kind::Switch,
+        scope: SEARCH,
         section: "Proofs",
         help: "write it in the LRAT form, whose steps name the clauses that they follow from; it is larger, and checked \
                faster",
@@ -179,7 +170,8 @@ pub const OPTIONS: [Opt<Switch, Number, Text>; 19] = [
     Opt {
         long: "--force",
         short: "-f",
-        kind: Kind::Switch(Switch::Force),
+        kind: Kind::Switch,
+        scope: FORM,
         section: "Proofs",
         help: "replace PROOF also where it looks like a formula, and where it is not empty and no FORMULA is named or \
                --relaxed is given",
@@ -187,7 +179,8 @@ pub const OPTIONS: [Opt<Switch, Number, Text>; 19] = [
     Opt {
         long: "--check",
         short: "",
-        kind: Kind::Switch(Switch::Check),
+        kind: Kind::Switch,
+        scope: CHECK,
         section: "Proofs",
         help: "read a formula and a proof that nothing satisfies it, and write `s VERIFIED` or `s NOT VERIFIED`; each \
                clause of the proof has to be RUP or RAT",
@@ -195,7 +188,8 @@ pub const OPTIONS: [Opt<Switch, Number, Text>; 19] = [
     Opt {
         long: "--lrat-from-drat",
         short: "",
-        kind: Kind::Text(Text::LratFromDrat, "OUT", "a file"),
+        kind: Kind::Output("OUT"),
+        scope: CHECK,
         section: "Proofs",
         help: "check a DRAT proof as --check does, and write the steps that were needed to the file OUT, in the LRAT form; \
                --binary and --force stand for OUT then. The file appears where the proof is verified",

@@ -2,7 +2,7 @@
 ghost use Rattle.std.specs.Prelude.{◌≡◌, ◌≢◌, ℕ, IfOk, IfErr, OnOk, IsErrOf};
 ghost use Rattle.std.specs.Io.KnownBytes.{IsAtEnd};
 ghost use Rattle.std.specs.Process.{exit_status};
-ghost use Rattle.gip_program.specs.Statuses.{IsEndedStatus};
+ghost use Rattle.gip_cli.specs.Statuses.{IsEndedStatus};
 ghost use Rattle.gipsat_command.specs.Files.{output_contents, source_remaining};
 ghost use Rattle.gipsat_command.specs.Statuses.{TellsVerified, checking_status};
 ghost use Rattle.gipsat_drat.specs.Outcomes.{WritesOutcome};
@@ -13,7 +13,7 @@ use crate::convert::convert;
 use crate::errors::Failure;
 use crate::files::{Output, Source};
 use crate::options::Options;
-use gip_program::{Printable, refuse};
+use gip_cli::{Printable, refuse};
 use gipsat_dimacs::{DimacsError, Reason};
 use gipsat_drat::error::{DratError, Notes, Outcome};
 use gipsat_drat::task::check_text_noting;

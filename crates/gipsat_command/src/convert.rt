@@ -10,7 +10,7 @@ use crate::errors::Failure;
 use crate::files::{Output, Source};
 use crate::options::Options;
 use crate::proof_file::{self, ProofError};
-use gip_program::NewFile;
+use gip_cli::NewFile;
 use gipsat_drat::error::{DratError, Notes, Outcome};
 use gipsat_drat::{LratFormat, lrat_from_drat};
 use std::io::{self, Read, Write};
@@ -59,7 +59,7 @@ pub fn convert<'a, F: Read, P: Read, W: Write>(
         Ok(file) => Written { file, error: None },
         Err(error) => return Err(Failure::Proof(error)),
     };
-    let format = if options.binary {
+    let format = if options.has("--binary") {
         LratFormat::Binary
     } else {
         LratFormat::Text

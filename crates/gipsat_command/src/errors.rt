@@ -1,7 +1,6 @@
 //! Why nothing was answered, as it is told.
-use crate::about::Text;
 use crate::proof_file::ProofError;
-use gip_program::{Cause, Fault, NO_NAME};
+use gip_cli::{Cause, Fault};
 use gipsat_dimacs::{Compression, Reason};
 use gipsat_drat::error::{OtherForm, Place, Refusal};
 use std::fmt::{self, Display};
@@ -10,7 +9,7 @@ use std::io;
 /// Why the arguments have no meaning.
 #[derive(Clone, Copy)]
 pub enum UsageError<'a> {
-    /// Words that no options have.
+    /// Words that have no meaning by the table of options.
     Words(Fault<'a>),
     /// More files are named than are read.
     ExtraFile(&'a str),
@@ -26,8 +25,6 @@ pub enum UsageError<'a> {
     NotForCheck(&'a str),
     /// Standard input is named as the formula and as the proof.
     InputTwice,
-    /// A proof is to be written to standard output.
-    OutputTwice,
 }
 
 impl Display for UsageError<'_> {
@@ -45,7 +42,6 @@ impl Display for UsageError<'_> {
             UsageError::InputTwice => {
                 f.write_str("'--check' takes one file at most from standard input")
             }
-            UsageError::OutputTwice => f.write_str(NO_NAME),
         }
     }
 }
@@ -66,9 +62,9 @@ pub enum Failure<'a> {
     /// At this line the formula of a check, in this input, is compressed.
     Compressed(Option<&'a str>, usize, Compression),
     /// Behind this option stands no list of literals, for this reason.
-    Literals(Text, Reason),
+    Literals(&'static str, Reason),
     /// Behind this option a literal has a variable that the formula of this input does not have.
-    Unnamed(Option<&'a str>, Text),
+    Unnamed(Option<&'a str>, &'static str),
     /// This input has questions, beside which this option has no meaning.
     Questions(Option<&'a str>, &'a str),
     /// The proof was not written.
@@ -111,9 +107,8 @@ impl Display for Failure<'_> {
                     "{name}:{line}: {tool} data (try: {tool} -dc FORMULA | gipsat --check - PROOF)"
                 )
             }
-            Failure::Literals(option, reason) => write!(f, "{}: {reason}", name_of(option)),
+            Failure::Literals(option, reason) => write!(f, "{option}: {reason}"),
             Failure::Unnamed(name, option) => {
-                let option = name_of(option);
                 let name = name.unwrap_or("<stdin>");
                 write!(f, "{option}: a variable that {name} does not have")
             }
@@ -136,16 +131,6 @@ impl Display for Failure<'_> {
             Failure::Form(name, form) => write!(f, "{}: {form}", name.unwrap_or("<stdin>")),
             Failure::Memory => f.write_str("memory: refused"),
         }
-    }
-}
-
-// The name of an option that takes a word.
-fn name_of(option: Text) -> &'static str {
-    match option {
-        Text::Assume => "--assume",
-        Text::LratFromDrat => "--lrat-from-drat",
-        Text::Project => "--project",
-        Text::Proof => "--proof",
     }
 }
 

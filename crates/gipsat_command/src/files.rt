@@ -5,7 +5,7 @@ ghost use Rattle.std.specs.Io.KnownBytes.{Keeps, ReadConsumes};
 ghost use Rattle.gipsat_command.specs.Files.{ahead_of, output_contents, source_remaining, stream_remaining};
 
 use crate::errors::Failure;
-use gip_program::open_file;
+use gip_cli::open_file;
 use gipsat_dimacs::{DimacsError, Reason};
 use gipsat_drat::error::DratError;
 use giputils_text::split_once;

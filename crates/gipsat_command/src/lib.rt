@@ -10,7 +10,7 @@ mod files;
 mod options;
 pub mod proof_file;
 
-pub use about::{ABOUT, Text};
+pub use about::ABOUT;
 pub use checks::{check_files, check_in, convert_in, convert_proof};
 pub use errors::{Failure, UsageError};
 pub use files::{Output, Source, Stream};

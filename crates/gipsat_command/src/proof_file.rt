@@ -4,7 +4,7 @@ ghost use Rattle.std.specs.Io.KnownBytes.{IsAtEnd};
 ghost use Rattle.gipsat_command.specs.Options.{reads, request_of};
 
 use crate::options::Options;
-use gip_program::{Cause, Existing, FinishError, NewFile};
+use gip_cli::{Cause, Existing, FinishError, NewFile};
 use gipsat_dimacs::HeaderRule;
 use std::fmt::{self, Display};
 use std::fs::{self, File};

@@ -2,8 +2,8 @@
 use Rattle.std.proofs.lemmas.Result.{IfOk-weaker}
 use Rattle.gipmc.proofs.certificate_text.Goals as goal
 
-pub returns-then-options : goal.returns-then-options
-returns-then-options c =
+pub returns-then-has : goal.returns-then-has
+returns-then-has c =
     IfOk-weaker c.witness_circuit_of.result _ _
     (λ text is. (c.args.answer.now.netlist.circuit, c.requires.circuit, is)) c.witness_circuit_of.ensures
 

@@ -1,6 +1,6 @@
 -- The witness is verified.
 use Rattle.std.proofs.Common.{subst, sym, ◌∙◌}
-use Rattle.gip_program.specs.Statuses.{IsEndedStatus}
+use Rattle.gip_cli.specs.Statuses.{IsEndedStatus}
 use Rattle.gipmc.specs.Asked.{ReplaysAsked}
 use Rattle.gipmc.proofs.Ended.{check_ended, verified_ended}
 use Rattle.gipmc.proofs.replay_in.Goals as goal

@@ -1,6 +1,6 @@
 -- The outcome at status 0 is that the proof is verified, and there is no status but 0 and 1.
 use Rattle.std.proofs.Common.{subst, sym, ◌∙◌}
-use Rattle.gip_program.specs.Statuses.{IsEndedStatus}
+use Rattle.gip_cli.specs.Statuses.{IsEndedStatus}
 use Rattle.gipsat_command.proofs.Checked.{check-ended, verified-told}
 use Rattle.gipsat_command.proofs.checks.check_in.Goals as goal
 

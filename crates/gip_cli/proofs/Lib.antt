@@ -1,0 +1,4 @@
+mod Behind
+mod Examples
+mod Telling
+mod Taken

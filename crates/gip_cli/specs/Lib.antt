@@ -1,0 +1,4 @@
+pub mod Asked
+pub mod Items
+pub mod Options
+pub mod Statuses

@@ -1,3 +1,0 @@
-mod Behind
-mod Examples
-mod Telling
