@@ -47,6 +47,12 @@ EXAMPLES = {
         ("Write three bits as a number.", "echo 011 | gip bits"),
     ],
 }
+# What stands before a word, the word, and what it is completed to.
+COMPLETED = {
+    "gipsat": [("", "--ver", ["--verbose", "--version"])],
+    "gipmc": [("", "--ver", ["--verbose", "--version"]), ("--engine", "i", ["ic3", "induction"]),
+              ("--engine =", "b", ["bmc"])],
+}
 FILES = {
     "formula.cnf": b"p cnf 2 4\n1 2 0\n1 -2 0\n-1 2 0\n-1 -2 0\n",
     "circuit.aig": b"aag 3 0 2 0 1 1\n2 4\n4 2\n6\n6 4 2\n",
@@ -159,14 +165,30 @@ def manual_of_gip():
     return "\n".join(lines) + "\n"
 
 
+def choices_of(name, told):
+    """The words that an option takes, of each that takes one out of a list: the program tells them at another word."""
+    for option in (option for _, found in told.sections for option in found if " " in option.written.split(", ")[-1]):
+        written = option.names()[-1]
+        said = re.search(f"'{written}' takes (.*), not ''", answer_of(name, written, "", "--help").stderr)
+        if said and "number" not in said[1]:
+            yield written, re.split(", | or ", said[1])
+
+
 def completion(name, told):
+    words = "".join(f"""        {option})
+            mapfile -t COMPREPLY < <(compgen -W '{" ".join(words)}' -- "$word") ;;
+""" for option, words in choices_of(name, told))
     return f"""# Completion of {name} for bash. Made by tests/manuals.py from its help.
 _{name}() {{
-    local word=${{COMP_WORDS[COMP_CWORD]}}
+    local word=${{COMP_WORDS[COMP_CWORD]}} before=${{COMP_WORDS[COMP_CWORD - 1]}}
     COMPREPLY=()
-    if [[ $word == -* ]]; then
-        mapfile -t COMPREPLY < <(compgen -W '{" ".join(told.names())}' -- "$word")
-    fi
+    [[ $before == = ]] && before=${{COMP_WORDS[COMP_CWORD - 2]}}
+    case $before in
+{words}        *)
+            if [[ $word == -* ]]; then
+                mapfile -t COMPREPLY < <(compgen -W '{" ".join(told.names())}' -- "$word")
+            fi ;;
+    esac
 }}
 complete -o default -F _{name} {name}
 """
@@ -228,11 +250,12 @@ def faults_of(name):
     path = ROOT / "crates" / name / "man" / f"{name}.bash"
     is_well = path.is_file() and path.read_text() == texts[f"{name}.bash"]
     yield "" if is_well else f"{path.relative_to(ROOT)}: not as the help says: tests/manuals.py --write"
-    names = subprocess.run(
-        ["bash", "-c", f'source "$1"; COMP_WORDS=({name} --ver); COMP_CWORD=1; _{name}; echo "${{COMPREPLY[*]}}"', "bash",
-         ROOT / "crates" / name / "man" / f"{name}.bash"], capture_output=True, text=True)
-    is_well = "--version" in names.stdout.split() and not names.stderr
-    yield "" if is_well else f"{name}.bash: it does not complete --ver: {names.stdout}{names.stderr}"
+    for before, word, wanted in COMPLETED[name]:
+        names = subprocess.run(
+            ["bash", "-c", f'source "$1"; COMP_WORDS=({name} {before} {word}); COMP_CWORD={len(before.split()) + 1}; _{name}; '
+             'echo "${COMPREPLY[*]}"', "bash", ROOT / "crates" / name / "man" / f"{name}.bash"], capture_output=True, text=True)
+        is_well = names.stdout.split() == wanted and not names.stderr
+        yield "" if is_well else f"{name}.bash: it completes {before} {word} so: {names.stdout}{names.stderr}"
 
 
 def run(*words, **how):
