@@ -1,3 +1,4 @@
 pub mod Answered
 pub mod Models
+pub mod Searched
 pub mod Watched

@@ -7,6 +7,7 @@ ghost use Rattle.gipsat_answers.specs.Assumed.{assuming};
 ghost use Rattle.gipsat_answers.specs.Names.{formula_of};
 ghost use Rattle.gipsat_dimacs.specs.Inputs.{HasForm, IsRefusedAt, OfProblem, WritesNone};
 ghost use Rattle.gipsat_dimacs.specs.declared.error.DimacsError.TheVariants as dimacs_error;
+ghost use Rattle.gipsat.specs.Searched.{eliminates, form_asked, format_asked, vivifies};
 ghost use Rattle.gipsat.specs.declared.solve.SolveError.TheVariants as solve_error;
 
 use crate::watch::{TimeLimit, Watch};
@@ -148,6 +149,8 @@ fn open_proof<'a, R: Read>(
 pub fn task_of(options: &Options) -> Task
     ensures limit { result.limit ≡ options.now.conflicts }
     ensures witness { result.witness ≡ options.now.witness }
+    ensures eliminates { result.inprocessing.eliminates ≡ eliminates options.now }
+    ensures vivifies { result.inprocessing.vivifies ≡ vivifies options.now }
 {
     Task {
         limit: options.conflicts,
@@ -157,7 +160,10 @@ pub fn task_of(options: &Options) -> Task
 }
 
 // What the search does at its pauses.
-fn inprocessing_of(options: &Options) -> Inprocessing {
+fn inprocessing_of(options: &Options) -> Inprocessing
+    ensures eliminates { result.eliminates ≡ eliminates options.now }
+    ensures vivifies { result.vivifies ≡ vivifies options.now }
+{
     Inprocessing {
         eliminates: !options.has("--no-eliminate") && !options.has("--no-simplify"),
         vivifies: !options.has("--no-vivify") && !options.has("--no-simplify"),
@@ -305,7 +311,9 @@ fn prove_to<'a, W: Write, P: Progress + Drop>(
 }
 
 // The form of the proof.
-fn form_of(options: &Options) -> Form {
+fn form_of(options: &Options) -> Form
+    ensures { result ≡ form_asked options.now }
+{
     if options.has("--lrat") {
         Form::Lrat
     } else {
@@ -314,7 +322,9 @@ fn form_of(options: &Options) -> Form {
 }
 
 // How its steps are written.
-fn format_of(options: &Options) -> Format {
+fn format_of(options: &Options) -> Format
+    ensures { result ≡ format_asked options.now }
+{
     if options.has("--binary") {
         Format::Binary
     } else {
