@@ -812,6 +812,36 @@ if is_wanted "a long proof with hints is written" "that long proof with hints is
     [ "$(wc -w < "$work/hints")" -gt 1000000 ]
     told "that proof has more than a million numbers" $?
 fi
+# A proof with hints of a large text: a circuit of 7600 gates twice, whose last outputs are said to differ.
+if is_wanted "a proof with hints of a large text is written" "that proof of a large text is checked" \
+    "that text has 50 000 clauses"; then
+    python3 - > "$work/twice" << 'END'
+import random
+random.seed(5)
+circuits, clauses, last = [list(range(1, 61)) for _ in range(2)], [], 60
+for gate in range(7600):
+    operands = [(random.choice((1, -1)), -1 - random.randrange(60)) for _ in range(2)]
+    is_xor = random.random() < 0.3
+    for nodes in circuits:
+        last += 1
+        a, b = (sign * nodes[place] for sign, place in operands)
+        nodes.append(last)
+        if is_xor:
+            clauses += [[-last, a, b], [-last, -a, -b], [last, -a, b], [last, a, -b]]
+        else:
+            clauses += [[-last, a], [-last, b], [last, -a, -b]]
+differ = range(last + 1, last + 13)
+for unlike, left, right in zip(differ, *(nodes[-12:] for nodes in circuits)):
+    clauses += [[-unlike, left, right], [-unlike, -left, -right]]
+print("p cnf", differ[-1], len(clauses) + 1)
+for clause in [*clauses, differ]:
+    print(*clause, 0)
+END
+    [ "$(grep -c ' 0$' "$work/twice")" -ge 50000 ]
+    told "that text has 50 000 clauses" $?
+    make "a proof with hints of a large text is written" 20 "" "s UNSATISFIABLE" "" -q --lrat --proof "$work/hints" "$work/twice"
+    try "that proof of a large text is checked" 0 "" "s VERIFIED" "" --check "$work/twice" "$work/hints"
+fi
 if is_wanted "a proof without elimination is written" "that proof without elimination is checked"; then
     make "a proof without elimination is written" 20 "" "s UNSATISFIABLE" "" -q --no-simplify --proof "$work/plain" "$work/crowd"
     try "that proof without elimination is checked" 0 "" "s VERIFIED" "" --check "$work/crowd" "$work/plain"
