@@ -18,6 +18,10 @@ PARTS lists. A page for callers, crates/NAME/CALLING.md, quotes the sources. Pag
     <!-- quote words -->                            the words of the public contracts that the page does not quote
     <!-- quote lemmas Ranks: name name -->           statements of public lemmas of the crate, from proofs/Ranks.antt
     <!-- quote records Calls: Name Name -->          records of the crate with their fields, from specs/Calls.antt
+    <!-- quote map -->                               the libraries and programs of crates.txt, and those that each stands on
+    <!-- quote parts -->                             the parts that the rows of the quote name, each with its folders: the
+                                                    last one that a row names, and all that crates.txt asks for; with
+                                                    those of the solver where the part's name ends in `with a solver`
 
 In a contract `S` is what `self` points to at the call, and `S'` at the return. An item is public if it is `pub` in a
 public module, or if a public module names it by `pub use`. A public function that is not quoted on a page for callers
@@ -26,11 +30,9 @@ specs/. Each word of specs/ that a public contract uses has a comment there, and
 The crate `giputils` hands out the files of specs/ that have these words, and all public lemmas.
 
 Each line of an example in Rust on a README that is not quoted stands in giputils_trials/src/examples.rt, its imports
-under the names that `giputils` gives them. The page of `gip` has the script that `gip` is run on, with its replies. The
-folders that docs/ELSEWHERE.md names for a part are, with those of the rows that it names, all that crates.txt asks for.
-docs/DESIGN.md names each crate, links to its README, and has in its table those that it stands on; the solver has the
-names that stand there beside MiniSat's, the imports of its modules make no cycle, and each module begins with a line
-`//!`. A type has a name that no type of another file has, but for those of tests/names.txt. Each file that a page names
+under the names that `giputils` gives them. The page of `gip` has the script that `gip` is run on, with its replies.
+docs/DESIGN.md names each crate, and links to its README; the solver has the names that stand there beside MiniSat's, the
+imports of its modules make no cycle, and each module begins with a line `//!`. A type has a name that no type of another file has, but for those of tests/names.txt. Each file that a page names
 is there, and each part of a page that a link names; no line has more than 120 columns, but for imports that are quoted,
 and the README of the root has at most 80 lines.
 """
@@ -49,6 +51,7 @@ ROOT = pathlib.Path(__file__).resolve().parent.parent
 CRATES = ROOT / "crates"
 NAMES = ROOT / "tests/names.txt"
 GATHERED = tuple(f"giputils_{part}" for part in "bits bits_run bounded hash heap index stat vec".split())
+SOLVER, WITH_SOLVER = "gipsat_solver", ", with a solver"
 WIDTH = 120
 LINES = 80
 PEER, PROVED, TESTED = "## What differs from ", "## What is proved", "## What is only tested"
@@ -369,6 +372,10 @@ def quote(page, what, complaints):
         lines, lost = records(file, chosen) if file.is_file() else ([], chosen)
         complaints += [f"{file.stem} has no record {name}" for name in lost]
         return fenced(page, "text", lines, words(file.read_text(encoding="utf-8"), lines) if lines else {})
+    if kind == "map":
+        return table_of_crates()
+    if kind == "parts":
+        return table_of_parts(page)
     if kind == "words":
         return links(page, words_not_quoted(page), "Words of the other contracts")
     named, met = set(), set()
@@ -499,17 +506,53 @@ def needed(crate):
     return {crate}.union(*(needed(other) for other in uses().get(crate, [])))
 
 
-def elsewhere(page, text):
-    """What is wrong with the page on other repositories: parts whose folders are not the last one and all below it."""
-    complaints, rows = sound(page, text), {}
-    for part, folders in re.findall(r"^\| ([^|]+) \| ([^|]*`\w+`) \|$", text, re.MULTILINE):
-        named = re.findall(r"`(\w+)`", folders)
-        others = re.match(r"those of ([^,]+),", folders)
-        told = re.split(r" and of ", others[1]) if others else []
-        rows[part] = set(named).union(*(rows.get(other.removeprefix("the "), set()) for other in told))
-        if rows[part] != needed(named[-1]):
-            complaints.append(f"the folders of {part} are not {', '.join(sorted(needed(named[-1])))}")
-    return complaints if rows else [*complaints, "it has no table of parts"]
+@functools.cache
+def sections():
+    """The crates of crates.txt, in its order, under the heads of its sections."""
+    found, head = {}, ""
+    for line in (ROOT / "crates.txt").read_text(encoding="utf-8").split("\n"):
+        if line.startswith("# "):
+            head = line
+        elif ":" in line:
+            found.setdefault(head, []).append(line.partition(":")[0])
+    return found
+
+
+def table_of_crates():
+    """A row for the libraries and programs of a section that stand on the same others, of which those are named that no
+    other one stands on."""
+    rows = ["| Crates | Stand on |", "|---|---|"]
+    for head, crates in sections().items():
+        if head.startswith(("# Tests", "# Tools")):
+            continue
+        alike = {}
+        for crate in crates:
+            others = [other for other in uses()[crate] if not any(other in needed(each) - {each} for each in uses()[crate])]
+            alike.setdefault(tuple(sorted(others, key=list(uses()).index)), []).append(crate)
+        for others, own in alike.items():
+            names = [", ".join(f"`{crate}`" for crate in each) for each in (own, others)]
+            rows.append(f"| {names[0]} | {names[1] or 'the kit'} |")
+    return rows
+
+
+def table_of_parts(page):
+    """The rows of the quote on the page, each with the folders of its part: those of rows above, and others by name."""
+    body = re.search(r"<!-- quote parts -->\n(.*?)<!-- end -->", page.read_text(encoding="utf-8"), re.DOTALL)
+    lines, rows = ["| Part | Folders of `crates/` |", "|---|---|"], {}
+    for part, folders in re.findall(r"^\| ([^|]+) \| ([^|]*`\w+`) \|$", body[1] if body else "", re.MULTILINE):
+        if part == "Part":
+            continue
+        last = re.findall(r"`(\w+)`", folders)[-1]
+        part_needs = needed(last) | (needed(SOLVER) if part.endswith(WITH_SOLVER) else set())
+        left, told = set(part_needs), []
+        for other in sorted(rows, key=lambda each: -len(rows[each])):
+            if rows[other] < part_needs and len(rows[other] & left) > 1:
+                told.append(f"*{other.removesuffix(WITH_SOLVER)}*")
+                left -= rows[other]
+        names = [f"`{crate}`" for crate in uses() if crate in left - {last}] + [f"`{last}`"]
+        lines.append(f"| {part} | {', '.join(['those of ' + ' and of '.join(told)] * bool(told) + names)} |")
+        rows[part] = part_needs
+    return lines
 
 
 def handed_on():
@@ -551,18 +594,12 @@ def ring_of_modules(folder):
 
 
 def map_of_crates(page, text):
-    """What is wrong with the map: a crate that it does not name, or that stands on others than crates.txt says, a name
-    beside one of MiniSat that the solver has not, modules of the solver that import each other, and a module whose
-    first line says nothing."""
+    """What is wrong with the map: a crate that it does not name, a name beside one of MiniSat that the solver has not,
+    modules of the solver that import each other, and a module whose first line says nothing."""
     crates = sorted(path.parent.name for path in CRATES.glob("*/src"))
     complaints = [f"it does not name {crate}" for crate in crates if not re.search(rf"[`\[]{crate}[`\]]", text)]
     readmes = sorted(path.relative_to(ROOT) for path in CRATES.glob("*/README.md"))
     complaints += [f"it has no link to {path}" for path in readmes if f"](../{path})" not in text]
-    table = text.partition("\n## In a crate")[0]
-    for own, others in re.findall(r"^\| ((?:`\w+`(?:, )?)+) \| ([^|]*) \|$", table, re.MULTILINE):
-        told = set().union(*(needed(other) for other in re.findall(r"`(\w+)`", others)))
-        wrong = [crate for crate in re.findall(r"`(\w+)`", own) if needed(crate) - {crate} != told]
-        complaints += [f"{crate} stands on other crates" for crate in wrong]
     folders = [CRATES / crate / "src" for crate in ("gipsat_cnf", "gipsat_kernel", "gipsat_search", "gipsat_solver")]
     solver = "".join(path.read_text(encoding="utf-8") for folder in folders for path in folder.rglob("*.rt"))
     rows = re.findall(r"^\| ([^|]*) \| [^|]* \|$", text.partition("| MiniSat |")[2].partition("\n## ")[0], re.MULTILINE)
@@ -603,7 +640,7 @@ def arguments():
 def main():
     write = arguments().write
     pages = {page: sound for folder in ("docs", "tools") for page in sorted((ROOT / folder).rglob("*.md"))}
-    pages |= {ROOT / "docs/ELSEWHERE.md": elsewhere, ROOT / "docs/DESIGN.md": map_of_crates, ROOT / "README.md": readme}
+    pages |= {ROOT / "docs/DESIGN.md": map_of_crates, ROOT / "README.md": readme}
     pages[ROOT / "docs/DECISIONS.md"] = decisions
     callers = sorted(CRATES.glob("*/CALLING.md"))
     pages |= {page: page_for_callers for page in callers}
