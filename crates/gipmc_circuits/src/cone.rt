@@ -109,10 +109,20 @@ impl Cone {
     ) -> Result<(), AllocError> {
         self.reach_all(&circuit.constraints, here)?;
         for clause in clauses {
-            self.reach_all(clause, there)?;
+            if !self.is_settled(clause, there) {
+                self.reach_all(clause, there)?;
+            }
         }
         self.kept = self.variables.len();
         Ok(())
+    }
+
+    // Whether a clause at an offset needs no decision: its one variable depends on nothing, and has its value at first.
+    fn is_settled(&self, clause: &[Literal], offset: usize) -> bool {
+        match clause {
+            [l] => self.operands.get(at(*l, offset) as usize) == Some(&(0, 0)),
+            _ => false,
+        }
     }
 
     /// What is kept, with what these literals depend on.
