@@ -1,7 +1,7 @@
 -- Worked examples of the definitions: accepted and refused ones.
-use Rattle.std.proofs.Common.{◌≡◌, ℕ, eqb, Bool, true, false, ◌||◌, [], ◌∷◌, refl, suc, zero}
+use Rattle.std.proofs.Common.{◌≡◌, ℕ, ℤ, arith, eqb, inl, negsuc, pos, Bool, true, false, ◌||◌, [], ◌∷◌, refl, suc, zero}
 use Rattle.std.proofs.lemmas.Bool.{false≢true}
-use Rattle.gipsat_cnf.specs.Literals.{Lit, code, decoded}
+use Rattle.gipsat_cnf.specs.Literals.{IsNamed, IsNoLiteral, Lit, aiger, code, decoded, dimacs}
 use Rattle.gipsat_cnf.specs.Assumptions.{IsCore, IsModelUnder, IsSatisfiableUnder, makes_true}
 use Rattle.gipsat_cnf.specs.Formulas.{Assignment, Clause, Formula, IsSatisfiable, Implies, satisfies, satisfies_clause}
 use Rattle.gipsat_cnf.specs.Layout.{clauses_of}
@@ -15,6 +15,26 @@ yes v = record { variable = v; positive = true }
 
 abbrev not_ : ℕ → Lit
 not_ v = record { variable = v; positive = false }
+
+-- DIMACS names variable 3 by 3, and its negation by -3
+three_is_three : dimacs (yes 3) ≡ pos 3
+three_is_three = refl
+
+its_negation_is_below_zero : dimacs (not_ 3) ≡ negsuc 2
+its_negation_is_below_zero = refl
+
+below_zero_names_a_negation : IsNamed (negsuc 2) (not_ 3)
+below_zero_names_a_negation = (refl, omega arith)
+
+zero_names_nothing : IsNoLiteral (pos 0)
+zero_names_nothing = inl refl
+
+-- AIGER has 6 and 7
+aiger_has_six : aiger (yes 3) ≡ 6
+aiger_has_six = refl
+
+and_seven : aiger (not_ 3) ≡ 7
+and_seven = refl
 
 -- x0 or x1; not x0 or x1
 abbrev two : Formula

@@ -2,7 +2,7 @@
 use crate::literal::Literal;
 
 /// What is found out about a formula.
-#[derive(Drop)]
+#[derive(Debug, Drop)]
 pub enum Answer {
     /// A value for each variable, by which the formula is satisfied; a variable past the end is false.
     Sat(Vec<bool>),
@@ -13,7 +13,7 @@ pub enum Answer {
 }
 
 /// What is found out about a formula under assumptions.
-#[derive(Drop)]
+#[derive(Debug, Drop)]
 pub enum AnswerUnder {
     /// A value for each variable, by which the formula is satisfied and each assumption is true; a variable past the
     /// end is false.
@@ -26,7 +26,7 @@ pub enum AnswerUnder {
 }
 
 /// What is found out about a formula under assumptions where the formula is not read at the end.
-#[derive(Drop)]
+#[derive(Debug, Drop)]
 pub enum Guess {
     /// No conflict was met, and no variable waits to be decided:
     /// [`SatSolver::value`](crate::solver::SatSolver::value) tells the values. Nothing is promised of them; nothing is
@@ -40,7 +40,7 @@ pub enum Guess {
 }
 
 /// How much a call may do before it gives up.
-#[derive(Clone, Copy)]
+#[derive(Clone, Copy, Debug, PartialEq, Eq)]
 pub struct Budget {
     /// How many clauses it may learn.
     pub clauses: usize,
@@ -49,7 +49,7 @@ pub struct Budget {
 }
 
 /// What a solver holds and has done. Nothing is proved of these numbers.
-#[derive(Clone, Copy)]
+#[derive(Clone, Copy, Debug, PartialEq, Eq)]
 pub struct Effort {
     /// How many clauses it holds: those of the formula, and those that follow and were not freed.
     pub clauses: usize,

@@ -82,6 +82,26 @@ impl Model for Cnf {
     ghost invariant = { λ cnf. IsLaidOut cnf.variables cnf.literals.items cnf.spans.items };
 }
 
+/// A copy holds the same clauses.
+impl Clone for Cnf {
+    ghost use Rattle.std.specs.Prelude.{◌≡◌};
+
+    ghost is_clone = { λ formula copy. copy ≡ formula };
+
+    fn clone(&self) -> Result<Self, AllocError> {
+        let alloc = *self.literals.allocator();
+        let mut literals = Vec::new(alloc);
+        literals.extend_from_slice(&self.literals)?;
+        let mut spans = Vec::new(alloc);
+        spans.extend_from_slice(&self.spans)?;
+        Ok(Cnf {
+            literals,
+            spans,
+            variables: self.variables,
+        })
+    }
+}
+
 impl Cnf {
     /// The formula without clauses. It takes no memory.
     pub fn new(alloc: Global) -> Self

@@ -84,15 +84,6 @@ fn literal(word: &str) -> Literal {
     Literal::new(number.unsigned_abs().min(GREATEST), number > 0)
 }
 
-fn number_of(l: Literal) -> i64 {
-    let number = i64::from(l.variable());
-    if l.is_positive() {
-        number
-    } else {
-        0i64.saturating_sub(number)
-    }
-}
-
 // Reads literals behind so many words. Whether memory sufficed.
 fn read(literals: &mut Vec<Literal>, words: &str, skipped: usize) -> bool {
     literals.clear();
@@ -125,7 +116,7 @@ fn tell_core(alloc: Global, core: &[Literal], replies: &mut Replies) {
 fn numbers_of(alloc: Global, core: &[Literal]) -> Result<Vec<i64>, AllocError> {
     let mut numbers = Vec::new(alloc);
     for l in core {
-        numbers.push(number_of(*l))?;
+        numbers.push(i64::from(l.to_dimacs()))?;
     }
     numbers.sort_unstable();
     Ok(numbers)

@@ -18,6 +18,8 @@ mod formulas;
 #[cfg(test)]
 mod listeners;
 #[cfg(test)]
+mod literals;
+#[cfg(test)]
 mod numbers;
 #[cfg(test)]
 mod paths;

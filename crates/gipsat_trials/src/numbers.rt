@@ -35,23 +35,13 @@ pub(crate) fn add_all<S: ClauseSink>(
     Ok(())
 }
 
-/// The number of a literal.
-pub(crate) fn number_of(l: Literal) -> i32 {
-    let number = i32::try_from(l.variable()).unwrap_or(0);
-    if l.is_positive() {
-        number
-    } else {
-        0i32.saturating_sub(number)
-    }
-}
-
 /// Whether literals are those of some numbers.
 pub(crate) fn are(found: &[Literal], numbers: &[i32]) -> bool {
     if found.len() != numbers.len() {
         return false;
     }
     for (l, number) in found.iter().zip(numbers) {
-        if number_of(*l) != *number {
+        if l.to_dimacs() != *number {
             return false;
         }
     }
