@@ -1,4 +1,5 @@
 mod Marking
+mod OccurrenceLemmas
 mod RatLemmas
 mod Resolution
 mod Originals

@@ -16,18 +16,23 @@ use Rattle.gipsat_cnf.proofs.LiteralLemmas.{beq_not, cases_literal, satisfied_by
 use Rattle.gipsat_cnf.proofs.Places.{each_push, same_some, stands_last}
 use Rattle.gipsat_kernel.specs.Kernel.{original_among}
 use Rattle.gipsat_kernel.specs.Marks.{AreListed, AreMarked, AreMarkedBut, Grows, KeepsMarksBut, TakesMarked, is_marked}
+use Rattle.gipsat_kernel.specs.Occurrences.{AreNoted, Covers}
 use Rattle.gipsat_kernel.specs.Rat.{AreResolved, HasResolvent, IsOfResolvent, IsRatKernel, KeepsSatisfiable}
+use Rattle.gipsat_kernel.specs.declared.occurrences.Ids.{Ids}
+use Rattle.gipsat_kernel.proofs.OccurrenceLemmas.{Covers-pushed, Covers-reordered}
 use Rattle.gipsat_kernel.proofs.Originals.{original_among-has, satisfies-flagged, satisfies-original}
 use Rattle.gipsat_kernel.proofs.Resolution.{Implies-had, Implies-taken, ImpliesMarked-clause, ImpliesMarked-resolved}
 
 -- no clause is being derived
-pub IsRatKernel-idle : (fs : List Bool) (cs : List Clause) (ms : List Bool) → length fs ≡ length cs → IsRatKernel fs cs ms false
-IsRatKernel-idle fs cs ms as_many = record { as_many = as_many; follows = λ e. absurd (false≢true e) }
+pub IsRatKernel-idle : (fs : List Bool) (cs : List Clause) (os : List Ids) (ms : List Bool) → length fs ≡ length cs → Covers os cs
+    → IsRatKernel fs cs os ms false
+IsRatKernel-idle fs cs os ms as_many covers = record { as_many = as_many; covers = covers; follows = λ e. absurd (false≢true e) }
 
-pub IsRatKernel-pushed : (fs : List Bool) (cs : List Clause) (ms : List Bool) (b : Bool) (c : Clause) → length fs ≡ length cs
-    → IsRatKernel (fs ++ b ∷ []) (cs ++ c ∷ []) ms false
-IsRatKernel-pushed fs cs ms b c as_many =
-    IsRatKernel-idle (fs ++ b ∷ []) (cs ++ c ∷ []) ms (omega (arith, length_push fs b, length_push cs c, as_many))
+-- a clause more, which was noted
+pub IsRatKernel-pushed : (fs : List Bool) (cs : List Clause) (os : List Ids) (ms : List Bool) (b : Bool) (c : Clause) → length fs ≡ length cs
+    → Covers os cs → AreNoted os c (length cs) → IsRatKernel (fs ++ b ∷ []) (cs ++ c ∷ []) os ms false
+IsRatKernel-pushed fs cs os ms b c as_many covers noted =
+    IsRatKernel-idle (fs ++ b ∷ []) (cs ++ c ∷ []) os ms (omega (arith, length_push fs b, length_push cs c, as_many)) (Covers-pushed os cs c covers noted)
 
 -- a clause of the formula follows from it
 pub Implies-flagged : (fs : List Bool) (cs : List Clause) (k : ℕ) (c : Clause) → slice_index_or fs k false ≡ true → slice_get cs k ≡ Some c
@@ -35,18 +40,20 @@ pub Implies-flagged : (fs : List Bool) (cs : List Clause) (k : ℕ) (c : Clause)
 Implies-flagged fs cs k c flagged at = record { follows = λ a sat. satisfies-flagged a fs cs k c sat flagged at }
 
 -- a derivation begins
-pub IsRatKernel-begun : (fs : List Bool) (cs : List Clause) (ms : List Bool) (id : ℕ) (c : Clause) → length fs ≡ length cs
-    → slice_index_or fs id false ≡ true → slice_get cs id ≡ Some c → AreMarked c ms → IsRatKernel fs cs ms true
-IsRatKernel-begun fs cs ms id c as_many flagged at marked = record {
+pub IsRatKernel-begun : (fs : List Bool) (cs : List Clause) (os : List Ids) (ms : List Bool) (id : ℕ) (c : Clause) → length fs ≡ length cs
+    → Covers os cs → slice_index_or fs id false ≡ true → slice_get cs id ≡ Some c → AreMarked c ms → IsRatKernel fs cs os ms true
+IsRatKernel-begun fs cs os ms id c as_many covers flagged at marked = record {
   as_many = as_many;
+  covers = covers;
   follows = λ e. ImpliesMarked-clause (original_among fs cs) ms c (Implies-flagged fs cs id c flagged at) marked;
 }
 
 -- with the clause that a literal is true or false
-pub IsRatKernel-tautology : (fs : List Bool) (cs : List Clause) (mid ms : List Bool) (l : Lit) → length fs ≡ length cs
-    → is_marked mid l ≡ true → Grows mid ms → is_marked ms (negated l) ≡ true → IsRatKernel fs cs ms true
-IsRatKernel-tautology fs cs mid ms l as_many first grows second = record {
+pub IsRatKernel-tautology : (fs : List Bool) (cs : List Clause) (os : List Ids) (mid ms : List Bool) (l : Lit) → length fs ≡ length cs
+    → Covers os cs → is_marked mid l ≡ true → Grows mid ms → is_marked ms (negated l) ≡ true → IsRatKernel fs cs os ms true
+IsRatKernel-tautology fs cs os mid ms l as_many covers first grows second = record {
   as_many = as_many;
+  covers = covers;
   follows = λ e. record {
     follows = λ a sat.
         ⊎_elim (λ yes. (l, grows l first, yes)) (λ no. (negated l, second, beq_not (a l.variable) l.positive no)) (cases_Bool (is_true a l));
@@ -54,11 +61,13 @@ IsRatKernel-tautology fs cs mid ms l as_many first grows second = record {
 }
 
 -- and goes on
-pub IsRatKernel-resolved : (fs : List Bool) (cs : List Clause) (ms mid ns : List Bool) (b : Bool) (pivot : Lit) (id : ℕ) (c : Clause) → IsTrue b
+pub IsRatKernel-resolved : (fs : List Bool) (cs : List Clause) (os : List Ids) (ms mid ns : List Bool) (b : Bool) (pivot : Lit) (id : ℕ) (c : Clause)
+    → IsTrue b
     → slice_index_or fs id false ≡ true → slice_get cs id ≡ Some c → KeepsMarksBut (negated pivot) ms mid → Grows mid ns → AreMarkedBut pivot c ns
-    → IsRatKernel fs cs ms b → IsRatKernel fs cs ns true
-IsRatKernel-resolved fs cs ms mid ns b pivot id c is_open flagged at stay grows come is = record {
+    → IsRatKernel fs cs os ms b → IsRatKernel fs cs os ns true
+IsRatKernel-resolved fs cs os ms mid ns b pivot id c is_open flagged at stay grows come is = record {
   as_many = is.as_many;
+  covers = is.covers;
   follows = λ e.
       ImpliesMarked-resolved (original_among fs cs) ms mid ns pivot c (Implies-flagged fs cs id c flagged at) stay grows come (is.follows is_open);
 }
@@ -75,9 +84,9 @@ pub KeepsSatisfiable-implied : (f : Formula) (c : Clause) → Implies f c → Ke
 KeepsSatisfiable-implied f c implied (a, sat) = (a, satisfies-push a f c sat (implied.follows a sat))
 
 -- the derived clause is part of the one that is added
-pub Implies-concluded : (fs : List Bool) (cs : List Clause) (ms : List Bool) (b : Bool) (derived c : Clause) → IsTrue b → AreListed ms derived
-    → AreHadBy c derived → IsRatKernel fs cs ms b → Implies (original_among fs cs) c
-Implies-concluded fs cs ms b derived c is_open listed had is =
+pub Implies-concluded : (fs : List Bool) (cs : List Clause) (os : List Ids) (ms : List Bool) (b : Bool) (derived c : Clause) → IsTrue b
+    → AreListed ms derived → AreHadBy c derived → IsRatKernel fs cs os ms b → Implies (original_among fs cs) c
+Implies-concluded fs cs os ms b derived c is_open listed had is =
     Implies-had (original_among fs cs) derived c had (Implies-taken (original_among fs cs) ms derived listed (is.follows is_open))
 
 -- the derived clause is looked at, and taken away again
@@ -85,15 +94,15 @@ pub truncated : (cs ds : List Clause) (ms : List Bool) (n : ℕ) → TakesMarked
 truncated cs ds ms n takes is =
     ap (take n) takes.added ∙ take-append-le n cs (takes.clause ∷ []) (omega (arith, is)) ∙ take_all n cs (omega (arith, is))
 
-pub Implies-taken-part : (fs : List Bool) (cs ds : List Clause) (ms : List Bool) (b : Bool) (n : ℕ) (derived c : Clause) → IsTrue b
-    → TakesMarked ms cs ds → n ≡ length cs → slice_get ds n ≡ Some derived → AreHadBy c derived → IsRatKernel fs cs ms b
+pub Implies-taken-part : (fs : List Bool) (cs ds : List Clause) (os : List Ids) (ms : List Bool) (b : Bool) (n : ℕ) (derived c : Clause) → IsTrue b
+    → TakesMarked ms cs ds → n ≡ length cs → slice_get ds n ≡ Some derived → AreHadBy c derived → IsRatKernel fs cs os ms b
     → Implies (original_among fs cs) c
-Implies-taken-part fs cs ds ms b n derived c is_open takes is at had kernel =
+Implies-taken-part fs cs ds os ms b n derived c is_open takes is at had kernel =
     let same : takes.clause ≡ derived =
     same_some takes.clause derived
     (sym (stands_last cs takes.clause) ∙ ap (λ es. slice_get es (length cs)) (sym takes.added) ∙ ap (slice_get ds) (sym is) ∙ at)
     in
-    Implies-concluded fs cs ms b derived c is_open (subst (AreListed ms) same takes.all) had kernel
+    Implies-concluded fs cs os ms b derived c is_open (subst (AreListed ms) same takes.all) had kernel
 
 pub KeepsSatisfiable-added : (old mid new : Formula) (c : Clause) → mid ≡ old → new ≡ mid ++ c ∷ [] → Implies old c → KeepsSatisfiable old new
 KeepsSatisfiable-added old mid new c same added implied =
@@ -145,10 +154,11 @@ pub KeepsSatisfiable-swapped : (fs : List Bool) (cs ds : List Clause) → Reorde
     → KeepsSatisfiable (original_among fs cs) (original_among fs ds)
 KeepsSatisfiable-swapped fs cs ds same (a, sat) = (a, satisfies-reordered a fs cs ds same sat)
 
-pub IsRatKernel-swapped : (fs : List Bool) (cs ds : List Clause) (ms : List Bool) (b : Bool) → length ds ≡ length cs → Reorders cs ds
-    → IsRatKernel fs cs ms b → IsRatKernel fs ds ms b
-IsRatKernel-swapped fs cs ds ms b len same is = record {
+pub IsRatKernel-swapped : (fs : List Bool) (cs ds : List Clause) (os : List Ids) (ms : List Bool) (b : Bool) → length ds ≡ length cs → Reorders cs ds
+    → IsRatKernel fs cs os ms b → IsRatKernel fs ds os ms b
+IsRatKernel-swapped fs cs ds os ms b len same is = record {
   as_many = is.as_many ∙ sym len;
+  covers = Covers-reordered os cs ds same is.covers;
   follows = λ e. record {
     follows = λ a sat. (is.follows e).follows a (satisfies-reordered a fs ds cs (Reorders-back cs ds len same) sat);
   };

@@ -1,3 +1,4 @@
 pub mod Marks
 pub mod Kernel
+pub mod Occurrences
 pub mod Rat

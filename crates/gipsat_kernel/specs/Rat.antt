@@ -6,14 +6,19 @@ use Rattle.gipsat_cnf.specs.Lists.{IsAmong}
 use Rattle.gipsat_cnf.specs.Literals.{Lit}
 use Rattle.gipsat_kernel.specs.Kernel.{original_among}
 use Rattle.gipsat_kernel.specs.Marks.{ImpliesMarked}
+use Rattle.gipsat_kernel.specs.Occurrences.{Covers}
+use Rattle.gipsat_kernel.specs.declared.occurrences.Ids.{Ids}
 
 -- where something satisfies the old formula, something satisfies the new one
 abbrev pub KeepsSatisfiable : Formula → Formula → Type 0
 KeepsSatisfiable old new = IsSatisfiable old → IsSatisfiable new
 
--- each clause has a flag; while a derivation is open, the marked literals follow from the clauses whose flag is set
-pub record IsRatKernel (flags : List Bool) (clauses : List Clause) (marks : List Bool) (is_open : Bool) : Type 0 where
+-- each clause has a flag, and is noted for its literals; while a derivation is open, the marked literals follow from the
+-- clauses whose flag is set
+pub record IsRatKernel (flags : List Bool) (clauses : List Clause) (noted : List Ids) (marks : List Bool) (is_open : Bool)
+    : Type 0 where
   pub as_many : length flags ≡ length clauses
+  pub covers : Covers noted clauses
   pub follows : IsTrue is_open → ImpliesMarked (original_among flags clauses) marks
 
 -- each literal of the part is one of c's, or of d's but one: it is part of their resolvent, if that is the pivot's

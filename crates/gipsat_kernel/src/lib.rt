@@ -6,7 +6,9 @@ mod chains;
 mod flags;
 pub mod kernel;
 mod marks;
+pub mod occurrences;
 pub mod rat;
 
 pub use kernel::Kernel;
+pub use occurrences::Ids;
 pub use rat::RatKernel;

@@ -4,10 +4,12 @@ ghost use Rattle.std.specs.Bool.{OnFalse, OnTrue};
 ghost use Rattle.gipsat_cnf.specs.Formulas.{Has, IsSatisfiable};
 ghost use Rattle.gipsat_cnf.specs.Literals.{negated};
 ghost use Rattle.gipsat_kernel.specs.Kernel.{original_among};
+ghost use Rattle.gipsat_kernel.specs.Occurrences.{Covers};
 ghost use Rattle.gipsat_kernel.specs.Rat.{AreResolved, HasResolvent, IsOfResolvent, KeepsSatisfiable};
 
 use crate::flags::{all_set, flag_at};
 use crate::marks::Marks;
+use crate::occurrences::{Ids, NotedIds};
 use gipsat_cnf::{ClauseSink, Cnf, Literal, Span};
 use std::alloc::{AllocError, Global};
 use std::marker::Model;
@@ -22,6 +24,8 @@ pub struct RatKernel {
     clauses: Cnf,
     // Whether the clause at a place is one of the formula, as it is until it is deleted.
     held: Vec<bool>,
+    // Which ids the clauses with a literal are among, also those that were deleted.
+    noted: NotedIds,
     // The literals of the clause that is being derived.
     marks: Marks,
     // Whether a clause is being derived.
@@ -34,6 +38,7 @@ impl Drop for RatKernel {
         let RatKernel {
             clauses,
             held,
+            noted,
             marks,
             is_open: _,
         } = self;
@@ -49,7 +54,7 @@ impl Model for RatKernel {
 
     ghost view = { λ k. original_among k.held.items k.clauses };
 
-    ghost invariant = { λ k. IsRatKernel k.held.items k.clauses k.marks k.is_open };
+    ghost invariant = { λ k. IsRatKernel k.held.items k.clauses k.noted k.marks k.is_open };
 }
 
 impl RatKernel {
@@ -60,6 +65,7 @@ impl RatKernel {
         RatKernel {
             clauses: Cnf::new(alloc),
             held: Vec::new(alloc),
+            noted: NotedIds::new(alloc),
             marks: Marks::new(alloc),
             is_open: false,
         }
@@ -73,11 +79,13 @@ impl RatKernel {
         ensures { IfOk result (λ k. k ≡ formula) }
     {
         let held = all_set(alloc, formula.len())?;
+        let noted = NotedIds::of(alloc, &formula)?;
         let mut marks = Marks::new(alloc);
         marks.cover_variables(formula.variables())?;
         Ok(RatKernel {
             clauses: formula,
             held,
+            noted,
             marks,
             is_open: false,
         })
@@ -95,6 +103,7 @@ impl RatKernel {
         self.is_open = false;
         self.held.reserve(1)?;
         let id = self.clauses.len();
+        self.noted.note(id, clause)?;
         self.clauses.push(clause)?;
         self.held.push_reserved(true);
         Ok(id)
@@ -137,6 +146,12 @@ impl RatKernel {
     #[inline]
     pub fn span(&self, id: usize) -> Option<Span> {
         self.clauses.span(id)
+    }
+
+    /// Ids that those of the clauses with a literal are among. There may be others between them.
+    #[inline]
+    pub fn ids_with(&self, l: Literal) -> Ids {
+        self.noted.ids_with(l)
     }
 
     /// Swaps two literals of a clause, by their places in it. Nothing changes where there is no such clause or literal.
@@ -243,7 +258,7 @@ impl RatKernel {
     /// clause but the pivot's negation. The ids of these resolvents are given, in the order of the clauses with the
     /// pivot's negation. None, and the formula stays, if one is not such. A derivation that was begun is dropped.
     ///
-    /// It takes the time of the whole formula.
+    /// It takes the time of the clauses among [`RatKernel::ids_with`] the pivot's negation.
     ///
     /// # Errors
     /// `AllocError` where memory is refused, or where there would be 2^32 literals. The formula stays as it is.
@@ -261,6 +276,7 @@ impl RatKernel {
         if !are_resolved(
             &self.clauses,
             &self.held,
+            &self.noted,
             pivot.negated(),
             clause,
             resolvents,
@@ -295,8 +311,10 @@ impl RatKernel {
         self.is_open = false;
         let clauses = self.clauses.kept(alloc, &self.held)?;
         let held = all_set(alloc, clauses.len())?;
+        let noted = NotedIds::of(alloc, &clauses)?;
         self.clauses = clauses;
         self.held = held;
+        self.noted = noted;
         Ok(())
     }
 
@@ -358,15 +376,18 @@ fn is_resolvent(
 fn are_resolved(
     clauses: &Cnf,
     held: &[bool],
+    noted: &NotedIds,
     opposite: Literal,
     clause: &[Literal],
     resolvents: &[usize],
 ) -> bool
+    requires { Covers noted.now clauses.now }
     ensures { OnTrue result
         (AreResolved held.now clauses.now opposite clause.now (length clauses.now)) }
 {
     let mut found: usize = 0;
-    for place in 0..clauses.len() {
+    let ids = noted.ids_with(opposite);
+    for place in ids.start..ids.end.min(clauses.len()) {
         let other = clauses.clause(place);
         if !flag_at(held, place, false) || !has(other, opposite) {
             continue;

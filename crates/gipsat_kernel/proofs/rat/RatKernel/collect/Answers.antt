@@ -7,8 +7,8 @@ use Rattle.gipsat_kernel.proofs.rat.RatKernel.collect.Goals as goal
 
 pub invariant_of-self-2 : goal.invariant_of-self-2
 invariant_of-self-2 c =
-    IsRatKernel-idle c.in_ok-held.held.items c.in_ok-clauses.clauses _
-    (ap length c.in_ok-held.ensures ∙ length-replicate c.len.result true ∙ c.len.ensures)
+    IsRatKernel-idle c.in_ok-held.held.items c.in_ok-clauses.clauses c.in_ok-noted.noted _
+    (ap length c.in_ok-held.ensures ∙ length-replicate c.len.result true ∙ c.len.ensures) c.in_ok-noted.ensures
 
 pub returns : goal.returns
 returns c =

@@ -16,7 +16,7 @@ returns c =
     c.truncate.ensures ∙ truncated cs c.take_into.new.clauses c.self.inside.marks c.len-len.result taken c.len-len.ensures
     in
     let implied : Implies (original_among c.self.inside.held.items c.self.inside.clauses) c.args.clause.now =
-    Implies-taken-part fs cs c.take_into.new.clauses c.self.inside.marks c.self.inside.is_open c.len-len.result c.clause.result.now clause
+    Implies-taken-part fs cs c.take_into.new.clauses c.self.inside.noted c.self.inside.marks c.self.inside.is_open c.len-len.result c.clause.result.now clause
     c.if-not-self.false taken c.len-len.ensures c.clause.ensures c.if-not-follows.ensures c.self.invariant
     in
     subst (λ old. KeepsSatisfiable old c.add_clause.new.self) c.self.view_is

@@ -7,8 +7,8 @@ use Rattle.gipsat_kernel.proofs.rat.RatKernel.delete.Goals as goal
 
 pub invariant_of-self-2 : goal.invariant_of-self-2
 invariant_of-self-2 c =
-    IsRatKernel-idle (set c.self.inside.held.items c.args.id false) c.self.inside.clauses c.self.inside.marks
-    (length-set c.self.inside.held.items c.args.id false ∙ c.self.invariant.as_many)
+    IsRatKernel-idle (set c.self.inside.held.items c.args.id false) c.self.inside.clauses c.self.inside.noted c.self.inside.marks
+    (length-set c.self.inside.held.items c.args.id false ∙ c.self.invariant.as_many) c.self.invariant.covers
 
 pub returns : goal.returns
 returns c =

@@ -7,7 +7,8 @@ use Rattle.gipsat_kernel.proofs.rat.RatKernel.over.Goals as goal
 
 pub invariant_of-result : goal.invariant_of-result
 invariant_of-result c =
-    IsRatKernel-idle c.in_ok-held.held.items c.args.formula _ (ap length c.in_ok-held.ensures ∙ length-replicate c.len.result true ∙ c.len.ensures)
+    IsRatKernel-idle c.in_ok-held.held.items c.args.formula c.in_ok-noted.noted _
+    (ap length c.in_ok-held.ensures ∙ length-replicate c.len.result true ∙ c.len.ensures) c.in_ok-noted.ensures
 
 pub returns : goal.returns
 returns c =

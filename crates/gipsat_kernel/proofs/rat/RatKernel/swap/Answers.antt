@@ -6,7 +6,7 @@ use Rattle.gipsat_kernel.proofs.rat.RatKernel.swap.Goals as goal
 
 pub invariant_of-self : goal.invariant_of-self
 invariant_of-self c =
-    IsRatKernel-swapped c.self.inside.held.items c.self.inside.clauses c.swap.new.self c.self.inside.marks c.self.inside.is_open
+    IsRatKernel-swapped c.self.inside.held.items c.self.inside.clauses c.swap.new.self c.self.inside.noted c.self.inside.marks c.self.inside.is_open
     c.swap.ensures.len c.swap.ensures.literals c.self.invariant
 
 pub returns : goal.returns
