@@ -449,6 +449,34 @@ for name in repeated often moved; do
     told "deletions, $name" $?
 done
 
+# Definitions of 10000 variables, each by three clauses that are RAT, without hints and with them. It takes many seconds
+# where each of these clauses is held against all others.
+python3 - "$work" << 'END'
+import sys
+with open(f"{sys.argv[1]}/defined.drat", "w") as drat, open(f"{sys.argv[1]}/defined.lrat", "w") as lrat:
+    name = 9
+    for a in range(6, 30006, 3):
+        b, v = a + 1, a + 2
+        drat.write(f"{v} -{a} -{b} 0\n-{v} {a} 0\n-{v} {b} 0\n")
+        lrat.write(f"{name} {v} -{a} -{b} 0 0\n{name + 1} -{v} {a} 0 -{name} 0\n{name + 2} -{v} {b} 0 -{name} 0\n")
+        name += 3
+    drat.write("1 2 0\n1 0\n4 0\n0\n")
+    lrat.write(f"{name} 1 2 0 1 2 0\n{name + 1} 1 0 {name} 3 4 0\n{name + 2} 4 0 {name + 1} 5 6 0\n")
+    lrat.write(f"{name + 3} 0 {name + 1} {name + 2} 7 8 0\n")
+END
+printf '%b' "$squares" > "$work/defined.cnf"
+# NAME [ARGUMENT..]: expects that the program verifies a proof within five seconds of a processor.
+try_soon() {
+    is_wanted "$1" || return 0
+    local name=$1
+    shift
+    (ulimit -t 5; exec "$gipsat" "$@") > "$work/out" 2> "$work/err"
+    [ "$(cat "$work/out")" = "s VERIFIED" ]
+    told "$name" $?
+}
+try_soon "definitions without hints" --lrat-from-drat "$work/defined.hinted" "$work/defined.cnf" "$work/defined.drat"
+try_soon "definitions with hints" --check "$work/defined.cnf" "$work/defined.lrat"
+
 # Proofs that the program writes: of the squares, of six pigeons in five holes, of eight in seven, after whose first slice
 # variables are eliminated, and of nine in eight, which takes so many conflicts that clauses leave the store.
 # HOLES: a formula that seats one pigeon more than there are holes.

@@ -191,7 +191,7 @@ impl Checker {
     /// Holds a clause, if it is RUP, or RAT on its first literal, and answers whether it is. Once the empty clause was
     /// shown, each is.
     ///
-    /// A clause that isn't RUP costs a look at all clauses that are held.
+    /// A clause that isn't RUP costs a look at the clauses from the first to the last one with the pivot's negation.
     ///
     /// # Errors
     /// `AllocError` where memory is refused. The clause may be held then.

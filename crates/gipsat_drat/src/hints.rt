@@ -140,7 +140,7 @@ fn conclude(kernel: &mut RatKernel, trail: &mut Trail, clause: &[Literal]) -> Re
 }
 
 // Adds a clause that is RAT on its first literal: its id. Behind each hint with a sign are those that show a resolvent;
-// the resolvents that were added are listed, and found by the ids of the clauses that they were added for.
+// the resolvents that were added are listed, and found with the ids of the clauses that they were added for.
 fn add_rat(
     alloc: Global,
     kernel: &mut RatKernel,
@@ -149,11 +149,10 @@ fn add_rat(
     clause: &[Literal],
     hints: &[Hint],
     resolvents: &mut Vec<usize>,
-    found: &mut Vec<Option<usize>>,
+    found: &mut Vec<(usize, usize)>,
 ) -> Result<usize, Stop>
     ensures { KeepsSatisfiable kernel.old kernel.new }
 {
-    found.resize(kernel.len(), None)?;
     let settled = trail.len();
     for place in 0..hints.len() {
         let hint = hints[place];
@@ -165,26 +164,27 @@ fn add_rat(
         resolvents.reserve(1)?;
         let added = add_resolvent(alloc, kernel, trail, names, clause, id, &hints[place + 1..])?;
         resolvents.push_reserved(added);
-        if let Some(slot) = found.get_mut(id) {
-            *slot = Some(added);
-        }
+        found.push((id, added))?;
     }
-    let ordered = found_in_order(alloc, found)?;
+    found.sort_unstable();
+    let ordered = last_of_each(alloc, found)?;
     match kernel.add_rat(clause, &ordered)? {
         Some(id) => Ok(id),
         None => Err(Stop::Refused(Flaw::NotHinted)),
     }
 }
 
-// The ids that were found, in the order of the clauses that they were found for.
-fn found_in_order(alloc: Global, found: &[Option<usize>]) -> Result<Vec<usize>, AllocError> {
-    let mut ordered = Vec::new(alloc);
-    for id in found {
-        if let Some(id) = *id {
-            ordered.push(id)?;
+// The resolvents that were found, in the order of the clauses that they were found for: the last one for each.
+fn last_of_each(alloc: Global, found: &[(usize, usize)]) -> Result<Vec<usize>, AllocError> {
+    let mut last = Vec::new(alloc);
+    for place in 0..found.len() {
+        let (id, added) = found[place];
+        match found.get(place + 1) {
+            Some((next, _)) if *next == id => {}
+            _ => last.push(added)?,
         }
     }
-    Ok(ordered)
+    Ok(last)
 }
 
 // Adds the resolvent on the first literal of a clause with the clause of an id, if hints show it: its id.

@@ -182,12 +182,13 @@ impl Log {
         let Some(pivot) = clause.first().copied() else {
             return Ok(());
         };
+        let ids = kernel.ids_with(pivot.negated());
         let end = match derivations.get(0) {
             Some((first, _)) => first,
             None => id,
         };
         let mut number: usize = 0;
-        for candidate in 0..end {
+        for candidate in ids.start..ids.end.min(end) {
             let other = kernel.clause(candidate).unwrap_or(&[]);
             if !has(other, pivot.negated()) {
                 continue;

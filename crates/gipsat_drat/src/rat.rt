@@ -71,7 +71,8 @@ fn add_resolvents(
 ) -> Result<bool, AllocError>
     ensures { KeepsSatisfiable kernel.old kernel.new }
 {
-    for id in 0..kernel.len() {
+    let ids = kernel.ids_with(pivot.negated());
+    for id in ids.start..ids.end {
         let Some(resolvent) = resolvent_with(alloc, kernel, id, clause, pivot)? else {
             continue;
         };
