@@ -43,8 +43,8 @@ fn note_use(kernel: &Kernel, state: &mut State, id: u32) {
     state.clauses.use_clause(id as usize, glue);
 }
 
-// Resolves the clause at hand with the reason of the literal at a place of the trail, if it has that literal's negation.
-// How many of its literals are of the conflict level then, where `pending` were before.
+// Resolves the clause at hand with the reason of the literal at a place of the trail, if it has that literal's
+// negation. How many of its literals are of the conflict level then, where `pending` were before.
 fn resolve_back(
     kernel: &mut Kernel,
     state: &mut State,

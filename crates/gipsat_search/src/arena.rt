@@ -40,12 +40,6 @@ impl Arena {
         }
     }
 
-    // All words.
-    #[inline]
-    pub(crate) fn words(&self) -> &[Literal] {
-        &self.words
-    }
-
     // The word at a place.
     #[inline]
     pub(crate) fn at(&self, place: usize) -> Option<Literal> {

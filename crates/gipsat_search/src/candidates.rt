@@ -7,8 +7,8 @@ use std::alloc::{AllocError, Global};
 // How many buckets there are. The last one has all variables of more resolvents.
 const BUCKETS: usize = 1024;
 
-// How a variable stands. It is to be tried: it waits until it is queued, or is queued in a bucket. Or it was tried since
-// it lost a clause, or it may not be eliminated.
+// How a variable stands. It is to be tried: it waits until it is queued, or is queued in a bucket. Or it was tried
+// since it lost a clause, or it may not be eliminated.
 #[derive(Clone, Copy)]
 enum Standing {
     Waits,

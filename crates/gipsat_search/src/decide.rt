@@ -5,8 +5,8 @@ use gipsat_cnf::Literal;
 use gipsat_kernel::Kernel;
 use std::alloc::AllocError;
 
-// The literal of a variable that is decided: with the phase of the longest trail in the stable mode, else with the saved
-// one. None if the variable has a value.
+// The literal of a variable that is decided: with the phase of the longest trail in the stable mode, else with the
+// saved one. None if the variable has a value.
 fn literal_of(state: &State, variable: u32) -> Option<Literal> {
     if !state.trail.has_no_value(variable) || variable >= 1 << 31 {
         return None;
@@ -37,8 +37,8 @@ fn most_active(state: &mut State) -> Result<Option<Literal>, AllocError> {
     Ok(None)
 }
 
-// The literal to decide: the most active one. Where none waits, that of the last one of the eliminated variables, unless
-// only a domain is decided.
+// The literal to decide: the most active one. Where none waits, that of the last one of the eliminated variables,
+// unless only a domain is decided.
 pub(crate) fn literal_to_decide(
     kernel: &Kernel,
     state: &mut State,

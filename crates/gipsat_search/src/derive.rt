@@ -14,8 +14,8 @@ pub(crate) struct Resolution {
     pub literal: Literal,
 }
 
-// Resolves the clause at hand with the reason of the literal at a place of the trail, if it has that literal's negation.
-// Whether it has.
+// Resolves the clause at hand with the reason of the literal at a place of the trail, if it has that literal's
+// negation. Whether it has.
 #[inline]
 pub(crate) fn resolve_at(
     kernel: &mut Kernel,

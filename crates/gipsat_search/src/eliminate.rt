@@ -135,7 +135,8 @@ fn subsume_by(
     Ok(())
 }
 
-// Puts resolvents in the place of the clauses of a variable, unless they are too many or too long. Nothing is found yet.
+// Puts resolvents in the place of the clauses of a variable, unless they are too many or too long. Nothing is found
+// yet.
 fn eliminate_variable(
     kernel: &mut Kernel,
     state: &mut State,
@@ -240,8 +241,8 @@ fn delete_learned(kernel: &Kernel, state: &mut State) {
     }
 }
 
-// Eliminates variables. No clause takes part in the elimination yet. Those of the first round are asked what follows from
-// them; later ones only those that come.
+// Eliminates variables. No clause takes part in the elimination yet. Those of the first round are asked what follows
+// from them; later ones only those that come.
 fn eliminate_candidates(
     alloc: Global,
     kernel: &mut Kernel,

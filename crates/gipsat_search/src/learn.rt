@@ -110,8 +110,8 @@ fn count_conflict(state: &mut State) {
     state.clauses.decay();
 }
 
-// The id of a derived clause that is empty, where a clause is. From one of the formula it is derived, so that each proof
-// ends with a derived one.
+// The id of a derived clause that is empty, where a clause is. From one of the formula it is derived, so that each
+// proof ends with a derived one.
 fn derive_empty(kernel: &mut Kernel, id: usize) -> Result<Option<usize>, AllocError>
     ensures { kernel.new ≡ kernel.old }
 {

@@ -8,7 +8,8 @@ use crate::watches::{Watch, Watches};
 use gipsat_cnf::Literal;
 use std::alloc::{AllocError, Global};
 
-// What becomes of a watch: it stays, it goes, it stays for another blocker, or its clause, which has this id, is falsified.
+// What becomes of a watch: it stays, it goes, it stays for another blocker, or its clause, which has this id, is
+// falsified.
 #[derive(Clone, Copy)]
 enum Visit {
     Stays,

@@ -9,8 +9,8 @@ use crate::units::learn_units;
 use gipsat_kernel::Kernel;
 use std::alloc::{AllocError, Global};
 
-// Backtracks to the root, watches all clauses, and propagates. The id of a falsified clause, if one is met. If one was met
-// before, the root is propagated again, so that it is met again.
+// Backtracks to the root, watches all clauses, and propagates. The id of a falsified clause, if one is met. If one was
+// met before, the root is propagated again, so that it is met again.
 fn propagate_root(
     alloc: Global,
     kernel: &Kernel,
@@ -28,8 +28,8 @@ fn propagate_root(
     propagate(alloc, state)
 }
 
-// Backtracks to the root, watches all clauses, and propagates; each root literal becomes a clause, also where a clause is
-// falsified, so that a collection derives none. Whether no clause is falsified; if one is, the next search meets it.
+// Backtracks to the root, watches all clauses, and propagates; each root literal becomes a clause, also where a clause
+// is falsified, so that a collection derives none. Whether no clause is falsified; if one is, the next search meets it.
 pub(crate) fn settle_root(
     alloc: Global,
     kernel: &mut Kernel,

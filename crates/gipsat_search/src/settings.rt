@@ -6,8 +6,8 @@ pub struct Settings {
     /// By which part of itself a bump of a variable grows at each conflict, in the focused mode and in the stable one.
     pub focused_growth: f64,
     pub stable_growth: f64,
-    /// In the stable mode the variables in the reasons of a learned clause are bumped too, unless there are more than so
-    /// many for each of its literals.
+    /// In the stable mode the variables in the reasons of a learned clause are bumped too, unless there are more than
+    /// so many for each of its literals.
     pub reason_sides: usize,
     /// A domain is decided by a list that is sorted once, and after so many conflicts by a queue.
     pub domain_conflicts: u64,
@@ -18,12 +18,13 @@ pub struct Settings {
     /// The least number of conflicts between two restarts, in the focused mode and in the stable one.
     pub focused_interval: u64,
     pub stable_interval: u64,
-    /// How much a learned clause counts in the fast and in the slow average of glue, and how many times the fast one has
-    /// to exceed the slow one for a restart.
+    /// How much a learned clause counts in the fast and in the slow average of glue, and how many times the fast one
+    /// has to exceed the slow one for a restart.
     pub fast_rate: f64,
     pub slow_rate: f64,
     pub restart_factor: f64,
-    /// How many conflicts there are before the saved phases are reset for the first time. The intervals grow by as many.
+    /// How many conflicts there are before the saved phases are reset for the first time. The intervals grow by as
+    /// many.
     pub phase_interval: u64,
 
     /// A walk looks at one clause for so many propagations since the last one, and at no more than so many clauses. A
@@ -37,8 +38,8 @@ pub struct Settings {
     pub first_reduction: u64,
     pub reduction_interval: u64,
     pub reduction_clauses: u64,
-    /// Up to which glue a learned clause stays for good, and up to which it stays for two reductions after each use. The
-    /// level of the conflict counts.
+    /// Up to which glue a learned clause stays for good, and up to which it stays for two reductions after each use.
+    /// The level of the conflict counts.
     pub safe_glue: u32,
     pub low_glue: u32,
     /// Of the clauses that may go, one of so many stays.

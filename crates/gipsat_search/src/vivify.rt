@@ -80,8 +80,8 @@ fn beginning(state: &State, obstacle: Obstacle) -> (u32, usize) {
     }
 }
 
-// Derives the clause that an obstacle gives, of negations of decisions and of the literal that is true, if it is shorter
-// than `len`: its id.
+// Derives the clause that an obstacle gives, of negations of decisions and of the literal that is true, if it is
+// shorter than `len`: its id.
 fn derive_shorter(
     kernel: &mut Kernel,
     state: &State,

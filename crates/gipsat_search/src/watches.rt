@@ -7,9 +7,9 @@ use std::mem;
 // The digit by which a watch of a clause of two literals is told.
 const BINARY: u32 = 1 << 31;
 
-// A watched clause, and a blocker: while that literal is true, the clause need not be looked at. The blocker of a clause
-// of two literals is the other one, so that such a clause is never read: it is named by its id, and others by their homes
-// in the arena.
+// A watched clause, and a blocker: while that literal is true, the clause need not be looked at. The blocker of a
+// clause of two literals is the other one, so that such a clause is never read: it is named by its id, and others by
+// their homes in the arena.
 #[derive(Clone, Copy)]
 pub(crate) struct Watch {
     tag: u32,
