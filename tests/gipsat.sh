@@ -1142,7 +1142,7 @@ try "a header of neither kind" 1 "<stdin>:2: no header \`p cnf VARIABLES CLAUSES
 try "questions and a proof" 1 "<stdin>: a text with questions takes no option '--proof'" "" "$asked" --proof "$work/unasked"
 try "questions and models" 1 "<stdin>: a text with questions takes no option '--models'" "" "$asked" --models 2
 try "questions and assumptions" 1 "<stdin>: a text with questions takes no option '--assume'" "" "$asked" --assume 1
-if is_wanted "replies to many questions are those of a table"; then
+if is_wanted "replies to many questions that share literals are those of a table"; then
     python3 - "$gipsat" > "$work/out" 2> "$work/err" << 'END'
 import itertools
 import random
@@ -1150,13 +1150,14 @@ import subprocess
 import sys
 random.seed(9)
 for _ in range(40):
-    n = random.randint(1, 5)
-    clauses, lines, wanted = [], ["p inccnf"], []
-    for _ in range(random.randint(1, 8)):
-        for _ in range(random.randint(0, 4)):
+    n = random.randint(1, 6)
+    clauses, lines, wanted, assumed = [], ["p inccnf"], [], []
+    for _ in range(random.randint(1, 12)):
+        for _ in range(random.choice((0, 0, 1, 2, 4))):
             clauses.append([random.choice((1, -1)) * random.randint(1, n) for _ in range(3)])
             lines.append(" ".join(map(str, clauses[-1])) + " 0")
-        assumed = [random.choice((1, -1)) * random.randint(1, n) for _ in range(random.randint(0, 3))]
+        more = [random.choice((1, -1)) * random.randint(1, n) for _ in range(random.randint(0, 2))]
+        assumed = assumed[: random.randint(0, 3)] + more
         lines.append("a" + "".join(random.choice((" ", "\n")) + str(l) for l in [*assumed, 0]))
         wanted.append((list(clauses), assumed))
     ran = subprocess.run([sys.argv[1], "-q"], input="\n".join(lines) + "\n", capture_output=True, text=True)
@@ -1171,7 +1172,7 @@ for _ in range(40):
         else:
             assert said == "UNSATISFIABLE" and not any(map(fits, itertools.product((False, True), repeat=n))), (lines, ran)
 END
-    told "replies to many questions are those of a table" $?
+    told "replies to many questions that share literals are those of a table" $?
 fi
 
 end_rows

@@ -10,8 +10,8 @@ use std::alloc::{AllocError, Global};
 // Once a bump would add as much, all scores are scaled down.
 const GREATEST_INCREMENT: f64 = 1e100;
 
-// The decision queue: variables by their scores (VSIDS), those of one score by their numbers, the greatest first. The ones
-// that were bumped wait in a heap. All others have the score 0, and come behind them.
+// The decision queue: variables by their scores (VSIDS), those of one score by their numbers, the greatest first. The
+// ones that were bumped wait in a heap. All others have the score 0, and come behind them.
 pub(crate) struct Activity {
     heap: BoundedHeap<u32>,
     // The variables of the score 0 that wait are below this one.
@@ -82,6 +82,14 @@ impl Activity {
         }
     }
 
+    // Whether only these variables may be decided, among some that were assumed, or all where there is no domain.
+    pub(crate) fn is_limited_to(&self, domain: Option<&[u32]>, assumptions: &[Literal]) -> bool {
+        match domain {
+            Some(domain) => self.domain.is(domain, assumptions),
+            None => !self.domain.is_set(),
+        }
+    }
+
     // How many variables may be picked until one without a value is, or none waits.
     pub(crate) fn waiting(&self) -> usize {
         if self.domain.is_set() {
@@ -96,8 +104,8 @@ impl Activity {
         self.domain.excludes(variable)
     }
 
-    // Queues a variable that has no value any more, unless it is taken out: in a domain in that alone, since no variable
-    // leaves the other queue there.
+    // Queues a variable that has no value any more, unless it is taken out: in a domain in that alone, since no
+    // variable leaves the other queue there.
     pub(crate) fn put_back(&mut self, variable: u32) {
         if self.is_out(variable) {
             return;

@@ -1,5 +1,7 @@
-//! Clauses that are not watched yet are watched, and units among them assigned, at the root.
+//! Clauses that are not watched yet are watched, and units among them assigned, at the level where they are units.
 
+use crate::activity::Activity;
+use crate::backtrack::backtrack;
 use crate::clauses::Status;
 use crate::learn::watch;
 use crate::stamps::Stamps;
@@ -9,14 +11,35 @@ use gipsat_cnf::Literal;
 use gipsat_kernel::Kernel;
 use std::alloc::AllocError;
 
-// The first place of a clause but one whose literal is not false.
-fn non_false_but(trail: &Trail, clause: &[Literal], but: usize) -> Option<usize> {
+// A place of a clause, and the level at which its literal is false: `usize::MAX` if it is not.
+#[derive(Clone, Copy)]
+struct Spot {
+    place: usize,
+    level: usize,
+}
+
+// The first place of a clause but one whose literal is not false, or else of one that is false at the highest level.
+fn latest_but(trail: &Trail, clause: &[Literal], but: usize) -> Spot {
+    let mut latest = Spot {
+        place: usize::from(but == 0),
+        level: 0,
+    };
     for (place, l) in clause.iter().enumerate() {
-        if place != but && !trail.is_false(*l) {
-            return Some(place);
+        if place == but {
+            continue;
+        }
+        if !trail.is_false(*l) {
+            return Spot {
+                place,
+                level: usize::MAX,
+            };
+        }
+        let level = trail.level_of(*l);
+        if level > latest.level {
+            latest = Spot { place, level };
         }
     }
-    None
+    latest
 }
 
 // Whether a clause has a literal and its negation: every assignment satisfies it.
@@ -31,37 +54,50 @@ fn is_tautology(met: &mut Stamps, clause: &[Literal]) -> bool {
     false
 }
 
-// Watches two literals of a clause that are not false, as far as there are any, and assigns the one of a unit. Whether
-// it is falsified.
+// Watches two literals of a clause that are not false, or else became false last. The search goes back to where the
+// clause is unit, and assigns its literal there, or to where it is not even unit. Whether it is falsified at the root.
 fn attach(kernel: &Kernel, state: &mut State, id: usize) -> Result<bool, AllocError> {
     let clause = kernel.clause(id).unwrap_or(&[]);
-    let Some(first) = non_false_but(&state.trail, clause, clause.len()) else {
+    let first = latest_but(&state.trail, clause, clause.len());
+    if first.level == 0 {
         return Ok(true);
-    };
-    let free = non_false_but(&state.trail, clause, first);
-    let second = free.unwrap_or(usize::from(first == 0));
-    watch(state, clause, id, first, second)?;
-    if free.is_none() {
-        assign(&mut state.trail, clause, first, id)?;
+    }
+    let second = latest_but(&state.trail, clause, first.place);
+    watch(state, clause, id, first.place, second.place)?;
+    let trail = &mut state.trail;
+    let activity = &mut state.activity;
+    if second.level < first.level {
+        assign_at(trail, activity, clause, first.place, second.level, id)?;
+    } else if second.level < usize::MAX {
+        backtrack(trail, activity, first.level - 1);
     }
     Ok(false)
 }
 
-// Assigns the literal at a place of a clause, unless it is true.
-fn assign(
+// Goes back to a level and assigns the literal at a place of a clause there, unless it is true there.
+fn assign_at(
     trail: &mut Trail,
+    activity: &mut Activity,
     clause: &[Literal],
     place: usize,
+    level: usize,
     id: usize,
 ) -> Result<(), AllocError> {
-    match clause.get(place) {
-        Some(l) if trail.is_unset(*l) => trail.assign(*l, short(id)),
-        _ => Ok(()),
+    let Some(l) = clause.get(place).copied() else {
+        return Ok(());
+    };
+    if trail.is_true(l) && trail.level_of(l) <= level {
+        return Ok(());
     }
+    backtrack(trail, activity, level);
+    if trail.is_unset(l) {
+        trail.assign(l, short(id))?;
+    }
+    Ok(())
 }
 
-// Makes an entry for the next clause, and finds its status if it has none: it is deleted if every assignment satisfies
-// it, and if it is not original, it was learned.
+// Counts the next clause as looked at, without a watch. If it has no status, it gets one: it is deleted if every
+// assignment satisfies it, and if it is not original, it was learned.
 fn push_next(kernel: &Kernel, state: &mut State, id: usize) -> Result<(), AllocError> {
     let clause = kernel.clause(id).unwrap_or(&[]);
     if is_tautology(&mut state.met, clause) {
@@ -87,10 +123,12 @@ fn attach_waiting(kernel: &Kernel, state: &mut State) -> Result<Option<u32>, All
     Ok(None)
 }
 
-// Assigns the literals of the unit clauses from an id on. The id of one whose literal is false, if there is one.
+// Assigns the literals of the unit clauses from an id on, at the root. The id of one whose literal is false there, if
+// there is one.
 fn assign_units(
     kernel: &Kernel,
     trail: &mut Trail,
+    activity: &mut Activity,
     from: usize,
 ) -> Result<Option<u32>, AllocError> {
     for id in from..kernel.len() {
@@ -98,23 +136,25 @@ fn assign_units(
         if clause.len() != 1 {
             continue;
         }
+        assign_at(trail, activity, clause, 0, 0, id)?;
         if trail.are_false(clause) {
             return Ok(Some(short(id)));
         }
-        assign(trail, clause, 0, id)?;
     }
     Ok(None)
 }
 
-// Watches the clauses that are not watched yet, the units first, so that these are the reasons of their literals. The id
-// of a falsified clause, if one is met: it is met again next time.
+// Watches the clauses that are not watched yet, the units first, so that these are the reasons of their literals. It
+// goes back to where none of them is falsified. The id of one that is falsified at the root, if one is met: it is met
+// again next time.
 pub(crate) fn attach_new(kernel: &Kernel, state: &mut State) -> Result<Option<u32>, AllocError> {
     if let Some(conflict) = attach_waiting(kernel, state)? {
         return Ok(Some(conflict));
     }
     let from = state.clauses.attached();
-    if let Some(conflict) = assign_units(kernel, &mut state.trail, from)? {
-        return Ok(Some(conflict));
+    let conflict = assign_units(kernel, &mut state.trail, &mut state.activity, from)?;
+    if conflict.is_some() {
+        return Ok(conflict);
     }
     for id in from..kernel.len() {
         push_next(kernel, state, id)?;

@@ -18,6 +18,7 @@ mod eliminate;
 mod eliminated;
 mod elimination;
 mod glue;
+mod keep;
 mod learn;
 mod minimize;
 mod modes;

@@ -6,6 +6,7 @@ use crate::assume::{Assumed, clause_of_failed, next_assumption};
 use crate::collect::{collect, is_deleted, wants_collection};
 use crate::decide::literal_to_decide;
 use crate::eliminate::{eliminate, eliminate_again};
+use crate::keep::keep_trail;
 use crate::learn::learn;
 use crate::propagate::propagate;
 use crate::reduce::reduce;
@@ -190,16 +191,13 @@ fn run(
     Ok(Turn::Spent)
 }
 
-// Goes back to the root, with room for all variables. Eliminated variables that are assumed, in the domain or in a new
-// clause are restored.
-fn resume(
+// Makes room for all variables. Eliminated variables that are assumed, in the domain or in a new clause are restored.
+fn prepare(
     alloc: Global,
-    kernel: &mut Kernel,
+    kernel: &Kernel,
     state: &mut State,
     query: Query<'_>,
-) -> Result<(), AllocError>
-    ensures { kernel.new ≡ kernel.old }
-{
+) -> Result<(), AllocError> {
     let mut variables = kernel.variables();
     for l in query.assumptions {
         variables = variables.max((l.variable() as usize).saturating_add(1));
@@ -208,12 +206,37 @@ fn resume(
     state.restore(kernel, query.assumptions, query.domain.unwrap_or(&[]))?;
     state.restart_policy.modes.allow(query.is_plain());
     state.eliminated.rewind();
+    Ok(())
+}
+
+// Goes back to the root, and lets only the variables of the query be decided.
+fn go_to_root(
+    alloc: Global,
+    kernel: &mut Kernel,
+    state: &mut State,
+    query: Query<'_>,
+) -> Result<(), AllocError>
+    ensures { kernel.new ≡ kernel.old }
+{
     settle_root(alloc, kernel, state)?;
     state.activity.limit_to(query.domain, query.assumptions)
 }
 
-// Begins a call, with its budget, at the root. An elimination that was begun is taken up again, if that is due and the
-// query is plain.
+// Goes back to the root, with room for all variables.
+fn resume(
+    alloc: Global,
+    kernel: &mut Kernel,
+    state: &mut State,
+    query: Query<'_>,
+) -> Result<(), AllocError>
+    ensures { kernel.new ≡ kernel.old }
+{
+    prepare(alloc, kernel, state, query)?;
+    go_to_root(alloc, kernel, state, query)
+}
+
+// Begins a call, with its budget, on the trail of the last one as far as that may stay. An elimination that was begun
+// is taken up again, if that is due and the query is plain.
 fn begin(
     alloc: Global,
     kernel: &mut Kernel,
@@ -223,7 +246,10 @@ fn begin(
     ensures { kernel.new ≡ kernel.old }
 {
     state.end = state.stats.propagations.saturating_add(query.propagations);
-    resume(alloc, kernel, state, query)?;
+    prepare(alloc, kernel, state, query)?;
+    if !keep_trail(kernel, state, query.assumptions, query.domain)? {
+        go_to_root(alloc, kernel, state, query)?;
+    }
     if query.is_plain() {
         eliminate_again(alloc, kernel, state)?;
     }
@@ -283,7 +309,9 @@ impl Search {
         }
     }
 
-    /// Begins a call: it backtracks to the root, and watches the clauses that are new to it.
+    /// Begins a call: it watches the clauses that are new to it, and backtracks no farther than it has to. The levels
+    /// of the last call stay, as far as their decisions are the first assumptions in their order and the domain has the
+    /// same variables; and all levels where no assumption is left.
     ///
     /// # Errors
     /// `AllocError` where memory is refused. The search forgets what it knows of the clauses.
@@ -299,7 +327,7 @@ impl Search {
         done
     }
 
-    /// Goes back to the root within a call, as [`Search::begin`] does, but the budget of the call goes on.
+    /// Goes back to the root within a call, and watches the clauses that are new. The budget of the call goes on.
     ///
     /// # Errors
     /// `AllocError` where memory is refused. The search forgets what it knows of the clauses.
@@ -336,8 +364,8 @@ impl Search {
         done
     }
 
-    /// Lets the next turn begin with a clause of the formula that the last [`Turn::Model`] leaves open. False if there is
-    /// none.
+    /// Lets the next turn begin with a clause of the formula that the last [`Turn::Model`] leaves open. False if there
+    /// is none.
     pub fn reopen(&mut self, kernel: &Kernel) -> bool {
         let Some(state) = &mut self.state else {
             return false;
@@ -350,8 +378,8 @@ impl Search {
         true
     }
 
-    /// Drops the clauses of the formula that a literal satisfies which has to be true, as far as that is found without a
-    /// decision. Each such literal becomes a clause of the formula. The memory of the watches is freed: the next call
+    /// Drops the clauses of the formula that a literal satisfies which has to be true, as far as that is found without
+    /// a decision. Each such literal becomes a clause of the formula. The memory of the watches is freed: the next call
     /// watches all clauses anew.
     ///
     /// # Errors
@@ -370,8 +398,9 @@ impl Search {
     }
 
     /// Eliminates variables but for the frozen ones, in about so many steps: their clauses give way to resolvents. The
-    /// elimination is taken up again where [`Search::begin`] is called for all variables, after twice as many propagations
-    /// each time, with as many steps. Once all variables were tried, such a round may leave some clauses more.
+    /// elimination is taken up again where [`Search::begin`] is called for all variables, after twice as many
+    /// propagations each time, with as many steps. Once all variables were tried, such a round may leave some clauses
+    /// more.
     ///
     /// # Errors
     /// `AllocError` where memory is refused. The search forgets what it knows of the clauses.
@@ -392,7 +421,8 @@ impl Search {
         done
     }
 
-    /// Shortens clauses of low glue that were learned since the last call, until it has propagated about so many literals.
+    /// Shortens clauses of low glue that were learned since the last call, until it has propagated about so many
+    /// literals.
     ///
     /// # Errors
     /// `AllocError` where memory is refused. The search forgets what it knows of the clauses.

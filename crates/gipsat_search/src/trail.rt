@@ -164,6 +164,14 @@ impl Trail {
         }
     }
 
+    // Whether a literal is the decision of the level behind one.
+    pub(crate) fn is_decided_above(&self, level: usize, l: Literal) -> bool {
+        match self.steps.get(self.start_above(level)) {
+            Some(step) => step.literal.code() == l.code() && level < self.level(),
+            None => false,
+        }
+    }
+
     // How many literals are assigned at the root.
     pub(crate) fn root_len(&self) -> usize {
         self.start_above(0)

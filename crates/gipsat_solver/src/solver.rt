@@ -214,8 +214,8 @@ impl Solver {
     /// Finds out what [`Solver::solve_under`] does, and gives up once its budget is spent, also where no conflict is
     /// met. Nothing is proved of the propagations.
     ///
-    /// Each call begins at the root. A budget of fewer propagations than there are variables may be too small to meet a
-    /// conflict or a model.
+    /// The next call goes on where this one gave up, if it has the same assumptions. Else a budget of fewer propagations
+    /// than there are variables may be too small to meet a conflict or a model.
     ///
     /// # Errors
     /// `AllocError` where memory is refused. The formula stays as it was; some clauses may have been learned.
