@@ -138,7 +138,8 @@ impl Solver {
         Ok(())
     }
 
-    /// How many clauses it holds: those of the formula, and those that follow and were not freed. Nothing is proved of it.
+    /// How many clauses it holds: those of the formula, and those that follow and were not freed. Nothing is proved of
+    /// it.
     pub fn len(&self) -> usize {
         self.kernel.len()
     }
@@ -214,8 +215,8 @@ impl Solver {
     /// Finds out what [`Solver::solve_under`] does, and gives up once its budget is spent, also where no conflict is
     /// met. Nothing is proved of the propagations.
     ///
-    /// The next call goes on where this one gave up, if it has the same assumptions. Else a budget of fewer propagations
-    /// than there are variables may be too small to meet a conflict or a model.
+    /// The next call goes on where this one gave up, if it has the same assumptions. Else a budget of fewer
+    /// propagations than there are variables may be too small to meet a conflict or a model.
     ///
     /// # Errors
     /// `AllocError` where memory is refused. The formula stays as it was; some clauses may have been learned.
@@ -517,11 +518,11 @@ impl Solver {
         self.inprocessing
     }
 
-    /// Eliminates variables: the clauses of a variable give way to their resolvents, which become clauses of the solver,
-    /// if these are not more than the clauses and not long. It also drops clauses that follow from others. Besides a
-    /// walk over all clauses it takes about `steps` steps, and goes on while some thousand steps eliminate a variable;
-    /// a step looks at a literal. The `frozen` variables are not eliminated; one that was eliminated before is not
-    /// brought back.
+    /// Eliminates variables: the clauses of a variable give way to their resolvents, which become clauses of the
+    /// solver, if these are not more than the clauses and not long. It also drops clauses that follow from others.
+    /// Besides a walk over all clauses it takes about `steps` steps, and goes on while some thousand steps eliminate a
+    /// variable; a step looks at a literal. The `frozen` variables are not eliminated; one that was eliminated before
+    /// is not brought back.
     ///
     /// The formula is the same as before, and each answer is right as before: only the search no longer looks at the
     /// clauses of an eliminated variable, and decides it last. If such a variable is assumed, or a clause with it is
