@@ -80,7 +80,6 @@ PARTS = {
     "gipsat_drat_writer": (PROVED, TESTED, CHOICES),
     "gipmc_circuits": (EXAMPLE, PEER + "AIGER", PROVED, TESTED, CHOICES, COST),
     "gipmc_builder": (EXAMPLE, PROVED, TESTED, CHOICES, COST),
-    "gipmc_liveness": (EXAMPLE, PROVED, TESTED, CHOICES, COST),
     "gipmc_aiger": (EXAMPLE, PEER + "AIGER 1.9", PROVED, TESTED, CHOICES, COST),
     "gipmc_ic3": (EXAMPLE, PROVED, TESTED, CHOICES, COST),
     "gipmc_engines": (EXAMPLE, PROVED, TESTED, CHOICES, COST),

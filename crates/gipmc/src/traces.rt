@@ -9,7 +9,7 @@ use gip_cli::NewFile;
 use gipmc_aiger::{Claim, Liveness, read_claims, read_lassos};
 use gipmc_circuits::Netlist;
 use gipmc_command::Options;
-use gipmc_liveness::closed;
+use gipmc_reduce::closed;
 use gipmc_traces::{Names, Property, Scene, known_text, latch_rows, table_text, vcd_text};
 use giputils_text::{number, split_line};
 use std::alloc::AllocError;

@@ -1,10 +1,10 @@
 //! An arbiter that lets a client wait forever, and one that does not.
 ghost use Rattle.std.specs.Prelude.{[], ◌∷◌, IfOk, IfSome, IsTrue};
-ghost use Rattle.gipmc_liveness.specs.Lassos.{IsLasso};
-ghost use Rattle.gipmc_liveness.specs.Liveness.{IsLive};
+ghost use Rattle.gipmc_reduce.specs.Lassos.{IsLasso};
+ghost use Rattle.gipmc_reduce.specs.Liveness.{IsLive};
 
 use gipmc_circuits::{And, Circuit, Latch, Netlist, Trace, Verdict};
-use gipmc_liveness::{Lasso, certify_live, replay_lasso};
+use gipmc_reduce::{Lasso, certify_live, replay_lasso};
 use gipsat_cnf::Literal;
 use gipsat_plain::Plain;
 use std::alloc::{AllocError, Global};

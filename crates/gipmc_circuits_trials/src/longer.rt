@@ -2,7 +2,7 @@
 
 use crate::arbiters::{arbiter, counterexample, is_served};
 use gipmc_circuits::{Netlist, Trace, replay};
-use gipmc_liveness::{counting, lasso_of, to_safety};
+use gipmc_reduce::{counting, lasso_of, to_safety};
 use gipsat_cnf::Literal;
 use std::alloc::{AllocError, Global};
 

@@ -12,10 +12,10 @@ use Rattle.gipmc_aiger.specs.Claims.{claim_by, claim_of}
 use Rattle.gipmc_aiger.specs.declared.liveness.Liveness.{Liveness}
 use Rattle.gipmc_circuits.specs.declared.circuit.Circuit.{Circuit}
 use Rattle.gipmc_circuits.specs.declared.trace.Trace.{Trace}
-use Rattle.gipmc_liveness.specs.Lassos.{IsLasso, from}
-use Rattle.gipmc_liveness.specs.Liveness.{FailsForever, IsLive}
-use Rattle.gipmc_liveness.specs.declared.lasso.Lasso.{Lasso}
-use Rattle.gipmc_liveness.proofs.Looped.{FailsForever-lasso}
+use Rattle.gipmc_reduce.specs.Lassos.{IsLasso, from}
+use Rattle.gipmc_reduce.specs.Liveness.{FailsForever, IsLive}
+use Rattle.gipmc_reduce.specs.declared.lasso.Lasso.{Lasso}
+use Rattle.gipmc_reduce.proofs.Looped.{FailsForever-lasso}
 use Rattle.gipmc_liveness_engines.specs.Verdicts.{IsRightVerdict}
 use Rattle.gipmc_liveness_engines.specs.declared.verdict.Means.{Means}
 use Rattle.gipmc_liveness_engines.specs.declared.verdict.Verdict.{Verdict}

@@ -11,7 +11,7 @@ use Rattle.gipmc_task.proofs.Widths.{every_row, same_of_test}
 use Rattle.gipmc_task.specs.declared.outcome.Outcome.TheVariants.{Fails}
 use Rattle.gipmc_circuits.specs.declared.circuit.Circuit.{Circuit}
 use Rattle.gipmc_circuits.specs.Traces.{have_width}
-use Rattle.gipmc_liveness.proofs.Looped.{FailsForever-lasso}
+use Rattle.gipmc_reduce.proofs.Looped.{FailsForever-lasso}
 use Rattle.gipmc_liveness_engines.specs.Verdicts.{IsRightVerdict}
 use Rattle.gipmc_liveness_engines.specs.declared.verdict.Verdict.{Verdict}
 use Rattle.gipmc_liveness_engines.specs.declared.verdict.Verdict.TheVariants as verdict

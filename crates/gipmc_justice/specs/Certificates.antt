@@ -6,7 +6,7 @@ use Rattle.gipmc_aiger.specs.Invariants.{clauses_view, invariant_for}
 use Rattle.gipmc_aiger.specs.declared.liveness.Liveness.{Liveness}
 use Rattle.gipmc_circuits.specs.Certificate.{IsSafeByClauses}
 use Rattle.gipmc_circuits.specs.declared.circuit.Circuit.{Circuit}
-use Rattle.gipmc_liveness.specs.Liveness.{IsLive}
+use Rattle.gipmc_reduce.specs.Liveness.{IsLive}
 use Rattle.gipmc_liveness_engines.specs.Verdicts.{IsMadeBy}
 use Rattle.gipmc_liveness_engines.specs.declared.verdict.Means.{Means}
 use Rattle.gipmc_justice.specs.Answers.{IsPropertiesIn}

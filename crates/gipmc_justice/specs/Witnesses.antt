@@ -8,8 +8,8 @@ use Rattle.gipmc_aiger.specs.Lists.{Every}
 use Rattle.gipmc_aiger.specs.declared.liveness.Liveness.{Liveness}
 use Rattle.gipmc_circuits.specs.declared.circuit.Circuit.{Circuit}
 use Rattle.gipmc_circuits.specs.declared.trace.Trace.{Trace}
-use Rattle.gipmc_liveness.specs.Lassos.{IsLasso}
-use Rattle.gipmc_liveness.specs.Liveness.{FailsForever}
+use Rattle.gipmc_reduce.specs.Lassos.{IsLasso}
+use Rattle.gipmc_reduce.specs.Liveness.{FailsForever}
 use Rattle.gipmc_justice.specs.Answers.{IsPropertiesIn}
 
 -- the text writes witnesses for the circuit: the places of the justice properties that each names, and its trace

@@ -9,7 +9,7 @@ use crate::answers::properties_in;
 use crate::error::JusticeError;
 use gipmc_aiger::{Claim, Liveness, read_lassos};
 use gipmc_circuits::{Circuit, Netlist, Trace, TraceDoubt, trace_doubt};
-use gipmc_liveness::closed;
+use gipmc_reduce::closed;
 use gipsat_cnf::Literal;
 use std::alloc::{AllocError, Global};
 use std::fmt::{self, Display};

@@ -1,6 +1,6 @@
 //! What is found out about a justice property.
 
-use gipmc_liveness::Lasso;
+use gipmc_reduce::Lasso;
 use gipsat_cnf::Literal;
 
 /// The longer circuit whose invariant shows that a circuit is live.

@@ -1,4 +1,9 @@
+pub mod Chains
 pub mod Cone
 pub mod Correspondence
+pub mod Lassos
+pub mod Liveness
+pub mod Saved
+pub mod Turns
 pub mod Verdicts
 pub mod Witnessed

@@ -1,13 +1,20 @@
-//! Circuits made smaller before a search, and what a smaller one shows of the whole: the cone of influence of some
-//! literals, and signal correspondence.
+//! Circuits made of a circuit before a search, and what is shown of the whole by such a one: smaller circuits, by the
+//! cone of influence of some literals and by signal correspondence, and longer ones, whose safety shows liveness, by
+//! k-liveness and by liveness to safety.
 #![tactic(auto)]
 
 pub mod certificate;
 pub mod cone;
 pub mod correspondence;
+pub mod k_liveness;
+pub mod lasso;
+pub mod liveness_to_safety;
 pub mod witnessed;
 
 pub use certificate::certify_all;
 pub use cone::{Cone, Names};
 pub use correspondence::{Bounds, Correspondence, Merges};
+pub use k_liveness::{certify_live, counting};
+pub use lasso::{Lasso, closed, replay_lasso};
+pub use liveness_to_safety::{certify_without_lasso, lasso_of, to_safety};
 pub use witnessed::certify_all_by;

@@ -1,8 +1,8 @@
 -- The lasso is one of the property that is read, and gives a run.
 use Rattle.std.proofs.Common.{length, refl}
 use Rattle.std.proofs.lemmas.Option.{slice_get_read}
-use Rattle.gipmc_liveness.specs.Lassos.{IsLasso, from}
-use Rattle.gipmc_liveness.proofs.Looped.{FailsForever-lasso}
+use Rattle.gipmc_reduce.specs.Lassos.{IsLasso, from}
+use Rattle.gipmc_reduce.proofs.Looped.{FailsForever-lasso}
 use Rattle.gipmc_justice.proofs.witnesses.fails_at.Goals as goal
 
 pub returns-in-Some : goal.returns-in-Some

@@ -1,7 +1,0 @@
--- The values are those of the moment that is reached.
-use Rattle.gipsat_cnf.specs.Models.{assignment_in}
-use Rattle.gipmc_liveness.specs.Lassos.{IsReachedBy}
-use Rattle.gipmc_liveness.proofs.lasso.loop_start.Given as goal
-
-abbrev pub invariant-loop-place : goal.invariant-loop-place
-invariant-loop-place l = IsReachedBy l.circuit l.trace l.place (assignment_in l.values.items)
