@@ -4,7 +4,7 @@ ghost use Rattle.gipmc_reduce.specs.Lassos.{IsLasso};
 ghost use Rattle.gipmc_reduce.specs.Liveness.{IsLive};
 
 use gipmc_circuits::{And, Circuit, Latch, Netlist, Trace, Verdict};
-use gipmc_reduce::{Lasso, certify_live, replay_lasso};
+use gipmc_reduce::{Lasso, Means, certify_live, replay_lasso};
 use gipsat_cnf::Literal;
 use gipsat_plain::Plain;
 use std::alloc::{AllocError, Global};
@@ -77,7 +77,8 @@ pub fn is_served(alloc: Global, netlist: &Netlist, waits: Literal) -> Result<boo
     ensures { IfOk result (λ served. IsTrue served → IsLive netlist.now.circuit [] (waits ∷ [])) }
 {
     let invariant = invariant(alloc)?;
-    let said = certify_live::<Plain>(alloc, netlist, &[], &[waits], 2, &invariant, 1000)?;
+    let means = Means::Counting(2);
+    let said = certify_live::<Plain>(alloc, netlist, &[], &[waits], means, &invariant, 1000)?;
     match said {
         Some(Verdict::Certified) => Ok(true),
         _ => Ok(false),

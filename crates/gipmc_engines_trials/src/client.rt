@@ -3,7 +3,8 @@ ghost use Rattle.std.specs.Prelude.{[], ◌∷◌, IfOk};
 ghost use Rattle.gipmc_liveness_engines.specs.Verdicts.{IsRightVerdict};
 
 use gipmc_circuits::{And, Circuit, Latch, Netlist};
-use gipmc_liveness_engines::{Bounds, Means, Verdict, decide_live};
+use gipmc_liveness_engines::{Bounds, Verdict, decide_live};
+use gipmc_reduce::Means;
 use gipsat_cnf::Literal;
 use gipsat_plain::Plain;
 use std::alloc::{AllocError, Global};

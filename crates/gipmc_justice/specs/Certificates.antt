@@ -7,8 +7,8 @@ use Rattle.gipmc_aiger.specs.declared.liveness.Liveness.{Liveness}
 use Rattle.gipmc_circuits.specs.Certificate.{IsSafeByClauses}
 use Rattle.gipmc_circuits.specs.declared.circuit.Circuit.{Circuit}
 use Rattle.gipmc_reduce.specs.Liveness.{IsLive}
-use Rattle.gipmc_liveness_engines.specs.Verdicts.{IsMadeBy}
-use Rattle.gipmc_liveness_engines.specs.declared.verdict.Means.{Means}
+use Rattle.gipmc_reduce.specs.Longer.{IsMadeBy}
+use Rattle.gipmc_reduce.specs.declared.means.Means.{Means}
 use Rattle.gipmc_justice.specs.Answers.{IsPropertiesIn}
 
 -- the text writes clauses over the latches of the longer circuit, by which that is safe

@@ -1,20 +1,16 @@
 //! Certificates that justice properties hold, from the bytes of texts to the answer: clauses over the latches of a longer
 //! circuit.
-ghost use Rattle.std.specs.Prelude.{◌≡◌, ◌++◌, ◌<◌, Some, length, IfNone, IfOk, IfSome, IsTrue};
+ghost use Rattle.std.specs.Prelude.{◌≡◌, ◌<◌, Some, length, IfNone, IfOk, IsTrue};
 ghost use Rattle.gipmc_aiger.specs.Invariants.{clauses_view, invariant_for};
 ghost use Rattle.gipmc_circuits.specs.Certificate.{is_certified};
-ghost use Rattle.gipmc_circuits.specs.Circuit.{IsSafe};
 ghost use Rattle.gipmc_justice.specs.Certificates.{Certifies, CertifiesAt, IsLiveByText};
-ghost use Rattle.gipmc_liveness_engines.specs.Verdicts.{IsMadeBy};
-ghost use Rattle.gipmc_reduce.specs.Liveness.{IsLive};
 
 use crate::answers::{Found, properties_in};
 use crate::error::JusticeError;
 use gipmc_aiger::{Liveness, read_invariant_for, write_invariant};
 use gipmc_circuits::certificate::Verdict;
 use gipmc_circuits::{Circuit, Netlist};
-use gipmc_liveness_engines::Means;
-use gipmc_reduce::{certify_all, counting, to_safety};
+use gipmc_reduce::{Means, certify_all, longer};
 use gipmc_task::TaskError;
 use gipsat_cnf::{Literal, SatSolver};
 use giputils_text::{number, split_line};
@@ -139,31 +135,12 @@ fn shown_by<S: SatSolver + Drop>(
     ensures { IfOk result (λ verdict. IsTrue (is_certified verdict) →
         IsLiveByText netlist.now.circuit fairness.now justice.now text.now) }
 {
-    let Some((made, bad)) = made_by(alloc, netlist, fairness, justice, means)? else {
+    let Some((made, bad)) = longer(alloc, netlist, fairness, justice, means)? else {
         return Ok(Verdict::Unknown);
     };
     let clauses = clauses_in(alloc, &made.circuit, text)?;
     let verdicts = certify_all::<S>(alloc, &made, &[bad], &clauses, limit)?;
     Ok(verdicts[0])
-}
-
-// The longer circuit, and its literal, which is never true only if the circuit is live.
-fn made_by(
-    alloc: Global,
-    netlist: &Netlist,
-    fairness: &[Literal],
-    justice: &[Literal],
-    means: Means,
-) -> Result<Option<(Netlist, Literal)>, AllocError>
-    ensures made { IfOk result (λ made. IfSome made
-        (λ m. IsMadeBy netlist.now.circuit (fairness.now ++ justice.now) means m.0.circuit m.1)) }
-    ensures live { IfOk result (λ made. IfSome made
-        (λ m. IsSafe m.0.circuit m.1 → IsLive netlist.now.circuit fairness.now justice.now)) }
-{
-    match means {
-        Means::Counting(k) => counting(alloc, netlist, fairness, justice, k),
-        Means::Saving => to_safety(alloc, netlist, fairness, justice),
-    }
 }
 
 // The clauses that a text writes over the latches of a circuit.
@@ -244,7 +221,7 @@ fn text_of(
         Some(justice) => justice,
         None => &[],
     };
-    let made = made_by(alloc, netlist, &liveness.fairness, justice, found.means)?;
+    let made = longer(alloc, netlist, &liveness.fairness, justice, found.means)?;
     let Some((made, _)) = made else {
         return Err(JusticeError::Task(TaskError::Uncertified));
     };

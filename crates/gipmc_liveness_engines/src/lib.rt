@@ -7,4 +7,4 @@ mod shown;
 pub mod verdict;
 
 pub use rounds::{Bounds, decide_live};
-pub use verdict::{Means, Verdict};
+pub use verdict::Verdict;

@@ -1,16 +1,7 @@
 //! What is found out about a justice property.
 
-use gipmc_reduce::Lasso;
+use gipmc_reduce::{Lasso, Means};
 use gipsat_cnf::Literal;
-
-/// The longer circuit whose invariant shows that a circuit is live.
-#[derive(Clone, Copy, Debug, PartialEq, Eq)]
-pub enum Means {
-    /// The circuit that counts to this k, of `counting`.
-    Counting(usize),
-    /// The circuit that saves what its latches hold, of `to_safety`.
-    Saving,
-}
 
 /// What is found out about a justice property.
 #[derive(Drop)]

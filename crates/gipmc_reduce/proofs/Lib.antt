@@ -8,6 +8,7 @@ pub mod Looped
 mod Pigeons
 mod Replayed
 pub mod Rounds
+pub mod SafelyMade
 pub mod Saved
 mod Savers
 mod Stages

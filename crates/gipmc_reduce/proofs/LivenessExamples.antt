@@ -6,6 +6,7 @@ use Rattle.std.specs.Bool.{beq}
 use Rattle.std.specs.Cmp.{booleans_Decides}
 use Rattle.std.specs.List.{list_all}
 use Rattle.std.proofs.lemmas.Bool.{and_parts, eqb-true, false≢true, not-true}
+use Rattle.std.proofs.Math.Nat.{le_refl}
 use Rattle.gipsat_cnf.specs.Assumptions.{makes_true}
 use Rattle.gipsat_cnf.specs.Formulas.{Assignment, is_true}
 use Rattle.gipsat_cnf.specs.Literals.{Lit}
@@ -18,6 +19,7 @@ use Rattle.gipmc_reduce.specs.Chains.{all_passed, not_of, stage_gates, stage_lat
 use Rattle.gipmc_reduce.specs.Lassos.{IsMet}
 use Rattle.gipmc_reduce.specs.Saved.{HasLasso, gate, last_of, latch, note, saver_gates, saver_latches, saving, shadow}
 use Rattle.gipmc_reduce.specs.Liveness.{FailsForever, IsLive, IsRun}
+use Rattle.gipmc_reduce.specs.Longer.{NeverMeetsMore}
 use Rattle.gipmc_reduce.specs.Turns.{MetBetween, always, turn, turns}
 
 -- an arbiter grants by turns: its turn changes at each transition; another one never lets it change
@@ -163,6 +165,16 @@ not_twice : (n : ℕ) → ¬ (MetBetween at_first 0 n (yes_of 1 ∷ yes_of 1 ∷
 not_twice n (i, from, is, (zero, behind, again, rest)) = absurd (omega (arith, behind))
 not_twice n (i, from, is, (suc j, behind, again, rest)) =
     let none = eqb-true (suc j) 0 (value_of (at_first (suc j) 1) true again) in absurd (omega (arith, none))
+
+-- a literal that is never true is not met once
+never_met : (c : Circuit) → NeverMeetsMore c (yes_of 0 ∷ []) 0
+never_met c n (t, trace, met, is) =
+    false≢true (sym (zero_false c (t n) (trace.moments n (le_refl n))) ∙ value_of (t n 0) true is)
+
+-- nor is it behind another one: at most one literal is met in turn
+stops_at_never : (c : Circuit) → NeverMeetsMore c (always ∷ yes_of 0 ∷ []) 1
+stops_at_never c n (t, trace, met, is) =
+    false≢true (sym (zero_false c (t n) (trace.moments n (le_refl n))) ∙ value_of (t n 0) true is)
 
 -- a chain of one stage for the literal 1 behind the variables below 2: its latch is 2, its gates are 3 and 4, the last gate
 -- is 5

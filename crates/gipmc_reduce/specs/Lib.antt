@@ -3,6 +3,7 @@ pub mod Cone
 pub mod Correspondence
 pub mod Lassos
 pub mod Liveness
+pub mod Longer
 pub mod Saved
 pub mod Turns
 pub mod Verdicts

@@ -1,7 +1,6 @@
 //! k-liveness: a circuit with a chain of latches, which counts how often literals are met in turn.
-ghost use Rattle.std.specs.Prelude.{◌≡◌, ◌+◌, ◌++◌, ◌*◌, ◌^◌, ◌<◌, length, IfOk, IfSome, IsTrue};
+ghost use Rattle.std.specs.Prelude.{◌≡◌, ◌+◌, ◌++◌, ◌*◌, ◌^◌, ◌<◌, length, IfOk, IfSome};
 ghost use Rattle.std.specs.List.{list_all};
-ghost use Rattle.gipmc_circuits.specs.Certificate.{is_certified};
 ghost use Rattle.gipmc_circuits.specs.Circuit.{IsSafe};
 ghost use Rattle.gipmc_circuits.specs.Encoding.{literal_below};
 ghost use Rattle.gipmc_reduce.specs.Chains.{AddsStage, AddsStages, IsChained, IsCopied, IsCounterOf, all_passed, top, yes_of};
@@ -9,8 +8,8 @@ ghost use Rattle.gipmc_reduce.specs.Liveness.{IsLive};
 ghost use Rattle.gipmc_reduce.specs.Turns.{CountsTo, always, turn, turns};
 
 use crate::lasso::both;
-use gipmc_circuits::{And, Circuit, Latch, Netlist, Verdict, certify};
-use gipsat_cnf::{Literal, SatSolver};
+use gipmc_circuits::{And, Circuit, Latch, Netlist};
+use gipsat_cnf::Literal;
 use std::alloc::{AllocError, Global};
 
 // The literal that is always true.
@@ -181,31 +180,4 @@ pub fn counting(
         Some(made) => Ok(Some((made, bad))),
         None => Ok(None),
     }
-}
-
-/// Whether the invariant shows that the fairness constraints and the literals of the justice property do not all recur
-/// on a run: an invariant of the circuit that counts to `k`.
-///
-/// None if one of the literals is of no variable of the circuit. Each question to the solver may learn `limit` clauses.
-///
-/// # Errors
-/// `AllocError` where memory is refused, where `k` or the number of variables is 2^29 or more, or where two moments would
-/// have more than 2^31 variables.
-pub fn certify_live<S: SatSolver + Drop>(
-    alloc: Global,
-    netlist: &Netlist,
-    fairness: &[Literal],
-    justice: &[Literal],
-    k: usize,
-    invariant: &[Vec<Literal>],
-    limit: usize,
-) -> Result<Option<Verdict>, AllocError>
-    ensures { IfOk result (λ said. IfSome said
-        (λ verdict. IsTrue (is_certified verdict) → IsLive netlist.now.circuit fairness.now justice.now)) }
-{
-    let Some((made, bad)) = counting(alloc, netlist, fairness, justice, k)? else {
-        return Ok(None);
-    };
-    let verdict = certify::<S>(alloc, &made, bad, invariant, limit)?;
-    Ok(Some(verdict))
 }

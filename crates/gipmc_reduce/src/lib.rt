@@ -9,12 +9,14 @@ pub mod correspondence;
 pub mod k_liveness;
 pub mod lasso;
 pub mod liveness_to_safety;
+pub mod means;
 pub mod witnessed;
 
 pub use certificate::certify_all;
 pub use cone::{Cone, Names};
 pub use correspondence::{Bounds, Correspondence, Merges};
-pub use k_liveness::{certify_live, counting};
+pub use k_liveness::counting;
 pub use lasso::{Lasso, closed, replay_lasso};
-pub use liveness_to_safety::{certify_without_lasso, lasso_of, to_safety};
+pub use liveness_to_safety::{lasso_of, to_safety};
+pub use means::{Means, certify_live, longer};
 pub use witnessed::certify_all_by;

@@ -1,7 +1,6 @@
 //! Liveness as safety: a circuit whose traces lead round a loop, and the lassos that they are.
 ghost use Rattle.std.specs.Prelude.{◌≡◌, ◌+◌, ◌++◌, ◌*◌, ◌^◌, ◌<◌, [], ◌∷◌, length, map, IfOk, IfSome, IsTrue, OnOk};
 ghost use Rattle.std.specs.List.{list_all};
-ghost use Rattle.gipmc_circuits.specs.Certificate.{is_certified};
 ghost use Rattle.gipmc_circuits.specs.Circuit.{IsSafe};
 ghost use Rattle.gipmc_circuits.specs.Encoding.{is_below, latch_below};
 ghost use Rattle.gipmc_circuits.specs.WellFormed.{latch_variables};
@@ -13,8 +12,8 @@ ghost use Rattle.gipmc_reduce.specs.Saved.{latch, note, note_latches, notes, sha
 
 use crate::k_liveness::{are_below, copied};
 use crate::lasso::{Lasso, both, replay_lasso};
-use gipmc_circuits::{And, Circuit, Latch, Netlist, Trace, Verdict, certify};
-use gipsat_cnf::{Literal, SatSolver};
+use gipmc_circuits::{And, Circuit, Latch, Netlist, Trace};
+use gipsat_cnf::Literal;
 use std::alloc::{AllocError, Global};
 
 // The literal of a variable.
@@ -236,32 +235,6 @@ pub fn to_safety(
         Some(made) => Ok(Some((made, bad))),
         None => Ok(None),
     }
-}
-
-/// Whether the invariant shows that the fairness constraints and the literals of the justice property do not all recur
-/// on a run: an invariant of the circuit that `to_safety` makes.
-///
-/// None if one of the literals is of no variable of the circuit. Each question to the solver may learn `limit` clauses.
-///
-/// # Errors
-/// `AllocError` where memory is refused, where the number of variables, or that of the literals, is 2^27 or more, or
-/// where two moments would have more than 2^31 variables.
-pub fn certify_without_lasso<S: SatSolver + Drop>(
-    alloc: Global,
-    netlist: &Netlist,
-    fairness: &[Literal],
-    justice: &[Literal],
-    invariant: &[Vec<Literal>],
-    limit: usize,
-) -> Result<Option<Verdict>, AllocError>
-    ensures { IfOk result (λ said. IfSome said
-        (λ verdict. IsTrue (is_certified verdict) → IsLive netlist.now.circuit fairness.now justice.now)) }
-{
-    let Some((made, bad)) = to_safety(alloc, netlist, fairness, justice)? else {
-        return Ok(None);
-    };
-    let verdict = certify::<S>(alloc, &made, bad, invariant, limit)?;
-    Ok(Some(verdict))
 }
 
 // The values at the first places.
