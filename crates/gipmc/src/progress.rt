@@ -1,12 +1,10 @@
 //! How far a search is, in lines on standard error.
 use crate::errors::Failure;
-use crate::snapshot::{Decided, Framed, Held, Inductive, Simulated, Snapshot, Unrolled};
+use crate::snapshot::Snapshot;
 use crate::witnesses::Witnesses;
 use gip_cli::{Clock, Comments, Peak, Seconds, every_interval};
 use gipmc_command::Options;
-use gipmc_engines::{Engine, Watch};
-use gipmc_ic3::Statistics;
-use gipmc_task::Listener;
+use gipmc_engines::{Event, Observer};
 use giputils_stat::logger::IntervalLogger;
 use log::Level;
 use std::io::IsTerminal;
@@ -91,6 +89,33 @@ impl<'a, 'n> Teller<'a, 'n> {
         }
     }
 
+    // Begins to tell of the search about the property at a place.
+    fn begin(&mut self, place: usize) -> ControlFlow<()> {
+        self.begun = Clock::start(self.rt);
+        self.snapshot = Snapshot::new(self.letter, place);
+        self.go_on(self.clock.now())
+    }
+
+    // Says where a trace may not be a shortest one, though one was looked for.
+    fn end_shortening(&self, is_shortest: bool) {
+        if !is_shortest {
+            let Snapshot { letter, place, .. } = self.snapshot;
+            let _ = eprintln!(self.rt; "c {letter}{place}: there may be a shorter trace");
+        }
+    }
+
+    // Says where memory was refused, and sums up the search about a property, if that is wanted.
+    fn end(&self, is_refused: bool) {
+        if is_refused {
+            let Snapshot { letter, place, .. } = self.snapshot;
+            let _ = eprintln!(self.rt; "memory: refused ({letter}{place} is left open)");
+        }
+        if self.stats {
+            let took = Seconds(self.begun.now());
+            let _ = eprintln!(self.rt; "c {}{took}", self.snapshot);
+        }
+    }
+
     // Whether the time goes on.
     fn go_on(&self, now: Duration) -> ControlFlow<()> {
         match self.time {
@@ -120,69 +145,24 @@ fn time_asked(options: &Options) -> Option<Duration> {
     }
 }
 
-impl Listener for Teller<'_, '_> {
-    fn begin(&mut self, place: usize) -> ControlFlow<()> {
-        self.begun = Clock::start(self.rt);
-        self.snapshot = Snapshot::new(self.letter, place);
-        self.go_on(self.clock.now())
-    }
-
-    fn note_engine(&mut self, engine: Engine) {
-        self.snapshot.decided = Decided(Some(engine));
-    }
-
-    fn end_shortening(&mut self, is_shortest: bool) {
-        if !is_shortest {
-            let Snapshot { letter, place, .. } = self.snapshot;
-            let _ = eprintln!(self.rt; "c {letter}{place}: there may be a shorter trace");
+impl Observer for Teller<'_, '_> {
+    fn note(&mut self, event: Event<'_>) -> ControlFlow<()> {
+        self.snapshot.note(event);
+        match event {
+            Event::Begin(place) => return self.begin(place),
+            Event::Turn => return self.go_on(self.clock.now()),
+            Event::Rounds(_)
+            | Event::Moments(_)
+            | Event::Depth { .. }
+            | Event::Slice { .. }
+            | Event::Step { .. } => return self.tell(),
+            Event::Decided(_) => {}
+            Event::Shortened { is_shortest } => self.end_shortening(is_shortest),
+            Event::Witness { place, text } => {
+                self.witnesses.keep(self.rt, self.letter, place, text);
+            }
+            Event::End { is_refused } => self.end(is_refused),
         }
-    }
-
-    fn note_witness(&mut self, place: usize, text: &[u8]) {
-        self.witnesses.keep(self.rt, self.letter, place, text);
-    }
-
-    fn end(&mut self, is_refused: bool) {
-        if is_refused {
-            let Snapshot { letter, place, .. } = self.snapshot;
-            let _ = eprintln!(self.rt; "memory: refused ({letter}{place} is left open)");
-        }
-        if self.stats {
-            let took = Seconds(self.begun.now());
-            let _ = eprintln!(self.rt; "c {}{took}", self.snapshot);
-        }
-    }
-}
-
-impl Watch for Teller<'_, '_> {
-    fn note_turn(&mut self) -> ControlFlow<()> {
-        self.go_on(self.clock.now())
-    }
-
-    fn note_round(&mut self, rounds: usize) -> ControlFlow<()> {
-        if rounds != self.snapshot.simulated.rounds {
-            self.snapshot.simulated = Simulated { rounds, moments: 0 };
-        }
-        self.tell()
-    }
-
-    fn note_moments(&mut self, moments: usize) -> ControlFlow<()> {
-        self.snapshot.simulated.moments = moments;
-        self.tell()
-    }
-
-    fn note(&mut self, depth: usize, clauses: usize, learned: usize) -> ControlFlow<()> {
-        self.snapshot.unrolled = Unrolled(Some((depth, Held { clauses, learned })));
-        self.tell()
-    }
-
-    fn note_slice(&mut self, frame: usize, statistics: &Statistics) -> ControlFlow<()> {
-        self.snapshot.framed = Framed(Some((frame, *statistics)));
-        self.tell()
-    }
-
-    fn note_step(&mut self, k: usize, clauses: usize, learned: usize) -> ControlFlow<()> {
-        self.snapshot.inductive = Inductive(Some((k, Held { clauses, learned })));
-        self.tell()
+        ControlFlow::Continue(())
     }
 }

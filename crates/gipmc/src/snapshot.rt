@@ -1,6 +1,6 @@
 //! How far the search about a property is, as it is written in a line.
 
-use gipmc_engines::Engine;
+use gipmc_engines::{Engine, Event};
 use gipmc_ic3::Statistics;
 use giputils_stat::decimal::Decimal;
 use std::fmt::{self, Display};
@@ -43,6 +43,31 @@ impl Snapshot {
             decided: Decided(None),
         }
     }
+
+    /// Takes down what an event says of how far the search is.
+    pub fn note(&mut self, event: Event<'_>) {
+        match event {
+            Event::Rounds(rounds) => self.simulated.end_round(rounds),
+            Event::Moments(moments) => self.simulated.moments = moments,
+            Event::Depth {
+                depth,
+                clauses,
+                learned,
+            } => self.unrolled = Unrolled(Some((depth, Held { clauses, learned }))),
+            Event::Slice { frame, statistics } => self.framed = Framed(Some((frame, statistics))),
+            Event::Step {
+                k,
+                clauses,
+                learned,
+            } => self.inductive = Inductive(Some((k, Held { clauses, learned }))),
+            Event::Decided(engine) => self.decided = Decided(Some(engine)),
+            Event::Begin(_)
+            | Event::Turn
+            | Event::Shortened { .. }
+            | Event::Witness { .. }
+            | Event::End { .. } => {}
+        }
+    }
 }
 
 impl Display for Snapshot {
@@ -66,6 +91,15 @@ impl Display for Snapshot {
 pub struct Simulated {
     pub rounds: usize,
     pub moments: usize,
+}
+
+impl Simulated {
+    // So many rounds found nothing. No moment of the next one is over, unless it was told before.
+    fn end_round(&mut self, rounds: usize) {
+        if rounds != self.rounds {
+            *self = Simulated { rounds, moments: 0 };
+        }
+    }
 }
 
 impl Display for Simulated {

@@ -12,9 +12,9 @@ use crate::parted::{Parted, part_of};
 use crate::query::Query;
 use gipmc_aiger::{read_circuit, write_witness};
 use gipmc_circuits::Netlist;
-use gipmc_engines::{Engine, Plan};
+use gipmc_engines::{Engine, Event, Observer, Plan};
 use gipmc_reduce::Cone;
-use gipmc_task::{Certifying, Listener, Outcome, Output, TaskError, Wanted};
+use gipmc_task::{Certifying, Outcome, Output, TaskError, Wanted};
 use gipsat_cnf::{Literal, SatSolver};
 use std::alloc::{AllocError, Global};
 use std::io::Write;
@@ -68,7 +68,7 @@ pub struct Answered {
 /// - [`TaskError::NoBad`] where there is no bad literal at the place.
 /// - [`TaskError::Memory`] where memory is refused for the circuit or a text. A search that is refused memory leaves the
 ///   literals open that are not decided.
-pub fn answer<S: SatSolver + Drop, L: Listener, W: Write>(
+pub fn answer<S: SatSolver + Drop, L: Observer, W: Write>(
     alloc: Global,
     bytes: &[u8],
     asked: Option<usize>,
@@ -99,7 +99,7 @@ pub(crate) fn netlist_in(alloc: Global, bytes: &[u8]) -> Result<Netlist, TaskErr
 }
 
 // Answers about a circuit.
-fn answer_asked<S: SatSolver + Drop, L: Listener, W: Write>(
+fn answer_asked<S: SatSolver + Drop, L: Observer, W: Write>(
     alloc: Global,
     netlist: &Netlist,
     asked: Option<usize>,
@@ -125,7 +125,7 @@ fn answer_asked<S: SatSolver + Drop, L: Listener, W: Write>(
 }
 
 // Answers about the bad literals that are asked for: these.
-fn answer_about<S: SatSolver + Drop, L: Listener, W: Write>(
+fn answer_about<S: SatSolver + Drop, L: Observer, W: Write>(
     alloc: Global,
     netlist: &Netlist,
     bads: &[Literal],
@@ -148,7 +148,7 @@ fn answer_about<S: SatSolver + Drop, L: Listener, W: Write>(
 }
 
 // The same, by the part of the circuit that they depend on.
-fn answer_by<S: SatSolver + Drop, L: Listener, W: Write>(
+fn answer_by<S: SatSolver + Drop, L: Observer, W: Write>(
     alloc: Global,
     netlist: &Netlist,
     bads: &[Literal],
@@ -173,7 +173,7 @@ fn answer_by<S: SatSolver + Drop, L: Listener, W: Write>(
 
 // The same, by a search in that part: in what is left of it where equal variables are merged, if that is much smaller and no
 // certificate is wanted.
-fn answer_with<S: SatSolver + Drop, L: Listener, W: Write>(
+fn answer_with<S: SatSolver + Drop, L: Observer, W: Write>(
     alloc: Global,
     mut parted: Parted<'_, S>,
     asked: Option<usize>,
@@ -195,7 +195,7 @@ fn answer_with<S: SatSolver + Drop, L: Listener, W: Write>(
 }
 
 // What is to be found out of the first literal of a search, if it has one.
-fn first_wanted<S: SatSolver + Drop, L: Listener>(
+fn first_wanted<S: SatSolver + Drop, L: Observer>(
     parted: &Parted<'_, S>,
     asked: Option<usize>,
     wanted: Wanted,
@@ -216,7 +216,7 @@ fn merges(engine: Engine, certifying: Certifying) -> bool {
 }
 
 // Says what is told of the literals that are asked for, about which a search is.
-fn say<S: SatSolver + Drop, L: Listener, W: Write>(
+fn say<S: SatSolver + Drop, L: Observer, W: Write>(
     alloc: Global,
     query: &mut Query<'_, S>,
     asked: Option<usize>,
@@ -236,7 +236,7 @@ fn say<S: SatSolver + Drop, L: Listener, W: Write>(
 }
 
 // Says what is told of all literals that a search is about, those of its circuit.
-fn say_all<S: SatSolver + Drop, L: Listener, W: Write>(
+fn say_all<S: SatSolver + Drop, L: Observer, W: Write>(
     alloc: Global,
     query: &mut Query<'_, S>,
     listener: &mut L,
@@ -253,7 +253,7 @@ fn say_all<S: SatSolver + Drop, L: Listener, W: Write>(
 }
 
 // Says what is told of the only literal that a search is about, the bad one at a place of its circuit.
-fn say_one<S: SatSolver + Drop, L: Listener, W: Write>(
+fn say_one<S: SatSolver + Drop, L: Observer, W: Write>(
     alloc: Global,
     query: &mut Query<'_, S>,
     place: usize,
@@ -284,7 +284,7 @@ fn made_of(told: Told, invariant: Vec<Vec<Literal>>, k: Option<usize>) -> Said
 }
 
 // Tells of all literals that a search is about, those of its circuit.
-fn tell_all<S: SatSolver + Drop, L: Listener, W: Write>(
+fn tell_all<S: SatSolver + Drop, L: Observer, W: Write>(
     alloc: Global,
     query: &mut Query<'_, S>,
     listener: &mut L,
@@ -307,7 +307,7 @@ fn tell_all<S: SatSolver + Drop, L: Listener, W: Write>(
 }
 
 // Tells of the literal at one of a search's places, which is the bad one at a place of the circuit.
-fn tell_at<S: SatSolver + Drop, L: Listener, W: Write>(
+fn tell_at<S: SatSolver + Drop, L: Observer, W: Write>(
     alloc: Global,
     query: &mut Query<'_, S>,
     at: usize,
@@ -338,7 +338,7 @@ fn tell_at<S: SatSolver + Drop, L: Listener, W: Write>(
 }
 
 // What is to be found out of the literal at one of a search's places, which is the bad one at a place of the circuit.
-fn wanted_of<S: SatSolver + Drop, L: Listener>(
+fn wanted_of<S: SatSolver + Drop, L: Observer>(
     query: &Query<'_, S>,
     at: usize,
     place: usize,
@@ -352,15 +352,15 @@ fn wanted_of<S: SatSolver + Drop, L: Listener>(
 }
 
 // What is to be found out of the literal at a place: nothing if the search is over, or a listener has no time for it.
-fn wanted_at<L: Listener>(place: usize, wanted: Wanted, listener: &mut L) -> Wanted {
-    if wanted == Wanted::Nothing || listener.begin(place).is_break() {
+fn wanted_at<L: Observer>(place: usize, wanted: Wanted, listener: &mut L) -> Wanted {
+    if wanted == Wanted::Nothing || listener.note(Event::Begin(place)).is_break() {
         return Wanted::Nothing;
     }
     wanted
 }
 
 // What is to be found out yet where this was, and progress was written: nothing if the search is over since then.
-fn wanted_still<L: Listener, W: Write>(
+fn wanted_still<L: Observer, W: Write>(
     wanted: Wanted,
     output: &Output<W>,
     listener: &mut L,
@@ -368,14 +368,17 @@ fn wanted_still<L: Listener, W: Write>(
     if wanted == Wanted::Nothing || !output.is_over() {
         return wanted;
     }
-    listener.end(false);
+    let _ = listener.note(Event::End { is_refused: false });
     Wanted::Nothing
 }
 
 // Tells a listener of what is told of the bad literal at a place, if that is a witness.
-fn note_witness<L: Listener>(place: usize, told: &Told, listener: &mut L) {
+fn note_witness<L: Observer>(place: usize, told: &Told, listener: &mut L) {
     if told.outcome == Outcome::Fails {
-        listener.note_witness(place, &told.text);
+        let _ = listener.note(Event::Witness {
+            place,
+            text: &told.text,
+        });
     }
 }
 
@@ -384,7 +387,7 @@ const DOUBLINGS: usize = 64;
 
 // Goes on with the search about the literal at one of its places, if progress is to be written, and tells up to which
 // depths nothing fails, each of which is more than twice the one before. It stops where a write ends the search.
-fn tell_depths<S: SatSolver + Drop, L: Listener, W: Write>(
+fn tell_depths<S: SatSolver + Drop, L: Observer, W: Write>(
     alloc: Global,
     query: &mut Query<'_, S>,
     at: usize,
@@ -448,7 +451,7 @@ fn depth_text(alloc: Global, depth: usize) -> Result<Vec<u8>, AllocError>
 }
 
 // Leaves the bad literals that are asked for open: there is no memory for a search.
-fn leave<L: Listener, W: Write>(
+fn leave<L: Observer, W: Write>(
     alloc: Global,
     netlist: &Netlist,
     asked: Option<usize>,
@@ -467,7 +470,7 @@ fn leave<L: Listener, W: Write>(
 }
 
 // Leaves all of them open.
-fn leave_all<L: Listener, W: Write>(
+fn leave_all<L: Observer, W: Write>(
     alloc: Global,
     netlist: &Netlist,
     listener: &mut L,
@@ -489,7 +492,7 @@ fn leave_all<L: Listener, W: Write>(
 }
 
 // Leaves one of them open.
-fn leave_one<L: Listener, W: Write>(
+fn leave_one<L: Observer, W: Write>(
     alloc: Global,
     netlist: &Netlist,
     place: usize,
@@ -506,7 +509,7 @@ fn leave_one<L: Listener, W: Write>(
 }
 
 // Tells that one of them is open.
-fn leave_at<L: Listener, W: Write>(
+fn leave_at<L: Observer, W: Write>(
     alloc: Global,
     netlist: &Netlist,
     place: usize,
@@ -524,11 +527,11 @@ fn leave_at<L: Listener, W: Write>(
 }
 
 // Tells a listener that memory is refused for the search about the bad literal at a place, unless it is over.
-fn note_refused<L: Listener>(place: usize, is_over: bool, listener: &mut L) {
-    if is_over || listener.begin(place).is_break() {
+fn note_refused<L: Observer>(place: usize, is_over: bool, listener: &mut L) {
+    if is_over || listener.note(Event::Begin(place)).is_break() {
         return;
     }
-    listener.end(true);
+    let _ = listener.note(Event::End { is_refused: true });
 }
 
 // Tells what is known of the bad literal at a place.

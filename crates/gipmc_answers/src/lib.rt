@@ -17,7 +17,7 @@ pub use answers::{Answered, Said, answer};
 pub use certificates::{
     Certificate, Doubt, certificate_of, certifies, doubt_of, witness_circuit_of,
 };
-pub use gipmc_task::{Certifying, Listener, Lost, Outcome, Output, TaskError, Traces};
+pub use gipmc_task::{Certifying, Lost, Outcome, Output, TaskError, Traces};
 pub use induction::InductionDoubt;
 pub use known::Known;
 pub use witnesses::{WitnessDoubt, replay_all, replays, witness_doubt};

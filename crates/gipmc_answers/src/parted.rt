@@ -12,9 +12,9 @@ use crate::known::Known;
 use crate::left::Left;
 use crate::meter::Meter;
 use gipmc_circuits::{Netlist, Trace, replay};
-use gipmc_engines::{Bounds, Finding, Joint, Plan, Tries, Verdict, search};
+use gipmc_engines::{Bounds, Event, Finding, Joint, Observer, Plan, Tries, Verdict, search};
 use gipmc_reduce::Cone;
-use gipmc_task::{Listener, Wanted};
+use gipmc_task::Wanted;
 use gipsat_cnf::{Literal, SatSolver};
 use std::alloc::{AllocError, Global};
 
@@ -129,7 +129,7 @@ impl<'a, S: SatSolver + Drop> Parted<'a, S> {
     /// Goes on with the search about the first literal, and now and then tries to find out what is left of the part, by a
     /// part of the work that the search has done. None where nothing is to be merged, where the literal is decided before, and
     /// where that work does not suffice.
-    pub(crate) fn find_left<L: Listener>(
+    pub(crate) fn find_left<L: Observer>(
         &mut self,
         alloc: Global,
         merges: bool,
@@ -165,7 +165,7 @@ impl<'a, S: SatSolver + Drop> Parted<'a, S> {
 
     // Goes on with the search about the first literal, until IC3 has propagated so many literals, and answers how many it
     // has. None where the literal is decided before, or the search cannot go on.
-    fn go_on_to<L: Listener>(&mut self, propagations: u64, listener: &mut L) -> Option<u64>
+    fn go_on_to<L: Observer>(&mut self, propagations: u64, listener: &mut L) -> Option<u64>
         ensures whole { self.new.whole ≡ self.old.whole }
         ensures bads { self.new.bads ≡ self.old.bads }
     {
@@ -188,7 +188,7 @@ impl<'a, S: SatSolver + Drop> Parted<'a, S> {
 
     /// Goes on until the literal at one of the places is decided, and answers what is known of it then, by a shortest trace
     /// where that is wanted and found. A search that is over does not go on.
-    pub(crate) fn find_out<L: Listener>(
+    pub(crate) fn find_out<L: Observer>(
         &mut self,
         alloc: Global,
         at: usize,
@@ -207,13 +207,14 @@ impl<'a, S: SatSolver + Drop> Parted<'a, S> {
         self.joint.find_out(at, listener);
         self.tell_engine(at, listener);
         let verdict = self.told(alloc, at, wanted, listener);
-        listener.end(self.is_refused(at, &verdict));
+        let is_refused = self.is_refused(at, &verdict);
+        let _ = listener.note(Event::End { is_refused });
         verdict
     }
 
     /// Goes on until it is known that no trace of at most so many transitions fails as to the literal at one of the places,
     /// and answers up to how many it is known. None where the literal is decided, or the search cannot go on.
-    pub(crate) fn clear<L: Listener>(
+    pub(crate) fn clear<L: Observer>(
         &mut self,
         alloc: Global,
         at: usize,
@@ -234,18 +235,18 @@ impl<'a, S: SatSolver + Drop> Parted<'a, S> {
     }
 
     // Tells a listener which engine decided the literal at a place, if it is decided.
-    fn tell_engine<L: Listener>(&self, at: usize, listener: &mut L) {
+    fn tell_engine<L: Observer>(&self, at: usize, listener: &mut L) {
         if self.joint.findings.is_open(at) {
             return;
         }
         if let Some(engine) = self.joint.findings.engine(at) {
-            listener.note_engine(engine);
+            let _ = listener.note(Event::Decided(engine));
         }
     }
 
     // What is told of the literal at a place: what is known, and where that is a trace, a shortest one if that is wanted and
     // found.
-    fn told<L: Listener>(&self, alloc: Global, at: usize, wanted: Wanted, listener: &mut L) -> Known
+    fn told<L: Observer>(&self, alloc: Global, at: usize, wanted: Wanted, listener: &mut L) -> Known
         requires { at < length self.now.bads.now }
         ensures { (bad : Lit) → slice_get self.now.bads.now at ≡ Some bad →
             IsKnown self.now.whole.now.circuit bad result }
@@ -265,7 +266,7 @@ impl<'a, S: SatSolver + Drop> Parted<'a, S> {
 
     // That the literal at a place fails by a shortest trace, by bounded model checking, if one is found that has fewer moments
     // than so many. The listener is told whether there is known to be none that is shorter still.
-    fn shorter<L: Listener>(
+    fn shorter<L: Observer>(
         &self,
         alloc: Global,
         at: usize,
@@ -278,7 +279,7 @@ impl<'a, S: SatSolver + Drop> Parted<'a, S> {
     {
         let bad = self.bads[at];
         let (trace, is_shortest) = self.shorter_trace(alloc, at, moments, listener);
-        listener.end_shortening(is_shortest);
+        let _ = listener.note(Event::Shortened { is_shortest });
         let Some(trace) = trace else {
             return None;
         };
@@ -293,7 +294,7 @@ impl<'a, S: SatSolver + Drop> Parted<'a, S> {
 
     // A trace of the circuit that is searched on which its literal at a place becomes true, if one is found that has fewer
     // moments than so many, and whether there is known to be none that is shorter still.
-    fn shorter_trace<L: Listener>(
+    fn shorter_trace<L: Observer>(
         &self,
         alloc: Global,
         at: usize,

@@ -10,8 +10,8 @@ use crate::known::Known;
 use crate::left::Left;
 use crate::parted::Parted;
 use gipmc_circuits::Netlist;
-use gipmc_engines::Plan;
-use gipmc_task::{Listener, Wanted};
+use gipmc_engines::{Observer, Plan};
+use gipmc_task::Wanted;
 use gipsat_cnf::{Literal, SatSolver};
 use std::alloc::Global;
 
@@ -73,7 +73,7 @@ impl<'a, S: SatSolver + Drop> Query<'a, S> {
 
     /// Goes on until the literal at one of the places is decided, and answers what is known of it then, by a shortest trace
     /// where that is wanted and found. A search that is over does not go on.
-    pub(crate) fn find_out<L: Listener>(
+    pub(crate) fn find_out<L: Observer>(
         &mut self,
         alloc: Global,
         at: usize,
@@ -103,7 +103,7 @@ impl<'a, S: SatSolver + Drop> Query<'a, S> {
 
     /// Goes on until it is known that no trace of at most so many transitions fails as to the literal at one of the places,
     /// and answers up to how many it is known. None where the literal is decided, or the search cannot go on.
-    pub(crate) fn clear<L: Listener>(
+    pub(crate) fn clear<L: Observer>(
         &mut self,
         alloc: Global,
         at: usize,

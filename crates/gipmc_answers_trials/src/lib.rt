@@ -1,5 +1,5 @@
 //! Tests of circuits, witnesses and invariants as texts, where what is written is read again; of answers, which a lost write
-//! or a listener ends; and examples.
+//! or an observer ends; and examples.
 #![tactic(auto)]
 
 #[cfg(test)]
@@ -9,13 +9,13 @@ mod converted;
 pub mod example;
 pub mod justice;
 #[cfg(test)]
-mod listeners;
-#[cfg(test)]
 mod live;
 #[cfg(test)]
 mod lost;
 #[cfg(test)]
 mod numbered;
+#[cfg(test)]
+mod observers;
 #[cfg(test)]
 mod refused;
 #[cfg(test)]

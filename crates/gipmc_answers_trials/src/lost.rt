@@ -1,6 +1,6 @@
 //! What a write that is lost ends.
 
-use crate::listeners::SWAPPED;
+use crate::observers::SWAPPED;
 use gipmc_answers::answer;
 use gipmc_engines::Plan;
 use gipmc_task::{Lost, Output, TaskError};

@@ -27,7 +27,7 @@ fn found_by(verdict: &Verdict) -> Found {
     }
 }
 
-// What a search to one depth says of the register, where a listener stops it before another.
+// What a search to one depth says of the register, where an observer stops it before another.
 fn told(alloc: Global, bad: Literal, depth: usize, stop: usize) -> Result<Found, AllocError> {
     let netlist = made(alloc, SHIFTER)?;
     let bounds = Bounds {
@@ -42,7 +42,7 @@ fn told(alloc: Global, bad: Literal, depth: usize, stop: usize) -> Result<Found,
 // The gate that is true where both latches are.
 const FULL: u8 = 4;
 
-// The bad literal's variable, a depth, the depth where a listener stops, and what is found.
+// The bad literal's variable, a depth, the depth where an observer stops, and what is found.
 const SEARCHES: &[(u8, usize, usize, Found)] = &[
     // A shortest trace.
     (FULL, 9, 9, Found::Trace(3)),
@@ -50,7 +50,7 @@ const SEARCHES: &[(u8, usize, usize, Found)] = &[
     // The greatest depth ends it.
     (FULL, 1, 9, Found::Within(1)),
     (FULL, 0, 9, Found::Within(0)),
-    // The listener stops it.
+    // The observer stops it.
     (FULL, 9, 2, Found::Within(1)),
     (FULL, 9, 0, Found::Within(0)),
     // The variable is not there.

@@ -1,5 +1,5 @@
 //! Tests of the engines: searches in slices and within bounds, what they are told to find out about several literals, and
-//! listeners that stop them; and examples.
+//! observers that stop them; and examples.
 #![tactic(auto)]
 
 #[cfg(test)]

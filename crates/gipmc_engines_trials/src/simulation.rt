@@ -7,7 +7,7 @@ use gipmc_engines::{Tries, simulate};
 use gipsat_cnf::Literal;
 use std::alloc::{AllocError, Global};
 
-// How many moments the trace has that simulation finds for the register, and of how many rounds a listener was told
+// How many moments the trace has that simulation finds for the register, and of how many rounds an observer was told
 // that stops it after some.
 fn found(
     alloc: Global,
@@ -21,19 +21,19 @@ fn found(
         rounds,
         moments,
     };
-    let mut watch = Stopper::new(stop, 0);
-    let trace = simulate(alloc, &netlist, Literal::new(4, true), tries, &mut watch)?;
-    Ok((trace.map(|trace| trace.inputs.len()), watch.told))
+    let mut observer = Stopper::new(stop, 0);
+    let trace = simulate(alloc, &netlist, Literal::new(4, true), tries, &mut observer)?;
+    Ok((trace.map(|trace| trace.inputs.len()), observer.told))
 }
 
-// The moments of a run, the rounds, the round where a listener stops, and what is found and told.
+// The moments of a run, the rounds, the round where an observer stops, and what is found and told.
 const RUNS: &[(usize, usize, usize, (Option<usize>, usize))] = &[
     // Of the runs one in four has the inputs for a trace.
     (9, 1, 9, (Some(3), 0)),
     // The budget ends it.
     (2, 9, 99, (None, 9)),
     (9, 0, 99, (None, 0)),
-    // The listener stops it.
+    // The observer stops it.
     (2, 255, 3, (None, 3)),
 ];
 

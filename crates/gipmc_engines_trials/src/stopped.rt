@@ -1,8 +1,7 @@
-//! Bounds and listeners that end a search.
+//! Bounds and observers that end a search.
 
 use crate::small::{Form, ONES, SIX_ONES, literal, made};
-use gipmc_engines::Watch;
-use gipmc_ic3::Statistics;
+use gipmc_engines::{Event, Observer};
 use gipmc_liveness_engines::{Bounds, Verdict, decide_live};
 use gipsat_plain::Plain;
 use std::alloc::{AllocError, Global};
@@ -28,17 +27,12 @@ impl Stopper {
     }
 }
 
-impl Watch for Stopper {
-    fn note_round(&mut self, _rounds: usize) -> ControlFlow<()> {
-        self.tell()
-    }
-
-    fn note(&mut self, _depth: usize, _clauses: usize, _learned: usize) -> ControlFlow<()> {
-        self.tell()
-    }
-
-    fn note_slice(&mut self, _frame: usize, _statistics: &Statistics) -> ControlFlow<()> {
-        self.tell()
+impl Observer for Stopper {
+    fn note(&mut self, event: Event<'_>) -> ControlFlow<()> {
+        match event {
+            Event::Rounds(_) | Event::Depth { .. } | Event::Slice { .. } => self.tell(),
+            _ => ControlFlow::Continue(()),
+        }
     }
 }
 
@@ -68,7 +62,7 @@ const SIXTH_IS_NOT_SET: u8 = 13;
 
 const NO_VARIABLE: u8 = 40;
 
-// What is said of a register within bounds, and how often a listener is told that may be told so often.
+// What is said of a register within bounds, and how often an observer is told that may be told so often.
 fn heard(
     alloc: Global,
     form: Form,
@@ -79,10 +73,10 @@ fn heard(
     let netlist = made(alloc, form)?;
     let (k, calls, rounds) = bounds;
     let bounds = Bounds { k, calls, rounds };
-    let mut watch = Stopper { most, told: 0 };
+    let mut observer = Stopper { most, told: 0 };
     let justice = [literal(justice)];
-    let verdict = decide_live::<Plain, _>(alloc, &netlist, &[], &justice, bounds, &mut watch)?;
-    Ok((said_by(&verdict), watch.told))
+    let verdict = decide_live::<Plain, _>(alloc, &netlist, &[], &justice, bounds, &mut observer)?;
+    Ok((said_by(&verdict), observer.told))
 }
 
 // A literal that is to recur, the bounds (literals, calls, rounds), and what is said.
@@ -108,7 +102,7 @@ fn bounds_end_a_search(rt: HostRuntime) -> Result<(), AllocError> {
 }
 
 #[test]
-fn a_listener_that_stops_is_told_no_more(rt: HostRuntime) -> Result<(), AllocError> {
+fn an_observer_that_stops_is_told_no_more(rt: HostRuntime) -> Result<(), AllocError> {
     for most in 1..7 {
         let (said, told) = heard(rt.alloc(), SIX_ONES, SIXTH_IS_NOT_SET, (7, 1000, 9), most)?;
         assert!(rt; said == Said::Unknown);

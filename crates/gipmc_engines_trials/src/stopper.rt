@@ -1,7 +1,6 @@
-//! A listener that stops each engine.
+//! An observer that stops each engine.
 
-use gipmc_engines::Watch;
-use gipmc_ic3::Statistics;
+use gipmc_engines::{Event, Observer};
 use std::ops::ControlFlow;
 
 /// Stops simulation after so many rounds, and bounded model checking before so many transitions; at 0 of these IC3 too.
@@ -29,19 +28,20 @@ impl Stopper {
     }
 }
 
-impl Watch for Stopper {
-    fn note_round(&mut self, rounds: usize) -> ControlFlow<()> {
-        self.told = self.told.saturating_add(1);
-        stop_if(rounds >= self.rounds)
-    }
-
-    fn note(&mut self, depth: usize, _clauses: usize, _learned: usize) -> ControlFlow<()> {
-        stop_if(depth >= self.depth)
-    }
-
-    fn note_slice(&mut self, _frame: usize, _statistics: &Statistics) -> ControlFlow<()> {
-        self.slices = self.slices.saturating_add(1);
-        stop_if(self.depth == 0)
+impl Observer for Stopper {
+    fn note(&mut self, event: Event<'_>) -> ControlFlow<()> {
+        match event {
+            Event::Rounds(rounds) => {
+                self.told = self.told.saturating_add(1);
+                stop_if(rounds >= self.rounds)
+            }
+            Event::Depth { depth, .. } => stop_if(depth >= self.depth),
+            Event::Slice { .. } => {
+                self.slices = self.slices.saturating_add(1);
+                stop_if(self.depth == 0)
+            }
+            _ => ControlFlow::Continue(()),
+        }
     }
 }
 

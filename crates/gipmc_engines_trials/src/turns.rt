@@ -1,4 +1,4 @@
-//! What IC3 says, alone and by turns with bounded model checking and induction, and of which slices a listener is told.
+//! What IC3 says, alone and by turns with bounded model checking and induction, and of which slices an observer is told.
 
 use crate::small::{SHIFTER, made, register};
 use crate::stopper::Stopper;
@@ -132,16 +132,16 @@ fn says_how_far_bounded_model_checking_came(rt: HostRuntime) -> Result<(), Alloc
     Ok(())
 }
 
-// Of how many slices of IC3 a listener is told that stops it behind the first one which finds nothing.
+// Of how many slices of IC3 an observer is told that stops it behind the first one which finds nothing.
 fn told_alone(
     alloc: Global,
     netlist: &Netlist,
     bad: Literal,
     calls: usize,
 ) -> Result<usize, AllocError> {
-    let mut watch = Stopper::new(0, 0);
-    let _ = decide::<Plain, _>(alloc, netlist, bad, calls, &mut watch)?;
-    Ok(watch.slices)
+    let mut observer = Stopper::new(0, 0);
+    let _ = decide::<Plain, _>(alloc, netlist, bad, calls, &mut observer)?;
+    Ok(observer.slices)
 }
 
 // The same by turns.
@@ -151,9 +151,9 @@ fn told_by_turns(
     bad: Literal,
     calls: usize,
 ) -> Result<usize, AllocError> {
-    let mut watch = Stopper::new(0, 0);
-    let _ = decide_by_turns::<Plain, _>(alloc, netlist, bad, bounds(0, calls), &mut watch)?;
-    Ok(watch.slices)
+    let mut observer = Stopper::new(0, 0);
+    let _ = decide_by_turns::<Plain, _>(alloc, netlist, bad, bounds(0, calls), &mut observer)?;
+    Ok(observer.slices)
 }
 
 // Both: alone, and by turns.

@@ -12,9 +12,10 @@ ghost use Rattle.gipmc_liveness_engines.specs.Verdicts.{IsRightVerdict};
 use crate::error::JusticeError;
 use gipmc_aiger::{Liveness, read_liveness, write_lasso};
 use gipmc_circuits::Netlist;
+use gipmc_engines::{Event, Observer};
 use gipmc_liveness_engines::{Bounds, Verdict, decide_live};
 use gipmc_reduce::Means;
-use gipmc_task::{Listener, Outcome, Output};
+use gipmc_task::{Outcome, Output};
 use gipsat_cnf::{Literal, SatSolver};
 use std::alloc::{AllocError, Global};
 use std::io::Write;
@@ -80,7 +81,7 @@ impl Drop for Answered {
 /// - [`JusticeError::Task`] where the text writes no circuit, or memory is refused for it or for a text. A search that is
 ///   refused memory leaves its property open.
 /// - [`JusticeError::NoProperty`] where there is no justice property at the place.
-pub fn answer<S: SatSolver + Drop, L: Listener, W: Write>(
+pub fn answer<S: SatSolver + Drop, L: Observer, W: Write>(
     alloc: Global,
     bytes: &[u8],
     asked: Option<usize>,
@@ -120,7 +121,7 @@ pub(crate) fn properties_in(
 }
 
 // Answers about the properties of a circuit.
-fn answer_asked<S: SatSolver + Drop, L: Listener, W: Write>(
+fn answer_asked<S: SatSolver + Drop, L: Observer, W: Write>(
     alloc: Global,
     netlist: &Netlist,
     liveness: &Liveness,
@@ -145,7 +146,7 @@ fn answer_asked<S: SatSolver + Drop, L: Listener, W: Write>(
 }
 
 // Answers about all properties of a circuit.
-fn answer_all<S: SatSolver + Drop, L: Listener, W: Write>(
+fn answer_all<S: SatSolver + Drop, L: Observer, W: Write>(
     alloc: Global,
     netlist: &Netlist,
     liveness: &Liveness,
@@ -178,7 +179,7 @@ fn answer_all<S: SatSolver + Drop, L: Listener, W: Write>(
 }
 
 // Answers about the property at a place.
-fn answer_at<S: SatSolver + Drop, L: Listener, W: Write>(
+fn answer_at<S: SatSolver + Drop, L: Observer, W: Write>(
     alloc: Global,
     netlist: &Netlist,
     liveness: &Liveness,
@@ -200,7 +201,7 @@ fn answer_at<S: SatSolver + Drop, L: Listener, W: Write>(
 }
 
 // Answers about this property, which stands at a place.
-fn answer_about<S: SatSolver + Drop, L: Listener, W: Write>(
+fn answer_about<S: SatSolver + Drop, L: Observer, W: Write>(
     alloc: Global,
     netlist: &Netlist,
     liveness: &Liveness,
@@ -234,14 +235,14 @@ fn answer_about<S: SatSolver + Drop, L: Listener, W: Write>(
 }
 
 // Tells a listener of the text of what is known of the property at a place, if that is a witness.
-fn note_witness<L: Listener>(place: usize, outcome: Outcome, text: &[u8], listener: &mut L) {
+fn note_witness<L: Observer>(place: usize, outcome: Outcome, text: &[u8], listener: &mut L) {
     if outcome == Outcome::Fails {
-        listener.note_witness(place, text);
+        let _ = listener.note(Event::Witness { place, text });
     }
 }
 
 // What is found out about the property at a place: nothing where the time is over, or memory is refused.
-fn find_out<S: SatSolver + Drop, L: Listener>(
+fn find_out<S: SatSolver + Drop, L: Observer>(
     alloc: Global,
     netlist: &Netlist,
     liveness: &Liveness,
@@ -252,17 +253,17 @@ fn find_out<S: SatSolver + Drop, L: Listener>(
 ) -> Verdict
     ensures { IsRightVerdict netlist.now.circuit liveness.now.fairness.items property.now result }
 {
-    if listener.begin(place).is_break() {
+    if listener.note(Event::Begin(place)).is_break() {
         return Verdict::Unknown;
     }
     let fairness = &liveness.fairness;
     match decide_live::<S, _>(alloc, netlist, fairness, property, bounds, listener) {
         Ok(verdict) => {
-            listener.end(false);
+            let _ = listener.note(Event::End { is_refused: false });
             verdict
         }
         Err(_) => {
-            listener.end(true);
+            let _ = listener.note(Event::End { is_refused: true });
             Verdict::Unknown
         }
     }

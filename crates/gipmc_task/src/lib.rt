@@ -2,11 +2,9 @@
 #![tactic(auto)]
 
 pub mod error;
-pub mod listener;
 pub mod outcome;
 pub mod output;
 
 pub use error::TaskError;
-pub use listener::Listener;
 pub use outcome::Outcome;
 pub use output::{Certifying, Lost, Output, Traces, Wanted};

@@ -1,9 +1,8 @@
-//! What a listener is told, and what it stops.
+//! What an observer is told, and what it stops.
 
 use gipmc_answers::answer;
-use gipmc_engines::{Plan, Watch};
-use gipmc_ic3::Statistics;
-use gipmc_task::{Listener, Lost, Outcome, Output, TaskError};
+use gipmc_engines::{Event, Observer, Plan};
+use gipmc_task::{Lost, Outcome, Output, TaskError};
 use gipsat_plain::Plain;
 use std::alloc::Global;
 use std::ops::ControlFlow;
@@ -19,31 +18,15 @@ struct Stopper {
     ended: usize,
 }
 
-impl Watch for Stopper {
-    fn note_round(&mut self, _rounds: usize) -> ControlFlow<()> {
-        ControlFlow::Continue(())
-    }
-
-    fn note(&mut self, _depth: usize, _clauses: usize, _learned: usize) -> ControlFlow<()> {
-        ControlFlow::Continue(())
-    }
-
-    fn note_slice(&mut self, _frame: usize, _statistics: &Statistics) -> ControlFlow<()> {
-        ControlFlow::Continue(())
-    }
-}
-
-impl Listener for Stopper {
-    fn begin(&mut self, place: usize) -> ControlFlow<()> {
-        if place == self.place {
-            return ControlFlow::Break(());
+impl Observer for Stopper {
+    fn note(&mut self, event: Event<'_>) -> ControlFlow<()> {
+        match event {
+            Event::Begin(place) if place == self.place => return ControlFlow::Break(()),
+            Event::Begin(_) => self.begun = self.begun.saturating_add(1),
+            Event::End { is_refused: false } => self.ended = self.ended.saturating_add(1),
+            _ => {}
         }
-        self.begun = self.begun.saturating_add(1);
         ControlFlow::Continue(())
-    }
-
-    fn end(&mut self, is_refused: bool) {
-        self.ended = self.ended.saturating_add(usize::from(!is_refused));
     }
 }
 
@@ -70,7 +53,7 @@ fn said(alloc: Global, place: usize) -> Result<(Outcome, bool, usize, usize), Ta
 }
 
 #[test]
-fn a_listener_leaves_a_literal_open(rt: HostRuntime) -> Result<(), TaskError> {
+fn an_observer_leaves_a_literal_open(rt: HostRuntime) -> Result<(), TaskError> {
     assert!(rt; said(rt.alloc(), 1)? == (Outcome::Fails, true, 1, 1));
     assert!(rt; said(rt.alloc(), 0)? == (Outcome::Open, false, 1, 1));
     assert!(rt; said(rt.alloc(), 2)? == (Outcome::Fails, false, 2, 2));
