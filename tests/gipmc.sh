@@ -1565,7 +1565,7 @@ printf '%b' "$kept" > kept.aag
 summary "a summary" 0 "c b0: $bmc$took" --engine bmc --depth 5 kept.aag
 summary "a summary of simulation" 0 "c b0: round [0-9]*; $took" --engine sim kept.aag
 summary "a summary of simulation that decides" 10 "c b0: \(round [0-9]*; \)*decided by sim; $took" --engine sim held.aag
-summary "a summary where a constant decides" 20 "c b0: decided by ic3; $took" --engine ic3 kept.aag
+summary "a summary where a constant decides" 20 "c b0: decided by ternary simulation; $took" --engine ic3 kept.aag
 # Two latches that are equal, and change.
 printf '%b' 'aag 3 0 2 0 1 1\n2 3\n4 5\n6\n6 5 2\n' > twins.aag
 summary "a summary of IC3 where its first calls decide" 20 "c b0: ${ic3}decided by ic3; $took" --engine ic3 twins.aag

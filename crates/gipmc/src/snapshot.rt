@@ -1,6 +1,6 @@
 //! How far the search about a property is, as it is written in a line.
 
-use gipmc_engines::{Engine, Event};
+use gipmc_engines::{Event, Technique};
 use gipmc_ic3::Statistics;
 use giputils_stat::decimal::Decimal;
 use std::fmt::{self, Display};
@@ -23,7 +23,7 @@ pub struct Snapshot {
     pub inductive: Inductive,
     /// How far IC3 is.
     pub framed: Framed,
-    /// Which engine decided.
+    /// What decided.
     pub decided: Decided,
 }
 
@@ -60,7 +60,7 @@ impl Snapshot {
                 clauses,
                 learned,
             } => self.inductive = Inductive(Some((k, Held { clauses, learned }))),
-            Event::Decided(engine) => self.decided = Decided(Some(engine)),
+            Event::Decided(technique) => self.decided = Decided(Some(technique)),
             Event::Begin(_)
             | Event::Turn
             | Event::Shortened { .. }
@@ -200,18 +200,19 @@ impl Display for Lemmas<'_> {
     }
 }
 
-/// The engine that decided, if one did.
+/// What decided, if anything did.
 #[derive(Clone, Copy)]
-pub struct Decided(pub Option<Engine>);
+pub struct Decided(pub Option<Technique>);
 
 impl Display for Decided {
     fn fmt<W: fmt::Write>(&self, f: &mut fmt::Formatter<W>) -> fmt::Result {
         match self.0 {
-            Some(Engine::Simulation) => f.write_str("decided by sim; "),
-            Some(Engine::Bounded) => f.write_str("decided by bmc; "),
-            Some(Engine::Ic3) => f.write_str("decided by ic3; "),
-            Some(Engine::Induction) => f.write_str("decided by induction; "),
-            _ => Ok(()),
+            Some(Technique::Simulation) => f.write_str("decided by sim; "),
+            Some(Technique::Ternary) => f.write_str("decided by ternary simulation; "),
+            Some(Technique::Bounded) => f.write_str("decided by bmc; "),
+            Some(Technique::Induction) => f.write_str("decided by induction; "),
+            Some(Technique::Ic3) => f.write_str("decided by ic3; "),
+            None => Ok(()),
         }
     }
 }

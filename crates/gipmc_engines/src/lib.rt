@@ -17,7 +17,7 @@ mod turns;
 pub mod verdict;
 
 pub use bounded::{Bounds, search};
-pub use engines::{Engine, Plan, check, check_all, decide, decide_by_turns};
+pub use engines::{Engine, Plan, Technique, check, check_all, decide, decide_by_turns};
 pub use joint::Joint;
 pub use observer::{Event, Observer};
 pub use several::{Finding, Findings};

@@ -1,6 +1,6 @@
 //! An observer of a search.
 
-use crate::engines::Engine;
+use crate::engines::Technique;
 use gipmc_ic3::Statistics;
 use std::ops::ControlFlow;
 
@@ -44,8 +44,8 @@ pub enum Event<'t> {
         /// How many were learned.
         learned: usize,
     },
-    /// This engine decided the property.
-    Decided(Engine),
+    /// By this the property was decided.
+    Decided(Technique),
     /// A shortest trace was looked for in place of the one that was found, before the search ends.
     Shortened {
         /// Whether the trace that is answered is known to be one.

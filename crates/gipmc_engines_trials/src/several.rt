@@ -2,7 +2,7 @@
 
 use crate::small::{SHIFTER, THREE, made};
 use gipmc_circuits::Netlist;
-use gipmc_engines::{Bounds, Engine, Finding, Plan, Tries, check_all};
+use gipmc_engines::{Bounds, Engine, Finding, Plan, Technique, Tries, check_all};
 use gipsat_cnf::Literal;
 use gipsat_plain::Plain;
 use std::alloc::{AllocError, Global};
@@ -113,7 +113,7 @@ fn finds_constants_alone_without_calls(rt: HostRuntime) -> Result<(), AllocError
 }
 
 // Which engines found out what stands about the first four literals.
-fn engines_of(alloc: Global, engine: Engine) -> Result<[Option<Engine>; 4], AllocError> {
+fn engines_of(alloc: Global, engine: Engine) -> Result<[Option<Technique>; 4], AllocError> {
     let netlist = made(alloc, SHIFTER)?;
     let plan = plan(engine, 1, 9);
     let bads = literals();
@@ -128,18 +128,17 @@ fn engines_of(alloc: Global, engine: Engine) -> Result<[Option<Engine>; 4], Allo
 
 #[test]
 fn tells_which_engine_decided(rt: HostRuntime) -> Result<(), AllocError> {
-    let (sim, bmc, ic3, step) = (
-        Some(Engine::Simulation),
-        Some(Engine::Bounded),
-        Some(Engine::Ic3),
-        Some(Engine::Induction),
-    );
+    let sim = Some(Technique::Simulation);
+    let constant = Some(Technique::Ternary);
+    let bmc = Some(Technique::Bounded);
+    let step = Some(Technique::Induction);
+    let ic3 = Some(Technique::Ic3);
     for &(engine, wanted) in &[
         (Engine::Simulation, [None, sim, sim, sim]),
         (Engine::Bounded, [bmc, bmc, bmc, bmc]),
-        (Engine::Ic3, [ic3, ic3, ic3, ic3]),
+        (Engine::Ic3, [constant, ic3, ic3, ic3]),
         (Engine::Induction, [step, bmc, bmc, bmc]),
-        (Engine::All, [ic3, sim, sim, sim]),
+        (Engine::All, [constant, sim, sim, sim]),
     ] {
         assert!(rt; engines_of(rt.alloc(), engine)? == wanted);
     }
