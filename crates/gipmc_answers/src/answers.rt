@@ -68,12 +68,12 @@ pub struct Answered {
 /// - [`TaskError::NoBad`] where there is no bad literal at the place.
 /// - [`TaskError::Memory`] where memory is refused for the circuit or a text. A search that is refused memory leaves the
 ///   literals open that are not decided.
-pub fn answer<S: SatSolver + Drop, L: Observer, W: Write>(
+pub fn answer<S: SatSolver + Drop, O: Observer, W: Write>(
     alloc: Global,
     bytes: &[u8],
     asked: Option<usize>,
     plan: &Plan,
-    listener: &mut L,
+    observer: &mut O,
     output: &mut Output<W>,
 ) -> Result<Answered, TaskError>
     ensures circuit { IfOk result (λ a. IsCircuitIn bytes.now a.netlist.circuit) }
@@ -84,7 +84,7 @@ pub fn answer<S: SatSolver + Drop, L: Observer, W: Write>(
         (W.contents output.old.writer) (W.contents output.new.writer) a.said.text.items) }
 {
     let netlist = netlist_in(alloc, bytes)?;
-    let said = answer_asked::<S, _, _>(alloc, &netlist, asked, plan, listener, output)?;
+    let said = answer_asked::<S, _, _>(alloc, &netlist, asked, plan, observer, output)?;
     Ok(Answered { netlist, said })
 }
 
@@ -99,12 +99,12 @@ pub(crate) fn netlist_in(alloc: Global, bytes: &[u8]) -> Result<Netlist, TaskErr
 }
 
 // Answers about a circuit.
-fn answer_asked<S: SatSolver + Drop, L: Observer, W: Write>(
+fn answer_asked<S: SatSolver + Drop, O: Observer, W: Write>(
     alloc: Global,
     netlist: &Netlist,
     asked: Option<usize>,
     plan: &Plan,
-    listener: &mut L,
+    observer: &mut O,
     output: &mut Output<W>,
 ) -> Result<Said, TaskError>
     ensures tells { IfOk result (λ said. TellsAsked netlist.now.circuit asked said.outcome said.text.items) }
@@ -114,24 +114,24 @@ fn answer_asked<S: SatSolver + Drop, L: Observer, W: Write>(
     match asked {
         None => {
             let bads = &netlist.circuit.bads;
-            Ok(answer_about::<S, _, _>(alloc, netlist, bads, None, plan, listener, output)?)
+            Ok(answer_about::<S, _, _>(alloc, netlist, bads, None, plan, observer, output)?)
         }
         Some(place) if place < netlist.circuit.bads.len() => {
             let bads = [netlist.circuit.bads[place]];
-            Ok(answer_about::<S, _, _>(alloc, netlist, &bads, Some(place), plan, listener, output)?)
+            Ok(answer_about::<S, _, _>(alloc, netlist, &bads, Some(place), plan, observer, output)?)
         }
         Some(place) => Err(TaskError::NoBad(place, netlist.circuit.bads.len())),
     }
 }
 
 // Answers about the bad literals that are asked for: these.
-fn answer_about<S: SatSolver + Drop, L: Observer, W: Write>(
+fn answer_about<S: SatSolver + Drop, O: Observer, W: Write>(
     alloc: Global,
     netlist: &Netlist,
     bads: &[Literal],
     asked: Option<usize>,
     plan: &Plan,
-    listener: &mut L,
+    observer: &mut O,
     output: &mut Output<W>,
 ) -> Result<Said, AllocError>
     requires { AreAsked netlist.now.circuit asked bads.now }
@@ -141,21 +141,21 @@ fn answer_about<S: SatSolver + Drop, L: Observer, W: Write>(
 {
     match part_of(alloc, netlist, bads) {
         Some(part) => answer_by::<S, _, _>(
-            alloc, netlist, bads, asked, &part, plan, listener, output,
+            alloc, netlist, bads, asked, &part, plan, observer, output,
         ),
-        None => leave(alloc, netlist, asked, listener, output),
+        None => leave(alloc, netlist, asked, observer, output),
     }
 }
 
 // The same, by the part of the circuit that they depend on.
-fn answer_by<S: SatSolver + Drop, L: Observer, W: Write>(
+fn answer_by<S: SatSolver + Drop, O: Observer, W: Write>(
     alloc: Global,
     netlist: &Netlist,
     bads: &[Literal],
     asked: Option<usize>,
     part: &Cone,
     plan: &Plan,
-    listener: &mut L,
+    observer: &mut O,
     output: &mut Output<W>,
 ) -> Result<Said, AllocError>
     requires asked { AreAsked netlist.now.circuit asked bads.now }
@@ -166,19 +166,19 @@ fn answer_by<S: SatSolver + Drop, L: Observer, W: Write>(
         (W.contents output.old.writer) (W.contents output.new.writer) said.text.items) }
 {
     match Parted::<S>::new(alloc, netlist, bads, part, plan) {
-        Ok(parted) => answer_with(alloc, parted, asked, plan, listener, output),
-        Err(_) => leave(alloc, netlist, asked, listener, output),
+        Ok(parted) => answer_with(alloc, parted, asked, plan, observer, output),
+        Err(_) => leave(alloc, netlist, asked, observer, output),
     }
 }
 
 // The same, by a search in that part: in what is left of it where equal variables are merged, if that is much smaller and no
 // certificate is wanted.
-fn answer_with<S: SatSolver + Drop, L: Observer, W: Write>(
+fn answer_with<S: SatSolver + Drop, O: Observer, W: Write>(
     alloc: Global,
     mut parted: Parted<'_, S>,
     asked: Option<usize>,
     plan: &Plan,
-    listener: &mut L,
+    observer: &mut O,
     output: &mut Output<W>,
 ) -> Result<Said, AllocError>
     requires { AreAsked parted.whole.now.circuit asked parted.bads.now }
@@ -187,24 +187,24 @@ fn answer_with<S: SatSolver + Drop, L: Observer, W: Write>(
     ensures written { IfOk result (λ said. IsWritten output.old.failure output.new.failure
         (W.contents output.old.writer) (W.contents output.new.writer) said.text.items) }
 {
-    let first = first_wanted(&parted, asked, output.wanted(), listener);
+    let first = first_wanted(&parted, asked, output.wanted(), observer);
     let merges = first != Wanted::Nothing && merges(plan.engine, output.certifying);
-    let left = parted.find_left(alloc, merges, listener);
+    let left = parted.find_left(alloc, merges, observer);
     let mut query = Query::new(alloc, parted, &left, plan, first);
-    say(alloc, &mut query, asked, listener, output)
+    say(alloc, &mut query, asked, observer, output)
 }
 
 // What is to be found out of the first literal of a search, if it has one.
-fn first_wanted<S: SatSolver + Drop, L: Observer>(
+fn first_wanted<S: SatSolver + Drop, O: Observer>(
     parted: &Parted<'_, S>,
     asked: Option<usize>,
     wanted: Wanted,
-    listener: &mut L,
+    observer: &mut O,
 ) -> Wanted {
     if parted.bads.is_empty() {
         return Wanted::Nothing;
     }
-    wanted_at(asked.unwrap_or(0), wanted, listener)
+    wanted_at(asked.unwrap_or(0), wanted, observer)
 }
 
 // Whether equal variables are merged where these engines search, and this is certified.
@@ -216,11 +216,11 @@ fn merges(engine: Engine, certifying: Certifying) -> bool {
 }
 
 // Says what is told of the literals that are asked for, about which a search is.
-fn say<S: SatSolver + Drop, L: Observer, W: Write>(
+fn say<S: SatSolver + Drop, O: Observer, W: Write>(
     alloc: Global,
     query: &mut Query<'_, S>,
     asked: Option<usize>,
-    listener: &mut L,
+    observer: &mut O,
     output: &mut Output<W>,
 ) -> Result<Said, AllocError>
     requires { AreAsked query.old.whole.now.circuit asked query.old.bads.now }
@@ -230,16 +230,16 @@ fn say<S: SatSolver + Drop, L: Observer, W: Write>(
         (W.contents output.old.writer) (W.contents output.new.writer) said.text.items) }
 {
     match asked {
-        None => say_all(alloc, query, listener, output),
-        Some(place) => say_one(alloc, query, place, listener, output),
+        None => say_all(alloc, query, observer, output),
+        Some(place) => say_one(alloc, query, place, observer, output),
     }
 }
 
 // Says what is told of all literals that a search is about, those of its circuit.
-fn say_all<S: SatSolver + Drop, L: Observer, W: Write>(
+fn say_all<S: SatSolver + Drop, O: Observer, W: Write>(
     alloc: Global,
     query: &mut Query<'_, S>,
-    listener: &mut L,
+    observer: &mut O,
     output: &mut Output<W>,
 ) -> Result<Said, AllocError>
     requires { query.old.bads.now ≡ query.old.whole.now.circuit.bads.items }
@@ -248,16 +248,16 @@ fn say_all<S: SatSolver + Drop, L: Observer, W: Write>(
     ensures written { IfOk result (λ said. IsWritten output.old.failure output.new.failure
         (W.contents output.old.writer) (W.contents output.new.writer) said.text.items) }
 {
-    let told = tell_all(alloc, query, listener, output)?;
+    let told = tell_all(alloc, query, observer, output)?;
     Ok(made_of(told, query.invariant(alloc), query.k()))
 }
 
 // Says what is told of the only literal that a search is about, the bad one at a place of its circuit.
-fn say_one<S: SatSolver + Drop, L: Observer, W: Write>(
+fn say_one<S: SatSolver + Drop, O: Observer, W: Write>(
     alloc: Global,
     query: &mut Query<'_, S>,
     place: usize,
-    listener: &mut L,
+    observer: &mut O,
     output: &mut Output<W>,
 ) -> Result<Said, AllocError>
     requires within { 0 < length query.old.bads.now }
@@ -266,7 +266,7 @@ fn say_one<S: SatSolver + Drop, L: Observer, W: Write>(
     ensures written { IfOk result (λ said. IsWritten output.old.failure output.new.failure
         (W.contents output.old.writer) (W.contents output.new.writer) said.text.items) }
 {
-    let told = tell_at(alloc, query, 0, place, listener, output)?;
+    let told = tell_at(alloc, query, 0, place, observer, output)?;
     Ok(made_of(told, query.invariant(alloc), query.k()))
 }
 
@@ -284,10 +284,10 @@ fn made_of(told: Told, invariant: Vec<Vec<Literal>>, k: Option<usize>) -> Said
 }
 
 // Tells of all literals that a search is about, those of its circuit.
-fn tell_all<S: SatSolver + Drop, L: Observer, W: Write>(
+fn tell_all<S: SatSolver + Drop, O: Observer, W: Write>(
     alloc: Global,
     query: &mut Query<'_, S>,
-    listener: &mut L,
+    observer: &mut O,
     output: &mut Output<W>,
 ) -> Result<Told, AllocError>
     requires { query.old.bads.now ≡ query.old.whole.now.circuit.bads.items }
@@ -299,7 +299,7 @@ fn tell_all<S: SatSolver + Drop, L: Observer, W: Write>(
     let mut text = Vec::new(alloc);
     let mut outcome = Outcome::Safe;
     for place in 0..query.bads.len() {
-        let told = tell_at(alloc, query, place, place, listener, output)?;
+        let told = tell_at(alloc, query, place, place, observer, output)?;
         text.extend_from_slice(&told.text)?;
         outcome = outcome.and(told.outcome);
     }
@@ -307,12 +307,12 @@ fn tell_all<S: SatSolver + Drop, L: Observer, W: Write>(
 }
 
 // Tells of the literal at one of a search's places, which is the bad one at a place of the circuit.
-fn tell_at<S: SatSolver + Drop, L: Observer, W: Write>(
+fn tell_at<S: SatSolver + Drop, O: Observer, W: Write>(
     alloc: Global,
     query: &mut Query<'_, S>,
     at: usize,
     place: usize,
-    listener: &mut L,
+    observer: &mut O,
     output: &mut Output<W>,
 ) -> Result<Told, AllocError>
     requires within { at < length query.old.bads.now }
@@ -324,12 +324,12 @@ fn tell_at<S: SatSolver + Drop, L: Observer, W: Write>(
         (W.contents output.old.writer) (W.contents output.new.writer) told.text.items) }
 {
     let bad = query.bads[at];
-    let wanted = wanted_of(query, at, place, output.wanted(), listener);
-    let mut text = tell_depths(alloc, query, at, bad, wanted, listener, output)?;
-    let wanted = wanted_still(wanted, output, listener);
-    let known = query.find_out(alloc, at, wanted, listener);
+    let wanted = wanted_of(query, at, place, output.wanted(), observer);
+    let mut text = tell_depths(alloc, query, at, bad, wanted, observer, output)?;
+    let wanted = wanted_still(wanted, output, observer);
+    let known = query.find_out(alloc, at, wanted, observer);
     let told = tell(alloc, place, &known, output)?;
-    note_witness(place, &told, listener);
+    note_witness(place, &told, observer);
     text.extend_from_slice(&told.text)?;
     Ok(Told {
         text,
@@ -338,44 +338,44 @@ fn tell_at<S: SatSolver + Drop, L: Observer, W: Write>(
 }
 
 // What is to be found out of the literal at one of a search's places, which is the bad one at a place of the circuit.
-fn wanted_of<S: SatSolver + Drop, L: Observer>(
+fn wanted_of<S: SatSolver + Drop, O: Observer>(
     query: &Query<'_, S>,
     at: usize,
     place: usize,
     wanted: Wanted,
-    listener: &mut L,
+    observer: &mut O,
 ) -> Wanted {
     if at == 0 {
         return query.first;
     }
-    wanted_at(place, wanted, listener)
+    wanted_at(place, wanted, observer)
 }
 
-// What is to be found out of the literal at a place: nothing if the search is over, or a listener has no time for it.
-fn wanted_at<L: Observer>(place: usize, wanted: Wanted, listener: &mut L) -> Wanted {
-    if wanted == Wanted::Nothing || listener.note(Event::Begin(place)).is_break() {
+// What is to be found out of the literal at a place: nothing if the search is over, or an observer has no time for it.
+fn wanted_at<O: Observer>(place: usize, wanted: Wanted, observer: &mut O) -> Wanted {
+    if wanted == Wanted::Nothing || observer.note(Event::Begin(place)).is_break() {
         return Wanted::Nothing;
     }
     wanted
 }
 
 // What is to be found out yet where this was, and progress was written: nothing if the search is over since then.
-fn wanted_still<L: Observer, W: Write>(
+fn wanted_still<O: Observer, W: Write>(
     wanted: Wanted,
     output: &Output<W>,
-    listener: &mut L,
+    observer: &mut O,
 ) -> Wanted {
     if wanted == Wanted::Nothing || !output.is_over() {
         return wanted;
     }
-    let _ = listener.note(Event::End { is_refused: false });
+    let _ = observer.note(Event::End { is_refused: false });
     Wanted::Nothing
 }
 
-// Tells a listener of what is told of the bad literal at a place, if that is a witness.
-fn note_witness<L: Observer>(place: usize, told: &Told, listener: &mut L) {
+// Tells an observer of what is told of the bad literal at a place, if that is a witness.
+fn note_witness<O: Observer>(place: usize, told: &Told, observer: &mut O) {
     if told.outcome == Outcome::Fails {
-        let _ = listener.note(Event::Witness {
+        let _ = observer.note(Event::Witness {
             place,
             text: &told.text,
         });
@@ -387,13 +387,13 @@ const DOUBLINGS: usize = 64;
 
 // Goes on with the search about the literal at one of its places, if progress is to be written, and tells up to which
 // depths nothing fails, each of which is more than twice the one before. It stops where a write ends the search.
-fn tell_depths<S: SatSolver + Drop, L: Observer, W: Write>(
+fn tell_depths<S: SatSolver + Drop, O: Observer, W: Write>(
     alloc: Global,
     query: &mut Query<'_, S>,
     at: usize,
     bad: Literal,
     wanted: Wanted,
-    listener: &mut L,
+    observer: &mut O,
     output: &mut Output<W>,
 ) -> Result<Vec<u8>, AllocError>
     requires { slice_get query.old.bads.now at ≡ Some bad }
@@ -413,7 +413,7 @@ fn tell_depths<S: SatSolver + Drop, L: Observer, W: Write>(
         if output.is_over() {
             return Ok(text);
         }
-        let Some(depth) = query.clear(alloc, at, next, listener) else {
+        let Some(depth) = query.clear(alloc, at, next, observer) else {
             return Ok(text);
         };
         tell_depth(alloc, depth, &mut text, output)?;
@@ -451,11 +451,11 @@ fn depth_text(alloc: Global, depth: usize) -> Result<Vec<u8>, AllocError>
 }
 
 // Leaves the bad literals that are asked for open: there is no memory for a search.
-fn leave<L: Observer, W: Write>(
+fn leave<O: Observer, W: Write>(
     alloc: Global,
     netlist: &Netlist,
     asked: Option<usize>,
-    listener: &mut L,
+    observer: &mut O,
     output: &mut Output<W>,
 ) -> Result<Said, AllocError>
     requires { (place : ℕ) → asked ≡ Some place → place < length netlist.now.circuit.bads.items }
@@ -464,16 +464,16 @@ fn leave<L: Observer, W: Write>(
         (W.contents output.old.writer) (W.contents output.new.writer) said.text.items) }
 {
     match asked {
-        None => leave_all(alloc, netlist, listener, output),
-        Some(place) => leave_one(alloc, netlist, place, listener, output),
+        None => leave_all(alloc, netlist, observer, output),
+        Some(place) => leave_one(alloc, netlist, place, observer, output),
     }
 }
 
 // Leaves all of them open.
-fn leave_all<L: Observer, W: Write>(
+fn leave_all<O: Observer, W: Write>(
     alloc: Global,
     netlist: &Netlist,
-    listener: &mut L,
+    observer: &mut O,
     output: &mut Output<W>,
 ) -> Result<Said, AllocError>
     ensures tells { IfOk result (λ said.
@@ -484,7 +484,7 @@ fn leave_all<L: Observer, W: Write>(
     let mut text = Vec::new(alloc);
     let mut outcome = Outcome::Safe;
     for place in 0..netlist.circuit.bads.len() {
-        let told = leave_at(alloc, netlist, place, listener, output)?;
+        let told = leave_at(alloc, netlist, place, observer, output)?;
         text.extend_from_slice(&told.text)?;
         outcome = outcome.and(told.outcome);
     }
@@ -492,11 +492,11 @@ fn leave_all<L: Observer, W: Write>(
 }
 
 // Leaves one of them open.
-fn leave_one<L: Observer, W: Write>(
+fn leave_one<O: Observer, W: Write>(
     alloc: Global,
     netlist: &Netlist,
     place: usize,
-    listener: &mut L,
+    observer: &mut O,
     output: &mut Output<W>,
 ) -> Result<Said, AllocError>
     requires { place < length netlist.now.circuit.bads.items }
@@ -504,16 +504,16 @@ fn leave_one<L: Observer, W: Write>(
     ensures written { IfOk result (λ said. IsWritten output.old.failure output.new.failure
         (W.contents output.old.writer) (W.contents output.new.writer) said.text.items) }
 {
-    let told = leave_at(alloc, netlist, place, listener, output)?;
+    let told = leave_at(alloc, netlist, place, observer, output)?;
     Ok(made_of(told, Vec::new(alloc), None))
 }
 
 // Tells that one of them is open.
-fn leave_at<L: Observer, W: Write>(
+fn leave_at<O: Observer, W: Write>(
     alloc: Global,
     netlist: &Netlist,
     place: usize,
-    listener: &mut L,
+    observer: &mut O,
     output: &mut Output<W>,
 ) -> Result<Told, AllocError>
     requires { place < length netlist.now.circuit.bads.items }
@@ -522,16 +522,16 @@ fn leave_at<L: Observer, W: Write>(
         (W.contents output.old.writer) (W.contents output.new.writer) told.text.items) }
 {
     let _bad = netlist.circuit.bads[place];
-    note_refused(place, output.is_over(), listener);
+    note_refused(place, output.is_over(), observer);
     tell(alloc, place, &Known::Nothing, output)
 }
 
-// Tells a listener that memory is refused for the search about the bad literal at a place, unless it is over.
-fn note_refused<L: Observer>(place: usize, is_over: bool, listener: &mut L) {
-    if is_over || listener.note(Event::Begin(place)).is_break() {
+// Tells an observer that memory is refused for the search about the bad literal at a place, unless it is over.
+fn note_refused<O: Observer>(place: usize, is_over: bool, observer: &mut O) {
+    if is_over || observer.note(Event::Begin(place)).is_break() {
         return;
     }
-    let _ = listener.note(Event::End { is_refused: true });
+    let _ = observer.note(Event::End { is_refused: true });
 }
 
 // Tells what is known of the bad literal at a place.

@@ -129,11 +129,11 @@ impl<'a, S: SatSolver + Drop> Parted<'a, S> {
     /// Goes on with the search about the first literal, and now and then tries to find out what is left of the part, by a
     /// part of the work that the search has done. None where nothing is to be merged, where the literal is decided before, and
     /// where that work does not suffice.
-    pub(crate) fn find_left<L: Observer>(
+    pub(crate) fn find_left<O: Observer>(
         &mut self,
         alloc: Global,
         merges: bool,
-        listener: &mut L,
+        observer: &mut O,
     ) -> Option<Left>
         ensures whole { self.new.whole ≡ self.old.whole }
         ensures bads { self.new.bads ≡ self.old.bads }
@@ -145,7 +145,7 @@ impl<'a, S: SatSolver + Drop> Parted<'a, S> {
         }
         let mut done = FIRST;
         for _ in 0..SWEEPS {
-            done = self.go_on_to(done, listener)?;
+            done = self.go_on_to(done, observer)?;
             let left = self.sweep(alloc, done / SHARE);
             if left.is_some() {
                 return left;
@@ -165,11 +165,11 @@ impl<'a, S: SatSolver + Drop> Parted<'a, S> {
 
     // Goes on with the search about the first literal, until IC3 has propagated so many literals, and answers how many it
     // has. None where the literal is decided before, or the search cannot go on.
-    fn go_on_to<L: Observer>(&mut self, propagations: u64, listener: &mut L) -> Option<u64>
+    fn go_on_to<O: Observer>(&mut self, propagations: u64, observer: &mut O) -> Option<u64>
         ensures whole { self.new.whole ≡ self.old.whole }
         ensures bads { self.new.bads ≡ self.old.bads }
     {
-        let mut meter = Meter::new(listener);
+        let mut meter = Meter::new(observer);
         for depth in 0..usize::MAX {
             if !self.joint.find_out_to(0, depth, &mut meter) {
                 return None;
@@ -188,12 +188,12 @@ impl<'a, S: SatSolver + Drop> Parted<'a, S> {
 
     /// Goes on until the literal at one of the places is decided, and answers what is known of it then, by a shortest trace
     /// where that is wanted and found. A search that is over does not go on.
-    pub(crate) fn find_out<L: Observer>(
+    pub(crate) fn find_out<O: Observer>(
         &mut self,
         alloc: Global,
         at: usize,
         wanted: Wanted,
-        listener: &mut L,
+        observer: &mut O,
     ) -> Known
         requires { at < length self.old.bads.now }
         ensures whole { self.new.whole ≡ self.old.whole }
@@ -204,22 +204,22 @@ impl<'a, S: SatSolver + Drop> Parted<'a, S> {
         if wanted == Wanted::Nothing {
             return self.known(alloc, at);
         }
-        self.joint.find_out(at, listener);
-        self.tell_engine(at, listener);
-        let verdict = self.told(alloc, at, wanted, listener);
+        self.joint.find_out(at, observer);
+        self.tell_engine(at, observer);
+        let verdict = self.told(alloc, at, wanted, observer);
         let is_refused = self.is_refused(at, &verdict);
-        let _ = listener.note(Event::End { is_refused });
+        let _ = observer.note(Event::End { is_refused });
         verdict
     }
 
     /// Goes on until it is known that no trace of at most so many transitions fails as to the literal at one of the places,
     /// and answers up to how many it is known. None where the literal is decided, or the search cannot go on.
-    pub(crate) fn clear<L: Observer>(
+    pub(crate) fn clear<O: Observer>(
         &mut self,
         alloc: Global,
         at: usize,
         depth: usize,
-        listener: &mut L,
+        observer: &mut O,
     ) -> Option<usize>
         requires { at < length self.old.bads.now }
         ensures whole { self.new.whole ≡ self.old.whole }
@@ -227,26 +227,26 @@ impl<'a, S: SatSolver + Drop> Parted<'a, S> {
         ensures clear { IfSome result (λ n. (bad : Lit) → slice_get self.old.bads.now at ≡ Some bad →
             NeverFailsWithin self.old.whole.now.circuit bad n) }
     {
-        if !self.joint.find_out_to(at, depth, listener) {
+        if !self.joint.find_out_to(at, depth, observer) {
             return None;
         }
         let known = self.known(alloc, at);
         depth_of(&known)
     }
 
-    // Tells a listener which engine decided the literal at a place, if it is decided.
-    fn tell_engine<L: Observer>(&self, at: usize, listener: &mut L) {
+    // Tells an observer which engine decided the literal at a place, if it is decided.
+    fn tell_engine<O: Observer>(&self, at: usize, observer: &mut O) {
         if self.joint.findings.is_open(at) {
             return;
         }
         if let Some(engine) = self.joint.findings.engine(at) {
-            let _ = listener.note(Event::Decided(engine));
+            let _ = observer.note(Event::Decided(engine));
         }
     }
 
     // What is told of the literal at a place: what is known, and where that is a trace, a shortest one if that is wanted and
     // found.
-    fn told<L: Observer>(&self, alloc: Global, at: usize, wanted: Wanted, listener: &mut L) -> Known
+    fn told<O: Observer>(&self, alloc: Global, at: usize, wanted: Wanted, observer: &mut O) -> Known
         requires { at < length self.now.bads.now }
         ensures { (bad : Lit) → slice_get self.now.bads.now at ≡ Some bad →
             IsKnown self.now.whole.now.circuit bad result }
@@ -258,28 +258,28 @@ impl<'a, S: SatSolver + Drop> Parted<'a, S> {
         let Some(moments) = moments_of(&known) else {
             return known;
         };
-        match self.shorter(alloc, at, moments, listener) {
+        match self.shorter(alloc, at, moments, observer) {
             Some(shorter) => shorter,
             None => known,
         }
     }
 
     // That the literal at a place fails by a shortest trace, by bounded model checking, if one is found that has fewer moments
-    // than so many. The listener is told whether there is known to be none that is shorter still.
-    fn shorter<L: Observer>(
+    // than so many. The observer is told whether there is known to be none that is shorter still.
+    fn shorter<O: Observer>(
         &self,
         alloc: Global,
         at: usize,
         moments: usize,
-        listener: &mut L,
+        observer: &mut O,
     ) -> Option<Known>
         requires { at < length self.now.bads.now }
         ensures { IfSome result (λ known. (bad : Lit) → slice_get self.now.bads.now at ≡ Some bad →
             IsKnown self.now.whole.now.circuit bad known) }
     {
         let bad = self.bads[at];
-        let (trace, is_shortest) = self.shorter_trace(alloc, at, moments, listener);
-        let _ = listener.note(Event::Shortened { is_shortest });
+        let (trace, is_shortest) = self.shorter_trace(alloc, at, moments, observer);
+        let _ = observer.note(Event::Shortened { is_shortest });
         let Some(trace) = trace else {
             return None;
         };
@@ -294,12 +294,12 @@ impl<'a, S: SatSolver + Drop> Parted<'a, S> {
 
     // A trace of the circuit that is searched on which its literal at a place becomes true, if one is found that has fewer
     // moments than so many, and whether there is known to be none that is shorter still.
-    fn shorter_trace<L: Observer>(
+    fn shorter_trace<O: Observer>(
         &self,
         alloc: Global,
         at: usize,
         moments: usize,
-        listener: &mut L,
+        observer: &mut O,
     ) -> (Option<Trace>, bool) {
         let Some(depth) = moments.checked_sub(2) else {
             return (None, true);
@@ -312,7 +312,7 @@ impl<'a, S: SatSolver + Drop> Parted<'a, S> {
             limit: self.limit,
             ..Bounds::default()
         };
-        match search::<S, L>(alloc, self.joint.findings.netlist, own, bounds, listener) {
+        match search::<S, O>(alloc, self.joint.findings.netlist, own, bounds, observer) {
             Ok(Verdict::Fails(trace)) => (Some(trace), true),
             Ok(Verdict::NoFailureWithin(cleared)) => (None, cleared >= depth),
             _ => (None, false),

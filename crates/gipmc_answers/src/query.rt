@@ -73,12 +73,12 @@ impl<'a, S: SatSolver + Drop> Query<'a, S> {
 
     /// Goes on until the literal at one of the places is decided, and answers what is known of it then, by a shortest trace
     /// where that is wanted and found. A search that is over does not go on.
-    pub(crate) fn find_out<L: Observer>(
+    pub(crate) fn find_out<O: Observer>(
         &mut self,
         alloc: Global,
         at: usize,
         wanted: Wanted,
-        listener: &mut L,
+        observer: &mut O,
     ) -> Known
         requires { at < length self.old.bads.now }
         ensures whole { self.new.whole ≡ self.old.whole }
@@ -87,12 +87,12 @@ impl<'a, S: SatSolver + Drop> Query<'a, S> {
             IsKnown self.old.whole.now.circuit bad result }
     {
         if !self.parted.is_open(at) {
-            return self.parted.find_out(alloc, at, wanted, listener);
+            return self.parted.find_out(alloc, at, wanted, observer);
         }
         let Some(left) = &mut self.left else {
-            return self.parted.find_out(alloc, at, wanted, listener);
+            return self.parted.find_out(alloc, at, wanted, observer);
         };
-        let known = left.find_out(alloc, at, wanted, listener);
+        let known = left.find_out(alloc, at, wanted, observer);
         let before = self.parted.known(alloc, at);
         if is_more(&before, &known) {
             before
@@ -103,12 +103,12 @@ impl<'a, S: SatSolver + Drop> Query<'a, S> {
 
     /// Goes on until it is known that no trace of at most so many transitions fails as to the literal at one of the places,
     /// and answers up to how many it is known. None where the literal is decided, or the search cannot go on.
-    pub(crate) fn clear<L: Observer>(
+    pub(crate) fn clear<O: Observer>(
         &mut self,
         alloc: Global,
         at: usize,
         depth: usize,
-        listener: &mut L,
+        observer: &mut O,
     ) -> Option<usize>
         requires { at < length self.old.bads.now }
         ensures whole { self.new.whole ≡ self.old.whole }
@@ -117,12 +117,12 @@ impl<'a, S: SatSolver + Drop> Query<'a, S> {
             NeverFailsWithin self.old.whole.now.circuit bad n) }
     {
         if !self.parted.is_open(at) {
-            return self.parted.clear(alloc, at, depth, listener);
+            return self.parted.clear(alloc, at, depth, observer);
         }
         let Some(left) = &mut self.left else {
-            return self.parted.clear(alloc, at, depth, listener);
+            return self.parted.clear(alloc, at, depth, observer);
         };
-        left.clear(alloc, at, depth, listener)
+        left.clear(alloc, at, depth, observer)
     }
 
     /// The clauses of the invariant that was found in the circuit itself; none where memory is refused.

@@ -81,12 +81,12 @@ impl Drop for Answered {
 /// - [`JusticeError::Task`] where the text writes no circuit, or memory is refused for it or for a text. A search that is
 ///   refused memory leaves its property open.
 /// - [`JusticeError::NoProperty`] where there is no justice property at the place.
-pub fn answer<S: SatSolver + Drop, L: Observer, W: Write>(
+pub fn answer<S: SatSolver + Drop, O: Observer, W: Write>(
     alloc: Global,
     bytes: &[u8],
     asked: Option<usize>,
     bounds: Bounds,
-    listener: &mut L,
+    observer: &mut O,
     output: &mut Output<W>,
 ) -> Result<Answered, JusticeError>
     ensures circuit { IfOk result (λ a. IsPropertiesIn bytes.now a.netlist.circuit a.liveness) }
@@ -98,7 +98,7 @@ pub fn answer<S: SatSolver + Drop, L: Observer, W: Write>(
         (W.contents output.old.writer) (W.contents output.new.writer) a.said.text.items) }
 {
     let read = properties_in(alloc, bytes)?;
-    let said = answer_asked::<S, _, _>(alloc, &read.0, &read.1, asked, bounds, listener, output)?;
+    let said = answer_asked::<S, _, _>(alloc, &read.0, &read.1, asked, bounds, observer, output)?;
     let (netlist, liveness) = read;
     Ok(Answered {
         netlist,
@@ -121,13 +121,13 @@ pub(crate) fn properties_in(
 }
 
 // Answers about the properties of a circuit.
-fn answer_asked<S: SatSolver + Drop, L: Observer, W: Write>(
+fn answer_asked<S: SatSolver + Drop, O: Observer, W: Write>(
     alloc: Global,
     netlist: &Netlist,
     liveness: &Liveness,
     asked: Option<usize>,
     bounds: Bounds,
-    listener: &mut L,
+    observer: &mut O,
     output: &mut Output<W>,
 ) -> Result<Said, JusticeError>
     ensures tells { IfOk result (λ said.
@@ -137,21 +137,21 @@ fn answer_asked<S: SatSolver + Drop, L: Observer, W: Write>(
         (W.contents output.old.writer) (W.contents output.new.writer) said.text.items) }
 {
     match asked {
-        None => Ok(answer_all::<S, _, _>(alloc, netlist, liveness, bounds, listener, output)?),
+        None => Ok(answer_all::<S, _, _>(alloc, netlist, liveness, bounds, observer, output)?),
         Some(place) if place < liveness.justice.len() => {
-            Ok(answer_at::<S, _, _>(alloc, netlist, liveness, place, bounds, listener, output)?)
+            Ok(answer_at::<S, _, _>(alloc, netlist, liveness, place, bounds, observer, output)?)
         }
         Some(place) => Err(JusticeError::NoProperty(place, liveness.justice.len())),
     }
 }
 
 // Answers about all properties of a circuit.
-fn answer_all<S: SatSolver + Drop, L: Observer, W: Write>(
+fn answer_all<S: SatSolver + Drop, O: Observer, W: Write>(
     alloc: Global,
     netlist: &Netlist,
     liveness: &Liveness,
     bounds: Bounds,
-    listener: &mut L,
+    observer: &mut O,
     output: &mut Output<W>,
 ) -> Result<Said, AllocError>
     ensures tells { IfOk result (λ said. TellsFirst netlist.now.circuit liveness.now
@@ -165,7 +165,7 @@ fn answer_all<S: SatSolver + Drop, L: Observer, W: Write>(
     let mut found = Vec::new(alloc);
     for place in 0..liveness.justice.len() {
         let mut said = answer_at::<S, _, _>(
-            alloc, netlist, liveness, place, bounds, listener, output,
+            alloc, netlist, liveness, place, bounds, observer, output,
         )?;
         text.extend_from_slice(&said.text)?;
         outcome = outcome.and(said.outcome);
@@ -179,13 +179,13 @@ fn answer_all<S: SatSolver + Drop, L: Observer, W: Write>(
 }
 
 // Answers about the property at a place.
-fn answer_at<S: SatSolver + Drop, L: Observer, W: Write>(
+fn answer_at<S: SatSolver + Drop, O: Observer, W: Write>(
     alloc: Global,
     netlist: &Netlist,
     liveness: &Liveness,
     place: usize,
     bounds: Bounds,
-    listener: &mut L,
+    observer: &mut O,
     output: &mut Output<W>,
 ) -> Result<Said, AllocError>
     requires { place < length liveness.now.justice.items }
@@ -196,19 +196,19 @@ fn answer_at<S: SatSolver + Drop, L: Observer, W: Write>(
 {
     let property = &liveness.justice[place];
     answer_about::<S, _, _>(
-        alloc, netlist, liveness, place, property, bounds, listener, output,
+        alloc, netlist, liveness, place, property, bounds, observer, output,
     )
 }
 
 // Answers about this property, which stands at a place.
-fn answer_about<S: SatSolver + Drop, L: Observer, W: Write>(
+fn answer_about<S: SatSolver + Drop, O: Observer, W: Write>(
     alloc: Global,
     netlist: &Netlist,
     liveness: &Liveness,
     place: usize,
     property: &[Literal],
     bounds: Bounds,
-    listener: &mut L,
+    observer: &mut O,
     output: &mut Output<W>,
 ) -> Result<Said, AllocError>
     ensures tells { IfOk result (λ said.
@@ -221,12 +221,12 @@ fn answer_about<S: SatSolver + Drop, L: Observer, W: Write>(
     let verdict = if output.is_over() {
         Verdict::Unknown
     } else {
-        find_out::<S, _>(alloc, netlist, liveness, place, property, bounds, listener)
+        find_out::<S, _>(alloc, netlist, liveness, place, property, bounds, observer)
     };
     let text = verdict_text(alloc, place, &verdict)?;
     output.tell(&text);
     let outcome = outcome_of(&verdict);
-    note_witness(place, outcome, &text, listener);
+    note_witness(place, outcome, &text, observer);
     Ok(Said {
         text,
         outcome,
@@ -234,36 +234,36 @@ fn answer_about<S: SatSolver + Drop, L: Observer, W: Write>(
     })
 }
 
-// Tells a listener of the text of what is known of the property at a place, if that is a witness.
-fn note_witness<L: Observer>(place: usize, outcome: Outcome, text: &[u8], listener: &mut L) {
+// Tells an observer of the text of what is known of the property at a place, if that is a witness.
+fn note_witness<O: Observer>(place: usize, outcome: Outcome, text: &[u8], observer: &mut O) {
     if outcome == Outcome::Fails {
-        let _ = listener.note(Event::Witness { place, text });
+        let _ = observer.note(Event::Witness { place, text });
     }
 }
 
 // What is found out about the property at a place: nothing where the time is over, or memory is refused.
-fn find_out<S: SatSolver + Drop, L: Observer>(
+fn find_out<S: SatSolver + Drop, O: Observer>(
     alloc: Global,
     netlist: &Netlist,
     liveness: &Liveness,
     place: usize,
     property: &[Literal],
     bounds: Bounds,
-    listener: &mut L,
+    observer: &mut O,
 ) -> Verdict
     ensures { IsRightVerdict netlist.now.circuit liveness.now.fairness.items property.now result }
 {
-    if listener.note(Event::Begin(place)).is_break() {
+    if observer.note(Event::Begin(place)).is_break() {
         return Verdict::Unknown;
     }
     let fairness = &liveness.fairness;
-    match decide_live::<S, _>(alloc, netlist, fairness, property, bounds, listener) {
+    match decide_live::<S, _>(alloc, netlist, fairness, property, bounds, observer) {
         Ok(verdict) => {
-            let _ = listener.note(Event::End { is_refused: false });
+            let _ = observer.note(Event::End { is_refused: false });
             verdict
         }
         Err(_) => {
-            let _ = listener.note(Event::End { is_refused: true });
+            let _ = observer.note(Event::End { is_refused: true });
             Verdict::Unknown
         }
     }
