@@ -4,7 +4,7 @@ ghost use Rattle.gipsat_cnf.specs.Literals.{Lit};
 ghost use Rattle.gipmc_answers.specs.Answers.{IsKnown};
 ghost use Rattle.gipmc_answers.specs.Left.{StandFor, StandsFor};
 ghost use Rattle.gipmc_answers.specs.declared.known.Known.TheVariants.{NoFailureWithin};
-ghost use Rattle.gipmc_engines.specs.Several.{verdict_by};
+ghost use Rattle.gipmc_engines.specs.Findings.{verdict_by};
 ghost use Rattle.gipmc_engines.specs.Verdicts.{IsRightVerdict, NeverFailsWithin};
 ghost use Rattle.gipmc_reduce.specs.Cone.{IsPartOf, literal_named};
 

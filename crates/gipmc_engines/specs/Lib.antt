@@ -1,3 +1,3 @@
 -- What engines find out about a circuit.
-pub mod Several
+pub mod Findings
 pub mod Verdicts

@@ -4,12 +4,12 @@
 
 pub mod bounded;
 pub mod engines;
+pub mod findings;
 mod guide;
 mod hits;
 pub mod joint;
 pub mod observer;
 mod rounds;
-pub mod several;
 pub mod simulation;
 mod steps;
 mod ternary;
@@ -18,8 +18,8 @@ pub mod verdict;
 
 pub use bounded::{Bounds, search};
 pub use engines::{Engine, Plan, Technique, check, check_all, decide, decide_by_turns};
+pub use findings::{Finding, Findings};
 pub use joint::Joint;
 pub use observer::{Event, Observer};
-pub use several::{Finding, Findings};
 pub use simulation::{RUNS, Tries, simulate};
 pub use verdict::{Verdict, replayed};
