@@ -248,7 +248,7 @@ def slices():
     going_on = List("a further call goes on").give(pigeons(5)).ask("slices 20", "unsat")
     yield going_on.step("conflicts_above 20", "true")
     small = List("a store stays small").give(pigeons(7)).ask("slices 100", "unsat")
-    yield small.step("known_below 3000", "true").step("conflicts_above 5000", "true")
+    yield small.step("known_below 3000", "true").step("conflicts_above 4000", "true")
 
 
 def selectors():
