@@ -18,8 +18,9 @@ PARTS lists. A page for callers, crates/NAME/CALLING.md, quotes the sources. Pag
     <!-- quote words -->                            the words of the public contracts that the page does not quote
     <!-- quote lemmas Ranks: name name -->           statements of public lemmas of the crate, from proofs/Ranks.antt
     <!-- quote records Calls: Name Name -->          records of the crate with their fields, from specs/Calls.antt
-    <!-- quote map -->                               the libraries and programs of crates.txt, and those that each stands on
-    <!-- quote parts -->                             the parts that the rows of the quote name, each with its folders: the
+    <!-- quote map -->                              the libraries and programs of crates.txt, and those that each stands
+                                                    on
+    <!-- quote parts -->                            the parts that the rows of the quote name, each with its folders: the
                                                     last one that a row names, and all that crates.txt asks for; with
                                                     those of the solver where the part's name ends in `with a solver`
 
@@ -31,10 +32,11 @@ The crate `giputils` hands out the files of specs/ that have these words, and al
 
 Each line of an example in Rust on a README that is not quoted stands in giputils_trials/src/examples.rt, its imports
 under the names that `giputils` gives them. The page of `gip` has the script that `gip` is run on, with its replies.
-docs/DESIGN.md names each crate, and links to its README; the solver has the names that stand there beside MiniSat's, the
-imports of its modules make no cycle, and each module begins with a line `//!`. A type has a name that no type of another file has, but for those of tests/names.txt. Each file that a page names
-is there, and each part of a page that a link names; no line has more than 120 columns, but for imports that are quoted,
-and the README of the root has at most 80 lines.
+docs/DESIGN.md names each crate, and links to its README; the solver has the names that stand there beside MiniSat's,
+the imports of its modules make no cycle, and each module begins with a line `//!`. A type has a name that no type of
+another file has, but for those of tests/names.txt. Each file that a page names is there, and each part of a page that a
+link names; no line has more than 120 columns, but for imports that are quoted, and the README of the root has at most
+80 lines.
 """
 
 import argparse
@@ -526,7 +528,8 @@ def table_of_crates():
             continue
         alike = {}
         for crate in crates:
-            others = [other for other in uses()[crate] if not any(other in needed(each) - {each} for each in uses()[crate])]
+            below = set().union(*(needed(other) - {other} for other in uses()[crate]))
+            others = [other for other in uses()[crate] if other not in below]
             alike.setdefault(tuple(sorted(others, key=list(uses()).index)), []).append(crate)
         for others, own in alike.items():
             names = [", ".join(f"`{crate}`" for crate in each) for each in (own, others)]

@@ -3,7 +3,8 @@
 use gipmc_engines::{Event, Observer};
 use std::ops::ControlFlow;
 
-/// Passes on to an observer what it is told, and keeps the work of IC3. The other engines do about as much, each its share.
+/// Passes on to an observer what it is told, and keeps the work of IC3. The other engines do about as much, each its
+/// share.
 #[derive(Drop)]
 pub(crate) struct Meter<'a, O: Observer> {
     observer: &'a mut O,

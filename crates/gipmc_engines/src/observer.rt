@@ -65,8 +65,8 @@ pub enum Event<'t> {
     },
 }
 
-/// An observer of a search about some properties, which are answered one after another. It is told how far the search is,
-/// and may stop it.
+/// An observer of a search about some properties, which are answered one after another. It is told how far the search
+/// is, and may stop it.
 pub trait Observer {
     /// This happened.
     fn note(&mut self, event: Event<'_>) -> ControlFlow<()>;

@@ -1,4 +1,5 @@
-//! What IC3 says, alone and by turns with bounded model checking and induction, and of which slices an observer is told.
+//! What IC3 says, alone and by turns with bounded model checking and induction, and of which slices an observer is
+//! told.
 
 use crate::small::{SHIFTER, made, register};
 use crate::stopper::Stopper;

@@ -21,8 +21,8 @@ pub enum Means {
 }
 
 /// The longer circuit that is made by these means, and its one bad literal: if this is never true, the fairness
-/// constraints and the literals of the justice property do not all recur on a run. None if one of them is of no variable
-/// of the circuit.
+/// constraints and the literals of the justice property do not all recur on a run. None if one of them is of no
+/// variable of the circuit.
 ///
 /// # Errors
 /// Those of `counting`, or of `to_safety`.

@@ -82,7 +82,8 @@ impl Activity {
         }
     }
 
-    // Whether only these variables may be decided, among some that were assumed, or all where there is no domain.
+    // Whether these variables may be decided, and no others but some of the last call; or all, where there is no
+    // domain.
     pub(crate) fn is_limited_to(&self, domain: Option<&[u32]>, assumptions: &[Literal]) -> bool {
         match domain {
             Some(domain) => self.domain.is(domain, assumptions),
@@ -99,7 +100,7 @@ impl Activity {
         }
     }
 
-    // Whether a variable may not be assigned above the root, since it is none of the domain.
+    // Whether propagation passes over a variable above the root, since it is none of the domain.
     pub(crate) fn excludes(&self, variable: u32) -> bool {
         self.domain.excludes(variable)
     }

@@ -23,7 +23,8 @@ fn level_to_keep(trail: &Trail, assumptions: &[Literal]) -> usize {
 }
 
 // Keeps the trail of the last call as far as it may stay, and watches the clauses that are new. False where the call
-// has to begin at the root: the first assumption or the domain is another, or a clause is falsified at the root.
+// has to begin at the root: the first assumption or the domain is another, nothing was decided, a model was reopened,
+// or a clause is falsified at the root.
 pub(crate) fn keep_trail(
     kernel: &Kernel,
     state: &mut State,

@@ -310,8 +310,9 @@ impl Search {
     }
 
     /// Begins a call: it watches the clauses that are new to it, and backtracks no farther than it has to. The levels
-    /// of the last call stay, as far as their decisions are the first assumptions in their order and the domain has the
-    /// same variables; and all levels where no assumption is left.
+    /// of the last call stay, as far as their decisions are the first assumptions in their order, and all levels where
+    /// no assumption is left, if the domain has as many variables, each of which could be decided in the last call:
+    /// then those of the last call may be decided still.
     ///
     /// # Errors
     /// `AllocError` where memory is refused. The search forgets what it knows of the clauses.

@@ -215,8 +215,9 @@ impl Solver {
     /// Finds out what [`Solver::solve_under`] does, and gives up once its budget is spent, also where no conflict is
     /// met. Nothing is proved of the propagations.
     ///
-    /// The next call goes on where this one gave up, if it has the same assumptions. Else a budget of fewer
-    /// propagations than there are variables may be too small to meet a conflict or a model.
+    /// The next call goes on where this one gave up, if it has the same assumptions, and neither frees clauses nor
+    /// eliminates variables. Else a budget of fewer propagations than there are variables may be too small to meet a
+    /// conflict or a model.
     ///
     /// # Errors
     /// `AllocError` where memory is refused. The formula stays as it was; some clauses may have been learned.
@@ -271,7 +272,8 @@ impl Solver {
     /// At `Sat` each variable of the domain has a value, and propagation within the domain met no conflict. These
     /// values can be extended to a model if the domain is closed, as that of a circuit's gates is with all that they
     /// read: nothing is proved of it. What is assumed counts as of the domain. A number of the domain that the formula
-    /// and the assumptions don't have is passed over.
+    /// and the assumptions don't have is passed over. Variables of the last call's domain and assumptions may be
+    /// decided too.
     ///
     /// # Errors
     /// Those of [`Solver::guess_under`].
@@ -340,7 +342,7 @@ impl Solver {
         }
     }
 
-    // Searches from the root until there is an end, or so many clauses were learned: no end then.
+    // Begins a call, and searches until there is an end, or so many clauses were learned: no end then.
     pub(crate) fn find<P: Progress>(
         &mut self,
         query: &Query<'_>,
