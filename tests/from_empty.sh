@@ -2,7 +2,7 @@
 # Tries what docs/ELSEWHERE.md says of a repository that takes the heap or the solver: makes an empty one with the
 # folders and the lines of crates.txt that are named there and no others, and writes a caller of each. They are built and
 # run with no proof, since the gate proves all that is copied here, from the same sources and under the same lines: the
-# libraries, and the heap's caller as a module of giputils_heap_trials.
+# libraries, and the heap's caller as a module of giputils_trials.
 # The last line is 'N passed, M failed'.
 set -u
 # shellcheck source=tests/usage.sh
@@ -20,7 +20,7 @@ for crate in giputils_vec giputils_bounded giputils_heap gipsat_cnf gipsat_kerne
 done
 printf '%s\n' 'heap_caller: giputils_heap' 'solver_caller: gipsat_solver' >> crates.txt
 mkdir -p crates/heap_caller/src crates/solver_caller/src
-cp "$here/crates/giputils_heap_trials/src/caller.rt" crates/heap_caller/src || exit 2
+cp "$here/crates/giputils_trials/src/heap/caller.rt" crates/heap_caller/src || exit 2
 cat > crates/heap_caller/src/main.rt << 'END'
 //! A caller of the heap.
 #![tactic(auto)]

@@ -52,7 +52,7 @@ import textwrap
 ROOT = pathlib.Path(__file__).resolve().parent.parent
 CRATES = ROOT / "crates"
 NAMES = ROOT / "tests/names.txt"
-GATHERED = tuple(f"giputils_{part}" for part in "bits bits_run bounded hash heap index stat vec".split())
+GATHERED = tuple(f"giputils_{part}" for part in "bits bounded hash heap index stat vec".split())
 SOLVER, WITH_SOLVER = "gipsat_solver", ", with a solver"
 WIDTH = 120
 LINES = 80
@@ -61,13 +61,11 @@ EXAMPLE, DIFFERS, CHOICES, COST = "## Example", PEER + "the Rust crate", "## Cho
 ALL = (EXAMPLE, DIFFERS, PROVED, TESTED, CHOICES, COST)
 # What the READMEs of crates have, besides a heading. Those of other crates may have any parts.
 PARTS = {
-    "giputils": (EXAMPLE, DIFFERS),
-    "giputils_base": ALL,
+    "giputils": (EXAMPLE, DIFFERS, PROVED, TESTED, COST),
     "giputils_vec": ALL,
     "giputils_hash": (EXAMPLE, DIFFERS, PROVED, TESTED, COST),
     "giputils_index": ALL,
     "giputils_bits": ALL,
-    "giputils_bits_run": (PROVED, TESTED, CHOICES),
     "giputils_bounded": ALL,
     "giputils_heap": ALL,
     "giputils_stat": ALL,

@@ -18,7 +18,7 @@ pub use Rattle.giputils_bits.proofs.Taken
 pub use Rattle.giputils_bits.proofs.TruePlaces
 pub use Rattle.giputils_bits.proofs.Walks
 pub use Rattle.giputils_bits.proofs.Words
-pub use Rattle.giputils_bits_run.proofs.Runs as BitRuns
+pub use Rattle.giputils_bits.proofs.Runs as BitRuns
 pub use Rattle.giputils_heap.proofs.CallBounds
 pub use Rattle.giputils_heap.proofs.ComparerOrders
 pub use Rattle.giputils_bounded.proofs.BoolsAndLists

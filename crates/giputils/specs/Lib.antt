@@ -18,7 +18,7 @@ pub use Rattle.giputils_bits.specs.Ones
 pub use Rattle.giputils_bits.specs.Ordered
 pub use Rattle.giputils_bits.specs.Tables
 pub use Rattle.giputils_bits.specs.Text
-pub use Rattle.giputils_bits_run.specs.BitRun
+pub use Rattle.giputils_bits.specs.BitRun
 pub use Rattle.giputils_bounded.specs.Bounded
 pub use Rattle.giputils_bounded.specs.Bounds
 pub use Rattle.giputils_bounded.specs.Calls

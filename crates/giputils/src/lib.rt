@@ -1,11 +1,15 @@
 //! Containers for solvers, model checkers, simulators and schedulers, under the module names of the crate giputils.
 //!
-//! This crate has no code of its own: it gathers the crates beside it.
+//! This crate has one container of its own, a shared value, and gathers the crates beside it.
 #![tactic(auto)]
 
-pub use giputils_base::others::{OptionU8, OptionU32};
-pub use giputils_base::{allocator, grc, gvec, hash, others};
+pub mod grc;
+
+pub use giputils_hash::hash;
+pub use giputils_index::allocator;
 pub use giputils_stat::{decimal, logger, statistic};
+pub use giputils_vec::others::{OptionU8, OptionU32};
+pub use giputils_vec::{gvec, others};
 
 /// A vector of bits, and lists of calls on it.
 pub mod bitvec {
@@ -13,7 +17,7 @@ pub mod bitvec {
         BitVec, BitVecError, Hex, IntoIter, Iter, Ones, binary_texts_tell, de_morgan, double_not,
         hex_texts_do_not_tell, xor_with_itself,
     };
-    pub use giputils_bits_run::{BitCall, BitReply, bit_run};
+    pub use giputils_bits::run::{BitCall, BitReply, bit_run};
 }
 
 /// A set of small keys that gives up a greatest one and repairs a changed one, lent its comparer at each call; and one

@@ -1,6 +1,6 @@
 -- What a round of the workload keeps.
 use Rattle.std.specs.Prelude.{◌≡◌, ℕ, ◌<◌, Bool, List, length, Some, All, nat_eq}
-use Rattle.giputils_base.specs.Hash.{get}
+use Rattle.giputils_hash.specs.Hash.{get}
 
 -- each index is one of the allocator's
 abbrev pub AreIndexes : {T : Type 0} → List (T × Bool) → List ℕ → Type 0

@@ -3,8 +3,8 @@ ghost use Rattle.std.specs.Prelude.{◌≡◌, length, OnOk, IfOk};
 ghost use Rattle.giputils_bench.specs.Galloc.{AreIndexes, LeadsTo};
 
 use crate::common::{Checksum, Generator};
-use giputils_base::allocator::{Gallocator, rename};
-use giputils_base::hash::GHashMap;
+use giputils_hash::hash::GHashMap;
+use giputils_index::allocator::{Gallocator, rename};
 use std::alloc::{AllocError, Global};
 
 // How often values are allocated and collected again.

@@ -16,8 +16,11 @@ mod Overlaid
 mod Parsed
 mod Patterns
 mod Places
+mod Replies
 mod Rewritten
 pub mod Rows
+mod RunExamples
+pub mod Runs
 mod SameWords
 pub mod Sets
 pub mod Tables
@@ -26,6 +29,6 @@ mod Text
 pub mod TruePlaces
 pub mod Walks
 pub mod Words
-mod Written
 mod Writes
+mod Written
 mod ZeroWords

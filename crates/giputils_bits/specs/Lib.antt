@@ -1,3 +1,4 @@
+pub mod BitRun
 pub mod Bits
 pub mod Error
 pub mod Extended

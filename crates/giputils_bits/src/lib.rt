@@ -2,3 +2,4 @@
 #![tactic(auto)]
 
 pub mod bitvec;
+pub mod run;

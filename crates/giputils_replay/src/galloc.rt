@@ -5,8 +5,8 @@
 
 use crate::calls::Call;
 use crate::replies::Replies;
-use giputils_base::allocator::{GallocCall, GallocReply, galloc_run};
-use giputils_base::hash::GHashMap;
+use giputils_hash::hash::GHashMap;
+use giputils_index::allocator::{GallocCall, GallocReply, galloc_run};
 use std::alloc::{AllocError, Global};
 
 /// Makes the calls on an allocator of no slots.

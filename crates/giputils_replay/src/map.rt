@@ -5,11 +5,11 @@
 //!   1 to a value, and tells whether there is one.
 //! - `pairs` gives all pairs by rising key, and leaves the map empty; `text` gives the map's text.
 ghost use Rattle.std.specs.Prelude.{◌≡◌, ◌≢◌, ℕ, Some, None, nat_eq, IfOk, OnOk, OnErr};
-ghost use Rattle.giputils_base.specs.Hash.{get};
+ghost use Rattle.giputils_hash.specs.Hash.{get};
 
 use crate::calls::Call;
 use crate::replies::Replies;
-use giputils_base::hash::GHashMap;
+use giputils_hash::hash::GHashMap;
 use std::alloc::{AllocError, Global};
 use std::mem;
 

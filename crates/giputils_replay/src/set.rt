@@ -6,11 +6,11 @@
 //!   clone's text.
 //! - `members` gives all members in rising order, and leaves the set empty; `text` gives the set's text.
 ghost use Rattle.std.specs.Prelude.{◌≡◌, ◌≢◌, nat_eq, true, false, OnOk};
-ghost use Rattle.giputils_base.specs.Hash.{contains};
+ghost use Rattle.giputils_hash.specs.Hash.{contains};
 
 use crate::calls::Call;
 use crate::replies::Replies;
-use giputils_base::hash::GHashSet;
+use giputils_hash::hash::GHashSet;
 use std::alloc::{AllocError, Global};
 use std::mem;
 

@@ -8,11 +8,11 @@
 //! - `gc_table` gives the new index of each old one.
 //! - `items` gives the live values with their indexes, and `text` the text of the allocator.
 ghost use Rattle.std.specs.Prelude.{◌≡◌, ◌<◌, [], ◌∷◌, ◌++◌, false, Some, length, IfOk};
-ghost use Rattle.giputils_base.specs.Allocator.{value_at, write, live_slots};
+ghost use Rattle.giputils_index.specs.Allocator.{value_at, write, live_slots};
 
 use crate::calls::Call;
 use crate::replies::Replies;
-use giputils_base::allocator::Gallocator;
+use giputils_index::allocator::Gallocator;
 use std::alloc::{AllocError, Global};
 use std::mem;
 

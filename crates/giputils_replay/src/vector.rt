@@ -10,7 +10,7 @@ ghost use Rattle.std.specs.Prelude.{◌≡◌, ◌+◌, ◌<◌, [], length, sli
 
 use crate::calls::Call;
 use crate::replies::Replies;
-use giputils_base::gvec::Gvec;
+use giputils_vec::gvec::Gvec;
 use std::alloc::{AllocError, Allocator, Global};
 
 /// Makes the calls on a vector of no items.

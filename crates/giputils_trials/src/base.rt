@@ -1,4 +1,4 @@
-//! All tests of `giputils_vec`, `giputils_hash`, `giputils_index` and `giputils_base`, and those of `giputils_stat` that
+//! All tests of `giputils_vec`, `giputils_hash`, `giputils_index` and `grc`, and those of `giputils_stat` that
 //! no list of `giputils_replay` holds: worked examples of their calls, and tests in which they are refused memory.
 mod bounds;
 mod hashed;

@@ -1,6 +1,6 @@
 //! Hashed sets and maps.
 
-use giputils_base::hash::{GHashMap, GHashSet};
+use giputils_hash::hash::{GHashMap, GHashSet};
 use giputils_refusing::Refusing;
 use std::alloc::AllocError;
 use std::ops::{Deref, DerefMut};

@@ -1,8 +1,8 @@
 //! Allocators of indexes, and lists of their calls.
 
-use giputils_base::allocator::{GallocCall, GallocElem, GallocReply, Gallocator, galloc_run};
-use giputils_base::gvec::Gvec;
+use giputils_index::allocator::{GallocCall, GallocElem, GallocReply, Gallocator, galloc_run};
 use giputils_refusing::Refusing;
+use giputils_vec::gvec::Gvec;
 use std::alloc::{AllocError, Global};
 use std::ops::{Deref, DerefMut};
 use std::process::Abort;

@@ -1,8 +1,8 @@
 //! Vectors and shared values.
 
-use giputils_base::grc::Grc;
-use giputils_base::gvec::Gvec;
+use giputils::grc::Grc;
 use giputils_refusing::Refusing;
+use giputils_vec::gvec::Gvec;
 use std::alloc::AllocError;
 use std::ops::{Deref, DerefMut};
 use std::test::Fail;

@@ -1,8 +1,8 @@
 //! Option numbers: what callers learn through the clauses, and the calls once each.
 ghost use Rattle.std.specs.Prelude.{◌≡◌, ◌<◌, Some, None};
-ghost use Rattle.giputils_base.specs.Others.{option_u8, option_u32, option_of};
+ghost use Rattle.giputils_vec.specs.Others.{option_u8, option_u32, option_of};
 
-use giputils_base::others::{OptionU8, OptionU32};
+use giputils_vec::others::{OptionU8, OptionU32};
 use std::test::Fail;
 
 fn write(o: &mut OptionU8, n: u8)

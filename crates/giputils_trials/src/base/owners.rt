@@ -1,7 +1,7 @@
 //! Shared values: what callers learn through the clauses, and the calls once each.
 ghost use Rattle.std.specs.Prelude.{◌≡◌, IfOk};
 
-use giputils_base::grc::Grc;
+use giputils::grc::Grc;
 use std::alloc::{AllocError, Global};
 use std::test::Fail;
 

@@ -1,7 +1,7 @@
 //! Elements of an index allocator, and lists of indexes that are renamed.
 ghost use Rattle.std.specs.Prelude.{◌≡◌};
 
-use giputils_base::allocator::{GallocElem, rename};
+use giputils_index::allocator::{GallocElem, rename};
 use giputils_refusing::Refusing;
 use std::alloc::AllocError;
 

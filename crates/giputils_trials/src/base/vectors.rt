@@ -1,7 +1,7 @@
 //! Vectors: items that are pushed or collected, reads and writes by three types of indexes, and vectors that are drawn.
 ghost use Rattle.std.specs.Prelude.{◌≡◌, ◌++◌, ◌∷◌, [], length, OnOk, IfOk};
 
-use giputils_base::gvec::Gvec;
+use giputils_vec::gvec::Gvec;
 use rand_core::Rng;
 use rand_pcg::Pcg32;
 use std::alloc::{AllocError, Allocator, Global};

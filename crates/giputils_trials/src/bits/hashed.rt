@@ -1,7 +1,7 @@
 //! What a vector feeds a hasher, and vectors in a set.
 
-use giputils_base::hash::GHashSet;
 use giputils_bits::bitvec::{BitVec, BitVecError};
+use giputils_hash::hash::GHashSet;
 use std::alloc::Global;
 use std::hash::{DefaultHasher, Hash, Hasher};
 use std::test::Fail;

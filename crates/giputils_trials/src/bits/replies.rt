@@ -1,7 +1,7 @@
 //! The replies of runs.
 
 use giputils_bits::bitvec::{BitVec, BitVecError};
-use giputils_bits_run::{BitCall, BitReply, bit_run};
+use giputils_bits::run::{BitCall, BitReply, bit_run};
 use std::alloc::Global;
 use std::test::Fail;
 

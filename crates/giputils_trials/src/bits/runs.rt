@@ -1,7 +1,7 @@
 //! Runs of calls that are refused memory.
 
 use giputils_bits::bitvec::BitVecError;
-use giputils_bits_run::{BitCall, BitReply, bit_run};
+use giputils_bits::run::{BitCall, BitReply, bit_run};
 use giputils_refusing::{Refusing, refuse_from_each};
 
 fn growing_calls(items: &[bool]) -> [BitCall<'_>; 6] {

@@ -1,3 +1,0 @@
-mod Examples
-mod Replies
-pub mod Runs
