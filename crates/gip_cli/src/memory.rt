@@ -23,6 +23,14 @@ impl Peak {
             Err(_) => Peak(None),
         }
     }
+
+    /// Whether it is so many megabytes, of 2^20 bytes, or more. It is not where it is not known.
+    pub fn reaches(self, megabytes: usize) -> bool {
+        match self.0 {
+            Some(kilobytes) => kilobytes / 1024 >= megabytes as u64,
+            None => false,
+        }
+    }
 }
 
 // The number of kilobytes behind `VmHWM:` in the system's text on a process.
