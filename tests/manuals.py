@@ -1,17 +1,16 @@
 #!/usr/bin/env python3
-"""Compares the manual pages and the bash completions with the help of the programs, and ends with 'N passed, M failed'.
+"""Makes the manual pages and the bash completions of the programs, tests them, and ends with 'N passed, M failed'.
 
-    tests/manuals.py            compares, and tries the examples, tools/install and tools/package
-    tests/manuals.py --write    writes them anew; a page that changes gets the date of the day
+    tests/manuals.py                   tests them, and tries their examples, tools/install and tools/package
+    tests/manuals.py --write FOLDER    writes those of the programs that are built, as tools/install does
 
-What a program tells by --help is made into crates/NAME/man/NAME.1 and crates/NAME/man/NAME.bash, and what the README of gip
-says into a page of gip. Where a program is not built, `rt try` runs it, and nothing else is tried. The help has this form: lines of usage; paragraphs on the program;
-sections, each a title with a colon and the options below it, whose texts begin in column 25; more paragraphs; one that
-begins with `Exit status: `. No line has more than 80 columns.
+What a program tells by --help is made into NAME.1 and NAME.bash, and what the README of gip says into a page of gip.
+Where a program is not built, `rt try` runs it, and neither examples nor tools are tried. The help has this form: lines
+of usage; paragraphs on the program; sections, each a title with a colon and the options below it, whose texts begin in
+column 25; more paragraphs; one that begins with `Exit status: `. No line has more than 80 columns.
 """
 
 import argparse
-import datetime
 import lzma
 import os
 import pathlib
@@ -58,10 +57,10 @@ FILES = {
     "circuit.aig": b"aag 3 0 2 0 1 1\n2 4\n4 2\n6\n6 4 2\n",
 }
 SEE_ALSO = {"gip": "gipsat gipmc", "gipsat": "gip gipmc", "gipmc": "gip gipsat yosys gtkwave"}
-# The heading of a page, whose date is that of its last change.
-HEADING = re.compile(r'^(\.TH \S+ 1 )"(\d{4}-\d\d-\d\d)?"', re.MULTILINE)
 COLUMN = 24
 WIDTH = 80
+# The day on which an option or a program's help last changed: pages made on two days are the same.
+DATE = "2026-11-29"
 
 
 class Option:
@@ -131,7 +130,7 @@ def ends(name):
 
 
 def manual(name, version, told):
-    lines = [f'.\\" Made by tests/manuals.py from the help of {name}.', f'.TH {name.upper()} 1 "" "{version}"']
+    lines = [f'.\\" Made by tests/manuals.py from the help of {name}.', f'.TH {name.upper()} 1 "{DATE}" "{version}"']
     lines += [".SH NAME", f"{name} \\- {PROGRAMS[name]}", ".SH SYNOPSIS"]
     lines += [line for usage in told.usage for line in (f".B {roff(usage)}", ".br")][:-1]
     lines += [".SH DESCRIPTION"]
@@ -155,7 +154,7 @@ def manual_of_gip():
         return roff(re.sub(r"\[([^]]*)\]\([^)]*\)", r"\1", " ".join(found.split("\n"))))
 
     rows = [row.strip("|").split("|") for row in next(b for b in blocks if b.startswith("| Line |")).split("\n")[2:]]
-    lines = ['.\\" Made by tests/manuals.py from the README of gip.', '.TH GIP 1 "" "giputils"']
+    lines = ['.\\" Made by tests/manuals.py from the README of gip.', f'.TH GIP 1 "{DATE}" "giputils"']
     lines += [".SH NAME", f"gip \\- {GIP}", ".SH SYNOPSIS", ".B gip [bits]", ".SH DESCRIPTION"]
     lines += [roff("Reads lines from standard input, and writes a reply to each. Without an argument a line is a call on a heap:")]
     for line, effect, reply in rows:
@@ -218,42 +217,42 @@ def faults_of_questions(name, told):
 
 
 def made(name):
-    """The texts of a program's files, and its help."""
-    text, version = told_by(name, "--help"), told_by(name, "--version").strip()
-    told = Help(text)
-    return {f"{name}.1": manual(name, version, told), f"{name}.bash": completion(name, told)}, text
+    """The texts of a program's files by their names."""
+    if name not in PROGRAMS:
+        return {f"{name}.1": manual_of_gip()}
+    told = Help(told_by(name, "--help"))
+    return {f"{name}.1": manual(name, told_by(name, "--version").strip(), told), f"{name}.bash": completion(name, told)}
 
 
-def undated(text):
-    return HEADING.sub(r'\1""', text)
+def write(folder, names):
+    folder.mkdir(parents=True, exist_ok=True)
+    for file, text in (file for name in names for file in made(name).items()):
+        (folder / file).write_text(text)
 
 
-def faults_of_page(name, wanted):
-    """What is wrong with a manual page: its text, its date, and what a formatter says of it."""
-    path = ROOT / "crates" / name / "man" / f"{name}.1"
-    text = path.read_text() if path.is_file() else ""
-    yield "" if undated(text) == wanted else f"{path.relative_to(ROOT)}: not as it is made: tests/manuals.py --write"
-    heading = HEADING.search(text)
-    yield "" if heading and heading[2] else f"{path.relative_to(ROOT)}: no date"
+def faults_of_page(path, wanted):
+    """What a formatter says of a manual page, and which of these words it does not show."""
     if shutil.which("groff"):
-        told = subprocess.run(["groff", "-man", "-ww", "-z", "-Tutf8", path], capture_output=True, text=True)
-        yield f"{path.relative_to(ROOT)}: {told.stderr}" if told.stderr else ""
+        told = run("groff", "-man", "-ww", "-Tascii", "-P-cbou", path)
+        yield f"{path.name}: {told.stderr}" if told.stderr else ""
+        shown = " ".join(told.stdout.split())
+        for words in wanted:
+            yield "" if words in shown else f"{path.name}: it does not show {words}"
 
 
-def faults_of(name):
-    """What is wrong with a program's files. Each is a text, or empty where all is well."""
-    texts, text = made(name)
+def faults_of(name, folder):
+    """What is wrong with a program's files in a folder. Each is a text, or empty where all is well."""
+    text = told_by(name, "--help")
+    told = Help(text)
     for line in text.split("\n"):
         yield f"{name} --help: too wide: {line}" if len(line) > WIDTH else ""
-    yield from faults_of_questions(name, Help(text))
-    yield from faults_of_page(name, texts[f"{name}.1"])
-    path = ROOT / "crates" / name / "man" / f"{name}.bash"
-    is_well = path.is_file() and path.read_text() == texts[f"{name}.bash"]
-    yield "" if is_well else f"{path.relative_to(ROOT)}: not as the help says: tests/manuals.py --write"
-    for before, word, wanted in COMPLETED[name]:
-        names = subprocess.run(
-            ["bash", "-c", f'source "$1"; COMP_WORDS=({name} {before} {word}); COMP_CWORD={len(before.split()) + 1}; _{name}; '
-             'echo "${COMPREPLY[*]}"', "bash", ROOT / "crates" / name / "man" / f"{name}.bash"], capture_output=True, text=True)
+    yield from faults_of_questions(name, told)
+    yield from faults_of_page(folder / f"{name}.1", (option.written for _, found in told.sections for option in found))
+    completed = [*COMPLETED[name], *(("", begun, [o for o in told.names() if o.startswith(begun)]) for begun in told.names())]
+    completed += [(option, word, [word]) for option, words in choices_of(name, told) for word in words]
+    for before, word, wanted in completed:
+        names = run("bash", "-c", f'source "$1"; COMP_WORDS=({name} {before} {word}); COMP_CWORD={len(before.split()) + 1}; '
+                    f'_{name}; printf "%s\\n" "${{COMPREPLY[*]}}"', "bash", folder / f"{name}.bash")
         is_well = names.stdout.split() == wanted and not names.stderr
         yield "" if is_well else f"{name}.bash: it completes {before} {word} so: {names.stdout}{names.stderr}"
 
@@ -292,10 +291,11 @@ def faults_of_install(programs):
     for built in (programs, programs[:1], []):
         with tempfile.TemporaryDirectory() as room:
             top, prefix = pathlib.Path(room), pathlib.Path(room) / "prefix"
-            for file in ("tools/install", "tests/usage.sh", *(f"crates/{name}/man" for name in programs)):
+            for file in ("tools/install", "tests/usage.sh", "tests/manuals.py", "crates/gip/README.md"):
                 (top / file).parent.mkdir(parents=True, exist_ok=True)
-                (top / file).symlink_to(ROOT / file)
+                shutil.copy(ROOT / file, top / file)
             for name in built:
+                (top / "crates" / name).mkdir(exist_ok=True)
                 (top / "crates" / name / "out").symlink_to(ROOT / "crates" / name / "out")
             told = run(top / "tools" / "install", prefix)
             left_out = re.findall(r"^tools/install: (\w+) is left out, since it is not built", told.stderr, re.MULTILINE)
@@ -333,23 +333,19 @@ def faults_of_package(programs):
             yield "" if is_well else f"tools/package: gipsat, where /opt is hidden: {told.stdout}{told.stderr}"
 
 
-def write():
-    for name in EXAMPLES:
-        folder = ROOT / "crates" / name / "man"
-        folder.mkdir(exist_ok=True)
-        for file, text in (made(name)[0] if name in PROGRAMS else {"gip.1": manual_of_gip()}).items():
-            path = folder / file
-            if not path.is_file() or undated(path.read_text()) != text:
-                path.write_text(HEADING.sub(rf'\1"{datetime.date.today()}"', text))
-
-
 def main():
     parser = argparse.ArgumentParser(description=__doc__, formatter_class=argparse.RawDescriptionHelpFormatter)
-    parser.add_argument("--write", action="store_true", help="write them anew")
-    if parser.parse_args().write:
-        write()
-    faults = [fault for name in PROGRAMS for fault in faults_of(name)] + [*faults_of_page("gip", manual_of_gip())]
+    parser.add_argument("--write", metavar="FOLDER", type=pathlib.Path, help="write those of the programs that are built")
+    folder = parser.parse_args().write
     built = [name for name in EXAMPLES if (ROOT / "crates" / name / "out" / name).is_file()]
+    if folder:
+        write(folder, built)
+        return 0
+    with tempfile.TemporaryDirectory() as room:
+        folder = pathlib.Path(room)
+        write(folder, EXAMPLES)
+        faults = [fault for name in PROGRAMS for fault in faults_of(name, folder)]
+        faults += faults_of_page(folder / "gip.1", ["push 3"])
     if built:
         faults += [*faults_of_examples(built), *faults_of_install(built), *faults_of_package(built)]
     else:
