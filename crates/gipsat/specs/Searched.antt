@@ -1,6 +1,6 @@
 -- What the options say of a search and of the form of its proof.
-use Rattle.std.specs.Prelude.{◌&&◌, ℕ, List, Bool, codes, if◌then◌else◌, not}
-use Rattle.gip_cli.specs.Asked.{has}
+use Rattle.std.specs.Prelude.{◌&&◌, is_some, ℕ, List, Bool, codes, if◌then◌else◌, not}
+use Rattle.gip_cli.specs.Asked.{has, number}
 use Rattle.gipsat_command.specs.Options.{said_of}
 use Rattle.gipsat_command.specs.declared.options.Options.{Options}
 use Rattle.gipsat_drat_writer.specs.declared.writer.Form.{Form}
@@ -11,6 +11,14 @@ use Rattle.gipsat_drat_writer.specs.declared.writer.Format.TheVariants.{Binary, 
 -- a switch is given
 abbrev pub is_given : List ℕ → Options → Bool
 is_given name o = has name (said_of o)
+
+-- the option is given with a number
+abbrev pub is_numbered : List ℕ → Options → Bool
+is_numbered name o = is_some (number name (said_of o))
+
+-- a limit is given at which the search is stopped
+abbrev pub has_limit : Options → Bool
+has_limit o = is_numbered (codes "--time") o
 
 -- variables are eliminated
 abbrev pub eliminates : Options → Bool

@@ -1,5 +1,5 @@
 //! From a formula's bytes to several models of it.
-ghost use Rattle.std.specs.Prelude.{◌≡◌, ◌≤◌, ℕ, is_some, IfOk, IsErrOf, IsTrue, OnOk};
+ghost use Rattle.std.specs.Prelude.{◌≡◌, ◌≤◌, ℕ, IfOk, IsErrOf, IsTrue, OnOk};
 ghost use Rattle.std.specs.Option.{option_map};
 ghost use Rattle.std.specs.Io.KnownBytes.{IsAtEnd};
 ghost use Rattle.gipsat_cnf.specs.Lists.{AreAllBelow};
@@ -8,9 +8,10 @@ ghost use Rattle.gipsat_answers.specs.Assumed.{assuming};
 ghost use Rattle.gipsat_answers.specs.Enumeration.{Extends, IsOpen, IsRightVerdict, WritesModels};
 ghost use Rattle.gipsat_dimacs.specs.Inputs.{HasForm, IsRefusedAt, OfProblem, WritesNone};
 ghost use Rattle.gipsat.specs.Models.{projection_of};
+ghost use Rattle.gipsat.specs.Searched.{has_limit};
 
 use crate::solve::{ListOption, SolveError, read_assuming};
-use crate::watch::{TimeLimit, Watch};
+use crate::watch::{Limits, Watch};
 use gipsat_answers::{Enumerated, Models, are_named, first_variables, write_models};
 use gipsat_cnf::{Cnf, Literal};
 use gipsat_command::Options;
@@ -43,7 +44,7 @@ pub fn enumerate<'a, R: Read, W: Write>(
     ensures written { IfOk result (λ told. OfProblem options.now.rule (R.remaining reader.old) (λ problem.
         WritesModels options.now.witness
         (projection_of (option_map (λ literals. literals.now) wanted.entry.projection) problem.variables)
-        (IsOpen options.now.conflicts told.solver.learned (is_some options.now.time)) wanted.entry.count
+        (IsOpen options.now.conflicts told.solver.learned (has_limit options.now)) wanted.entry.count
         (assuming wanted.entry.assumed.now problem) (W.contents writer.old) (W.contents writer.new))) }
     ensures verdict { IfOk result (λ told. OfProblem options.now.rule (R.remaining reader.old) (λ problem.
         IsRightVerdict (assuming wanted.entry.assumed.now problem) told.verdict)) }
@@ -91,7 +92,7 @@ fn projection<'a>(
     Ok(literals)
 }
 
-// Writes models of a formula that was read, within the time that the options allow.
+// Writes models of a formula that was read, within the limits that the options set.
 fn write_in_time<'a, W: Write>(
     rt: &HostRuntime,
     options: &Options,
@@ -101,7 +102,7 @@ fn write_in_time<'a, W: Write>(
     writer: &mut W,
 ) -> Result<Enumerated, SolveError<'a>>
     ensures written { IfOk result (λ told. WritesModels models.entry.witness models.entry.projection.now
-        (IsOpen models.entry.limit told.solver.learned (is_some options.now.time))
+        (IsOpen models.entry.limit told.solver.learned (has_limit options.now))
         models.entry.count (problem_of instance.variables instance.clauses)
         (W.contents writer.old) (W.contents writer.new)) }
     ensures verdict { IfOk result (λ told.
@@ -111,15 +112,14 @@ fn write_in_time<'a, W: Write>(
     ensures other { (line : ℕ) (reason : Reason) →
         ¬ (IsErrOf result (SolveError.Task (DimacsError.Line line reason))) }
 {
-    match options.time {
+    match Limits::asked(&watch, options) {
         None => Ok(write_told(rt, instance, models, watch, writer)?.enumerated),
-        Some(seconds) => {
-            let limit = TimeLimit::new(&watch, seconds);
-            let timed = Both {
+        Some(limits) => {
+            let limited = Both {
                 first: watch,
-                second: limit,
+                second: limits,
             };
-            Ok(write_told(rt, instance, models, timed, writer)?.enumerated)
+            Ok(write_told(rt, instance, models, limited, writer)?.enumerated)
         }
     }
 }

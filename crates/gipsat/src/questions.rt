@@ -1,17 +1,18 @@
 //! From the bytes of an incremental text to those of its answers.
-ghost use Rattle.std.specs.Prelude.{is_some, IfOk, IsTrue, OnOk};
+ghost use Rattle.std.specs.Prelude.{IfOk, IsTrue, OnOk};
 ghost use Rattle.std.specs.Io.KnownBytes.{IsAtEnd};
 ghost use Rattle.gipsat_answers.specs.Questions.{AreAskedOf, AsksQuestions, IsRightOfAll, OfQuestions, WritesReplies};
+ghost use Rattle.gipsat.specs.Searched.{has_limit};
 
 use crate::solve::task_of;
-use crate::watch::{TimeLimit, Watch};
+use crate::watch::{Limits, Watch};
 use gipsat_answers::{QuestionsError, Replies, answer_questions};
 use gipsat_command::Options;
 use gipsat_solver::progress::Both;
 use std::io::{Read, Write};
 
-/// Answers the questions of a text in order: each within as many conflicts as the options allow, and all within their
-/// time.
+/// Answers the questions of a text in order: each within as many conflicts as the options allow, and all within
+/// their other limits.
 pub fn answer<R: Read, W: Write>(
     rt: &HostRuntime,
     options: &Options,
@@ -26,19 +27,18 @@ pub fn answer<R: Read, W: Write>(
     ensures verdict { IfOk result (λ told. OfQuestions (R.remaining reader.old) (λ questions.
         IsRightOfAll questions told.verdict)) }
     ensures formula { IfOk result (λ told. OfQuestions (R.remaining reader.old) (AreAskedOf told.solver.formula)) }
-    ensures stopped { IfOk result (λ told. IsTrue told.is_stopped → IsTrue (is_some options.now.time)) }
+    ensures stopped { IfOk result (λ told. IsTrue told.is_stopped → IsTrue (has_limit options.now)) }
 {
     let mut watch = Watch::new(rt, options)?;
     let task = task_of(options);
-    match options.time {
+    match Limits::asked(&watch, options) {
         None => answer_questions(rt.alloc(), reader, writer, task, &mut watch),
-        Some(seconds) => {
-            let limit = TimeLimit::new(&watch, seconds);
-            let mut timed = Both {
+        Some(limits) => {
+            let mut limited = Both {
                 first: watch,
-                second: limit,
+                second: limits,
             };
-            answer_questions(rt.alloc(), reader, writer, task, &mut timed)
+            answer_questions(rt.alloc(), reader, writer, task, &mut limited)
         }
     }
 }

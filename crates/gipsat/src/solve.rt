@@ -1,5 +1,5 @@
 //! From a formula's bytes to those of its answer, with a proof in a file if one is wanted.
-ghost use Rattle.std.specs.Prelude.{◌≡◌, ◌≢◌, ℕ, is_some, IfOk, IfErr, IsTrue, OnOk, IsErrOf};
+ghost use Rattle.std.specs.Prelude.{◌≡◌, ◌≢◌, ℕ, IfOk, IfErr, IsTrue, OnOk, IsErrOf};
 ghost use Rattle.std.specs.Io.KnownBytes.{IsAtEnd};
 ghost use Rattle.gipsat_cnf.specs.Lists.{AreAllBelow};
 ghost use Rattle.gipsat_answers.specs.Answers.{problem_of, WritesAnswerWith};
@@ -7,10 +7,10 @@ ghost use Rattle.gipsat_answers.specs.Assumed.{assuming};
 ghost use Rattle.gipsat_answers.specs.Names.{formula_of};
 ghost use Rattle.gipsat_dimacs.specs.Inputs.{HasForm, IsRefusedAt, OfProblem, WritesNone};
 ghost use Rattle.gipsat_dimacs.specs.declared.error.DimacsError.TheVariants as dimacs_error;
-ghost use Rattle.gipsat.specs.Searched.{eliminates, form_asked, format_asked, vivifies};
+ghost use Rattle.gipsat.specs.Searched.{has_limit, eliminates, form_asked, format_asked, vivifies};
 ghost use Rattle.gipsat.specs.declared.solve.SolveError.TheVariants as solve_error;
 
-use crate::watch::{TimeLimit, Watch};
+use crate::watch::{Limits, Watch};
 use gip_cli::NewFile;
 use gipsat_answers::{Solved, Task, Verdict, are_named, assume, solve_instance};
 use gipsat_cnf::{Cnf, Literal};
@@ -81,7 +81,7 @@ pub fn solve<'a, R: Read, W: Write>(
         formula_of solved ≡ (assuming assumed.now problem).clauses)) }
     ensures named { OnOk result (OfProblem options.now.rule (R.remaining reader.old) (λ problem.
         AreAllBelow problem.variables (assuming assumed.now problem).clauses)) }
-    ensures stopped { IfOk result (λ solved. solved.verdict ≡ Verdict.Stopped → IsTrue (is_some options.now.time)) }
+    ensures stopped { IfOk result (λ solved. solved.verdict ≡ Verdict.Stopped → IsTrue (has_limit options.now)) }
     ensures line { (line : ℕ) (reason : Reason) → IsErrOf result (SolveError.Task (DimacsError.Line line reason)) →
         WritesNone options.now.rule (R.remaining reader.old) }
     ensures in_line { (line : ℕ) (reason : Reason) → IsErrOf result (SolveError.Task (DimacsError.Line line reason)) →
@@ -170,7 +170,7 @@ fn inprocessing_of(options: &Options) -> Inprocessing
     }
 }
 
-// Solves a formula that was read, within the time that the options allow.
+// Solves a formula that was read, within the limits that the options set.
 fn answer<'a, W: Write>(
     rt: &HostRuntime,
     options: &Options<'a>,
@@ -183,20 +183,19 @@ fn answer<'a, W: Write>(
         (problem_of instance.variables instance.clauses) options.now.conflicts solved
         (W.contents writer.old) (W.contents writer.new)) }
     ensures formula { IfOk result (λ solved. formula_of solved ≡ instance.clauses) }
-    ensures stopped { IfOk result (λ solved. solved.verdict ≡ Verdict.Stopped → IsTrue (is_some options.now.time)) }
+    ensures stopped { IfOk result (λ solved. solved.verdict ≡ Verdict.Stopped → IsTrue (has_limit options.now)) }
     ensures other { (line : ℕ) (reason : Reason) →
         ¬ (IsErrOf result (SolveError.Task (DimacsError.Line line reason))) }
     ensures unwritten { IfErr result (λ error. error ≢ SolveError.Task DimacsError.Output → writer.new ≡ writer.old) }
 {
-    match options.time {
+    match Limits::asked(&watch, options) {
         None => Ok(answer_told(rt, options, instance, proof, watch, writer)?.solved),
-        Some(seconds) => {
-            let limit = TimeLimit::new(&watch, seconds);
-            let timed = Both {
+        Some(limits) => {
+            let limited = Both {
                 first: watch,
-                second: limit,
+                second: limits,
             };
-            Ok(answer_told(rt, options, instance, proof, timed, writer)?.solved)
+            Ok(answer_told(rt, options, instance, proof, limited, writer)?.solved)
         }
     }
 }

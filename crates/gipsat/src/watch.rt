@@ -1,5 +1,6 @@
-//! How far a run is, in lines on standard error, and when its time is over.
-ghost use Rattle.std.specs.Prelude.{◌≡◌, false, IfOk};
+//! How far a run is, in lines on standard error, and when its limits are reached.
+ghost use Rattle.std.specs.Prelude.{◌≡◌, false, is_some, IfOk, IfSome, IsTrue};
+ghost use Rattle.gipsat.specs.Searched.{has_limit};
 ghost use Rattle.gipsat.specs.Watched.{has_stats, is_quiet};
 
 use gip_cli::{Clock, Comments, Peak, Seconds, every_interval};
@@ -215,28 +216,63 @@ impl Progress for Watch<'_> {
     }
 }
 
-/// Stops the search when its time is over.
+/// Stops the search at its limits.
 #[derive(Clone, Copy)]
-pub struct TimeLimit<'a> {
+pub struct Limits<'a> {
     clock: Clock<'a>,
-    limit: Duration,
+    // After how much time, if after any.
+    time: Option<Duration>,
     // Whether the search was stopped.
     is_over: bool,
 }
 
-impl<'a> TimeLimit<'a> {
-    /// So many seconds since the watch began.
-    pub fn new(watch: &Watch<'a>, seconds: u64) -> Self {
-        TimeLimit {
+impl<'a> Limits<'a> {
+    /// Those that are asked for, if any is. The time is over since the watch began.
+    pub fn asked(watch: &Watch<'a>, options: &Options) -> Option<Self>
+        ensures given { IfSome result (λ limits. IsTrue (has_limit options.now)) }
+        ensures heeded { IsTrue (has_limit options.now) → IsTrue (is_some result) }
+    {
+        if !has_limit(options) {
+            return None;
+        }
+        Some(Limits {
             clock: watch.clock,
-            limit: Duration::from_secs(seconds),
+            time: duration(options.number("--time")),
             is_over: false,
+        })
+    }
+
+    // Whether one is reached.
+    fn is_reached(&self) -> bool {
+        self.is_late()
+    }
+
+    // Whether the time is over.
+    fn is_late(&self) -> bool {
+        match self.time {
+            Some(time) => self.clock.now() >= time,
+            None => false,
         }
     }
 }
 
-impl Progress for TimeLimit<'_> {
-    ghost wants_stop = { λ limit. limit.is_over };
+// Whether a limit is given at which the search is stopped.
+fn has_limit(options: &Options) -> bool
+    ensures { result ≡ has_limit options.now }
+{
+    options.number("--time").is_some()
+}
+
+// So many seconds.
+fn duration(seconds: Option<usize>) -> Option<Duration> {
+    match seconds {
+        Some(seconds) => Some(Duration::from_secs(seconds as u64)),
+        None => None,
+    }
+}
+
+impl Progress for Limits<'_> {
+    ghost wants_stop = { λ limits. limits.is_over };
 
     fn wants_chains(&self) -> bool {
         false
@@ -249,7 +285,7 @@ impl Progress for TimeLimit<'_> {
     fn deleted(&mut self, _id: usize, _clause: &[Literal]) {}
 
     fn note(&mut self, _report: Report) -> ControlFlow<()> {
-        if self.clock.now() < self.limit {
+        if !self.is_reached() {
             return ControlFlow::Continue(());
         }
         self.is_over = true;

@@ -2,7 +2,7 @@
 use Rattle.std.proofs.Common.{◌≡◌, ◌^◌, ◌-◌, ℕ, List, [], ◌∷◌, refl, codes, Some, None, Ok, Err, true, false}
 use Rattle.std.proofs.lemmas.Bool.{false≢true}
 use Rattle.std.specs.Prelude.{Option}
-use Rattle.gip_cli.specs.Asked.{has, said_by, word}
+use Rattle.gip_cli.specs.Asked.{has, number, said_by, word}
 use Rattle.gip_cli.specs.Items.{NoNumber, NoOutput, NoValue, Said, UnknownOption}
 use Rattle.gip_cli.specs.declared.items.Info.TheVariants as info
 use Rattle.gipsat_dimacs.specs.declared.rule.HeaderRule.TheVariants.{Relaxed, Strict}
@@ -23,7 +23,6 @@ asked words file = record {
   said = said words;
   file = file;
   conflicts = 2 ^ 64 - 1;
-  time = None;
   witness = true;
   models = None;
   rule = Strict;
@@ -36,8 +35,11 @@ nothing = refl
 abbrev limits : List (List ℕ)
 limits = codes "--conflicts" ∷ codes "7" ∷ codes "-t9" ∷ codes "--proof" ∷ codes "p" ∷ codes "a" ∷ []
 
-limits-asked : work_asked limits ≡ Ok (Solve (record (asked limits (Some (codes "a"))) { conflicts = 7; time = Some 9 }))
+limits-asked : work_asked limits ≡ Ok (Solve (record (asked limits (Some (codes "a"))) { conflicts = 7 }))
 limits-asked = refl
+
+limits-time : number (codes "--time") (said limits) ≡ Some 9
+limits-time = refl
 
 limits-proof : word (codes "--proof") (said limits) ≡ Some (codes "p")
 limits-proof = refl

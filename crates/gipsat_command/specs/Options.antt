@@ -35,14 +35,13 @@ table =
     option.output (codes "--lrat-from-drat") (codes "check") ∷
     []
 
--- what the words say, and of that which file is read, if not standard input, the limits of a search in conflicts and in
--- seconds, whether values are written, how many models, if several, what the counts of the header mean, and whether the
--- file of a proof may take the place of any
+-- what the words say, and of that which file is read, if not standard input, the limit of a search in conflicts,
+-- whether values are written, how many models, if several, what the counts of the header mean, and whether the file of
+-- a proof may take the place of any
 pub record Request : Type 0 where
   pub said : List Said
   pub file : Option (List ℕ)
   pub conflicts : ℕ
-  pub time : Option ℕ
   pub witness : Bool
   pub models : Option ℕ
   pub rule : HeaderRule
@@ -61,7 +60,6 @@ request said = record {
   said = said;
   file = input_at 0 said;
   conflicts = unwrap_or (number (codes "--conflicts") said) (2 ^ 64 - 1);
-  time = number (codes "--time") said;
   witness = not (has (codes "--no-witness") said);
   models = option_map models_of (number (codes "--models") said);
   rule = rule_of (has (codes "--relaxed") said);
@@ -90,7 +88,6 @@ request_of o = record {
   said = said_of o;
   file = option_map (λ name. name.now) o.file;
   conflicts = o.conflicts;
-  time = o.time;
   witness = o.witness;
   models = o.models;
   rule = o.rule;

@@ -2,7 +2,7 @@
 ghost use Rattle.std.specs.Prelude.{◌≡◌, map, string_bytes};
 ghost use Rattle.std.specs.Option.{option_map};
 ghost use Rattle.std.specs.Result.{result_map_both};
-ghost use Rattle.gip_cli.specs.Asked.{asked_said, has, said_by, word};
+ghost use Rattle.gip_cli.specs.Asked.{asked_said, has, number, said_by, word};
 ghost use Rattle.gip_cli.specs.Options.{entry_of};
 ghost use Rattle.gipsat_command.specs.Misuses.{misuse_of};
 ghost use Rattle.gipsat_command.specs.Options.{clash, models_of, request, request_of, rule_of, said_of, table};
@@ -66,8 +66,6 @@ pub struct Options<'a> {
     pub file: Option<&'a str>,
     /// After how many conflicts to give up.
     pub conflicts: usize,
-    /// After how many seconds to give up, if after any.
-    pub time: Option<u64>,
     /// Whether to write the values that satisfy the formula.
     pub witness: bool,
     /// How many models to write, if several.
@@ -88,7 +86,6 @@ impl<'a> Options<'a> {
             words,
             file: asked.input(0),
             conflicts: asked.number("--conflicts").unwrap_or(usize::MAX),
-            time: seconds(asked.number("--time")),
             witness: !asked.has("--no-witness"),
             models: models_of(asked.number("--models")),
             rule: rule_of(asked.has("--relaxed")),
@@ -110,6 +107,13 @@ impl<'a> Options<'a> {
         self.asked().has(name)
     }
 
+    /// The number behind the option of this long name: the last one, if it is given several times.
+    pub fn number(&self, name: &str) -> Option<usize>
+        ensures { result ≡ number name.now (said_of self.now) }
+    {
+        self.asked().number(name)
+    }
+
     /// The word behind the option of this long name: the last one, if it is given several times.
     pub fn word(&self, name: &str) -> Option<&'a str>
         ensures { option_map (λ word. word.now) result ≡ word name.now (said_of self.now) }
@@ -126,23 +130,13 @@ fn asked_by<'a>(options: &'static [Opt], words: &'a [String]) -> Asked<'a>
     Asked::new(options, words)
 }
 
-// A number of seconds.
-fn seconds(number: Option<usize>) -> Option<u64>
-    ensures { result ≡ number }
-{
-    match number {
-        Some(number) => Some(number as u64),
-        None => None,
-    }
-}
-
 // How many models this number asks for: 0 stands for all.
-fn models_of(number: Option<usize>) -> Option<usize>
-    ensures { result ≡ option_map models_of number }
+fn models_of(given: Option<usize>) -> Option<usize>
+    ensures { result ≡ option_map models_of given }
 {
-    match number {
+    match given {
         Some(0) => Some(usize::MAX),
-        number => number,
+        count => count,
     }
 }
 
