@@ -151,7 +151,7 @@ help=$("$gipsat" --help)
 try "the help" 0 "" "$help" "" -h
 [ -z "$(printf '%s\n' "$help" | grep '.\{81\}')" ]
 told "the help fits into 80 columns" $?
-for option in --conflicts -t --time -n --no-witness -q --quiet --stats --proof --binary --lrat -f --force --relaxed -v --verbose --no-eliminate --no-vivify --no-simplify --assume --models --project --check --lrat-from-drat -h --help --version --; do
+for option in --conflicts -t --time --memory -n --no-witness -q --quiet --stats --proof --binary --lrat -f --force --relaxed -v --verbose --no-eliminate --no-vivify --no-simplify --assume --models --project --check --lrat-from-drat -h --help --version --; do
     printf '%s\n' "$help" | grep -qE -- "^ *([^ ]+ )?${option}[ ,]"
     told "the help tells of $option" $?
 done
@@ -181,6 +181,7 @@ try_usage "unknown option '--=9'" --=9
 try_usage "'--conflicts' takes a number below 2^64, not '18446744073709551616'" --conflicts 18446744073709551616
 try_usage "'--conflicts' takes a number below 2^64, not '-1'" --conflicts -1
 try_usage "'--time' takes a number below 2^64, not '1.5'" --time 1.5
+try_usage "'--memory' takes a number below 2^64, not '1.5'" --memory 1.5
 try_usage "'--lrat' needs '--proof'" --lrat a
 try_usage "'--models' takes a number below 2^64, not 'all'" --models all
 try_usage "'--assume' needs literals behind it" --assume
@@ -990,6 +991,16 @@ try_progress "a line of a long search" "$work/err" 1 "$work/many"
 try_progress "a line of a long search that meets few conflicts" "$work/err" 1 -n "$work/easy"
 try_progress "a line every five seconds, with -v and -q" "$work/err" 2 -n -q -v "$work/many"
 try "a time limit" 0 "" "s UNKNOWN" "" -q --time 2 "$work/many"
+try "a memory limit" 0 "" "s UNKNOWN" "" -q --memory 1 "$work/many"
+try "a time limit of 0" 0 "" "s UNKNOWN" "" -q --time 0 "$work/many"
+try "a memory limit of 0" 0 "" "s UNKNOWN" "" -q --memory 0 "$work/many"
+try "a memory limit that is not reached" 20 "" "s UNSATISFIABLE" "$clash" --memory 100000
+if is_wanted "a summary at a memory limit"; then
+    "$gipsat" --stats --memory 1 --proof "$work/full" "$work/many" > "$work/out" 2> "$work/err"
+    [ "$?" = 0 ] && [ "$(cat "$work/out")" = "s UNKNOWN" ] && [ -s "$work/full" ] &&
+        grep -q '^c [0-9.]* s, [0-9]* kB of memory at most$' "$work/err"
+    told "a summary at a memory limit" $?
+fi
 if is_wanted "lines of a slow input"; then
     wait "$slow"
     mv "$work/slow" "$work/out"
@@ -1139,6 +1150,7 @@ try "questions up to an error" 1 "<stdin>:5: not a number" "$(printf 's SATISFIA
 try "a question that is no list" 1 "<stdin>:3: not a number" "" 'p inccnf\n1 0\na x 0\n'
 try "a clause without its 0 before a question" 1 "<stdin>:3: a clause without its 0" "" 'p inccnf\n1\na 0\n'
 try "a header of neither kind" 1 "<stdin>:2: no header \`p cnf VARIABLES CLAUSES\`" "" 'c\np inccnf 3 4\n1 0\n'
+try "a question of a memory limit" 0 "" "s UNKNOWN" "$(printf 'p inccnf\n'; sed 1d "$work/many")\na 0\n" -q --memory 1
 try "questions and a proof" 1 "<stdin>: a text with questions takes no option '--proof'" "" "$asked" --proof "$work/unasked"
 try "questions and models" 1 "<stdin>: a text with questions takes no option '--models'" "" "$asked" --models 2
 try "questions and assumptions" 1 "<stdin>: a text with questions takes no option '--assume'" "" "$asked" --assume 1

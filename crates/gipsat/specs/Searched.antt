@@ -1,5 +1,5 @@
 -- What the options say of a search and of the form of its proof.
-use Rattle.std.specs.Prelude.{◌&&◌, is_some, ℕ, List, Bool, codes, if◌then◌else◌, not}
+use Rattle.std.specs.Prelude.{◌&&◌, ◌||◌, is_some, ℕ, List, Bool, codes, if◌then◌else◌, not}
 use Rattle.gip_cli.specs.Asked.{has, number}
 use Rattle.gipsat_command.specs.Options.{said_of}
 use Rattle.gipsat_command.specs.declared.options.Options.{Options}
@@ -18,7 +18,7 @@ is_numbered name o = is_some (number name (said_of o))
 
 -- a limit is given at which the search is stopped
 abbrev pub has_limit : Options → Bool
-has_limit o = is_numbered (codes "--time") o
+has_limit o = is_numbered (codes "--time") o || is_numbered (codes "--memory") o
 
 -- variables are eliminated
 abbrev pub eliminates : Options → Bool

@@ -219,9 +219,12 @@ impl Progress for Watch<'_> {
 /// Stops the search at its limits.
 #[derive(Clone, Copy)]
 pub struct Limits<'a> {
+    rt: &'a HostRuntime,
     clock: Clock<'a>,
     // After how much time, if after any.
     time: Option<Duration>,
+    // At how many megabytes, if at any.
+    memory: Option<usize>,
     // Whether the search was stopped.
     is_over: bool,
 }
@@ -236,15 +239,17 @@ impl<'a> Limits<'a> {
             return None;
         }
         Some(Limits {
+            rt: watch.rt,
             clock: watch.clock,
             time: duration(options.number("--time")),
+            memory: options.number("--memory"),
             is_over: false,
         })
     }
 
     // Whether one is reached.
     fn is_reached(&self) -> bool {
-        self.is_late()
+        self.is_late() || self.is_full()
     }
 
     // Whether the time is over.
@@ -254,13 +259,21 @@ impl<'a> Limits<'a> {
             None => false,
         }
     }
+
+    // Whether so much memory was taken.
+    fn is_full(&self) -> bool {
+        match self.memory {
+            Some(megabytes) => Peak::now(self.rt).reaches(megabytes),
+            None => false,
+        }
+    }
 }
 
 // Whether a limit is given at which the search is stopped.
 fn has_limit(options: &Options) -> bool
     ensures { result ≡ has_limit options.now }
 {
-    options.number("--time").is_some()
+    options.number("--time").is_some() || options.number("--memory").is_some()
 }
 
 // So many seconds.

@@ -23,6 +23,7 @@ table =
     option.switch (codes "--no-simplify") [] (codes "search") ∷
     option.number (codes "--conflicts") [] (codes "search") ∷
     option.number (codes "--time") (codes "-t") (codes "search") ∷
+    option.number (codes "--memory") [] (codes "search") ∷
     option.switch (codes "--no-witness") (codes "-n") (codes "search") ∷
     option.switch (codes "--quiet") (codes "-q") (codes "search") ∷
     option.switch (codes "--verbose") (codes "-v") (codes "search") ∷

@@ -109,6 +109,15 @@ pub const OPTIONS: &[Opt] = &[
         help: "give up when the search first pauses after so many seconds; reading is not cut short",
     },
     Opt {
+        long: "--memory",
+        short: "",
+        kind: Kind::Number("MB"),
+        scope: SEARCH,
+        section: "Limits",
+        help: "give up when the search first pauses once the program has taken MB megabytes, of 2^20 bytes; reading is \
+               not cut short, and the search may take more before it pauses",
+    },
+    Opt {
         long: "--no-witness",
         short: "-n",
         kind: Kind::Switch,
