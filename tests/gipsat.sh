@@ -781,6 +781,17 @@ if is_wanted "a run that is killed leaves no empty file"; then
     [ "$is_killed" = 0 ] && [ ! -e "$work/killed" ] && [ -z "$(find "$work" -name 'killed.*' -empty)" ]
     told "a run that is killed leaves no empty file" $?
 fi
+if is_wanted "a run that is ended leaves its steps and no answer"; then
+    "$gipsat" --stats --proof "$work/ended" "$work/many" > "$work/out" 2> "$work/err" &
+    has_steps() {
+        [ -n "$(find "$work" -name 'ended.*.part' -size +0)" ]
+    }
+    await has_steps
+    kill -TERM $!
+    wait $! 2> /dev/null
+    [ $? = 143 ] && [ ! -s "$work/out" ] && [ ! -e "$work/ended" ] && has_steps && ! grep -q ' of memory at most$' "$work/err"
+    told "a run that is ended leaves its steps and no answer" $?
+fi
 (trap '' XFSZ; ulimit -f 0; exec "$gipsat" -q --proof "$work/limited" "$kept" 2>&1) | cat > "$work/out"
 [ "$(cat "$work/out")" = "$work/limited: cannot be written: file too large" ] && [ -z "$(ls "$work"/limited* 2> /dev/null)" ]
 told "a proof that cannot be written leaves no file" $?
