@@ -1161,6 +1161,11 @@ try "questions up to an error" 1 "<stdin>:5: not a number" "$(printf 's SATISFIA
 try "a question that is no list" 1 "<stdin>:3: not a number" "" 'p inccnf\n1 0\na x 0\n'
 try "a clause without its 0 before a question" 1 "<stdin>:3: a clause without its 0" "" 'p inccnf\n1\na 0\n'
 try "a header of neither kind" 1 "<stdin>:2: no header \`p cnf VARIABLES CLAUSES\`" "" 'c\np inccnf 3 4\n1 0\n'
+printf 'p inccnf\n2147483647 0\na 1 0\n5 0\na -5 0\na -1 2147483647 0\n' > "$work/great_questions"
+(ulimit -v 200000; "$gipsat" "$work/great_questions") > "$work/out" 2> "$work/err"
+[ "$?" = 10 ] && [ ! -s "$work/err" ] &&
+    [ "$(cat "$work/out")" = "$(printf 's SATISFIABLE\nv 1 -5 2147483647 0\ns UNSATISFIABLE\ns SATISFIABLE\nv -1 5 2147483647 0')" ]
+told "questions with great numbers take little memory" $?
 try "a question of a memory limit" 0 "" "s UNKNOWN" "$(printf 'p inccnf\n'; sed 1d "$work/many")\na 0\n" -q --memory 1
 try "questions and a proof" 1 "<stdin>: a text with questions takes no option '--proof'" "" "$asked" --proof "$work/unasked"
 try "questions and models" 1 "<stdin>: a text with questions takes no option '--models'" "" "$asked" --models 2

@@ -1,6 +1,7 @@
 //! From the bytes of an incremental text to those of its answers.
 ghost use Rattle.std.specs.Prelude.{IfOk, IsTrue, OnOk};
 ghost use Rattle.std.specs.Io.KnownBytes.{IsAtEnd};
+ghost use Rattle.gipsat_answers.specs.Names.{named};
 ghost use Rattle.gipsat_answers.specs.Questions.{AreAskedOf, AsksQuestions, IsRightOfAll, OfQuestions, WritesReplies};
 ghost use Rattle.gipsat.specs.Searched.{has_limit};
 
@@ -26,7 +27,8 @@ pub fn answer<R: Read, W: Write>(
         (W.contents writer.old) (W.contents writer.new))) }
     ensures verdict { IfOk result (λ told. OfQuestions (R.remaining reader.old) (λ questions.
         IsRightOfAll questions told.verdict)) }
-    ensures formula { IfOk result (λ told. OfQuestions (R.remaining reader.old) (AreAskedOf told.solver.formula)) }
+    ensures formula { IfOk result (λ told. OfQuestions (R.remaining reader.old)
+        (AreAskedOf (named told.names.items told.solver.formula))) }
     ensures stopped { IfOk result (λ told. IsTrue told.is_stopped → IsTrue (has_limit options.now)) }
 {
     let mut watch = Watch::new(rt, options)?;

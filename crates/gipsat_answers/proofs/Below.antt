@@ -24,7 +24,7 @@ module _ (n : ℕ) where
       let same : l ≡ m = ap (λ o. unwrap_or o l) at in subst (λ o. o.variable < n) same less
   AreBelow-cons l clause less below (suc k) m at = below k m at
 
-  AreBelow-append : (first last : Clause) → AreBelow n first → AreBelow n last → AreBelow n (first ++ last)
+  pub AreBelow-append : (first last : Clause) → AreBelow n first → AreBelow n last → AreBelow n (first ++ last)
   AreBelow-append [] last one other = other
   AreBelow-append (l ∷ first) last one other =
       AreBelow-cons l (first ++ last) (one zero l refl) (AreBelow-append first last (λ k m at. one (suc k) m at) other)
@@ -37,7 +37,7 @@ module _ (n : ℕ) where
       let same : clause ≡ d = ap (λ o. unwrap_or o clause) at in subst (AreBelow n) same one
   AreAllBelow-cons clause f one below (suc k) d at = below k d at
 
-  AreAllBelow-append : (f g : Formula) → AreAllBelow n f → AreAllBelow n g → AreAllBelow n (f ++ g)
+  pub AreAllBelow-append : (f g : Formula) → AreAllBelow n f → AreAllBelow n g → AreAllBelow n (f ++ g)
   AreAllBelow-append [] g one other = other
   AreAllBelow-append (clause ∷ f) g one other =
       AreAllBelow-cons clause (f ++ g) (one zero clause refl) (AreAllBelow-append f g (λ k d at. one (suc k) d at) other)

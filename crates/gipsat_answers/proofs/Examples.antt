@@ -8,12 +8,12 @@ use Rattle.gipsat_dimacs.specs.Texts.{Problem}
 use Rattle.gipsat_answers.specs.Answers.{IsRightText, laid_out, values_text, verdict_status}
 use Rattle.gipsat_answers.specs.Assumed.{assuming, first_variables, literals_in}
 use Rattle.gipsat_answers.specs.Enumeration.{IsModelsText, IsRightVerdict, differing, first_verdict}
-use Rattle.gipsat_answers.specs.Names.{name_in, named}
+use Rattle.gipsat_answers.specs.Names.{first_names, name_in, named, numbers_below}
 use Rattle.gipsat_answers.specs.Questions.{AreAskedOf, AreRightReplies, AsksSoFar, IsRightReply, Question, is_header, is_silent, part_in, questions_of, verdict_with}
 use Rattle.gipsat_answers.specs.declared.answers.Verdict.TheVariants.{Satisfiable, Unsatisfiable, Unknown, Stopped}
 
 -- the values of two variables
-of_two : values_text (λ k. k == 1) 2 ≡ codes "v -1 2 0\n"
+of_two : values_text (λ k. k == 1) (numbers_below 2) ≡ codes "v -1 2 0\n"
 unfolding digits
 of_two = refl
 
@@ -206,6 +206,9 @@ name = refl
 
 name-past : name_in (4 ∷ 7 ∷ []) 2 ≡ 2
 name-past = refl
+
+of_names : first_names (4 ∷ 7 ∷ []) 2 ≡ 4 ∷ 7 ∷ []
+of_names = refl
 
 under_names : named (4 ∷ 7 ∷ []) ((yes 0 ∷ not_ 1 ∷ []) ∷ []) ≡ (yes 4 ∷ not_ 7 ∷ []) ∷ []
 under_names = refl

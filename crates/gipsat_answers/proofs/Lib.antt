@@ -5,5 +5,6 @@ mod Enumerating
 mod Examples
 mod Questioning
 mod Renaming
+mod Replying
 mod Resuming
 mod ValueLines

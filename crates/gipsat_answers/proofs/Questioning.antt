@@ -69,7 +69,7 @@ module _ (witness : Bool) (limit : ℕ) where
   -- what a reply says of its question
   says-right : (spent : ℕ) (stop : Bool) (q : Question) (verdict : Verdict) (text : List ℕ)
       → IsRightReply witness limit spent stop q verdict text → IsRightOfOne q verdict
-  says-right spent stop q Satisfiable text (a, (variables, sat, true_, false_, is)) = (a, sat, true_)
+  says-right spent stop q Satisfiable text (a, (variables, sat, true_, rising, among, is)) = (a, sat, true_)
   says-right spent stop q Unsatisfiable text (none, is) = none
   says-right spent stop q Unknown text right = tt
   says-right spent stop q Stopped text right = tt

@@ -1,11 +1,12 @@
 -- The texts of answers.
-use Rattle.std.specs.Prelude.{◌≡◌, ℕ, zero, suc, ◌+◌, Bool, true, List, [], ◌∷◌, ◌++◌, length, nat_le, if◌then◌else◌, codes, IsTrue, Option}
+use Rattle.std.specs.Prelude.{◌≡◌, ℕ, ◌+◌, Bool, true, List, [], ◌∷◌, ◌++◌, length, nat_le, if◌then◌else◌, codes, IsTrue, Option}
 use Rattle.std.specs.Io.KnownBytes.{Appends}
 use Rattle.gipsat_cnf.specs.Formulas.{Assignment, Formula, satisfies, IsSatisfiable}
 use Rattle.gipsat_solver.specs.Answers.{IsRight, SolverState}
 use Rattle.gipsat_cnf.specs.declared.answers.Answer.{Answer}
 use Rattle.gipsat_dimacs.specs.Texts.{Problem, Word}
 use Rattle.gipsat_dimacs.specs.Writer.{literal_word}
+use Rattle.gipsat_answers.specs.Names.{numbers_below}
 use Rattle.gipsat_answers.specs.declared.answers.Solved.{Solved}
 use Rattle.gipsat_answers.specs.declared.answers.Verdict.{Verdict}
 use Rattle.gipsat_answers.specs.declared.answers.Verdict.TheVariants.{Satisfiable, Unsatisfiable, Unknown, Stopped}
@@ -14,10 +15,10 @@ use Rattle.gipsat_answers.specs.declared.answers.Verdict.TheVariants.{Satisfiabl
 abbrev pub width : ℕ
 width = 78
 
--- the true literals of n variables from number k on, and a 0
-abbrev pub value_words : Assignment → ℕ → ℕ → List Word
-value_words a k zero = codes "0" ∷ []
-value_words a k (suc n) = literal_word (a k) k ∷ value_words a (k + 1) n
+-- the true literals of these variables, and a 0
+abbrev pub value_words : Assignment → List ℕ → List Word
+value_words a [] = codes "0" ∷ []
+value_words a (v ∷ variables) = literal_word (a v) v ∷ value_words a variables
 
 -- a word fits into a line of which so many bytes stand
 abbrev pub fits : ℕ → Word → Bool
@@ -36,12 +37,12 @@ abbrev pub laid_out : ℕ → List Word → List ℕ
 laid_out column [] = codes "\n"
 laid_out column (word ∷ words) = separator column word ++ word ++ laid_out (column_after column word) words
 
--- the lines of the values of so many variables
-abbrev pub values_text : Assignment → ℕ → List ℕ
-values_text a variables = codes "v" ++ laid_out 1 (value_words a 0 variables)
+-- the lines of the values of these variables
+abbrev pub values_text : Assignment → List ℕ → List ℕ
+values_text a variables = codes "v" ++ laid_out 1 (value_words a variables)
 
--- what stands behind the first line: these values, if they are wanted
-abbrev pub witness_text : Bool → Assignment → ℕ → List ℕ
+-- what stands behind the first line: the values of these variables, if they are wanted
+abbrev pub witness_text : Bool → Assignment → List ℕ → List ℕ
 witness_text witness a variables = if witness then values_text a variables else []
 
 -- the text of a right answer: values that satisfy the problem's clauses, if they are wanted, or that nothing does, or
@@ -49,7 +50,7 @@ witness_text witness a variables = if witness then values_text a variables else 
 abbrev pub IsRightText : Bool → Problem → ℕ → SolverState → Verdict → List ℕ → Type 0
 IsRightText witness problem limit known Satisfiable text =
     (a : Assignment) × IsTrue (satisfies a problem.clauses)
-    × (text ≡ codes "s SATISFIABLE\n" ++ witness_text witness a problem.variables)
+    × (text ≡ codes "s SATISFIABLE\n" ++ witness_text witness a (numbers_below problem.variables))
 IsRightText witness problem limit known Unsatisfiable text =
     ¬ (IsSatisfiable problem.clauses) × (text ≡ codes "s UNSATISFIABLE\n")
 IsRightText witness problem limit known Unknown text = (known.learned ≡ limit) × (text ≡ codes "s UNKNOWN\n")

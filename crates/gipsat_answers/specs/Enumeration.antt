@@ -5,6 +5,7 @@ use Rattle.gipsat_cnf.specs.Formulas.{Assignment, Clause, Formula, IsSatisfiable
 use Rattle.gipsat_cnf.specs.Literals.{Lit}
 use Rattle.gipsat_dimacs.specs.Texts.{Problem}
 use Rattle.gipsat_answers.specs.Answers.{witness_text}
+use Rattle.gipsat_answers.specs.Names.{numbers_below}
 use Rattle.gipsat_answers.specs.declared.answers.Verdict.{Verdict}
 use Rattle.gipsat_answers.specs.declared.answers.Verdict.TheVariants.{Satisfiable, Unsatisfiable, Unknown, Stopped}
 
@@ -22,7 +23,7 @@ with_clause problem clause = record problem { clauses = problem.clauses ++ claus
 
 -- the text of a model
 abbrev pub model_text : Bool → Assignment → Problem → List ℕ
-model_text witness a problem = codes "s SATISFIABLE\n" ++ witness_text witness a problem.variables
+model_text witness a problem = codes "s SATISFIABLE\n" ++ witness_text witness a (numbers_below problem.variables)
 
 -- the text of n models, each of which differs from those before it on the projection; of fewer where there is no other,
 -- which is told, or where it is open

@@ -1,5 +1,5 @@
 -- Questions that an incremental text asks, and the texts of right replies.
-use Rattle.std.specs.Prelude.{◌≡◌, ℕ, ◌+◌, ◌≤◌, ◌<◌, ◌==◌, ◌||◌, Bool, true, false, List, [], ◌∷◌, ◌++◌, drop, length, if◌then◌else◌, codes, Option, Some, None, IfSome, IsTrue, is_some, ⊤, ◌⊎◌}
+use Rattle.std.specs.Prelude.{◌≡◌, ℕ, ◌+◌, ◌≤◌, ◌<◌, ◌==◌, ◌||◌, Bool, true, false, List, [], ◌∷◌, ◌++◌, drop, length, slice_get, if◌then◌else◌, codes, Option, Some, None, IfSome, IsTrue, is_some, ⊤, ◌⊎◌}
 use Rattle.std.specs.Option.{option_map, option_and_then}
 use Rattle.std.specs.Str.{byte, bytes_eq}
 use Rattle.std.specs.Io.KnownBytes.{Appends}
@@ -11,6 +11,7 @@ use Rattle.gipsat_dimacs.specs.Texts.{begins, comment_byte, problem_by}
 use Rattle.gipsat_dimacs.specs.declared.rule.HeaderRule.TheVariants.{Relaxed}
 use Rattle.gipsat_answers.specs.Answers.{witness_text}
 use Rattle.gipsat_answers.specs.Enumeration.{Extends}
+use Rattle.gipsat_answers.specs.Names.{IsRising, named, named_clause}
 use Rattle.gipsat_answers.specs.declared.answers.Verdict.{Verdict}
 use Rattle.gipsat_answers.specs.declared.answers.Verdict.TheVariants.{Satisfiable, Unsatisfiable, Unknown, Stopped}
 
@@ -18,6 +19,10 @@ use Rattle.gipsat_answers.specs.declared.answers.Verdict.TheVariants.{Satisfiabl
 pub record Question : Type 0 where
   pub formula : Formula
   pub assumed : List Lit
+
+-- what is asked where the variables of a formula and of the literals have these names
+abbrev pub asked_under : List ℕ → Formula → List Lit → Question
+asked_under names formula assumed = record { formula = named names formula; assumed = named_clause names assumed }
 
 -- a question begins in the line, with an `a`
 abbrev pub asks : List ℕ → Bool
@@ -116,17 +121,17 @@ AsksQuestions input = IfSome input (λ text. IsTrue (is_some (questions_of text)
 abbrev pub OfQuestions : Option (List ℕ) → (List Question → Type 0) → Type 0
 OfQuestions input P = IfSome input (λ text. IfSome (questions_of text) P)
 
--- the variables from this one on are false
-abbrev pub AreFalseFrom : ℕ → Assignment → Type 0
-AreFalseFrom variables a = (v : ℕ) → variables ≤ v → a v ≡ false
+-- no variable is true but some of these
+abbrev pub AreTrueAmong : List ℕ → Assignment → Type 0
+AreTrueAmong variables a = (v : ℕ) → IsTrue (a v) → (k : ℕ) × (slice_get variables k ≡ Some v)
 
--- the text of a right reply, as far as this number of learned clauses tells: values that satisfy the formula and make the
--- literals true, if they are wanted, or that there are none, or that it is open, where the number is the limit, or the
--- search was stopped
+-- the text of a right reply, as far as this number of learned clauses tells: values that satisfy the formula and make
+-- the literals true, if they are wanted, those of rising variables beside which none is true, or that there are none,
+-- or that it is open, where the number is the limit, or the search was stopped
 abbrev pub IsRightReply : Bool → ℕ → ℕ → Bool → Question → Verdict → List ℕ → Type 0
 IsRightReply witness limit spent stop question Satisfiable text =
-    (a : Assignment) × ((variables : ℕ) × IsTrue (satisfies a question.formula)
-    × IsTrue (makes_true a question.assumed) × AreFalseFrom variables a
+    (a : Assignment) × ((variables : List ℕ) × IsTrue (satisfies a question.formula)
+    × IsTrue (makes_true a question.assumed) × IsRising variables × AreTrueAmong variables a
     × (text ≡ codes "s SATISFIABLE\n" ++ witness_text witness a variables))
 IsRightReply witness limit spent stop question Unsatisfiable text =
     (¬ (IsSatisfiableUnder question.formula question.assumed)) × (text ≡ codes "s UNSATISFIABLE\n")

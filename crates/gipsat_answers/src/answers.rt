@@ -1,11 +1,14 @@
 //! Answers, and their texts.
-ghost use Rattle.std.specs.Prelude.{◌≡◌, ◌≢◌, ◌++◌, ◌<◌, ◌-◌, ◌^◌, ◌∷◌, [], List, codes, decimal, IfErr, IfOk, OnOk};
+ghost use Rattle.std.specs.Prelude.{◌≡◌, ◌≢◌, ◌++◌, ◌∷◌, [], List, codes, decimal, IfErr, IfOk, OnOk};
 ghost use Rattle.std.specs.Io.KnownBytes.{Appends};
 ghost use Rattle.gipsat_cnf.specs.Models.{assignment_in};
 ghost use Rattle.gipsat_dimacs.specs.Texts.{Word};
 ghost use Rattle.gipsat_dimacs.specs.Writer.{literal_word};
+ghost use Rattle.gipsat_cnf.specs.Formulas.{Assignment};
 ghost use Rattle.gipsat_answers.specs.Answers.{laid_out, values_text, verdict_status, witness_text, TellsRight};
+ghost use Rattle.gipsat_answers.specs.Names.{first_names, numbers_below, AreNamedValues};
 
+use crate::names::name_in;
 use gipsat_dimacs::DimacsError;
 use gipsat_solver::{Answer, Solver};
 use std::alloc::{AllocError, Global};
@@ -89,25 +92,46 @@ pub(crate) fn model_text(
     model: &[bool],
 ) -> Result<Vec<u8>, AllocError>
     ensures { IfOk result (λ text. text.items ≡
-        codes "s SATISFIABLE\n" ++ witness_text witness (assignment_in model.now) variables) }
+        codes "s SATISFIABLE\n" ++ witness_text witness (assignment_in model.now) (numbers_below variables)) }
+{
+    named_text(alloc, witness, &[], variables, model)
+}
+
+// The text of an answer by a model, with the values of so many variables under their names if they are wanted.
+pub(crate) fn named_text(
+    alloc: Global,
+    witness: bool,
+    names: &[u32],
+    variables: u32,
+    model: &[bool],
+) -> Result<Vec<u8>, AllocError>
+    ensures { IfOk result (λ text. (a : Assignment) → AreNamedValues names.now variables model.now a → text.items ≡
+        codes "s SATISFIABLE\n" ++ witness_text witness a (first_names names.now variables)) }
 {
     if witness {
-        return satisfiable_text(alloc, variables, model);
+        return satisfiable_text(alloc, names, variables, model);
     }
     bytes(alloc, b"s SATISFIABLE\n")
 }
 
-// The text of an answer by a model of so many variables; those past its end are false.
-fn satisfiable_text(alloc: Global, variables: u32, model: &[bool]) -> Result<Vec<u8>, AllocError>
-    ensures { IfOk result (λ text. text.items ≡
-        codes "s SATISFIABLE\n" ++ values_text (assignment_in model.now) variables) }
+// The text of an answer with values: those of so many variables in a model, past whose end they are false, under their
+// names.
+fn satisfiable_text(
+    alloc: Global,
+    names: &[u32],
+    variables: u32,
+    model: &[bool],
+) -> Result<Vec<u8>, AllocError>
+    ensures { IfOk result (λ text. (a : Assignment) → AreNamedValues names.now variables model.now a → text.items ≡
+        codes "s SATISFIABLE\n" ++ values_text a (first_names names.now variables)) }
 {
     let mut text = bytes(alloc, b"s SATISFIABLE\nv")?;
     let mut word = Vec::new(alloc);
     let mut column = 1;
     for variable in 0..variables {
         word.clear();
-        write_value(&mut word, variable, value_in(model, variable as usize))?;
+        let name = name_in(names, variable);
+        write_value(&mut word, name, value_in(model, variable as usize))?;
         column = write_word(&mut text, column, &word)?;
     }
     write_word(&mut text, column, b"0")?;
@@ -128,10 +152,9 @@ pub(crate) fn value_in(model: &[bool], variable: usize) -> bool
 // Writes the literal of a variable that has this value.
 fn write_value(word: &mut Vec<u8>, variable: u32, value: bool) -> Result<(), AllocError>
     requires empty { word.old.items ≡ [] }
-    requires small { variable < 2 ^ 32 - 1 }
     ensures { OnOk result (word.new.items ≡ literal_word value variable) }
 {
-    let number = variable + 1;
+    let number = u64::from(variable) + 1;
     if value {
         return write_number(word, number);
     }
@@ -140,7 +163,7 @@ fn write_value(word: &mut Vec<u8>, variable: u32, value: bool) -> Result<(), All
 }
 
 // Writes a number.
-fn write_number(word: &mut Vec<u8>, number: u32) -> Result<(), AllocError>
+fn write_number(word: &mut Vec<u8>, number: u64) -> Result<(), AllocError>
     ensures { OnOk result (word.new.items ≡ word.old.items ++ decimal number) }
 {
     write!(word, "{number}").map_err(|_| AllocError)

@@ -1,7 +1,8 @@
 //! Variables under other numbers, so that a solver has no tables for variables that no clause has.
-ghost use Rattle.std.specs.Prelude.{◌≡◌, ◌<◌, ◌^◌, [], ℕ, length, slice_get, vec_len, IfOk, IfSome};
+ghost use Rattle.std.specs.Prelude.{◌≡◌, ◌<◌, ◌^◌, [], ℕ, length, slice_get, vec_len, IfOk, IfSome, OnOk};
 ghost use Rattle.std.specs.Bool.{OnTrue};
-ghost use Rattle.gipsat_cnf.specs.Formulas.{Formula};
+ghost use Rattle.gipsat_cnf.specs.Formulas.{AreBelow, Formula};
+ghost use Rattle.gipsat_cnf.specs.Lists.{AreAllBelow};
 ghost use Rattle.gipsat_cnf.specs.Models.{assignment_in, IsModel};
 ghost use Rattle.gipsat_solver.specs.Answers.{IsRight, SolverState};
 ghost use Rattle.gipsat_answers.specs.Names.{name_in, named, named_clause, AreNamesOf, IsRising};
@@ -24,7 +25,7 @@ pub(crate) fn renumber(alloc: Global, clauses: Cnf) -> Result<Renumbered, AllocE
     ensures names { IfOk result (λ made. AreNamesOf made.clauses made.names.items) }
 {
     if clauses.variables() > clauses.literals().len() {
-        let names = variables_of(alloc, &clauses)?;
+        let names = rising(variables_of(alloc, &clauses)?)?;
         if let Some(clauses) = numbered_by(alloc, &clauses, &names)? {
             return Ok(Renumbered { names, clauses });
         }
@@ -35,26 +36,92 @@ pub(crate) fn renumber(alloc: Global, clauses: Cnf) -> Result<Renumbered, AllocE
     })
 }
 
-// The variables that the clauses have, each once and rising.
+// The variables that the clauses have.
 fn variables_of(alloc: Global, clauses: &Cnf) -> Result<Vec<u32>, AllocError> {
     let literals = clauses.literals();
     let mut variables = Vec::with_capacity(alloc, literals.len())?;
     for l in literals {
         variables.push(l.variable())?;
     }
-    variables.sort_unstable();
-    variables.dedup();
     Ok(variables)
 }
 
-// The formula whose variables have these names. None where the names are not rising, or one is missing.
-fn numbered_by(alloc: Global, clauses: &Cnf, names: &[u32]) -> Result<Option<Cnf>, AllocError>
-    ensures formula { IfOk result (λ made. IfSome made (λ made. named names.now made ≡ clauses.now)) }
-    ensures names { IfOk result (λ made. IfSome made (λ made. AreNamesOf made names.now)) }
+// These numbers, each once and rising.
+fn rising(mut numbers: Vec<u32>) -> Result<Vec<u32>, AllocError>
+    ensures { IfOk result (λ numbers. IsRising numbers.items) }
 {
-    if !is_rising(names) {
-        return Ok(None);
+    numbers.sort_unstable();
+    numbers.dedup();
+    if is_rising(&numbers) {
+        Ok(numbers)
+    } else {
+        Err(AllocError)
     }
+}
+
+// Names for the variables that a text may have: those whose numbers it writes, where there are fewer of these than
+// numbers up to the greatest, and else all up to that.
+pub(crate) fn names_in(alloc: Global, text: &[u8]) -> Result<Vec<u32>, AllocError>
+    ensures { IfOk result (λ names. IsRising names.items) }
+{
+    let written = variables_in(alloc, text)?;
+    let count = written.len();
+    let names = rising(written)?;
+    let end = end_of(&names);
+    if end > count {
+        return Ok(names);
+    }
+    rising(numbers_up_to(alloc, end)?)
+}
+
+// The numbers below this one.
+fn numbers_up_to(alloc: Global, end: usize) -> Result<Vec<u32>, AllocError> {
+    let end = u32::try_from(end).map_err(|_| AllocError)?;
+    let mut numbers = Vec::new(alloc);
+    for number in 0..end {
+        numbers.push(number)?;
+    }
+    Ok(numbers)
+}
+
+// The variables whose numbers a text writes outside of comments, as often as it does.
+fn variables_in(alloc: Global, text: &[u8]) -> Result<Vec<u32>, AllocError> {
+    let mut variables = Vec::new(alloc);
+    let mut number = 0u64;
+    let mut is_comment = false;
+    for byte in text {
+        if byte.is_ascii_digit() && !is_comment {
+            number = number
+                .saturating_mul(10)
+                .saturating_add(u64::from(*byte - b'0'));
+            continue;
+        }
+        push_number(&mut variables, number)?;
+        number = 0;
+        is_comment = *byte == b'c' || is_comment && *byte != b'\n';
+    }
+    push_number(&mut variables, number)?;
+    Ok(variables)
+}
+
+// Adds the variable of this number, if there may be one.
+fn push_number(variables: &mut Vec<u32>, number: u64) -> Result<(), AllocError> {
+    match u32::try_from(number) {
+        Ok(number) if number > 0 && number < 1 << 31 => variables.push(number - 1)?,
+        _ => {}
+    }
+    Ok(())
+}
+
+// The formula whose variables have these names. None where one is missing.
+pub(crate) fn numbered_by(
+    alloc: Global,
+    clauses: &Cnf,
+    names: &[u32],
+) -> Result<Option<Cnf>, AllocError>
+    ensures formula { IfOk result (λ made. IfSome made (λ made. named names.now made ≡ clauses.now)) }
+    ensures below { IfOk result (λ made. IfSome made (λ made. AreAllBelow (length names.now) made)) }
+{
     let mut made = Cnf::new(alloc);
     let mut clause = Vec::new(alloc);
     for place in 0..clauses.len() {
@@ -85,13 +152,14 @@ fn is_rising(numbers: &[u32]) -> bool
 }
 
 // Adds the literals of the clause that has this one under the names. False where a name is missing.
-fn number_clause(
+pub(crate) fn number_clause(
     made: &mut Vec<Literal>,
     names: &[u32],
     clause: &[Literal],
 ) -> Result<bool, AllocError>
     requires empty { made.old.items ≡ [] }
-    ensures { IfOk result (λ all. OnTrue all (named_clause names.now made.new.items ≡ clause.now)) }
+    ensures named { IfOk result (λ all. OnTrue all (named_clause names.now made.new.items ≡ clause.now)) }
+    ensures below { OnOk result (AreBelow (length names.now) made.new.items) }
 {
     for l in clause {
         let Some(variable) = number_of(names, l.variable()) else {
@@ -104,14 +172,34 @@ fn number_clause(
 
 // The variable that has this name.
 fn number_of(names: &[u32], name: u32) -> Option<u32>
-    ensures { IfSome result (λ variable. (name_in names.now variable ≡ name) × (variable < 2 ^ 31)) }
+    ensures { IfSome result (λ variable. (name_in names.now variable ≡ name)
+        × (variable < length names.now) × (variable < 2 ^ 31)) }
 {
-    let place = names.binary_search(&name).ok()?;
+    let place = place_of(names, name)?;
     let variable = u32::try_from(place).ok()?;
-    if variable < 1 << 31 && names[place] == name {
+    if variable < 1 << 31 && place < names.len() && names[place] == name {
         Some(variable)
     } else {
         None
+    }
+}
+
+// Where this name stands: at its own number where all names do.
+fn place_of(names: &[u32], name: u32) -> Option<usize> {
+    let place = name as usize;
+    if place < names.len() && names[place] == name {
+        return Some(place);
+    }
+    names.binary_search(&name).ok()
+}
+
+// The name of a variable; one that has none keeps its number.
+pub(crate) fn name_in(names: &[u32], variable: u32) -> u32
+    ensures { result ≡ name_in names.now variable }
+{
+    match names.get(variable as usize) {
+        Some(name) => *name,
+        None => variable,
     }
 }
 

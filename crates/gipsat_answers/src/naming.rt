@@ -3,6 +3,7 @@ ghost use Rattle.std.specs.Prelude.{◌≡◌, ◌||◌, false, true, length, If
 ghost use Rattle.std.specs.Bool.{OnTrue};
 ghost use Rattle.gipsat_solver.specs.Answers.{HasNoFewer, IsRight};
 
+use crate::names::name_in;
 use gipsat_cnf::{Answer, Literal};
 use gipsat_solver::Solver;
 use gipsat_solver::progress::{Progress, Report, solve_in_slices};
@@ -134,9 +135,11 @@ fn name_clause(
 
 // A literal under the name of its variable; one that has none stays as it is.
 fn name_of(names: &[u32], l: Literal) -> Literal {
-    match names.get(l.variable() as usize) {
-        Some(name) if *name < 1 << 31 => Literal::new(*name, l.is_positive()),
-        _ => l,
+    let name = name_in(names, l.variable());
+    if name < 1 << 31 {
+        Literal::new(name, l.is_positive())
+    } else {
+        l
     }
 }
 

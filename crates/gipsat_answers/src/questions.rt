@@ -1,19 +1,23 @@
 //! Questions that a text asks one after another, of the clauses before each.
-ghost use Rattle.std.specs.Prelude.{◌≡◌, ◌++◌, ◌+◌, ◌-◌, [], ◌≤◌, ◌<◌, ℕ, List, true, false, drop, length, codes, Some, None, IfNone, IfOk, IfSome, IsTrue, MatchOption, OnOk};
+ghost use Rattle.std.specs.Prelude.{◌≡◌, ◌++◌, ◌+◌, ◌-◌, [], ◌≤◌, ◌<◌, ℕ, Bool, List, true, false, drop, length, codes, Some, None, IfNone, IfOk, IfSome, IsTrue, MatchOption, OnOk};
 ghost use Rattle.std.specs.Bool.{OnTrue};
 ghost use Rattle.std.specs.Option.{option_map};
 ghost use Rattle.std.specs.Io.KnownBytes.{Appends, IsAtEnd};
 ghost use Rattle.giputils_text.specs.Lines.{text_lines};
 ghost use Rattle.gipsat_cnf.specs.Answers.{IsRightOr};
-ghost use Rattle.gipsat_cnf.specs.Formulas.{Formula};
+ghost use Rattle.gipsat_cnf.specs.Assumptions.{IsModelUnder};
+ghost use Rattle.gipsat_cnf.specs.Formulas.{AreBelow, Formula};
+ghost use Rattle.gipsat_cnf.specs.Lists.{AreAllBelow};
 ghost use Rattle.gipsat_cnf.specs.Literals.{Lit};
 ghost use Rattle.gipsat_solver.specs.Answers.{HasMore, HasNoFewer};
-ghost use Rattle.gipsat_answers.specs.Questions.{asks, clauses_in, is_header, is_silent, is_stop, questions_after, questions_in, questions_of, verdict_with, Question};
+ghost use Rattle.gipsat_answers.specs.Names.{named, named_clause, IsRising};
+ghost use Rattle.gipsat_answers.specs.Questions.{asked_under, asks, clauses_in, is_header, is_silent, is_stop, questions_after, questions_in, questions_of, verdict_with, Question};
 ghost use Rattle.gipsat_answers.specs.Questions.{AreAskedOf, AsksQuestions, IsRightOfAll, IsRightReply, OfQuestions, WritesReplies, WritesReply};
 
-use crate::answers::{Verdict, bytes, model_text, write};
+use crate::answers::{Verdict, bytes, named_text, write};
 use crate::asked::{asks, read_question};
 use crate::error::QuestionsError;
+use crate::names::{names_in, number_clause, numbered_by};
 use crate::naming::report_of;
 use crate::task::Task;
 use gipsat_cnf::{AnswerUnder, Budget, Cnf, Literal};
@@ -32,6 +36,8 @@ pub struct Replies {
     pub verdict: Verdict,
     /// The solver that was given the clauses, with all that it has learned.
     pub solver: Solver,
+    /// Which variable of the text each of the solver's is.
+    pub names: Vec<u32>,
     /// Whether the search was stopped.
     pub is_stopped: bool,
 }
@@ -75,15 +81,18 @@ pub fn answer_questions<R: Read, W: Write, P: Progress>(
         (W.contents writer.old) (W.contents writer.new))) }
     ensures verdict { IfOk result (λ told. OfQuestions (R.remaining reader.old) (λ questions.
         IsRightOfAll questions told.verdict)) }
-    ensures formula { IfOk result (λ told. OfQuestions (R.remaining reader.old) (AreAskedOf told.solver.formula)) }
+    ensures formula { IfOk result (λ told. OfQuestions (R.remaining reader.old)
+        (AreAskedOf (named told.names.items told.solver.formula))) }
     ensures stopped { IfOk result (λ told. IsTrue told.is_stopped → IsTrue (P.wants_stop progress.new)) }
 {
     let text = read_text(alloc, reader)?;
+    let names = names_in(alloc, &text)?;
     let mut solver = Solver::new(alloc);
-    match answer_text(alloc, &mut solver, &text, writer, task, progress) {
+    match answer_text(alloc, &mut solver, &names, &text, writer, task, progress) {
         Ok(told) => Ok(Replies {
             verdict: told.verdict,
             solver,
+            names,
             is_stopped: told.is_stopped,
         }),
         Err(error) => Err(error),
@@ -103,25 +112,27 @@ fn read_text<R: Read>(alloc: Global, reader: &mut R) -> Result<Vec<u8>, DimacsEr
     }
 }
 
-// Answers the questions of a text by a solver that has no clause.
+// Answers the questions of a text by a solver that has no clause, whose variables have these names in the text.
 fn answer_text<W: Write, P: Progress>(
     alloc: Global,
     solver: &mut Solver,
+    names: &[u32],
     text: &[u8],
     writer: &mut W,
     task: Task,
     progress: &mut P,
 ) -> Result<Told, QuestionsError>
+    requires rising { IsRising names.now }
     requires empty { solver.old.formula ≡ [] }
     requires new { solver.old.learned ≡ 0 }
     ensures right { IfOk result (λ told. (asked : List Question) × (questions_of text.now ≡ Some asked)
         × WritesReplies task.witness task.limit solver.new.learned told.is_stopped asked
         (W.contents writer.old) (W.contents writer.new) × IsRightOfAll asked told.verdict
-        × AreAskedOf solver.new.formula asked) }
+        × AreAskedOf (named names.now solver.new.formula) asked) }
     ensures stopped { IfOk result (λ told. IsTrue told.is_stopped → IsTrue (P.wants_stop progress.new)) }
 {
     let (lines, body) = behind_header(text)?;
-    answer_lines(alloc, solver, body, lines, writer, task, progress)
+    answer_lines(alloc, solver, names, body, lines, writer, task, progress)
 }
 
 // What stands behind the header, and behind how many lines.
@@ -168,8 +179,6 @@ struct Begun {
     text: Vec<u8>,
     // How many lines stand before them.
     lines_before: usize,
-    // One more than the greatest variable so far.
-    variables: u32,
 }
 
 impl Begun {
@@ -183,23 +192,26 @@ impl Begun {
     }
 }
 
-// Answers the questions of a text, which stands behind a header and so many lines, by a solver that has no clause.
+// Answers the questions of a text, which stands behind a header and so many lines, by a solver that has no clause,
+// whose variables have these names in the text.
 fn answer_lines<W: Write, P: Progress>(
     alloc: Global,
     solver: &mut Solver,
+    names: &[u32],
     text: &[u8],
     lines_before: usize,
     writer: &mut W,
     task: Task,
     progress: &mut P,
 ) -> Result<Told, QuestionsError>
+    requires rising { IsRising names.now }
     requires empty { solver.old.formula ≡ [] }
     requires new { solver.old.learned ≡ 0 }
     ensures right { IfOk result (λ told. (asked : List Question)
         × (questions_after [] [] None (text_lines text.now) ≡ Some asked)
         × WritesReplies task.witness task.limit solver.new.learned told.is_stopped asked
         (W.contents writer.old) (W.contents writer.new) × IsRightOfAll asked told.verdict
-        × AreAskedOf solver.new.formula asked) }
+        × AreAskedOf (named names.now solver.new.formula) asked) }
     ensures stopped { IfOk result (λ told. IsTrue told.is_stopped → IsTrue (P.wants_stop progress.new)) }
 {
     let mut verdict = None;
@@ -208,7 +220,6 @@ fn answer_lines<W: Write, P: Progress>(
     let mut begun = Begun {
         text: Vec::new(alloc),
         lines_before,
-        variables: 0,
     };
     let mut left = text;
     while let Some((line, rest)) = split_line(left) {
@@ -218,21 +229,22 @@ fn answer_lines<W: Write, P: Progress>(
             begun.push(line)?;
             continue;
         }
-        add_begun(alloc, solver, &mut begun)?;
+        add_begun(alloc, solver, names, &mut begun)?;
         let question = read_question(alloc, line, rest, lines)?;
         left = question.rest;
         lines = question.lines;
         begun.lines_before = lines;
+        let literals = number_literals(alloc, names, &question.literals)?;
         let asked = Asked {
-            literals: &question.literals,
-            variables: begun.variables,
+            names,
+            literals: &literals,
             is_stopped,
         };
         let last = reply_to(alloc, solver, asked, writer, task, progress)?;
         verdict = Some(verdict_with(verdict, last));
         is_stopped = is_stop(last);
     }
-    add_begun(alloc, solver, &mut begun)?;
+    add_begun(alloc, solver, names, &mut begun)?;
     progress.end(report_of(solver));
     Ok(Told {
         verdict: verdict.unwrap_or(Verdict::Unknown),
@@ -264,22 +276,55 @@ fn is_stop(verdict: Verdict) -> bool
     }
 }
 
-// Adds the clauses that have begun to the solver.
-fn add_begun(alloc: Global, solver: &mut Solver, begun: &mut Begun) -> Result<(), DimacsError>
+// Adds the clauses that have begun to the solver, whose variables have these names.
+fn add_begun(
+    alloc: Global,
+    solver: &mut Solver,
+    names: &[u32],
+    begun: &mut Begun,
+) -> Result<(), DimacsError>
+    requires below { AreAllBelow (length names.now) solver.old.formula }
     ensures added { OnOk result ((added : Formula) × (clauses_in begun.old.text.items ≡ Some added)
-        × (solver.new.formula ≡ solver.old.formula ++ added)) }
+        × (named names.now solver.new.formula ≡ named names.now solver.old.formula ++ added)) }
+    ensures below { OnOk result (AreAllBelow (length names.now) solver.new.formula) }
     ensures text { OnOk result (begun.new.text.items ≡ []) }
     ensures learned { OnOk result (solver.new.learned ≡ solver.old.learned) }
 {
-    let mut text = begun.text.as_slice();
-    let read = match read_instance_by(alloc, &mut text, HeaderRule::Relaxed) {
-        Ok(read) => read,
-        Err(error) => return Err(behind(begun.lines_before, error)),
+    let read = read_begun(alloc, begun)?;
+    let Some(clauses) = numbered_by(alloc, &read, names)? else {
+        return Err(DimacsError::Memory);
     };
-    add_clauses(solver, &read.clauses)?;
-    begun.variables = begun.variables.max(read.variables);
+    add_clauses(solver, &clauses)?;
     begun.text.clear();
     Ok(())
+}
+
+// The clauses that have begun.
+fn read_begun(alloc: Global, begun: &Begun) -> Result<Cnf, DimacsError>
+    ensures { IfOk result (λ clauses. clauses_in begun.now.text.items ≡ Some clauses) }
+{
+    let mut text = begun.text.as_slice();
+    match read_instance_by(alloc, &mut text, HeaderRule::Relaxed) {
+        Ok(read) => Ok(read.clauses),
+        Err(error) => Err(behind(begun.lines_before, error)),
+    }
+}
+
+// The literals that have these under the names.
+fn number_literals(
+    alloc: Global,
+    names: &[u32],
+    literals: &[Literal],
+) -> Result<Vec<Literal>, AllocError>
+    ensures named { IfOk result (λ made. named_clause names.now made.items ≡ literals.now) }
+    ensures below { IfOk result (λ made. AreBelow (length names.now) made.items) }
+{
+    let mut made = Vec::new(alloc);
+    if number_clause(&mut made, names, literals)? {
+        Ok(made)
+    } else {
+        Err(AllocError)
+    }
 }
 
 // An error in a text that has so many lines before it.
@@ -304,9 +349,9 @@ fn add_clauses(solver: &mut Solver, clauses: &Cnf) -> Result<(), AllocError>
 // A question, and what is known where it is asked.
 #[derive(Clone, Copy)]
 struct Asked<'a> {
+    // The names of the solver's variables.
+    names: &'a [u32],
     literals: &'a [Literal],
-    // So many variables occurred before.
-    variables: u32,
     // Whether the search was stopped before.
     is_stopped: bool,
 }
@@ -320,10 +365,13 @@ fn reply_to<W: Write, P: Progress>(
     task: Task,
     progress: &mut P,
 ) -> Result<Verdict, DimacsError>
+    requires rising { IsRising asked.names.now }
+    requires below { AreAllBelow (length asked.names.now) solver.old.formula }
+    requires literals { AreBelow (length asked.names.now) asked.literals.now }
     requires stopped { IsTrue asked.is_stopped → IsTrue (P.wants_stop progress.old) }
     ensures written { IfOk result (λ verdict. WritesReply task.witness task.limit
         (solver.new.learned - solver.old.learned) true
-        (record { formula = solver.old.formula; assumed = asked.entry.literals.now }) verdict
+        (asked_under asked.entry.names.now solver.old.formula asked.entry.literals.now) verdict
         (W.contents writer.old) (W.contents writer.new)) }
     ensures stays { IfOk result (λ verdict. IsTrue asked.entry.is_stopped → verdict ≡ Verdict.Stopped) }
     ensures stopped { IfOk result (λ verdict. verdict ≡ Verdict.Stopped → IsTrue (P.wants_stop progress.new)) }
@@ -335,30 +383,26 @@ fn reply_to<W: Write, P: Progress>(
         write(writer, b"s UNKNOWN\n")?;
         return Ok(Verdict::Stopped);
     }
-    let (verdict, text) = reply(
-        alloc,
-        solver,
-        asked.literals,
-        asked.variables,
-        task,
-        progress,
-    )?;
+    let (verdict, text) = reply(alloc, solver, asked.names, asked.literals, task, progress)?;
     write(writer, &text)?;
     Ok(verdict)
 }
 
-// Whether these literals can all be true, and the text of this reply.
+// Whether these literals can all be true, and the text of this reply, in which the variables have these names.
 fn reply<P: Progress>(
     alloc: Global,
     solver: &mut Solver,
+    names: &[u32],
     assumed: &[Literal],
-    variables: u32,
     task: Task,
     progress: &mut P,
 ) -> Result<(Verdict, Vec<u8>), AllocError>
+    requires rising { IsRising names.now }
+    requires below { AreAllBelow (length names.now) solver.old.formula }
+    requires literals { AreBelow (length names.now) assumed.now }
     ensures right { IfOk result (λ made. IsRightReply task.witness task.limit
         (solver.new.learned - solver.old.learned) true
-        (record { formula = solver.old.formula; assumed = assumed.now }) made.0 made.1.items) }
+        (asked_under names.now solver.old.formula assumed.now) made.0 made.1.items) }
     ensures stopped { IfOk result (λ made. made.0 ≡ Verdict.Stopped → IsTrue (P.wants_stop progress.new)) }
     ensures formula { solver.new.formula ≡ solver.old.formula }
     ensures learned { HasNoFewer solver.old solver.new }
@@ -366,8 +410,7 @@ fn reply<P: Progress>(
 {
     match solve_assuming(solver, assumed, task.limit, progress)? {
         Some(AnswerUnder::Sat(model)) => {
-            let shown = shown(variables, &model)?;
-            let text = model_text(alloc, task.witness, shown, &model)?;
+            let text = model_reply(alloc, task.witness, names, &model)?;
             Ok((Verdict::Satisfiable, text))
         }
         Some(AnswerUnder::Unsat(_)) => {
@@ -385,14 +428,33 @@ fn reply<P: Progress>(
     }
 }
 
-// Of how many variables the values are shown, where so many occurred.
-fn shown(variables: u32, model: &[bool]) -> Result<u32, AllocError>
-    ensures { IfOk result (λ shown. length model.now ≤ shown) }
+// The text of a reply by a model of a formula whose variables have these names.
+fn model_reply(
+    alloc: Global,
+    witness: bool,
+    names: &[u32],
+    model: &[bool],
+) -> Result<Vec<u8>, AllocError>
+    requires rising { IsRising names.now }
+    ensures { IfOk result (λ text. (limit spent : ℕ) (stop : Bool) (f : Formula) (assumed : List Lit) →
+        AreAllBelow (length names.now) f → AreBelow (length names.now) assumed → IsModelUnder f assumed model.now →
+        IsRightReply witness limit spent stop (asked_under names.now f assumed) Verdict.Satisfiable text.items) }
 {
-    match u32::try_from(model.len()) {
-        Ok(len) => Ok(len.max(variables)),
-        Err(_) => Err(AllocError),
-    }
+    let shown = shown(names, model)?;
+    named_text(alloc, witness, names, shown, model)
+}
+
+// Of how many variables the values are shown: of those that have a name and a value.
+fn shown(names: &[u32], model: &[bool]) -> Result<u32, AllocError>
+    ensures names { IfOk result (λ shown. shown ≤ length names.now) }
+    ensures all { IfOk result (λ shown. (v : ℕ) → v < length names.now → v < length model.now → v < shown) }
+{
+    let shown = if model.len() < names.len() {
+        model.len()
+    } else {
+        names.len()
+    };
+    u32::try_from(shown).map_err(|_| AllocError)
 }
 
 // How many clauses may be learned, and how many literals propagated, up to the first pause of a search.

@@ -1,5 +1,5 @@
 -- A clause more, and the end.
-use Rattle.std.proofs.Common.{rules, inr, ap, ◌≡◌, ◌∙◌, length}
+use Rattle.std.proofs.Common.{rules, ap, ◌≡◌, ◌∙◌, length}
 use Rattle.gipsat_answers.specs.Names.{named, named_clause}
 use Rattle.gipsat_answers.proofs.Renaming.{named-more, AreAllBelow-more}
 use Rattle.gipsat_answers.proofs.names.numbered_by.Goals as goal
@@ -12,8 +12,6 @@ loop-place-preserved c =
     ∙ named-more names c.loop-place.made c.args.clauses.now c.loop-place.place c.deref.result.now c.clause.result.now
     c.loop-place.invariant c.clause.ensures is
 
-pub returns-clause-names : goal.returns-clause-names
-returns-clause-names c = record {
-  rising = c.if-not-is_rising.ensures;
-  each = inr (AreAllBelow-more c.variables.result (length c.args.names.now) c.loop-place.made c.if-variables-names.false c.variables.ensures.below);
-}
+pub returns-clause-below : goal.returns-clause-below
+returns-clause-below c =
+    AreAllBelow-more c.variables.result (length c.args.names.now) c.loop-place.made c.if-variables-names.false c.variables.ensures.below
