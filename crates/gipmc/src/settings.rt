@@ -38,6 +38,8 @@ pub fn plan_of(options: &Options) -> Plan
             limit: limit_asked(options),
             calls: usize::MAX,
         },
+        // A search about whether any bad literal fails sets that.
+        ends_at_trace: false,
         // Without a certificate equal latches and gates are merged. Behind that, gates in lemmas gain nothing.
         names_gates: wants_circuit(options),
     }
