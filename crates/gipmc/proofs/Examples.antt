@@ -3,6 +3,7 @@ use Rattle.std.proofs.Common.{◌≡◌, ℕ, true, false, List, [], ◌∷◌, 
 use Rattle.std.specs.Prelude.{codes}
 use Rattle.gipmc_aiger.specs.declared.header.Form.TheVariants.{Ascii}
 use Rattle.gipmc_aiger.specs.declared.header.Header.{Header}
+use Rattle.gipmc_answers.specs.declared.answers.Which.TheVariants as which
 use Rattle.gipmc_engines.specs.declared.engines.Engine.TheVariants.{All, Bounded, Induction, Invariants}
 use Rattle.gipmc.specs.Asked.{asks_of_bads, asks_of_justice}
 use Rattle.gipmc.specs.Plans.{depth_by, engine_by}
@@ -20,27 +21,33 @@ having bads justice = record {
 }
 
 -- a search is about both kinds
-bads_of_both : asks_of_bads (having 1 2) None None ≡ true
+bads_of_both : asks_of_bads (having 1 2) which.All None ≡ true
 bads_of_both = refl
 
-justice_of_both : asks_of_justice (having 1 2) None None ≡ true
+justice_of_both : asks_of_justice (having 1 2) which.All None ≡ true
 justice_of_both = refl
 
 -- or about the one that there is; where there is neither, it is about bad literals
-bads_of_justice : asks_of_bads (having 0 2) None None ≡ false
+bads_of_justice : asks_of_bads (having 0 2) which.All None ≡ false
 bads_of_justice = refl
 
-justice_of_bads : asks_of_justice (having 1 0) None None ≡ false
+justice_of_bads : asks_of_justice (having 1 0) which.All None ≡ false
 justice_of_bads = refl
 
-bads_of_none : asks_of_bads (having 0 0) None None ≡ true
+bads_of_none : asks_of_bads (having 0 0) which.All None ≡ true
 bads_of_none = refl
 
 -- or about what is asked for
-bads_asked : asks_of_justice (having 1 2) (Some 0) None ≡ false
+bads_asked : asks_of_justice (having 1 2) (which.One 0) None ≡ false
 bads_asked = refl
 
-justice_asked : asks_of_bads (having 1 2) None (Some 1) ≡ false
+justice_beside_any : asks_of_justice (having 1 2) which.Any None ≡ false
+justice_beside_any = refl
+
+bads_of_any : asks_of_bads (having 0 2) which.Any None ≡ true
+bads_of_any = refl
+
+justice_asked : asks_of_bads (having 1 2) which.All (Some 1) ≡ false
 justice_asked = refl
 
 -- two lines that end in two bytes, the second of them without its line feed

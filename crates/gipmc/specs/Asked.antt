@@ -7,6 +7,9 @@ use Rattle.gipmc_answers.specs.Answers as bads
 use Rattle.gipmc_answers.specs.Certificates as bads_certified
 use Rattle.gipmc_answers.specs.Witnesses as bads_replayed
 use Rattle.gipmc_answers.specs.declared.answers.Answered.{Answered}
+use Rattle.gipmc_answers.specs.declared.answers.Which.{Which}
+use Rattle.gipmc_answers.specs.declared.answers.Which.TheVariants.{All, One, Any}
+use Rattle.gipmc_command.specs.Options.{Request}
 use Rattle.gipmc_task.specs.Outcomes.{both}
 use Rattle.gipmc_task.specs.declared.outcome.Outcome.{Outcome}
 use Rattle.gipmc_task.specs.declared.outcome.Outcome.TheVariants.{Safe}
@@ -31,53 +34,63 @@ IsFoundFor bytes asked answer =
     justice.IsPropertiesIn bytes answer.netlist.circuit answer.liveness
     × justice.AreFoundFor answer.netlist.circuit answer.liveness asked answer.said.found.items
 
+-- which bad literals a search is about, where no justice property is asked for: the one at a place, or all
+abbrev pub bads_by : Option ℕ → Which
+bads_by (Some bad) = One bad
+bads_by None = All
+
+abbrev pub bads_asked : Request → Which
+bads_asked r = bads_by r.bad
+
 -- whether a search is about the bad literals of a circuit with this header: not where a justice property is asked for,
 -- nor where nothing is and there are justice properties alone
-abbrev pub asks_of_bads : Header → Option ℕ → Option ℕ → Bool
-asks_of_bads h bad (Some asked) = false
-asks_of_bads h (Some bad) None = true
-asks_of_bads h None None = if h.bads == 0 then h.justice == 0 else true
+abbrev pub asks_of_bads : Header → Which → Option ℕ → Bool
+asks_of_bads h subject (Some asked) = false
+asks_of_bads h (One bad) None = true
+asks_of_bads h Any None = true
+asks_of_bads h All None = if h.bads == 0 then h.justice == 0 else true
 
 -- whether it is about the justice properties: where one is asked for, or nothing is and there are some
-abbrev pub asks_of_justice : Header → Option ℕ → Option ℕ → Bool
-asks_of_justice h bad (Some asked) = true
-asks_of_justice h (Some bad) None = false
-asks_of_justice h None None = if h.justice == 0 then false else true
+abbrev pub asks_of_justice : Header → Which → Option ℕ → Bool
+asks_of_justice h subject (Some asked) = true
+asks_of_justice h (One bad) None = false
+asks_of_justice h Any None = false
+asks_of_justice h All None = if h.justice == 0 then false else true
 
 -- the bytes write a header by which the search is about no bad literal, or about no justice property
-abbrev pub AreBadsLeftOut : List ℕ → Option ℕ → Option ℕ → Type 0
-AreBadsLeftOut bytes bad asked = (h : Header) × IsHeaderOf bytes h × (asks_of_bads h bad asked ≡ false)
+abbrev pub AreBadsLeftOut : List ℕ → Which → Option ℕ → Type 0
+AreBadsLeftOut bytes subject asked = (h : Header) × IsHeaderOf bytes h × (asks_of_bads h subject asked ≡ false)
 
-abbrev pub IsJusticeLeftOut : List ℕ → Option ℕ → Option ℕ → Type 0
-IsJusticeLeftOut bytes bad asked = (h : Header) × IsHeaderOf bytes h × (asks_of_justice h bad asked ≡ false)
+abbrev pub IsJusticeLeftOut : List ℕ → Which → Option ℕ → Type 0
+IsJusticeLeftOut bytes subject asked = (h : Header) × IsHeaderOf bytes h × (asks_of_justice h subject asked ≡ false)
 
--- some text answers so about the bad literal that is asked for, or about all, or they are left out
-abbrev pub AreBadsAnswered : List ℕ → Option ℕ → Option ℕ → Outcome → Type 0
-AreBadsAnswered bytes bad asked outcome =
-    bads.IsAnswered bytes bad outcome ⊎ (AreBadsLeftOut bytes bad asked × (outcome ≡ Safe))
+-- some text answers so about the bad literals that are asked for, or they are left out
+abbrev pub AreBadsAnswered : List ℕ → Which → Option ℕ → Outcome → Type 0
+AreBadsAnswered bytes subject asked outcome =
+    bads.IsAnswered bytes subject outcome ⊎ (AreBadsLeftOut bytes subject asked × (outcome ≡ Safe))
 
 -- and about the justice property, or about all
-abbrev pub IsJusticeAnswered : List ℕ → Option ℕ → Option ℕ → Outcome → Type 0
-IsJusticeAnswered bytes bad asked outcome =
+abbrev pub IsJusticeAnswered : List ℕ → Which → Option ℕ → Outcome → Type 0
+IsJusticeAnswered bytes subject asked outcome =
     ((text : List ℕ) × justice.Answers bytes asked outcome text)
-    ⊎ (IsJusticeLeftOut bytes bad asked × (outcome ≡ Safe))
+    ⊎ (IsJusticeLeftOut bytes subject asked × (outcome ≡ Safe))
 
 -- both are, and this is known of all of them together
-abbrev pub IsAnsweredAsked : List ℕ → Option ℕ → Option ℕ → Outcome → Type 0
-IsAnsweredAsked bytes bad asked outcome =
-    (one : Outcome) × (other : Outcome) × AreBadsAnswered bytes bad asked one
-    × IsJusticeAnswered bytes bad asked other × (outcome ≡ both one other)
+abbrev pub IsAnsweredAsked : List ℕ → Which → Option ℕ → Outcome → Type 0
+IsAnsweredAsked bytes subject asked outcome =
+    (one : Outcome) × (other : Outcome) × AreBadsAnswered bytes subject asked one
+    × IsJusticeAnswered bytes subject asked other × (outcome ≡ both one other)
 
 -- the bytes write a header by which a search is about no bad literal, and the text no witness of one
 abbrev pub HasNoTrace : List ℕ → List ℕ → Type 0
 HasNoTrace bytes text =
-    (h : Header) × IsHeaderOf bytes h × (asks_of_bads h None None ≡ false)
+    (h : Header) × IsHeaderOf bytes h × (asks_of_bads h All None ≡ false)
     × (claims_of h.sizes.latches h.sizes.inputs text ≡ Some [])
 
 -- or one by which it is about no justice property, and the text no witness of one
 abbrev pub HasNoLasso : List ℕ → List ℕ → Type 0
 HasNoLasso bytes text =
-    (h : Header) × IsHeaderOf bytes h × (asks_of_justice h None None ≡ false)
+    (h : Header) × IsHeaderOf bytes h × (asks_of_justice h All None ≡ false)
     × (lassos_of h.sizes.latches h.sizes.inputs text ≡ Some [])
 
 -- the text writes m witnesses of bad literals, and all are right; where a search is about none, m is 0

@@ -3,7 +3,7 @@ use Rattle.std.specs.Prelude.{◌≡◌, ℕ, List, Option, Ok, IfSome, ⊤}
 use Rattle.gipmc_command.specs.Options.{Request}
 use Rattle.gipmc_command.specs.Words.{Answer, Certify, Replay, Tell, Work, work_asked}
 use Rattle.gipmc_task.specs.declared.outcome.Outcome.{Outcome}
-use Rattle.gipmc.specs.Asked.{CertifiesAsked, IsAnsweredAsked, ReplaysAsked}
+use Rattle.gipmc.specs.Asked.{CertifiesAsked, IsAnsweredAsked, ReplaysAsked, bads_asked}
 use Rattle.gipmc.specs.Texts.{text_read}
 
 -- the bytes of each file by its name, where they are known; standard input has no name
@@ -16,7 +16,7 @@ IfText files name P = IfSome (files name) (λ bytes. P (text_read bytes))
 
 -- the file of the circuit writes one of which this is known, as to what is asked for
 abbrev pub IsFound : Contents → Request → Outcome → Type 0
-IsFound files r outcome = IfText files r.file (λ bytes. IsAnsweredAsked bytes r.bad r.justice outcome)
+IsFound files r outcome = IfText files r.file (λ bytes. IsAnsweredAsked bytes (bads_asked r) r.justice outcome)
 
 -- it writes one, and the file of the witnesses has right ones of what is asked for
 abbrev pub IsReplayed : Contents → Request → Option (List ℕ) → Type 0

@@ -11,6 +11,7 @@ use crate::kinds::is_of_justice;
 use crate::progress::Teller;
 use crate::traces::next_answer;
 use gip_cli::NewFile;
+use gipmc_answers::Which;
 use gipmc_command::Options;
 use gipmc_justice::{Answered, Found, JusticeError, answer, certificate_of};
 use gipmc_liveness_engines::Bounds;
@@ -35,21 +36,22 @@ pub fn justice_failure<'a>(
     }
 }
 
-/// Answers about the justice properties, if these are asked about.
+/// Answers about the justice properties, if these are asked about, where these bad literals are.
 pub fn search_justice<'a>(
     rt: &HostRuntime,
     options: &Options<'a>,
+    bads: Which,
     bytes: &[u8],
     teller: &mut Teller<'_, '_>,
     output: &mut Output<Stdout>,
 ) -> Result<Option<Answered>, Failure<'a>>
     ensures none { IfOk result (λ found. IfNone found
-        (IsJusticeLeftOut bytes.now options.now.bad options.now.justice)) }
+        (IsJusticeLeftOut bytes.now bads options.now.justice)) }
     ensures answers { IfOk result (λ found. IfSome found
         (λ a. Answers bytes.now options.now.justice a.said.outcome a.said.text.items)) }
     ensures found { IfOk result (λ found. IfSome found (IsFoundFor bytes.now options.now.justice)) }
 {
-    if !is_of_justice(bytes, options.bad, options.justice) {
+    if !is_of_justice(bytes, bads, options.justice) {
         return Ok(None);
     }
     teller.go_on_with_justice();

@@ -18,7 +18,7 @@ ghost use Rattle.gipmc_task.specs.declared.outcome.Outcome.TheVariants.{Fails, S
 ghost use Rattle.gipmc_justice.specs.Certificates as certificates;
 ghost use Rattle.gipmc_justice.specs.Witnesses as justice;
 ghost use Rattle.gipmc.specs.Asked.{AreBadsLeftOut, AreBadsReplayed, CertifiesAsked, IsAnsweredAsked, IsFoundFor};
-ghost use Rattle.gipmc.specs.Asked.{IsJusticeReplayed, ReplaysAsked, ReplaysEach, outcome_of_bads};
+ghost use Rattle.gipmc.specs.Asked.{IsJusticeReplayed, ReplaysAsked, ReplaysEach, bads_asked, outcome_of_bads};
 ghost use Rattle.gipmc.specs.Runs.{Ask, Finds, IsCertified, IsFound, IsReplayed, Verifies};
 ghost use Rattle.gipmc.specs.Statuses.{outcome_status, search_status, verified_status};
 ghost use Rattle.gipmc.specs.Texts.{IsTextOf};
@@ -40,7 +40,8 @@ use files::{Files, Texts, check_names, new_file, write_out, write_whole};
 use gip_cli::{Clock, NewFile, Printable, begin, explain, refuse, tell};
 use gipmc_aiger::{Header, read_claims, read_lassos};
 use gipmc_answers::{
-    Answered, answer, certificate_of, doubt_of, replay_all, witness_circuit_of, witness_doubt,
+    Answered, Which, answer, certificate_of, doubt_of, replay_all, witness_circuit_of,
+    witness_doubt,
 };
 use gipmc_command::{ABOUT, Options, Task};
 use gipmc_justice::{JusticeError, lasso_doubt};
@@ -50,7 +51,7 @@ use justice::{justice_failure, keep_of_justice, outcome_of_justice, search_justi
 use kinds::{header_without_bads, header_without_justice, is_of_bads, is_of_justice};
 use located::located;
 use progress::Teller;
-use settings::{limit_asked, output_of, plan_of};
+use settings::{bads_asked, limit_asked, output_of, plan_of};
 use std::fmt::Display;
 use std::io::Stdout;
 use std::process::ExitCode;
@@ -99,9 +100,9 @@ fn run_search<T: Texts>(rt: &HostRuntime, texts: &T, options: &Options) -> ExitC
 // The status of a search in the circuit that the bytes write, of a program that began as the clock did.
 fn search_in(rt: &HostRuntime, options: &Options, clock: Clock, bytes: &[u8]) -> ExitCode
     ensures safe { exit_status result ≡ 20 →
-        IsAnsweredAsked bytes.now options.now.bad options.now.justice Safe }
+        IsAnsweredAsked bytes.now (bads_asked (request_of options.now)) options.now.justice Safe }
     ensures fails { exit_status result ≡ 10 →
-        IsAnsweredAsked bytes.now options.now.bad options.now.justice Fails }
+        IsAnsweredAsked bytes.now (bads_asked (request_of options.now)) options.now.justice Fails }
 {
     end_search(rt, bytes, search_circuit(rt, options, clock, bytes))
 }
@@ -250,7 +251,7 @@ fn search_circuit<'a>(
     clock: Clock,
     bytes: &[u8],
 ) -> Result<Outcome, Failure<'a>>
-    ensures { IfOk result (IsAnsweredAsked bytes.now options.now.bad options.now.justice) }
+    ensures { IfOk result (IsAnsweredAsked bytes.now (bads_asked (request_of options.now)) options.now.justice) }
 {
     check_names(options)?;
     let certificate = certificate_file(rt, options)?;
@@ -282,7 +283,7 @@ fn search_for<'a>(
     certificate: Option<NewFile<'a>>,
     wave: Option<NewFile<'a>>,
 ) -> Result<Outcome, Failure<'a>>
-    ensures { IfOk result (IsAnsweredAsked bytes.now options.now.bad options.now.justice) }
+    ensures { IfOk result (IsAnsweredAsked bytes.now (bads_asked (request_of options.now)) options.now.justice) }
 {
     let mut output = output_of(rt, options);
     let mut teller = Teller::new(rt, options, clock);
@@ -382,10 +383,11 @@ fn search<'a>(
     ensures circuit { IfOk result (λ f. IfSome f.bads (λ a. IsCircuitIn bytes.now a.netlist.circuit)) }
     ensures properties { IfOk result (λ f. IfSome f.justice (IsFoundFor bytes.now options.now.justice)) }
     ensures answers { IfOk result
-        (λ f. IsAnsweredAsked bytes.now options.now.bad options.now.justice f.outcome) }
+        (λ f. IsAnsweredAsked bytes.now (bads_asked (request_of options.now)) options.now.justice f.outcome) }
 {
-    let bads = search_bads(rt, options, bytes, teller, output)?;
-    let justice = search_justice(rt, options, bytes, teller, output)?;
+    let subject = bads_asked(options);
+    let bads = search_bads(rt, options, subject, bytes, teller, output)?;
+    let justice = search_justice(rt, options, subject, bytes, teller, output)?;
     teller.sum_up();
     let outcome = outcome_of_bads(&bads).and(outcome_of_justice(&justice));
     Ok(Found {
@@ -409,23 +411,27 @@ fn outcome_of_bads(bads: &Option<Answered>) -> Outcome
 fn search_bads<'a>(
     rt: &HostRuntime,
     options: &Options<'a>,
+    asked: Which,
     bytes: &[u8],
     teller: &mut Teller<'_, '_>,
     output: &mut Output<Stdout>,
 ) -> Result<Option<Answered>, Failure<'a>>
     ensures none { IfOk result (λ found. IfNone found
-        (AreBadsLeftOut bytes.now options.now.bad options.now.justice)) }
+        (AreBadsLeftOut bytes.now asked options.now.justice)) }
     ensures circuit { IfOk result (λ found. IfSome found (λ a. IsCircuitIn bytes.now a.netlist.circuit)) }
     ensures answers { IfOk result (λ found. IfSome found
-        (λ a. Answers bytes.now options.now.bad a.said.outcome a.said.text.items)) }
+        (λ a. Answers bytes.now asked a.said.outcome a.said.text.items)) }
 {
-    if !is_of_bads(bytes, options.bad, options.justice) {
+    if !is_of_bads(bytes, asked, options.justice) {
         return Ok(None);
     }
     let plan = plan_of(options);
-    match answer::<Solver, _, _>(rt.alloc(), bytes, options.bad, &plan, teller, output) {
+    match answer::<Solver, _, _>(rt.alloc(), bytes, asked, &plan, teller, output) {
         Ok(answer) => {
             tell_of_none(rt, options, &answer);
+            if asked == Which::Any {
+                tell_left_out(rt, options, bytes, "asked about");
+            }
             Ok(Some(answer))
         }
         Err(error) => Err(failure(options.file, None, error)),
@@ -479,7 +485,7 @@ fn write_certificate<'a>(
     match certificate_text(rt, options, bytes, answer) {
         Ok(text) => {
             write_whole(file, &text)?;
-            tell_left_out(rt, options, bytes);
+            tell_left_out(rt, options, bytes, "certified");
             Ok(())
         }
         Err(error) => Err(Failure::NoCertificate(Some(file.name()), error)),
@@ -659,7 +665,7 @@ fn has_witness<'a>(
     if lassos > 0 {
         return Ok(());
     }
-    if is_of_bads(bytes, None, None) {
+    if is_of_bads(bytes, Which::All, None) {
         return Err(failure(options.file, name, TaskError::NoWitness));
     }
     Err(justice_failure(options.file, name, JusticeError::NoWitness))
@@ -749,7 +755,7 @@ fn certify_bads<'a>(
 {
     match doubt_of::<Solver>(rt.alloc(), bytes, text, options.bad, limit_asked(options)) {
         Ok(None) => {
-            tell_left_out(rt, options, bytes);
+            tell_left_out(rt, options, bytes, "certified");
             verified_text(rt, true)
         }
         Ok(Some(doubt)) => doubted(rt, name, &doubt),
@@ -757,14 +763,11 @@ fn certify_bads<'a>(
     }
 }
 
-// Tells where a certificate of all bad literals says nothing of justice properties.
-fn tell_left_out(rt: &HostRuntime, options: &Options, bytes: &[u8]) {
-    if options.bad.is_none() && is_of_justice(bytes, None, None) {
+// Tells where what is done about all bad literals says nothing of justice properties.
+fn tell_left_out(rt: &HostRuntime, options: &Options, bytes: &[u8], done: &str) {
+    if options.bad.is_none() && is_of_justice(bytes, Which::All, None) {
         let name = options.file.unwrap_or("<stdin>");
-        let _ = eprintln!(rt;
-            "c {}: its bad literals alone are certified",
-            Printable(&name)
-        );
+        let _ = eprintln!(rt; "c {}: its bad literals alone are {done}", Printable(&name));
     }
 }
 

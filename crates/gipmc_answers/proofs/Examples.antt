@@ -23,7 +23,7 @@ use Rattle.gipmc_circuits.specs.declared.trace.Trace.{Trace}
 use Rattle.gipmc_engines.specs.Verdicts.{NeverFailsWithin}
 use Rattle.gipmc_task.specs.Outcomes.{both}
 use Rattle.gipmc_task.specs.declared.outcome.Outcome.TheVariants.{Fails, Safe, Open}
-use Rattle.gipmc_answers.specs.Answers.{IsCircuitIn, IsKnown, Tells, TellsFirst, depths_text, known_text, outcome_of}
+use Rattle.gipmc_answers.specs.Answers.{IsCircuitIn, IsKnown, Tells, TellsAny, TellsFirst, depths_text, known_text, outcome_of}
 use Rattle.gipmc_answers.specs.Certificates.{BeginsWithK, CertifiesCircuit, clauses_behind, k_in}
 use Rattle.gipmc_answers.specs.Left.{StandsFor}
 use Rattle.gipmc_answers.specs.Witnesses.{Replays, ReplaysAll, claimed, names_asked, names_place}
@@ -122,6 +122,22 @@ tells_of_both c bads = (
   refl,
 )
 
+-- in place of both it is told of the one that is open
+tells_any_open : (c : Circuit) → c.bads.items ≡ yes_of 0 ∷ yes_of 1 ∷ [] → TellsAny c Open (codes "2\nb1\n.\n")
+tells_any_open c bads = (1, tells_of_input c (rw bads refl), λ is. absurd cc)
+
+-- and that all are safe where the constant is the only one
+only : (l m : Lit) (k : ℕ) → slice_get (l ∷ []) k ≡ Some m → l ≡ m
+only l m zero at = same_some l m at
+only l m (suc k) at = none_some m at
+
+tells_any_safe : (c : Circuit) → c.bads.items ≡ yes_of 0 ∷ [] → TellsAny c Safe (codes "0\nb0\n.\n")
+tells_any_safe c bads = (
+  0,
+  tells_of_constant c (rw bads refl),
+  λ is k bad here. subst (IsSafe c) (only (yes_of 0) bad k (rw bads at here)) (constant_is_safe c),
+)
+
 -- an input may be true at the start
 abbrev first : Assignment
 first v = eqb v 1
@@ -150,6 +166,12 @@ refused-safe : (c : Circuit) (text : List ℕ) → c.latches.items ≡ [] → c.
 refused-safe c text latches gates constraints bads (bad, here, front, depths, k, holds, is, outcome, small) =
     known_safe c bad k outcome holds 0
     (subst (λ l. FailsAfter c l 0) (same_some (yes_of 1) bad (rw bads at here)) (input_fails c latches gates constraints))
+
+-- nor in place of a constant beside it
+refused-any_safe : (c : Circuit) (text : List ℕ) → c.latches.items ≡ [] → c.gates.items ≡ [] → c.constraints.items ≡ []
+    → c.bads.items ≡ yes_of 0 ∷ yes_of 1 ∷ [] → ¬ (TellsAny c Safe text)
+refused-any_safe c text latches gates constraints bads (place, told, safe) =
+    safe refl 1 (yes_of 1) (rw bads refl) 0 (input_fails c latches gates constraints)
 
 -- nor may a constant stand for it in a smaller circuit
 refused-constant_for_input : (small whole : Circuit) → whole.latches.items ≡ [] → whole.gates.items ≡ []
@@ -242,10 +264,6 @@ no_clauses c clauses latches bads none = (
         })),
   ),
 )
-  where
-    only : (l m : Lit) (k : ℕ) → slice_get (l ∷ []) k ≡ Some m → l ≡ m
-    only l m zero at = same_some l m at
-    only l m (suc k) at = none_some m at
 
 refused-no_bad_literal : (c : Circuit) (text : List ℕ) → c.bads.items ≡ [] → ¬ (CertifiesCircuit c text None)
 refused-no_bad_literal c text bads (shown, is, (some, each)) =

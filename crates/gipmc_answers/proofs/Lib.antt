@@ -3,6 +3,7 @@ mod ByInduction
 mod Depths
 mod Examples
 mod Shown
+mod Together
 mod Told
 pub mod Witnessed
 mod OnWhole

@@ -1,6 +1,6 @@
 -- Texts of answers, and when they are right.
-use Rattle.std.specs.Prelude.{◌≡◌, ℕ, zero, suc, ◌<◌, ◌^◌, List, [], ◌∷◌, ◌++◌, length, slice_get, codes, decimal, Option, Some, None, IsTrue, ⊤}
-use Rattle.std.specs.List.{All}
+use Rattle.std.specs.Prelude.{◌≡◌, ℕ, zero, suc, ◌<◌, ◌^◌, List, [], ◌∷◌, ◌++◌, length, slice_get, codes, decimal, Some, IsTrue, ⊤}
+use Rattle.std.specs.List as list
 use Rattle.gipsat_cnf.specs.Literals.{Lit}
 use Rattle.gipmc_aiger.specs.Circuits.{Writes}
 use Rattle.gipmc_aiger.specs.Traces.{witness_text}
@@ -12,6 +12,8 @@ use Rattle.gipmc_engines.specs.Verdicts.{NeverFailsWithin}
 use Rattle.gipmc_task.specs.Outcomes.{both}
 use Rattle.gipmc_task.specs.declared.outcome.Outcome.{Outcome}
 use Rattle.gipmc_task.specs.declared.outcome.Outcome.TheVariants.{Fails, Safe, Open}
+use Rattle.gipmc_answers.specs.declared.answers.Which.{Which}
+use Rattle.gipmc_answers.specs.declared.answers.Which.TheVariants.{All, One, Any}
 use Rattle.gipmc_answers.specs.declared.known.Known.{Known}
 use Rattle.gipmc_answers.specs.declared.known.Known.TheVariants as known
 
@@ -46,7 +48,8 @@ depths_text (n ∷ before) = depths_text before ++ depth_text n
 -- the text has such lines of depths up to which no trace fails
 abbrev pub TellsDepths : Circuit → Lit → List ℕ → Type 0
 TellsDepths c bad text =
-    (depths : List ℕ) × All (NeverFailsWithin c bad) depths × All (λ n. n < 2 ^ 64) depths × (text ≡ depths_text depths)
+    (depths : List ℕ) × list.All (NeverFailsWithin c bad) depths × list.All (λ n. n < 2 ^ 64) depths
+    × (text ≡ depths_text depths)
 
 -- what is known of a literal, in a word
 abbrev pub outcome_of : Known → Outcome
@@ -73,26 +76,38 @@ TellsFirst c (suc n) outcome text =
     (one : Outcome) × (other : Outcome) × (before : List ℕ) × (last : List ℕ) × TellsFirst c n one before
     × Tells c n other last × (outcome ≡ both one other) × (text ≡ before ++ last)
 
--- the text tells of the bad literal that is asked for, or of all
-abbrev pub TellsAsked : Circuit → Option ℕ → Outcome → List ℕ → Type 0
-TellsAsked c None outcome text = TellsFirst c (length c.bads.items) outcome text
-TellsAsked c (Some place) outcome text = Tells c place outcome text
+-- the circuit is safe as to each of its bad literals
+abbrev pub IsSafeAll : Circuit → Type 0
+IsSafeAll c = (k : ℕ) (bad : Lit) → slice_get c.bads.items k ≡ Some bad → IsSafe c bad
 
--- the literals are all bad ones of the circuit, or the first of them is the bad one that is asked for
-pub record AreAsked (c : Circuit) (asked : Option ℕ) (bads : List Lit) : Type 0 where
-  pub all : asked ≡ None → bads ≡ c.bads.items
-  pub within : (place : ℕ) → asked ≡ Some place → place < length c.bads.items
-  pub first : (place : ℕ) → asked ≡ Some place → 0 < length bads
-  pub same : (place : ℕ) → asked ≡ Some place → slice_get c.bads.items place ≡ slice_get bads 0
+-- the text tells of one bad literal in place of all: that it is safe only where each of them is
+abbrev pub TellsAny : Circuit → Outcome → List ℕ → Type 0
+TellsAny c outcome text = (place : ℕ) × Tells c place outcome text × (outcome ≡ Safe → IsSafeAll c)
+
+-- the text tells of each bad literal, of the one that is asked for, or whether any fails
+abbrev pub TellsAsked : Circuit → Which → Outcome → List ℕ → Type 0
+TellsAsked c All outcome text = TellsFirst c (length c.bads.items) outcome text
+TellsAsked c (One place) outcome text = Tells c place outcome text
+TellsAsked c Any outcome text = TellsAny c outcome text
+
+-- the literals are all bad ones of the circuit, of which there are some where any is asked for, or the first of them is
+-- the bad one that is asked for
+pub record AreAsked (c : Circuit) (asked : Which) (bads : List Lit) : Type 0 where
+  pub all : asked ≡ All → bads ≡ c.bads.items
+  pub any : asked ≡ Any → bads ≡ c.bads.items
+  pub some : asked ≡ Any → 0 < length c.bads.items
+  pub within : (place : ℕ) → asked ≡ One place → place < length c.bads.items
+  pub first : (place : ℕ) → asked ≡ One place → 0 < length bads
+  pub same : (place : ℕ) → asked ≡ One place → slice_get c.bads.items place ≡ slice_get bads 0
 
 -- the bytes write the circuit, and it is well-formed
 abbrev pub IsCircuitIn : List ℕ → Circuit → Type 0
 IsCircuitIn bytes c = Writes bytes c × IsTrue (is_well_formed c)
 
 -- the bytes write a circuit of which the text tells so
-abbrev pub Answers : List ℕ → Option ℕ → Outcome → List ℕ → Type 0
+abbrev pub Answers : List ℕ → Which → Outcome → List ℕ → Type 0
 Answers bytes asked outcome text = (c : Circuit) × IsCircuitIn bytes c × TellsAsked c asked outcome text
 
 -- some text answers so about the circuit that the bytes write
-abbrev pub IsAnswered : List ℕ → Option ℕ → Outcome → Type 0
+abbrev pub IsAnswered : List ℕ → Which → Outcome → Type 0
 IsAnswered bytes asked outcome = (text : List ℕ) × Answers bytes asked outcome text

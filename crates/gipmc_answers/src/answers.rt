@@ -1,12 +1,14 @@
 //! Answers about a circuit, from the bytes of its text to those of the answers.
-ghost use Rattle.std.specs.Prelude.{◌≡◌, ℕ, ◌<◌, ◌^◌, ◌++◌, codes, length, map, slice_get, decimal, Some, IfOk, OnOk};
-ghost use Rattle.gipmc_answers.specs.Answers.{Answers, IsCircuitIn, Tells, TellsAsked, TellsBy, TellsDepths, TellsFirst};
-ghost use Rattle.gipmc_answers.specs.Answers.{AreAsked, depth_text, known_text, named, outcome_of};
+ghost use Rattle.std.specs.Prelude.{◌≡◌, ℕ, ◌<◌, ◌^◌, ◌++◌, codes, length, map, slice_get, decimal, Some, None, IfOk, OnOk};
+ghost use Rattle.gipmc_answers.specs.Answers.{Answers, IsCircuitIn, Tells, TellsAny, TellsAsked, TellsBy, TellsDepths};
+ghost use Rattle.gipmc_answers.specs.Answers.{AreAsked, TellsFirst, depth_text, known_text, named, outcome_of};
+ghost use Rattle.gipmc_answers.specs.declared.answers.Which.TheVariants.{Any, One};
 ghost use Rattle.gipmc_answers.specs.Left.{StandFor};
 ghost use Rattle.gipmc_task.specs.Output.{IsWritten};
 ghost use Rattle.gipmc_answers.specs.Witnesses.{Replays};
-ghost use Rattle.gipmc_task.specs.declared.outcome.Outcome.TheVariants.{Fails};
+ghost use Rattle.gipmc_task.specs.declared.outcome.Outcome.TheVariants.{Fails, Open};
 
+use crate::any::find_any;
 use crate::known::Known;
 use crate::parted::{Parted, part_of};
 use crate::query::Query;
@@ -18,6 +20,17 @@ use gipmc_task::{Certifying, Outcome, Output, TaskError, Wanted};
 use gipsat_cnf::{Literal, SatSolver};
 use std::alloc::{AllocError, Global};
 use std::io::Write;
+
+/// Which bad literals are asked about.
+#[derive(Clone, Copy, PartialEq, Eq)]
+pub enum Which {
+    /// Each, with an answer of its own.
+    All,
+    /// The one at this place.
+    One(usize),
+    /// All, with one answer for whether any fails.
+    Any,
+}
 
 // What is told of some bad literals.
 #[derive(Drop)]
@@ -59,27 +72,33 @@ pub struct Answered {
     pub said: Said,
 }
 
-/// Answers about the circuit that a text writes: about the bad literal at the place that is asked for, or about all.
-/// One search is about all of them. Each answer is written as soon as it is found, and all before it are. Where a write
-/// fails no more is written; the search stops then, and leaves the other literals open, or goes on, as the output says.
+/// Answers about the circuit that a text writes: about the bad literals that are asked for. One search is about all of
+/// them. Each answer is written as soon as it is found, and all before it are. Where a write fails no more is written;
+/// the search stops then, and leaves the other literals open, or goes on, as the output says.
+///
+/// Where any is asked for, the one answer is about the literal whose trace is found first; where none is found, about
+/// the first of those of which least is known. So it is safe where all are.
 ///
 /// # Errors
 /// - [`TaskError::Circuit`] where the text writes no circuit.
-/// - [`TaskError::NoBad`] where there is no bad literal at the place.
+/// - [`TaskError::NoBad`] where there is no bad literal at the place, and [`TaskError::NoBads`] where any is asked for,
+///   and there is none.
 /// - [`TaskError::Memory`] where memory is refused for the circuit or a text. A search that is refused memory leaves the
 ///   literals open that are not decided.
 pub fn answer<S: SatSolver + Drop, O: Observer, W: Write>(
     alloc: Global,
     bytes: &[u8],
-    asked: Option<usize>,
+    asked: Which,
     plan: &Plan,
     observer: &mut O,
     output: &mut Output<W>,
 ) -> Result<Answered, TaskError>
     ensures circuit { IfOk result (λ a. IsCircuitIn bytes.now a.netlist.circuit) }
     ensures answers { IfOk result (λ a. Answers bytes.now asked a.said.outcome a.said.text.items) }
-    ensures witness { (place : ℕ) → asked ≡ Some place →
-        IfOk result (λ a. a.said.outcome ≡ Fails → Replays bytes.now a.said.text.items asked) }
+    ensures witness { (place : ℕ) → asked ≡ One place →
+        IfOk result (λ a. a.said.outcome ≡ Fails → Replays bytes.now a.said.text.items (Some place)) }
+    ensures any { asked ≡ Any →
+        IfOk result (λ a. a.said.outcome ≡ Fails → Replays bytes.now a.said.text.items None) }
     ensures written { IfOk result (λ a. IsWritten output.old.failure output.new.failure
         (W.contents output.old.writer) (W.contents output.new.writer) a.said.text.items) }
 {
@@ -102,7 +121,7 @@ pub(crate) fn netlist_in(alloc: Global, bytes: &[u8]) -> Result<Netlist, TaskErr
 fn answer_asked<S: SatSolver + Drop, O: Observer, W: Write>(
     alloc: Global,
     netlist: &Netlist,
-    asked: Option<usize>,
+    asked: Which,
     plan: &Plan,
     observer: &mut O,
     output: &mut Output<W>,
@@ -112,15 +131,29 @@ fn answer_asked<S: SatSolver + Drop, O: Observer, W: Write>(
         (W.contents output.old.writer) (W.contents output.new.writer) said.text.items) }
 {
     match asked {
-        None => {
+        Which::All => {
             let bads = &netlist.circuit.bads;
-            Ok(answer_about::<S, _, _>(alloc, netlist, bads, None, plan, observer, output)?)
+            Ok(answer_about::<S, _, _>(alloc, netlist, bads, asked, plan, observer, output)?)
         }
-        Some(place) if place < netlist.circuit.bads.len() => {
+        Which::One(place) if place < netlist.circuit.bads.len() => {
             let bads = [netlist.circuit.bads[place]];
-            Ok(answer_about::<S, _, _>(alloc, netlist, &bads, Some(place), plan, observer, output)?)
+            Ok(answer_about::<S, _, _>(alloc, netlist, &bads, asked, plan, observer, output)?)
         }
-        Some(place) => Err(TaskError::NoBad(place, netlist.circuit.bads.len())),
+        Which::One(place) => Err(TaskError::NoBad(place, netlist.circuit.bads.len())),
+        Which::Any if netlist.circuit.bads.is_empty() => Err(TaskError::NoBads),
+        Which::Any => {
+            let bads = &netlist.circuit.bads;
+            let plan = to_first_trace(plan);
+            Ok(answer_about::<S, _, _>(alloc, netlist, bads, asked, &plan, observer, output)?)
+        }
+    }
+}
+
+// The same plan, for a search that the first trace ends.
+fn to_first_trace(plan: &Plan) -> Plan {
+    Plan {
+        ends_at_trace: true,
+        ..*plan
     }
 }
 
@@ -129,7 +162,7 @@ fn answer_about<S: SatSolver + Drop, O: Observer, W: Write>(
     alloc: Global,
     netlist: &Netlist,
     bads: &[Literal],
-    asked: Option<usize>,
+    asked: Which,
     plan: &Plan,
     observer: &mut O,
     output: &mut Output<W>,
@@ -152,7 +185,7 @@ fn answer_by<S: SatSolver + Drop, O: Observer, W: Write>(
     alloc: Global,
     netlist: &Netlist,
     bads: &[Literal],
-    asked: Option<usize>,
+    asked: Which,
     part: &Cone,
     plan: &Plan,
     observer: &mut O,
@@ -176,7 +209,7 @@ fn answer_by<S: SatSolver + Drop, O: Observer, W: Write>(
 fn answer_with<S: SatSolver + Drop, O: Observer, W: Write>(
     alloc: Global,
     mut parted: Parted<'_, S>,
-    asked: Option<usize>,
+    asked: Which,
     plan: &Plan,
     observer: &mut O,
     output: &mut Output<W>,
@@ -197,14 +230,22 @@ fn answer_with<S: SatSolver + Drop, O: Observer, W: Write>(
 // What is to be found out of the first literal of a search, if it has one.
 fn first_wanted<S: SatSolver + Drop, O: Observer>(
     parted: &Parted<'_, S>,
-    asked: Option<usize>,
+    asked: Which,
     wanted: Wanted,
     observer: &mut O,
 ) -> Wanted {
     if parted.bads.is_empty() {
         return Wanted::Nothing;
     }
-    wanted_at(asked.unwrap_or(0), wanted, observer)
+    wanted_at(first_place(asked), wanted, observer)
+}
+
+// The place of the first literal that is asked about.
+fn first_place(asked: Which) -> usize {
+    match asked {
+        Which::One(place) => place,
+        Which::All | Which::Any => 0,
+    }
 }
 
 // Whether equal variables are merged where these engines search, and this is certified.
@@ -219,7 +260,7 @@ fn merges(engine: Engine, certifying: Certifying) -> bool {
 fn say<S: SatSolver + Drop, O: Observer, W: Write>(
     alloc: Global,
     query: &mut Query<'_, S>,
-    asked: Option<usize>,
+    asked: Which,
     observer: &mut O,
     output: &mut Output<W>,
 ) -> Result<Said, AllocError>
@@ -230,8 +271,9 @@ fn say<S: SatSolver + Drop, O: Observer, W: Write>(
         (W.contents output.old.writer) (W.contents output.new.writer) said.text.items) }
 {
     match asked {
-        None => say_all(alloc, query, observer, output),
-        Some(place) => say_one(alloc, query, place, observer, output),
+        Which::All => say_all(alloc, query, observer, output),
+        Which::One(place) => say_one(alloc, query, place, observer, output),
+        Which::Any => say_any(alloc, query, observer, output),
     }
 }
 
@@ -268,6 +310,42 @@ fn say_one<S: SatSolver + Drop, O: Observer, W: Write>(
 {
     let told = tell_at(alloc, query, 0, place, observer, output)?;
     Ok(made_of(told, query.invariant(alloc), query.k()))
+}
+
+// Says whether any of the literals fails that a search is about, those of its circuit.
+fn say_any<S: SatSolver + Drop, O: Observer, W: Write>(
+    alloc: Global,
+    query: &mut Query<'_, S>,
+    observer: &mut O,
+    output: &mut Output<W>,
+) -> Result<Said, AllocError>
+    requires all { query.old.bads.now ≡ query.old.whole.now.circuit.bads.items }
+    requires some { 0 < length query.old.bads.now }
+    ensures tells { IfOk result (λ said. TellsAny query.old.whole.now.circuit said.outcome said.text.items) }
+    ensures written { IfOk result (λ said. IsWritten output.old.failure output.new.failure
+        (W.contents output.old.writer) (W.contents output.new.writer) said.text.items) }
+{
+    let told = tell_any(alloc, query, observer, output)?;
+    Ok(made_of(told, query.invariant(alloc), query.k()))
+}
+
+// Tells of the one of them that stands for all.
+fn tell_any<S: SatSolver + Drop, O: Observer, W: Write>(
+    alloc: Global,
+    query: &mut Query<'_, S>,
+    observer: &mut O,
+    output: &mut Output<W>,
+) -> Result<Told, AllocError>
+    requires all { query.old.bads.now ≡ query.old.whole.now.circuit.bads.items }
+    requires some { 0 < length query.old.bads.now }
+    ensures tells { IfOk result (λ told. TellsAny query.old.whole.now.circuit told.outcome told.text.items) }
+    ensures written { IfOk result (λ told. IsWritten output.old.failure output.new.failure
+        (W.contents output.old.writer) (W.contents output.new.writer) told.text.items) }
+{
+    let found = find_any(alloc, query, output.wanted(), observer);
+    let told = tell(alloc, found.place, &found.known, output)?;
+    note_witness(found.place, &told, observer);
+    Ok(told)
 }
 
 // What is told, with an invariant and a k.
@@ -338,7 +416,7 @@ fn tell_at<S: SatSolver + Drop, O: Observer, W: Write>(
 }
 
 // What is to be found out of the literal at one of a search's places, which is the bad one at a place of the circuit.
-fn wanted_of<S: SatSolver + Drop, O: Observer>(
+pub(crate) fn wanted_of<S: SatSolver + Drop, O: Observer>(
     query: &Query<'_, S>,
     at: usize,
     place: usize,
@@ -454,18 +532,20 @@ fn depth_text(alloc: Global, depth: usize) -> Result<Vec<u8>, AllocError>
 fn leave<O: Observer, W: Write>(
     alloc: Global,
     netlist: &Netlist,
-    asked: Option<usize>,
+    asked: Which,
     observer: &mut O,
     output: &mut Output<W>,
 ) -> Result<Said, AllocError>
-    requires { (place : ℕ) → asked ≡ Some place → place < length netlist.now.circuit.bads.items }
+    requires one { (place : ℕ) → asked ≡ One place → place < length netlist.now.circuit.bads.items }
+    requires any { asked ≡ Any → 0 < length netlist.now.circuit.bads.items }
     ensures tells { IfOk result (λ said. TellsAsked netlist.now.circuit asked said.outcome said.text.items) }
     ensures written { IfOk result (λ said. IsWritten output.old.failure output.new.failure
         (W.contents output.old.writer) (W.contents output.new.writer) said.text.items) }
 {
     match asked {
-        None => leave_all(alloc, netlist, observer, output),
-        Some(place) => leave_one(alloc, netlist, place, observer, output),
+        Which::All => leave_all(alloc, netlist, observer, output),
+        Which::One(place) => leave_one(alloc, netlist, place, observer, output),
+        Which::Any => leave_one(alloc, netlist, 0, observer, output),
     }
 }
 
@@ -501,6 +581,7 @@ fn leave_one<O: Observer, W: Write>(
 ) -> Result<Said, AllocError>
     requires { place < length netlist.now.circuit.bads.items }
     ensures tells { IfOk result (λ said. Tells netlist.now.circuit place said.outcome said.text.items) }
+    ensures open { IfOk result (λ said. said.outcome ≡ Open) }
     ensures written { IfOk result (λ said. IsWritten output.old.failure output.new.failure
         (W.contents output.old.writer) (W.contents output.new.writer) said.text.items) }
 {
@@ -518,6 +599,7 @@ fn leave_at<O: Observer, W: Write>(
 ) -> Result<Told, AllocError>
     requires { place < length netlist.now.circuit.bads.items }
     ensures tells { IfOk result (λ told. Tells netlist.now.circuit place told.outcome told.text.items) }
+    ensures open { IfOk result (λ told. told.outcome ≡ Open) }
     ensures written { IfOk result (λ told. IsWritten output.old.failure output.new.failure
         (W.contents output.old.writer) (W.contents output.new.writer) told.text.items) }
 {

@@ -3,6 +3,7 @@
 #![tactic(auto)]
 
 pub mod answers;
+mod any;
 pub mod certificates;
 pub mod induction;
 pub mod known;
@@ -13,7 +14,7 @@ mod query;
 mod strengthened;
 pub mod witnesses;
 
-pub use answers::{Answered, Said, answer};
+pub use answers::{Answered, Said, Which, answer};
 pub use certificates::{
     Certificate, Doubt, certificate_of, certifies, doubt_of, witness_circuit_of,
 };

@@ -1,7 +1,7 @@
 //! What a write that is lost ends.
 
 use crate::observers::SWAPPED;
-use gipmc_answers::answer;
+use gipmc_answers::{Which, answer};
 use gipmc_engines::Plan;
 use gipmc_task::{Lost, Output, TaskError};
 use gipsat_plain::Plain;
@@ -17,7 +17,7 @@ fn goes_on(alloc: Global, lost: Lost) -> Result<(bool, bool), TaskError> {
     let answered = answer::<Plain, _, _>(
         alloc,
         SWAPPED,
-        None,
+        Which::All,
         &Plan::default(),
         &mut (),
         &mut output,

@@ -1,6 +1,6 @@
 //! What an observer is told, and what it stops.
 
-use gipmc_answers::answer;
+use gipmc_answers::{Which, answer};
 use gipmc_engines::{Event, Observer, Plan};
 use gipmc_task::{Lost, Outcome, Output, TaskError};
 use gipsat_plain::Plain;
@@ -42,7 +42,7 @@ fn said(alloc: Global, place: usize) -> Result<(Outcome, bool, usize, usize), Ta
     let answered = answer::<Plain, _, _>(
         alloc,
         SWAPPED,
-        None,
+        Which::All,
         &Plan::default(),
         &mut stopper,
         &mut output,

@@ -1,20 +1,21 @@
 -- What a search in the text of the file answers.
 use Rattle.std.specs.Option.{option_map}
+use Rattle.gipmc_command.specs.Options.{request_of}
 use Rattle.gipmc_task.specs.declared.outcome.Outcome.TheVariants.{Fails, Safe}
-use Rattle.gipmc.specs.Asked.{IsAnsweredAsked}
+use Rattle.gipmc.specs.Asked.{IsAnsweredAsked, bads_asked}
 use Rattle.gipmc.proofs.Texts.{if_text}
 use Rattle.gipmc.proofs.run_search.Goals as goal
 
 pub returns-in-Ok-clause-safe : goal.returns-in-Ok-clause-safe
 returns-in-Ok-clause-safe g c is =
     let options = c.args.options.now in
-    if_text (λ bytes. IsAnsweredAsked bytes options.bad options.justice Safe)
+    if_text (λ bytes. IsAnsweredAsked bytes (bads_asked (request_of options)) options.justice Safe)
     (g.T.Texts.bytes c.args.texts.now (option_map (λ n. n.now) options.file)) c.in-Ok.bytes.items c.in-Ok.ensures
     (rw c.deref.ensures.value at (c.search_in.ensures.safe is))
 
 pub returns-in-Ok-clause-fails : goal.returns-in-Ok-clause-fails
 returns-in-Ok-clause-fails g c is =
     let options = c.args.options.now in
-    if_text (λ bytes. IsAnsweredAsked bytes options.bad options.justice Fails)
+    if_text (λ bytes. IsAnsweredAsked bytes (bads_asked (request_of options)) options.justice Fails)
     (g.T.Texts.bytes c.args.texts.now (option_map (λ n. n.now) options.file)) c.in-Ok.bytes.items c.in-Ok.ensures
     (rw c.deref.ensures.value at (c.search_in.ensures.fails is))

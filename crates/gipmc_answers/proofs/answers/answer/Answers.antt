@@ -1,5 +1,5 @@
 -- What is told of the circuit is told of the one that the text writes.
-use Rattle.gipmc_answers.proofs.Witnessed.{Replays-told}
+use Rattle.gipmc_answers.proofs.Witnessed.{Replays-any, Replays-told}
 use Rattle.gipmc_answers.proofs.answers.answer.Goals as goal
 
 pub returns-clause-answers : goal.returns-clause-answers
@@ -7,6 +7,10 @@ returns-clause-answers g c = (c.in_ok-netlist.netlist.circuit, c.in_ok-netlist.e
 
 pub returns-clause-witness : goal.returns-clause-witness
 returns-clause-witness g c place is fails =
-    rw is
-    (Replays-told c.args.bytes.now _ c.in_ok-netlist.netlist.circuit place c.in_ok-netlist.ensures
-    (rw (is, fails) at c.in_ok-said.ensures.tells))
+    Replays-told c.args.bytes.now _ c.in_ok-netlist.netlist.circuit place c.in_ok-netlist.ensures
+    (rw (is, fails) at c.in_ok-said.ensures.tells)
+
+pub returns-clause-any : goal.returns-clause-any
+returns-clause-any g c is fails =
+    Replays-any c.args.bytes.now _ c.in_ok-netlist.netlist.circuit c.in_ok-netlist.ensures
+    (rw (is, fails) at c.in_ok-said.ensures.tells)
