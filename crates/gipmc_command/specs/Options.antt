@@ -1,8 +1,8 @@
 -- What the options ask for.
-use Rattle.std.specs.Prelude.{ℕ, List, [], ◌∷◌, if◌then◌else◌, codes, Option, None}
-use Rattle.std.specs.Option.{option_and_then, option_map}
+use Rattle.std.specs.Prelude.{ℕ, Bool, false, List, [], ◌∷◌, if◌then◌else◌, codes, Option, None}
+use Rattle.std.specs.Option.{option_and_then, option_map, option_map_or}
 use Rattle.std.specs.Str.{bytes_eq}
-use Rattle.gip_cli.specs.Asked.{asked_said, input_at, last_in, number_in}
+use Rattle.gip_cli.specs.Asked.{asked_said, has_name, input_at, is_given, last_in, number_in}
 use Rattle.gip_cli.specs.Items.{File, Given, Misused, Said, Told}
 use Rattle.gip_cli.specs.Options.{Entry}
 use Rattle.gip_cli.specs.Options as option
@@ -48,6 +48,10 @@ number_of_name name (Misused misuse) = None
 
 abbrev pub number_if : List ℕ → Option Said → Option ℕ
 number_if name given = option_and_then (number_of_name name) given
+
+-- whether the option of this long name says what is asked about: the last one of those that do so counts
+abbrev pub is_about : List ℕ → List Said → Bool
+is_about name said = option_map_or (is_given (has_name name)) (last_in (codes "property") said) false
 
 -- what some words ask for: of `--bad` and `--justice` the last one counts
 abbrev pub request : List Said → Request

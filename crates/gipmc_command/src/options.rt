@@ -6,7 +6,7 @@ ghost use Rattle.gip_cli.specs.Asked.{asked_said};
 ghost use Rattle.gip_cli.specs.Items.{given_said};
 ghost use Rattle.gip_cli.specs.Options.{entry_of};
 ghost use Rattle.gipmc_command.specs.Misuses.{misuse_of};
-ghost use Rattle.gipmc_command.specs.Options.{number_if, request, request_of, table};
+ghost use Rattle.gipmc_command.specs.Options.{is_about, number_if, request, request_of, table};
 ghost use Rattle.gipmc_command.specs.Words.{answer_of, heeded, work, work_asked, work_of};
 
 use crate::about::{LIMIT, OPTIONS, PROPERTY, SEARCH};
@@ -76,6 +76,16 @@ impl<'a> Options<'a> {
             file: asked.input(0),
             bad: number_if(property, "--bad"),
             justice: number_if(property, "--justice"),
+        }
+    }
+
+    /// Whether the option of this long name says what is asked about: the last one of those that do so counts.
+    pub fn is_about(&self, name: &str) -> bool
+        ensures { result ≡ is_about name.now (asked_said self.now.asked) }
+    {
+        match self.asked.last_in(PROPERTY) {
+            Some(given) => given.option.long == name,
+            None => false,
         }
     }
 }
