@@ -67,6 +67,8 @@ try "a latch that may rise, by IC3" 10 "" "$fails" "$held" --engine ic3
 try "a latch that stays, by induction" 20 "" "$safe" "$kept" --engine induction
 try "a latch that may rise, by induction" 10 "" "$fails" "$held" --engine induction
 try "no time for IC3" 0 "" "$(printf '2\nb0\n.')" "$kept" --engine ic3 -t 0
+try "no memory for a search" 0 "" "$(printf '2\nb0\n.')" "$kept" --memory 0
+try "a memory limit that is not reached" 20 "" "$safe" "$kept" --memory 9999999
 try "a limit of conflicts is none of IC3" 20 "" "$safe" "$kept" --engine ic3 --limit 0
 try "a latch that may rise, within 0" 0 "" "$(open 0)" "$held" --engine bmc --depth 0
 try "no conflict is allowed" 0 "" "$(printf '2\nb0\n.')" "$held" --engine bmc --limit 0
@@ -670,6 +672,14 @@ if is_wanted "an answer before the time is over"; then
     [ "$status" = 10 ] && [ "$SECONDS" -lt 20 ] && [ "$(answers out | head -n 6)" = "$first" ] && [ ! -s err ] &&
         [ "$(answers out | sed 1,6d | tr '\n' '#' | sed 's/u[0-9]*/u/')" = 'u#2#b1#.#' ]
     told "an answer before the time is over" $?
+fi
+# The program has 2 MB at first, and a little more at each depth.
+if is_wanted "a memory limit"; then
+    timeout -s KILL 300 "$gipmc" "${endless[@]}" --memory 4 swapped.aag > out 2> err
+    status=$?
+    [ "$status" = 10 ] && [ "$(answers out | head -n 6)" = "$first" ] && [ ! -s err ] &&
+        [ "$(answers out | sed 1,6d | tr '\n' '#' | sed 's/u[0-9]*/u/')" = 'u#2#b1#.#' ]
+    told "a memory limit" $?
 fi
 # A latch that keeps 0, and a chain of two million gates behind it. A round of simulation has 64 moments, and takes many
 # seconds of a processor.
@@ -1508,6 +1518,7 @@ try "another engine" 2 "gipmc: '--engine' takes sim, bmc, ic3 or induction, not 
 try "a time that is no number" 2 "gipmc: '--time' takes a number below 2^64, not 'x' (try --help)" "" "" -t x
 try "no time behind the option" 2 "gipmc: '--time' needs a number behind it (try --help)" "" "" -t
 try "a short option with = in it" 2 "gipmc: '--time' takes a number below 2^64, not '=9' (try --help)" "" "" -t=9
+try "a memory that is no number" 2 "gipmc: '--memory' takes a number below 2^64, not '1.5' (try --help)" "" "" --memory 1.5
 try "a depth that is no number" 2 "gipmc: '--depth' takes a number below 2^64, not 'x' (try --help)" "" "" --depth x
 try "two files" 2 "gipmc: one file too many, 'b' (try --help)" "" "" a b
 try "a word that is no text" 1 "arguments: not UTF-8 text: word 2, 'a_.aag'" "" "" -q $'a\377.aag'
@@ -1519,7 +1530,7 @@ try "a witness and a certificate" 2 \
     "gipmc: '--replay' and '--certify' exclude each other (try --help)" "" "" --replay a --certify b
 try "a witness, and a file for a certificate" 2 \
     "gipmc: '--certificate' goes with neither '--replay' nor '--certify' (try --help)" "" "" --replay a --certificate b
-for option in --engine=bmc --depth=9 --seed=1 --shortest --time=9 --stats; do
+for option in --engine=bmc --depth=9 --seed=1 --shortest --time=9 --memory=9 --stats; do
     for task in --replay --certify; do
         try "$option beside $task" 2 \
             "gipmc: '$option' goes with neither '--replay' nor '--certify' (try --help)" "" "" "$task" a "$option"

@@ -12,7 +12,7 @@ use std::ops::ControlFlow;
 use std::time::Duration;
 
 /// Writes now and then how far a search is, where standard error is a terminal or that is asked for, and a summary of
-/// each, if that is wanted, and the files of witnesses. It stops a search when the time is over.
+/// each, if that is wanted, and the files of witnesses. It stops a search when the time is over, or the memory used up.
 pub struct Teller<'a, 'n> {
     rt: &'a HostRuntime,
     // It began as the program did.
@@ -20,6 +20,8 @@ pub struct Teller<'a, 'n> {
     logger: IntervalLogger,
     // How long all may take, if that is said.
     time: Option<Duration>,
+    // How many megabytes all may take, if that is said.
+    memory: Option<usize>,
     // Whether lines are written while the search goes on.
     is_told: bool,
     // Whether summaries are written.
@@ -40,6 +42,7 @@ impl Drop for Teller<'_, '_> {
             clock,
             logger,
             time: _,
+            memory: _,
             is_told: _,
             stats: _,
             letter,
@@ -58,6 +61,7 @@ impl<'a, 'n> Teller<'a, 'n> {
             clock,
             logger: every_interval(),
             time: time_asked(options),
+            memory: options.asked.number("--memory"),
             is_told: options.asked.has("--verbose")
                 || (!options.asked.has("--quiet") && rt.stderr().is_terminal()),
             stats: options.asked.has("--stats"),
@@ -116,11 +120,28 @@ impl<'a, 'n> Teller<'a, 'n> {
         }
     }
 
-    // Whether the time goes on.
+    // Whether there is time and memory to go on.
     fn go_on(&self, now: Duration) -> ControlFlow<()> {
+        if self.is_late(now) || self.is_full() {
+            ControlFlow::Break(())
+        } else {
+            ControlFlow::Continue(())
+        }
+    }
+
+    // Whether the time is over.
+    fn is_late(&self, now: Duration) -> bool {
         match self.time {
-            Some(time) if now >= time => ControlFlow::Break(()),
-            _ => ControlFlow::Continue(()),
+            Some(time) => now >= time,
+            None => false,
+        }
+    }
+
+    // Whether the memory is used up.
+    fn is_full(&self) -> bool {
+        match self.memory {
+            Some(megabytes) => Peak::now(self.rt).reaches(megabytes),
+            None => false,
         }
     }
 

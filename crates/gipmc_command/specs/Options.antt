@@ -17,6 +17,7 @@ table =
     option.number (codes "--depth") [] (codes "search") ∷
     option.number (codes "--limit") [] (codes "limit") ∷
     option.number (codes "--time") (codes "-t") (codes "search") ∷
+    option.number (codes "--memory") [] (codes "search") ∷
     option.number (codes "--seed") [] (codes "search") ∷
     option.switch (codes "--shortest") [] (codes "search") ∷
     option.text (codes "--replay") (codes "each") ∷

@@ -93,6 +93,15 @@ pub const OPTIONS: &[Opt] = &[
         help: "give up so many seconds after the start: what is not known then is open. Each engine may do one step more",
     },
     Opt {
+        long: "--memory",
+        short: "",
+        kind: Kind::Number("MB"),
+        scope: SEARCH,
+        section: "Search",
+        help: "give up once the program has taken MB megabytes, of 2^20 bytes: what is not known then is open. It is looked \
+               at where the time is, so one step may take more",
+    },
+    Opt {
         long: "--seed",
         short: "",
         kind: Kind::Number("N"),
