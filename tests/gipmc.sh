@@ -79,6 +79,18 @@ try "the first bad literal, by all engines" 20 "" "$safe" "$two" --bad 0
 try "the second bad literal" 10 "" "$(printf '1\nb1\n00\n1\n0\n.')" "$two" --bad=1 --engine bmc
 try "a bad literal that is not there" 1 "<stdin>: no bad literal 2, of 2" "" "$two" --bad 2
 try "no bad literal at all" 20 "c <stdin>: no bad literal" "" 'aag 1 1 0 0 0\n2\n'
+# One answer for all bad literals. Of the options about a property the last one counts.
+stay='aag 2 0 2 0 0 2\n2 2\n4 4\n2\n4\n'
+second='aag 3 1 2 0 0 3\n2\n4 4\n6 2\n4\n6\n4\n'
+rises=$(printf '1\nb1\n00\n1\n0\n.')
+try "one answer, where all are safe" 20 "" "$safe" "$stay" --any
+try "one answer, where the second of three fails" 10 "" "$rises" "$second" --any --engine bmc
+try "one answer, by a shortest trace" 10 "" "$rises" "$second" --any --engine bmc --shortest
+try "one answer, within 0" 0 "" "$(open 0)" "$second" --any --engine bmc --depth 0
+try "one answer, without time" 0 "" "$(printf '2\nb0\n.')" "$second" --any -t 0
+try "one answer, and then one literal" 20 "" "$safe" "$second" --any --bad 0
+try "one literal, and then one answer" 10 "" "$rises" "$second" --bad 0 --any --engine bmc
+try "one answer for no bad literal" 1 "<stdin>: no bad literal" "" 'aag 1 1 0 0 0\n2\n' --any
 try "an output in place of a bad literal" 10 "" "$fails" 'aag 2 1 1 1 0\n2\n4 2\n4\n' --engine bmc
 try "a bad literal that is true" 10 "" "$(printf '1\nb0\n\n\n.')" 'aag 0 0 0 0 0 1\n1\n' --engine bmc
 try "a latch that begins at 1" 10 "" "$(printf '1\nb0\n1\n\n.')" 'aag 1 0 1 0 0 1\n2 2 1\n2\n' --engine bmc
@@ -874,6 +886,17 @@ status=$?
 [ "$status" = 10 ] && [ "$(ls traces)" = b1.aiw ] && [ "$(cat traces/b1.aiw)" = "$(printf '1\nb1\n00\n1\n0\n.')" ] &&
     [ "$("$gipmc" --replay traces/b1.aiw --bad 1 two.aag)" = "s VERIFIED" ]
 told "files of witnesses" $?
+mkdir one
+"$gipmc" --any --engine bmc --names --vcd one.vcd --witness one/ two.aag > out 2> err
+status=$?
+[ "$status" = 10 ] && [ "$(ls one)" = b1.aiw ] && [ "$(head -n 2 out | tr '\n' ' ')" = "1 b1 " ] && [ -s one.vcd ] &&
+    [ "$("$gipmc" --replay out --any two.aag)" = "s VERIFIED" ] && [ "$(cat err)" = "" ]
+told "the files of one answer" $?
+printf '%b' "$stay" > stay.aag
+"$gipmc" --any --certificate one.cnf stay.aag > out 2> err
+status=$?
+[ "$status" = 20 ] && [ "$(cat out)" = "$safe" ] && [ "$("$gipmc" --certify one.cnf --bad 9 --any stay.aag)" = "s VERIFIED" ]
+told "a certificate of all, beside one answer" $?
 "$gipmc" --engine bmc --depth 3 --witness traces/ two.aag > out 2> err
 status=$?
 [ "$status" = 1 ] && [ "$(cat err)" = "traces/b1.aiw: cannot be written: entity already exists" ] &&
@@ -905,6 +928,10 @@ printf 'aag 5 0 2 0 3 3\n2 6\n4 8\n10\n4\n2\n6 5 3\n8 5 2\n10 4 2\n' > three.aag
 status=$?
 [ "$status" = 0 ] && [ ! -s err ] && [ "$(answers out | tr '\n' ' ')" = "0 b0 . u0 2 b1 . u0 2 b2 . " ]
 told "induction within 0" $?
+"$gipmc" --any --engine induction --depth 0 three.aag > out 2> err
+status=$?
+[ "$status" = 0 ] && [ ! -s err ] && [ "$(answers out | tr '\n' ' ')" = "u0 2 b1 . " ]
+told "one answer, of the first of those of which least is known" $?
 # A register of 20 bits that goes through very many states, and a latch that stays.
 {
     printf 'aag 43 0 21 0 22 2\n2 49 1\n'
@@ -923,6 +950,21 @@ if is_wanted "a literal that is safe behind a hard one, by IC3"; then
     timeout -s KILL 60 "$gipmc" --engine ic3 -t 5 hard_first.aag > out 2> err
     [ "$(answers out | tail -n 3)" = "$(printf '0\nb1\n.')" ]
     told "a literal that is safe behind a hard one, by IC3" $?
+fi
+# The latch rises in place.
+sed 's/^42 42$/42 43/' hard_first.aag > rises_late.aag
+if is_wanted "the first trace ends the search"; then
+    timeout -s KILL 300 "$gipmc" --any rises_late.aag > out 2> err
+    status=$?
+    [ "$status" = 10 ] && [ "$(head -n 2 out | tr '\n' ' ')" = "1 b1 " ] &&
+        [ "$("$gipmc" --replay out rises_late.aag)" = "s VERIFIED" ]
+    told "the first trace ends the search" $?
+fi
+if is_wanted "the first trace ends the search, by IC3"; then
+    timeout -s KILL 300 "$gipmc" --any --engine ic3 rises_late.aag > out 2> err
+    status=$?
+    [ "$status" = 10 ] && [ "$(head -n 2 out | tr '\n' ' ')" = "1 b1 " ]
+    told "the first trace ends the search, by IC3" $?
 fi
 if is_wanted "how far all engines came by turns"; then
     timeout -s KILL 60 "$gipmc" --quiet --bad 1 -t 2 hard.aag > out 2> err
@@ -1020,9 +1062,13 @@ several='aag 1 0 1 0 0 1 0 2 1\n2 2\n2\n1\n2\n3\n1\n2\n3\n'
 printf '0\nb0\n.\n1\nj0\n0\n\n.\n0\nj1\n.\n' > all
 try "a bad literal and justice properties, in order" 10 "" "$(cat all)" "$several"
 try "the bad literal alone" 20 "" "$safe" "$several" --bad 0
+try "one answer beside justice properties" 20 "c <stdin>: its bad literals alone are asked about" "$safe" "$several" \
+    --justice 0 --any
+try "one answer beside a justice property alone" 1 "<stdin>: no bad literal" "" "$fair" --any
 try "a justice property alone" 20 "" "$(printf '0\nj1\n.')" "$several" --justice 1
 try "a justice property, which is asked for last" 10 "" "$(printf '1\nj0\n0\n\n.')" "$several" --bad 0 --justice 0
 try "the witnesses of all answers" 0 "" "s VERIFIED" "$several" --replay all
+try "the witnesses of all answers, though one was asked for" 0 "" "s VERIFIED" "$several" --replay all --justice 1 --any
 # Witnesses of both kinds in one text. A latch that rises and stays up is bad, and true again and again.
 rising='aag 1 0 1 0 0 1 0 1\n2 1\n2\n1\n2\n'
 witness '1\nb0\n0\n\n\n.\n1\nj0\n0\n\n\n.\n'

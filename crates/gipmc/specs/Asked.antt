@@ -1,5 +1,5 @@
 -- What is answered, replayed and certified of what a command line asks for: bad literals, justice properties, or both.
-use Rattle.std.specs.Prelude.{◌≡◌, ◌==◌, ◌⊎◌, ℕ, ◌+◌, ◌<◌, Bool, true, false, List, [], if◌then◌else◌, Option, Some, None}
+use Rattle.std.specs.Prelude.{◌≡◌, ◌==◌, ◌⊎◌, ℕ, ◌+◌, ◌<◌, Bool, true, false, List, [], if◌then◌else◌, codes, Option, Some, None}
 use Rattle.gipmc_aiger.specs.Circuits.{IsHeaderOf}
 use Rattle.gipmc_aiger.specs.Claims.{claims_of, lassos_of}
 use Rattle.gipmc_aiger.specs.declared.header.Header.{Header}
@@ -9,7 +9,7 @@ use Rattle.gipmc_answers.specs.Witnesses as bads_replayed
 use Rattle.gipmc_answers.specs.declared.answers.Answered.{Answered}
 use Rattle.gipmc_answers.specs.declared.answers.Which.{Which}
 use Rattle.gipmc_answers.specs.declared.answers.Which.TheVariants.{All, One, Any}
-use Rattle.gipmc_command.specs.Options.{Request}
+use Rattle.gipmc_command.specs.Options.{Request, is_about}
 use Rattle.gipmc_task.specs.Outcomes.{both}
 use Rattle.gipmc_task.specs.declared.outcome.Outcome.{Outcome}
 use Rattle.gipmc_task.specs.declared.outcome.Outcome.TheVariants.{Safe}
@@ -34,13 +34,15 @@ IsFoundFor bytes asked answer =
     justice.IsPropertiesIn bytes answer.netlist.circuit answer.liveness
     × justice.AreFoundFor answer.netlist.circuit answer.liveness asked answer.said.found.items
 
--- which bad literals a search is about, where no justice property is asked for: the one at a place, or all
-abbrev pub bads_by : Option ℕ → Which
-bads_by (Some bad) = One bad
-bads_by None = All
+-- which bad literals a search is about, where no justice property is asked for: the one at a place, by a switch whether
+-- any fails, or else all
+abbrev pub bads_by : Option ℕ → Bool → Which
+bads_by (Some bad) any = One bad
+bads_by None true = Any
+bads_by None false = All
 
 abbrev pub bads_asked : Request → Which
-bads_asked r = bads_by r.bad
+bads_asked r = bads_by r.bad (is_about (codes "--any") r.said)
 
 -- whether a search is about the bad literals of a circuit with this header: not where a justice property is asked for,
 -- nor where nothing is and there are justice properties alone

@@ -54,6 +54,7 @@ pub fn bads_asked(options: &Options) -> Which
 {
     match options.bad {
         Some(place) => Which::One(place),
+        None if options.is_about("--any") => Which::Any,
         None => Which::All,
     }
 }

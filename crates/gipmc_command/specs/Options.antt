@@ -13,6 +13,7 @@ abbrev pub table : List Entry
 table =
     option.number (codes "--bad") [] (codes "property") ∷
     option.number (codes "--justice") [] (codes "property") ∷
+    option.switch (codes "--any") [] (codes "property") ∷
     option.choice (codes "--engine") (codes "sim" ∷ codes "bmc" ∷ codes "ic3" ∷ codes "induction" ∷ []) (codes "search") ∷
     option.number (codes "--depth") [] (codes "search") ∷
     option.number (codes "--limit") [] (codes "limit") ∷
@@ -54,7 +55,7 @@ number_if name given = option_and_then (number_of_name name) given
 abbrev pub is_about : List ℕ → List Said → Bool
 is_about name said = option_map_or (is_given (has_name name)) (last_in (codes "property") said) false
 
--- what some words ask for: of `--bad` and `--justice` the last one counts
+-- what some words ask for: of the options about a property the last one counts
 abbrev pub request : List Said → Request
 request said = record {
   said = said;

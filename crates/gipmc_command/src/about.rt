@@ -55,8 +55,18 @@ pub const OPTIONS: &[Opt] = &[
         section: "Input",
         help: "only the justice property at place I. Then the clauses of --certificate and --certify are over the latches \
                and further ones behind these: they count how often its literals and the fairness constraints were met in \
-               turn or, where a first line is `c no lasso`, save a state and tell what was met since. Of --bad and --justice \
-               the last one counts",
+               turn or, where a first line is `c no lasso`, save a state and tell what was met since",
+    },
+    Opt {
+        long: "--any",
+        short: "",
+        kind: Kind::Switch,
+        scope: PROPERTY,
+        section: "Input",
+        help: "one answer for all bad literals, and none for justice properties: `1` with the first trace that is found, which \
+               ends the search, and `b` with the place of its literal; `0` with `b0` if all are safe; or `2` with the first \
+               literal of which least is known. Of --bad, --justice and --any the last one counts; for --replay and \
+               --certify, --any is as if none were given",
     },
     Opt {
         long: "--engine",
