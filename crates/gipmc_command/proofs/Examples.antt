@@ -5,7 +5,7 @@ use Rattle.gip_cli.specs.Asked.{has, number, said_by, word}
 use Rattle.gip_cli.specs.Items.{NoChoice, NoNumber, NoOutput, NoValue, Said, UnknownOption}
 use Rattle.gip_cli.specs.declared.items.Info.TheVariants as info
 use Rattle.gipmc_command.specs.Misuses.{Words, ExtraFile, TwoTasks, NoSearch, NoLimit, InputTwice}
-use Rattle.gipmc_command.specs.Options.{Request, table}
+use Rattle.gipmc_command.specs.Options.{Request, is_about, table}
 use Rattle.gipmc_command.specs.Words.{work_asked, Tell, Answer, Replay, Certify}
 
 abbrev said : List (List ℕ) → List Said
@@ -42,6 +42,39 @@ properties = codes "--bad" ∷ codes "1" ∷ codes "--justice" ∷ codes "2" ∷
 
 properties-last : work_asked properties ≡ Ok (Answer (asked properties None None (Some 2)))
 properties-last = refl
+
+-- a switch may be the last one
+abbrev any : List (List ℕ)
+any = codes "--justice=2" ∷ codes "--any" ∷ []
+
+any-asked : work_asked any ≡ Ok (Answer (asked any None None None))
+any-asked = refl
+
+any-counts : is_about (codes "--any") (said any) ≡ true
+any-counts = refl
+
+any-before_another : is_about (codes "--any") (said (codes "--any" ∷ properties)) ≡ false
+any-before_another = refl
+
+any-not_given : is_about (codes "--any") (said settings) ≡ false
+any-not_given = refl
+
+-- beside an answer that is checked it asks for no property
+abbrev any_checked : List (List ℕ)
+any_checked = codes "--certify=c" ∷ codes "--bad=1" ∷ codes "--any" ∷ []
+
+any_checked-asked : work_asked any_checked ≡ Ok (Certify (asked any_checked None None None) (Some (codes "c")))
+any_checked-asked = refl
+
+-- a limit may be 0
+abbrev no_memory : List (List ℕ)
+no_memory = codes "--memory=0" ∷ []
+
+no_memory-asked : work_asked no_memory ≡ Ok (Answer (asked no_memory None None None))
+no_memory-asked = refl
+
+no_memory-counted : number (codes "--memory") (said no_memory) ≡ Some 0
+no_memory-counted = refl
 
 -- a minus is standard input
 abbrev minus : List (List ℕ)
