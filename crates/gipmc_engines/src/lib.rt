@@ -2,19 +2,24 @@
 //! and IC3.
 #![tactic(auto)]
 
+mod alone;
 pub mod bounded;
 pub mod engines;
 pub mod findings;
 mod guide;
 mod hits;
+mod ic3;
 pub mod joint;
 pub mod observer;
 mod rounds;
+mod settings;
 pub mod simulation;
 mod steps;
 mod ternary;
 mod turns;
+mod unrolling;
 pub mod verdict;
+mod worker;
 
 pub use bounded::{Bounds, search};
 pub use engines::{Engine, Plan, Technique, check, check_all, decide, decide_by_turns};
