@@ -2,8 +2,8 @@
 ghost use Rattle.std.specs.Prelude.{None, IfOk};
 ghost use Rattle.gipmc_justice.specs.Answers.{Answers};
 
+use gipmc_engines::liveness::Bounds;
 use gipmc_justice::{Answered, JusticeError, answer};
-use gipmc_liveness_engines::Bounds;
 use gipmc_task::{Lost, Output};
 use gipsat_plain::Plain;
 use std::alloc::Global;

@@ -1,3 +1,4 @@
 pub mod AreRight
 pub mod Depths
 mod Examples
+mod LivenessExamples

@@ -10,6 +10,7 @@ mod guide;
 mod hits;
 mod ic3;
 pub mod joint;
+pub mod liveness;
 pub mod observer;
 mod rounds;
 mod settings;

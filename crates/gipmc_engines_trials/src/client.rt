@@ -1,9 +1,9 @@
 //! A client that waits for a grant.
 ghost use Rattle.std.specs.Prelude.{[], ◌∷◌, IfOk};
-ghost use Rattle.gipmc_liveness_engines.specs.Verdicts.{IsRightVerdict};
+ghost use Rattle.gipmc_engines.specs.Liveness.{IsRightVerdict};
 
 use gipmc_circuits::{And, Circuit, Latch, Netlist};
-use gipmc_liveness_engines::{Bounds, Verdict, decide_live};
+use gipmc_engines::liveness::{Bounds, Verdict, decide_live};
 use gipmc_reduce::Means;
 use gipsat_cnf::Literal;
 use gipsat_plain::Plain;

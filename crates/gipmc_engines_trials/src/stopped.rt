@@ -1,8 +1,8 @@
 //! Bounds and observers that end a search.
 
 use crate::small::{Form, ONES, SIX_ONES, literal, made};
+use gipmc_engines::liveness::{Bounds, Verdict, decide_live};
 use gipmc_engines::{Event, Observer};
-use gipmc_liveness_engines::{Bounds, Verdict, decide_live};
 use gipsat_plain::Plain;
 use std::alloc::{AllocError, Global};
 use std::ops::ControlFlow;

@@ -16,10 +16,10 @@ use Rattle.gipmc_reduce.specs.Lassos.{IsLasso, from}
 use Rattle.gipmc_reduce.specs.Liveness.{FailsForever, IsLive}
 use Rattle.gipmc_reduce.specs.declared.lasso.Lasso.{Lasso}
 use Rattle.gipmc_reduce.proofs.Looped.{FailsForever-lasso}
-use Rattle.gipmc_liveness_engines.specs.Verdicts.{IsRightVerdict}
+use Rattle.gipmc_engines.specs.Liveness.{IsRightVerdict}
 use Rattle.gipmc_reduce.specs.declared.means.Means.{Means}
-use Rattle.gipmc_liveness_engines.specs.declared.verdict.Verdict.{Verdict}
-use Rattle.gipmc_liveness_engines.specs.declared.verdict.Verdict.TheVariants as verdict
+use Rattle.gipmc_engines.specs.declared.liveness.verdict.Verdict.{Verdict}
+use Rattle.gipmc_engines.specs.declared.liveness.verdict.Verdict.TheVariants as verdict
 use Rattle.gipmc_task.specs.declared.outcome.Outcome.TheVariants.{Fails, Safe, Open}
 use Rattle.gipmc_justice.specs.Answers.{AreFoundFor, IsPropertiesIn, Tells, TellsFirst, found_of, outcome_of, verdict_text}
 use Rattle.gipmc_justice.specs.Certificates.{CertifiesAt}

@@ -12,9 +12,9 @@ use Rattle.gipmc_task.specs.declared.outcome.Outcome.TheVariants.{Fails}
 use Rattle.gipmc_circuits.specs.declared.circuit.Circuit.{Circuit}
 use Rattle.gipmc_circuits.specs.Traces.{have_width}
 use Rattle.gipmc_reduce.proofs.Looped.{FailsForever-lasso}
-use Rattle.gipmc_liveness_engines.specs.Verdicts.{IsRightVerdict}
-use Rattle.gipmc_liveness_engines.specs.declared.verdict.Verdict.{Verdict}
-use Rattle.gipmc_liveness_engines.specs.declared.verdict.Verdict.TheVariants as verdict
+use Rattle.gipmc_engines.specs.Liveness.{IsRightVerdict}
+use Rattle.gipmc_engines.specs.declared.liveness.verdict.Verdict.{Verdict}
+use Rattle.gipmc_engines.specs.declared.liveness.verdict.Verdict.TheVariants as verdict
 use Rattle.gipmc_justice.specs.Answers.{IsPropertiesIn, Tells, outcome_of, verdict_text}
 use Rattle.gipmc_justice.specs.Witnesses.{Replays}
 

@@ -11,10 +11,10 @@ use Rattle.gipmc_circuits.specs.WellFormed.{is_well_formed}
 use Rattle.gipmc_task.specs.Outcomes.{both}
 use Rattle.gipmc_task.specs.declared.outcome.Outcome.{Outcome}
 use Rattle.gipmc_task.specs.declared.outcome.Outcome.TheVariants.{Fails, Safe, Open}
-use Rattle.gipmc_liveness_engines.specs.Verdicts.{IsRightVerdict}
+use Rattle.gipmc_engines.specs.Liveness.{IsRightVerdict}
 use Rattle.gipmc_reduce.specs.Longer.{IsLiveByClauses}
-use Rattle.gipmc_liveness_engines.specs.declared.verdict.Verdict.{Verdict}
-use Rattle.gipmc_liveness_engines.specs.declared.verdict.Verdict.TheVariants as verdict
+use Rattle.gipmc_engines.specs.declared.liveness.verdict.Verdict.{Verdict}
+use Rattle.gipmc_engines.specs.declared.liveness.verdict.Verdict.TheVariants as verdict
 use Rattle.gipmc_justice.specs.declared.answers.Found.{Found}
 
 -- the lines that name the justice property at a place and end an answer

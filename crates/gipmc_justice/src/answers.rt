@@ -7,13 +7,13 @@ ghost use Rattle.gipmc_justice.specs.Answers.{Answers, IsPropertiesIn, Tells, Te
 ghost use Rattle.gipmc_justice.specs.Answers.{AreFoundFor, IsFoundAt, IsFoundOf};
 ghost use Rattle.gipmc_justice.specs.Answers.{found_of, named, outcome_of, verdict_text};
 ghost use Rattle.gipmc_justice.specs.Witnesses.{Replays};
-ghost use Rattle.gipmc_liveness_engines.specs.Verdicts.{IsRightVerdict};
+ghost use Rattle.gipmc_engines.specs.Liveness.{IsRightVerdict};
 
 use crate::error::JusticeError;
 use gipmc_aiger::{Liveness, read_liveness, write_lasso};
 use gipmc_circuits::Netlist;
+use gipmc_engines::liveness::{Bounds, Verdict, decide_live};
 use gipmc_engines::{Event, Observer};
-use gipmc_liveness_engines::{Bounds, Verdict, decide_live};
 use gipmc_reduce::Means;
 use gipmc_task::{Outcome, Output};
 use gipsat_cnf::{Literal, SatSolver};

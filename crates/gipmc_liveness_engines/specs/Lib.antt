@@ -1,2 +1,0 @@
--- What engines find out about a justice property.
-pub mod Verdicts
