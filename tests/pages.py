@@ -83,7 +83,7 @@ PARTS = {
     "gipmc_aiger": (EXAMPLE, PEER + "AIGER 1.9", PROVED, TESTED, CHOICES, COST),
     "gipmc_ic3": (EXAMPLE, PROVED, TESTED, CHOICES, COST),
     "gipmc_engines": (EXAMPLE, PROVED, TESTED, CHOICES, COST),
-    "gipmc_answers": (EXAMPLE, PROVED, TESTED, CHOICES, COST),
+    "gipmc_task": (EXAMPLE, PROVED, TESTED, CHOICES, COST),
     "gipmc": (PROVED, TESTED),
     "gip_cli": (PROVED, TESTED, CHOICES),
     "gip_lines": (PROVED, TESTED, CHOICES, COST),
@@ -330,7 +330,7 @@ def contracts_of(folder, chosen, named, met):
     for file, text in crate.texts.items():
         found = contracts(crate, text, chosen, named, met)
         lines += [f"// {file.relative_to(folder)}", *found, ""] if found else []
-        used |= words(text, found)
+        used = words(text, found) | used
     kits = handed_on()
     return lines[:-1], {name: module for name, module in used.items() if module.startswith("gip") or module in kits}
 

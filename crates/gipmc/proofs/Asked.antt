@@ -1,11 +1,11 @@
 -- What was answered, or left out.
 use Rattle.std.proofs.Common.{inl, inr, ℕ, List, Some, None, refl}
 use Rattle.std.specs.Prelude.{IfNone, IfSome, Option}
-use Rattle.gipmc_answers.specs.Answers as bads
-use Rattle.gipmc_answers.specs.declared.answers.Answered.{Answered}
-use Rattle.gipmc_answers.specs.declared.answers.Which.{Which}
-use Rattle.gipmc_justice.specs.Answers as justice
-use Rattle.gipmc_justice.specs.declared.answers.Answered as properties
+use Rattle.gipmc_task.specs.Answers as bads
+use Rattle.gipmc_task.specs.declared.answers.Answered.{Answered}
+use Rattle.gipmc_task.specs.declared.answers.Which.{Which}
+use Rattle.gipmc_task.specs.Justice.Answers as justice
+use Rattle.gipmc_task.specs.declared.justice.answers.Answered as properties
 use Rattle.gipmc.specs.Asked.{AreBadsAnswered, AreBadsLeftOut, IsJusticeAnswered, IsJusticeLeftOut, outcome_of_bads, outcome_of_justice}
 
 pub bads_answered : (bytes : List ℕ) (subject : Which) (asked : Option ℕ) (found : Option Answered)

@@ -3,7 +3,7 @@ use Rattle.std.proofs.Common.{◌≡◌, ℕ, true, false, List, [], ◌∷◌, 
 use Rattle.std.specs.Prelude.{codes}
 use Rattle.gipmc_aiger.specs.declared.header.Form.TheVariants.{Ascii}
 use Rattle.gipmc_aiger.specs.declared.header.Header.{Header}
-use Rattle.gipmc_answers.specs.declared.answers.Which.TheVariants as which
+use Rattle.gipmc_task.specs.declared.answers.Which.TheVariants as which
 use Rattle.gipmc_engines.specs.declared.engines.Engine.TheVariants.{All, Bounded, Induction, Invariants}
 use Rattle.gipmc.specs.Asked.{asks_of_bads, asks_of_justice}
 use Rattle.gipmc.specs.Plans.{depth_by, engine_by}

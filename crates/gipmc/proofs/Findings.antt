@@ -3,8 +3,8 @@ use Rattle.std.proofs.Common.{◌≡◌, ℕ, ◌<◌, List, [], ◌∷◌, Opti
 use Rattle.gipmc_aiger.specs.Lists.{Every}
 use Rattle.gipmc_aiger.specs.declared.liveness.Liveness.{Liveness}
 use Rattle.gipmc_circuits.specs.declared.circuit.Circuit.{Circuit}
-use Rattle.gipmc_justice.specs.Answers.{AreFoundFor, IsFoundAt}
-use Rattle.gipmc_justice.specs.declared.answers.Found.{Found}
+use Rattle.gipmc_task.specs.Justice.Answers.{AreFoundFor, IsFoundAt}
+use Rattle.gipmc_task.specs.declared.justice.answers.Found.{Found}
 
 -- the first of some has what each of them has
 every_first : {X : Type 0} (P : X → Type 0) (xs : List X) (x : X) → Every P xs → 0 < length xs → x ≡ get_or xs 0 x → P x

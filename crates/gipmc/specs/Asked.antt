@@ -3,20 +3,20 @@ use Rattle.std.specs.Prelude.{◌≡◌, ◌==◌, ◌⊎◌, ℕ, ◌+◌, ◌<
 use Rattle.gipmc_aiger.specs.Circuits.{IsHeaderOf}
 use Rattle.gipmc_aiger.specs.Claims.{claims_of, lassos_of}
 use Rattle.gipmc_aiger.specs.declared.header.Header.{Header}
-use Rattle.gipmc_answers.specs.Answers as bads
-use Rattle.gipmc_answers.specs.Certificates as bads_certified
-use Rattle.gipmc_answers.specs.Witnesses as bads_replayed
-use Rattle.gipmc_answers.specs.declared.answers.Answered.{Answered}
-use Rattle.gipmc_answers.specs.declared.answers.Which.{Which}
-use Rattle.gipmc_answers.specs.declared.answers.Which.TheVariants.{All, One, Any}
+use Rattle.gipmc_task.specs.Answers as bads
+use Rattle.gipmc_task.specs.Certificates as bads_certified
+use Rattle.gipmc_task.specs.Witnesses as bads_replayed
+use Rattle.gipmc_task.specs.declared.answers.Answered.{Answered}
+use Rattle.gipmc_task.specs.declared.answers.Which.{Which}
+use Rattle.gipmc_task.specs.declared.answers.Which.TheVariants.{All, One, Any}
 use Rattle.gipmc_command.specs.Options.{Request, is_about}
 use Rattle.gipmc_task.specs.Outcomes.{both}
 use Rattle.gipmc_task.specs.declared.outcome.Outcome.{Outcome}
 use Rattle.gipmc_task.specs.declared.outcome.Outcome.TheVariants.{Safe}
-use Rattle.gipmc_justice.specs.Answers as justice
-use Rattle.gipmc_justice.specs.Certificates as justice_certified
-use Rattle.gipmc_justice.specs.Witnesses as justice_replayed
-use Rattle.gipmc_justice.specs.declared.answers.Answered as properties
+use Rattle.gipmc_task.specs.Justice.Answers as justice
+use Rattle.gipmc_task.specs.Justice.Certificates as justice_certified
+use Rattle.gipmc_task.specs.Justice.Witnesses as justice_replayed
+use Rattle.gipmc_task.specs.declared.justice.answers.Answered as properties
 
 -- what is known of what was asked about; of nothing, that it is safe
 abbrev pub outcome_of_bads : Option Answered → Outcome

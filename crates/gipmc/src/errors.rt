@@ -1,8 +1,8 @@
 //! Why nothing is answered, as it is told.
 use gip_cli::{Cause, FinishError};
 use gipmc_aiger::{AigerError, Place, Reason};
-use gipmc_justice::JusticeError;
 use gipmc_task::TaskError;
+use gipmc_task::justice::JusticeError;
 use std::alloc::AllocError;
 use std::fmt::{self, Display};
 use std::io;

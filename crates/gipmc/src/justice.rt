@@ -1,7 +1,7 @@
 //! The program's work on justice properties.
 ghost use Rattle.std.specs.Prelude.{◌≡◌, ℕ, IfNone, IfOk, IfSome, Some};
-ghost use Rattle.gipmc_justice.specs.Answers.{Answers, IsPropertiesIn};
-ghost use Rattle.gipmc_justice.specs.Certificates.{Certifies};
+ghost use Rattle.gipmc_task.specs.Justice.Answers.{Answers, IsPropertiesIn};
+ghost use Rattle.gipmc_task.specs.Justice.Certificates.{Certifies};
 ghost use Rattle.gipmc.specs.Asked.{IsFoundFor, IsJusticeLeftOut, outcome_of_justice};
 
 use crate::errors::Failure;
@@ -11,12 +11,11 @@ use crate::kinds::is_of_justice;
 use crate::progress::Teller;
 use crate::traces::next_answer;
 use gip_cli::NewFile;
-use gipmc_answers::Which;
 use gipmc_command::Options;
 use gipmc_engines::liveness::Bounds;
-use gipmc_justice::{Answered, Found, JusticeError, answer, certificate_of};
 use gipmc_reduce::Means;
-use gipmc_task::{Outcome, Output};
+use gipmc_task::justice::{Answered, Found, JusticeError, answer, certificate_of};
+use gipmc_task::{Outcome, Output, Which};
 use gipsat_solver::Solver;
 use std::fmt::{self, Display};
 use std::io::Stdout;

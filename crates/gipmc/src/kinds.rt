@@ -1,11 +1,11 @@
 //! Which properties a task is about: those of the kind that is asked for, or all that the circuit has.
 ghost use Rattle.std.specs.Prelude.{◌≡◌, false, IfSome, None};
 ghost use Rattle.gipmc_aiger.specs.Circuits.{IsHeaderOf};
-ghost use Rattle.gipmc_answers.specs.declared.answers.Which.TheVariants.{All};
+ghost use Rattle.gipmc_task.specs.declared.answers.Which.TheVariants.{All};
 ghost use Rattle.gipmc.specs.Asked.{AreBadsLeftOut, IsJusticeLeftOut, asks_of_bads, asks_of_justice};
 
 use gipmc_aiger::{Header, read_header};
-use gipmc_answers::Which;
+use gipmc_task::Which;
 
 /// Whether the bad literals of the circuit that the bytes write are asked about, where these and this place are asked
 /// for. They are where the bytes write none: a search tells that.

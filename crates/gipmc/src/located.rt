@@ -1,8 +1,8 @@
 //! The lines of texts where their readers tell a flaw without its line.
 use crate::errors::Failure;
 use gipmc_aiger::AigerError;
-use gipmc_justice::JusticeError;
 use gipmc_task::TaskError;
+use gipmc_task::justice::JusticeError;
 use giputils_text::{number, split_line, split_once};
 
 /// A failure of a task on these texts, of a circuit and of an answer beside it: with its line, where one of them has it.

@@ -11,12 +11,12 @@ ghost use Rattle.std.specs.Option.{option_map};
 ghost use Rattle.std.specs.Process.{exit_status};
 ghost use Rattle.gip_cli.specs.Statuses.{IsEndedStatus};
 ghost use Rattle.gipmc_aiger.specs.Claims.{claims_of, lassos_of};
-ghost use Rattle.gipmc_answers.specs.Answers.{Answers, IsCircuitIn};
-ghost use Rattle.gipmc_answers.specs.Certificates.{Certifies};
-ghost use Rattle.gipmc_answers.specs.Witnesses.{Replays};
+ghost use Rattle.gipmc_task.specs.Answers.{Answers, IsCircuitIn};
+ghost use Rattle.gipmc_task.specs.Certificates.{Certifies};
+ghost use Rattle.gipmc_task.specs.Witnesses.{Replays};
 ghost use Rattle.gipmc_task.specs.declared.outcome.Outcome.TheVariants.{Fails, Safe};
-ghost use Rattle.gipmc_justice.specs.Certificates as certificates;
-ghost use Rattle.gipmc_justice.specs.Witnesses as justice;
+ghost use Rattle.gipmc_task.specs.Justice.Certificates as certificates;
+ghost use Rattle.gipmc_task.specs.Justice.Witnesses as justice;
 ghost use Rattle.gipmc.specs.Asked.{AreBadsLeftOut, AreBadsReplayed, CertifiesAsked, IsAnsweredAsked, IsFoundFor};
 ghost use Rattle.gipmc.specs.Asked.{IsJusticeReplayed, ReplaysAsked, ReplaysEach, bads_asked, outcome_of_bads};
 ghost use Rattle.gipmc.specs.Runs.{Ask, Finds, IsCertified, IsFound, IsReplayed, Verifies};
@@ -39,13 +39,12 @@ use errors::Failure;
 use files::{Files, Texts, check_names, new_file, write_out, write_whole};
 use gip_cli::{Clock, NewFile, Printable, begin, explain, refuse, tell};
 use gipmc_aiger::{Header, read_claims, read_lassos};
-use gipmc_answers::{
-    Answered, Which, answer, certificate_of, doubt_of, replay_all, witness_circuit_of,
-    witness_doubt,
-};
 use gipmc_command::{ABOUT, Options, Task};
-use gipmc_justice::{JusticeError, lasso_doubt};
-use gipmc_task::{Outcome, Output, TaskError};
+use gipmc_task::justice::{JusticeError, lasso_doubt};
+use gipmc_task::{
+    Answered, Outcome, Output, TaskError, Which, answer, certificate_of, doubt_of, replay_all,
+    witness_circuit_of, witness_doubt,
+};
 use gipsat_solver::Solver;
 use justice::{justice_failure, keep_of_justice, outcome_of_justice, search_justice};
 use kinds::{header_without_bads, header_without_justice, is_of_bads, is_of_justice};
@@ -356,7 +355,7 @@ fn keep_of_bads<'a>(
 // properties, where these are.
 pub(crate) struct Found {
     pub(crate) bads: Option<Answered>,
-    pub(crate) justice: Option<gipmc_justice::Answered>,
+    pub(crate) justice: Option<gipmc_task::justice::Answered>,
     // What is known of all of them together.
     outcome: Outcome,
 }
@@ -560,7 +559,7 @@ fn replay_lassos<'a>(
     if let Some(header) = header_without_justice(bytes) {
         return no_lassos(rt, options, name, &header, witness);
     }
-    match gipmc_justice::replay_all(rt.alloc(), bytes, witness) {
+    match gipmc_task::justice::replay_all(rt.alloc(), bytes, witness) {
         Ok(found) => undoubted(rt, name, found.0, &found.1),
         Err(error) => Err(justice_failure(options.file, name, error)),
     }
@@ -736,7 +735,13 @@ fn certify_property<'a>(
 ) -> Result<bool, Failure<'a>>
     ensures { IfOk result (λ verified. IsTrue verified → certificates.Certifies bytes.now text.now place) }
 {
-    match gipmc_justice::doubt_of::<Solver>(rt.alloc(), bytes, text, place, limit_asked(options)) {
+    match gipmc_task::justice::doubt_of::<Solver>(
+        rt.alloc(),
+        bytes,
+        text,
+        place,
+        limit_asked(options),
+    ) {
         Ok(None) => verified_text(rt, true),
         Ok(Some(doubt)) => doubted(rt, name, &doubt),
         Err(error) => Err(justice_failure(options.file, name, error)),

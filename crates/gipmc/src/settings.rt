@@ -6,10 +6,9 @@ ghost use Rattle.gipmc.specs.Asked.{bads_asked};
 ghost use Rattle.gipmc.specs.Plans.{depth_alone, depth_asked, depth_by, engine_asked, engine_by, engine_named};
 ghost use Rattle.gipmc.specs.Plans.{limit_asked, seed_asked, wants_circuit};
 
-use gipmc_answers::Which;
 use gipmc_command::Options;
 use gipmc_engines::{Bounds, Engine, Plan, Tries};
-use gipmc_task::{Certifying, Lost, Output, Traces};
+use gipmc_task::{Certifying, Lost, Output, Traces, Which};
 use std::io::{IsTerminal, Stdout};
 
 // How often simulation begins anew, and how many moments it has then.

@@ -1,3 +1,8 @@
--- What tasks on properties share.
+-- What is answered about a circuit.
+pub mod Answers
+pub mod Certificates
+pub mod Justice
+pub mod Left
 pub mod Outcomes
 pub mod Output
+pub mod Witnesses

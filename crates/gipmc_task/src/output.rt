@@ -24,7 +24,7 @@ pub enum Traces {
 /// What a certificate is made of that shows what is safe.
 #[derive(Clone, Copy, PartialEq, Eq)]
 pub enum Certifying {
-    /// Clauses over latches, as `certificate_of` of gipmc_answers takes them, or a k.
+    /// Clauses over latches, as `certificate_of` of gipmc_task takes them, or a k.
     Clauses,
     /// A circuit, as its `witness_circuit_of` makes it.
     Circuit,

@@ -1,6 +1,6 @@
 -- They are all right where none is doubted.
 use Rattle.std.proofs.Common.{inl}
-use Rattle.gipmc_justice.specs.Witnesses.{ReplaysAll}
+use Rattle.gipmc_task.specs.Justice.Witnesses.{ReplaysAll}
 use Rattle.gipmc.specs.Asked.{IsJusticeReplayed}
 use Rattle.gipmc.proofs.Replayed.{if_undoubted}
 use Rattle.gipmc.proofs.replay_lassos.Goals as goal

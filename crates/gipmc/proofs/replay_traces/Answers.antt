@@ -1,6 +1,6 @@
 -- They are all right where none is doubted.
 use Rattle.std.proofs.Common.{inl}
-use Rattle.gipmc_answers.specs.Witnesses.{ReplaysAll}
+use Rattle.gipmc_task.specs.Witnesses.{ReplaysAll}
 use Rattle.gipmc.specs.Asked.{AreBadsReplayed}
 use Rattle.gipmc.proofs.Replayed.{if_undoubted}
 use Rattle.gipmc.proofs.replay_traces.Goals as goal

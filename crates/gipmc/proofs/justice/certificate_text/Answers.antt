@@ -1,7 +1,7 @@
 -- What certifies the properties of the circuit certifies those that the bytes write.
 use Rattle.std.proofs.Common.{subst}
 use Rattle.std.proofs.lemmas.Result.{IfOk-weaker}
-use Rattle.gipmc_justice.specs.Certificates.{CertifiesAt}
+use Rattle.gipmc_task.specs.Justice.Certificates.{CertifiesAt}
 use Rattle.gipmc.proofs.justice.certificate_text.Goals as goal
 
 pub returns-clause-certifies : goal.returns-clause-certifies

@@ -1,9 +1,0 @@
--- The circuit fails at all places if it does at those that are left.
-use Rattle.std.proofs.Common.{drop}
-use Rattle.gipmc_aiger.specs.Lists.{Every}
-use Rattle.gipmc_answers.specs.Witnesses.{FailsAt}
-use Rattle.gipmc_answers.proofs.witnesses.doubt_at_each.Given as goal
-
-abbrev pub invariant-loop-k : goal.invariant-loop-k
-invariant-loop-k l =
-    Every (FailsAt l.netlist.circuit l.trace) (drop l.k l.places) → Every (FailsAt l.netlist.circuit l.trace) l.places

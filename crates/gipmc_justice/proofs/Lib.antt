@@ -1,5 +1,0 @@
-mod Claimed
-mod Examples
-mod Findings
-mod Told
-pub mod Witnessed

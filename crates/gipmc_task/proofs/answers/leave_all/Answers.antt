@@ -1,0 +1,19 @@
+-- One more place is told of.
+use Rattle.std.proofs.Common.{◌≡◌, length, arith}
+use Rattle.std.proofs.lemmas.Grind.{common_steps}
+use Rattle.gipmc_task.proofs.Told.{TellsFirst-more}
+use Rattle.gipmc_task.proofs.Written.{IsWritten-more}
+use Rattle.gipmc_task.proofs.answers.leave_all.Goals as goal
+
+pub loop-place-preserved : goal.loop-place-preserved
+loop-place-preserved g c = record {
+  tells = rw (c.in_ok-extend_from_slice.ensures.items, c.deref.ensures.value, c.and-outcome.ensures)
+      (TellsFirst-more c.args.netlist.now.circuit c.loop-place.place _ _ _ _ c.loop-place.invariant.tells c.in_ok-told.ensures.tells);
+  written = rw (c.in_ok-extend_from_slice.ensures.items, c.deref.ensures.value)
+      (IsWritten-more _ _ _ _ _ _ _ _ c.loop-place.invariant.written c.in_ok-told.ensures.written);
+}
+
+pub returns-clause-tells : goal.returns-clause-tells
+returns-clause-tells g c =
+    let all : c.loop-place.place ≡ length c.args.netlist.now.circuit.bads.items = grind (arith, common_steps) in
+    rw (c.made_of.ensures.text, c.made_of.ensures.outcome) (rw all at c.loop-place.invariant.tells)

@@ -1,0 +1,27 @@
+-- The depths are told, and behind them what is known.
+use Rattle.std.proofs.Common.{◌≡◌, ◌∙◌, Some, get_or, subst, sym}
+use Rattle.std.specs.Prelude.{slice_get}
+use Rattle.std.proofs.lemmas.Option.{slice_get-get_or}
+use Rattle.gipmc_task.specs.Answers.{IsKnown}
+use Rattle.gipmc_task.proofs.Told.{Tells-by}
+use Rattle.gipmc_task.proofs.Written.{IsWritten-more}
+use Rattle.gipmc_task.proofs.answers.tell_at.Goals as goal
+
+pub returns-clause-tells : goal.returns-clause-tells
+returns-clause-tells g c =
+    let circuit = c.args.query.now.whole.now.circuit in
+    let bads = c.args.query.now.bads.now in
+    let bad = get_or bads c.args.at c.index-query-at.result in
+    let known = c.find_out-known.result in
+    let at : slice_get bads c.args.at ≡ Some bad = slice_get-get_or bads c.args.at c.index-query-at.result c.requires.within in
+    let here = subst (λ b. slice_get b.now c.args.at ≡ Some bad) (sym c.in_ok-text.ensures.bads) at in
+    let right = subst (λ w. IsKnown w.now.circuit bad known) c.in_ok-text.ensures.whole
+    (c.find_out-known.ensures.right bad here) in
+    rw (c.in_ok-extend_from_slice.ensures.items, c.deref.ensures.value)
+    (Tells-by circuit c.args.place bad known c.in_ok-told.told.outcome c.in_ok-text.text.items c.in_ok-told.told.text.items
+    (c.requires.same ∙ at) c.in_ok-text.ensures.depths right c.in_ok-told.ensures.tells)
+
+pub returns-clause-written : goal.returns-clause-written
+returns-clause-written g c =
+    rw (c.in_ok-extend_from_slice.ensures.items, c.deref.ensures.value)
+    (IsWritten-more _ _ _ _ _ _ _ _ c.in_ok-text.ensures.written c.in_ok-told.ensures.written)

@@ -1,0 +1,24 @@
+-- One more depth is told.
+use Rattle.std.proofs.Common.{rules, ◌≡◌, ◌∙◌, ◌<◌, ◌^◌, Some, subst, sym}
+use Rattle.std.specs.Prelude.{slice_get}
+use Rattle.gipmc_engines.specs.Verdicts.{NeverFailsWithin}
+use Rattle.gipmc_task.proofs.Told.{TellsDepths-more}
+use Rattle.gipmc_task.proofs.Written.{IsWritten-more}
+use Rattle.gipmc_task.proofs.answers.tell_depths.Goals as goal
+
+pub loop-preserved : goal.loop-preserved
+loop-preserved g c =
+    let circuit = c.args.query.now.whole.now.circuit in
+    let bad = c.args.bad in
+    let depth = c.in-Some.depth in
+    let here = subst (λ b. slice_get b.now c.args.at ≡ Some bad) (sym c.loop.invariant.bads) c.requires in
+    let never = subst (λ w. NeverFailsWithin w.now.circuit bad depth) c.loop.invariant.whole (c.in-Some.ensures.clear bad here) in
+    let fits : depth < 2 ^ 64 = search rules in
+    record {
+      whole = c.in-Some.ensures.whole ∙ c.loop.invariant.whole;
+      bads = c.in-Some.ensures.bads ∙ c.loop.invariant.bads;
+      depths = rw (c.in_ok-tell_depth.ensures.text)
+          (TellsDepths-more circuit bad depth c.loop.text.items c.loop.invariant.depths never fits);
+      written = rw (c.in_ok-tell_depth.ensures.text)
+          (IsWritten-more _ _ _ _ _ _ _ _ c.loop.invariant.written c.in_ok-tell_depth.ensures.written);
+    }

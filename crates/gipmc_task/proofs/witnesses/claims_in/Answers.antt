@@ -1,0 +1,12 @@
+-- The witnesses are those that were read.
+use Rattle.std.proofs.Common.{◌≡◌, arith, length}
+use Rattle.std.proofs.lemmas.Grind.{common_steps}
+use Rattle.gipmc_task.proofs.Claimed.{are_witnesses}
+use Rattle.gipmc_task.proofs.witnesses.claims_in.Goals as goal
+
+pub returns-in-Ok : goal.returns-in-Ok
+returns-in-Ok c =
+    let latches : c.len.result ≡ length c.args.netlist.now.circuit.latches.items = grind (arith, common_steps) in
+    let inputs : c.len-2.result ≡ length c.args.netlist.now.circuit.inputs.items = grind (arith, common_steps) in
+    are_witnesses c.args.netlist.now.circuit c.len.result c.len-2.result c.args.text.now c.in-Ok.claims.items latches inputs
+    c.in-Ok.ensures.ok

@@ -1,0 +1,4 @@
+-- Justice properties.
+pub mod Answers
+pub mod Certificates
+pub mod Witnesses

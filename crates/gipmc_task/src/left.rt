@@ -1,0 +1,63 @@
+//! What is left of a circuit where equal variables are merged.
+ghost use Rattle.std.specs.Prelude.{IfSome};
+ghost use Rattle.gipmc_task.specs.Left.{StandFor};
+ghost use Rattle.gipmc_reduce.specs.Correspondence.{IsSweptOf, merged};
+
+use crate::parted::part_of;
+use gipmc_circuits::{Netlist, Trace};
+use gipmc_reduce::{Bounds, Cone, Correspondence};
+use gipsat_cnf::SatSolver;
+use std::alloc::{AllocError, Global};
+
+/// What is left of a circuit.
+#[derive(Drop)]
+pub(crate) struct Left {
+    sweep: Correspondence,
+    /// The part of that which its bad literals depend on.
+    pub(crate) part: Cone,
+}
+
+impl Left {
+    /// What is left of a circuit. None where that was not found out by so much work, or where memory is refused.
+    pub(crate) fn of<S: SatSolver + Drop>(alloc: Global, whole: &Netlist, work: u64) -> Option<Self>
+        ensures { IfSome result (λ left. StandFor left.part.netlist.circuit left.part.netlist.circuit.bads.items
+            whole.now.circuit whole.now.circuit.bads.items) }
+    {
+        let bounds = Bounds {
+            work,
+            ..Bounds::default()
+        };
+        match Correspondence::new::<S>(alloc, whole, &whole.circuit.bads, bounds) {
+            Ok(Some(sweep)) => Left::in_part(alloc, sweep),
+            _ => None,
+        }
+    }
+
+    // The same, by a sweep.
+    fn in_part(alloc: Global, sweep: Correspondence) -> Option<Self>
+        ensures { IfSome result (λ left. StandFor left.part.netlist.circuit left.part.netlist.circuit.bads.items
+            sweep.netlist.circuit sweep.netlist.circuit.bads.items) }
+    {
+        match part_of(alloc, &sweep.netlist, &sweep.netlist.circuit.bads) {
+            Some(part) => Some(Left { sweep, part }),
+            None => None,
+        }
+    }
+
+    /// Whether a tenth of the latches of the circuit is gone, or more. Where only gates are, a search has as many states.
+    pub(crate) fn is_small(&self, whole: &Netlist) -> bool {
+        let left = self.part.netlist.circuit.latches.len();
+        left.saturating_mul(10) <= whole.circuit.latches.len().saturating_mul(9)
+    }
+
+    /// The trace of the circuit that goes on as one of what is left does. A replay tells whether it is one.
+    pub(crate) fn trace_of(
+        &self,
+        alloc: Global,
+        whole: &Netlist,
+        trace: &Trace,
+    ) -> Result<Trace, AllocError> {
+        let trace = self.part.trace_of(alloc, &self.sweep.netlist, trace)?;
+        self.sweep.trace_of(alloc, whole, &trace)
+    }
+}

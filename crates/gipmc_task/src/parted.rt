@@ -1,0 +1,460 @@
+//! Searches in a part of a circuit, what its bad literals and the constraints depend on, or in what is left of that.
+ghost use Rattle.std.specs.Prelude.{◌≡◌, ◌<◌, length, map, slice_get, Some, IfOk, IfSome};
+ghost use Rattle.gipsat_cnf.specs.Literals.{Lit};
+ghost use Rattle.gipmc_task.specs.Answers.{IsKnown};
+ghost use Rattle.gipmc_task.specs.Left.{StandFor, StandsFor};
+ghost use Rattle.gipmc_task.specs.declared.known.Known.TheVariants.{NoFailureWithin};
+ghost use Rattle.gipmc_engines.specs.Findings.{verdict_by};
+ghost use Rattle.gipmc_engines.specs.Verdicts.{IsRightVerdict, NeverFailsWithin};
+ghost use Rattle.gipmc_reduce.specs.Cone.{IsPartOf, literal_named};
+
+use crate::known::Known;
+use crate::left::Left;
+use crate::meter::Meter;
+use crate::output::Wanted;
+use gipmc_circuits::{Netlist, Trace, replay};
+use gipmc_engines::{Bounds, Event, Finding, Joint, Observer, Plan, Tries, Verdict, search};
+use gipmc_reduce::Cone;
+use gipsat_cnf::{Literal, SatSolver};
+use std::alloc::{AllocError, Global};
+
+// How many literals IC3 propagates before what is left is looked for.
+const FIRST: u64 = 200_000;
+
+// How many times as much it does until that is tried again.
+const LATER: u64 = 8;
+
+// How often it is tried.
+const SWEEPS: usize = 3;
+
+// Which part of what IC3 propagated a sweep may do.
+const SHARE: u64 = 2;
+
+/// The part of a circuit that some of its literals depend on. None where memory is refused, or where one of them is of no
+/// variable of the circuit.
+pub(crate) fn part_of(alloc: Global, whole: &Netlist, bads: &[Literal]) -> Option<Cone>
+    ensures part { IfSome result (λ p. IsPartOf p.names.names.items p.netlist.circuit whole.now.circuit) }
+    ensures bads { IfSome result
+        (λ p. map (literal_named p.names.names.items) p.netlist.circuit.bads.items ≡ bads.now) }
+{
+    match Cone::new(alloc, whole, bads) {
+        Ok(part) => part,
+        Err(_) => None,
+    }
+}
+
+/// One search about some literals of a circuit, in a part of it or in what is left of that.
+#[derive(Drop)]
+pub(crate) struct Parted<'a, S: SatSolver + Drop> {
+    /// The whole circuit.
+    pub(crate) whole: &'a Netlist,
+    /// Its literals.
+    pub(crate) bads: &'a [Literal],
+    /// The part.
+    pub(crate) part: &'a Cone,
+    // What is left of it, if the search is about that.
+    left: Option<&'a Left>,
+    // The search about the literals that stand for those of the circuit.
+    joint: Joint<'a, S>,
+    // How many clauses a question about shorter traces may learn.
+    limit: usize,
+    pub ghost part_stands: { StandFor part.now.netlist.circuit part.now.netlist.circuit.bads.items
+        whole.now.circuit bads.now },
+    pub ghost stand: { StandFor joint.findings.netlist.now.circuit joint.findings.bads.now whole.now.circuit bads.now },
+}
+
+impl<'a, S: SatSolver + Drop> Parted<'a, S> {
+    /// Before the search in a part.
+    ///
+    /// # Errors
+    /// `AllocError` where memory is refused.
+    pub(crate) fn new(
+        alloc: Global,
+        whole: &'a Netlist,
+        bads: &'a [Literal],
+        part: &'a Cone,
+        plan: &Plan,
+    ) -> Result<Self, AllocError>
+        requires { StandFor part.now.netlist.circuit part.now.netlist.circuit.bads.items whole.now.circuit bads.now }
+        ensures whole { IfOk result (λ p. p.whole.now ≡ whole.now) }
+        ensures bads { IfOk result (λ p. p.bads.now ≡ bads.now) }
+    {
+        let joint = Joint::new(alloc, &part.netlist, &part.netlist.circuit.bads, plan)?;
+        Ok(Parted {
+            whole,
+            bads,
+            part,
+            left: None,
+            joint,
+            limit: plan.bounds.limit,
+        })
+    }
+
+    /// Before the search in what is left of a part. It begins without simulation, which has been in the part.
+    ///
+    /// # Errors
+    /// `AllocError` where memory is refused.
+    pub(crate) fn in_left(
+        alloc: Global,
+        whole: &'a Netlist,
+        bads: &'a [Literal],
+        part: &'a Cone,
+        left: &'a Left,
+        plan: &Plan,
+    ) -> Result<Self, AllocError>
+        requires part { StandFor part.now.netlist.circuit part.now.netlist.circuit.bads.items
+            whole.now.circuit bads.now }
+        requires left { StandFor left.now.part.netlist.circuit left.now.part.netlist.circuit.bads.items
+            whole.now.circuit bads.now }
+        ensures whole { IfOk result (λ p. p.whole.now ≡ whole.now) }
+        ensures bads { IfOk result (λ p. p.bads.now ≡ bads.now) }
+    {
+        let netlist = &left.part.netlist;
+        let joint = Joint::new(
+            alloc,
+            netlist,
+            &netlist.circuit.bads,
+            &without_simulation(plan),
+        )?;
+        Ok(Parted {
+            whole,
+            bads,
+            part,
+            left: Some(left),
+            joint,
+            limit: plan.bounds.limit,
+        })
+    }
+
+    /// Goes on with the search about the first literal, and now and then tries to find out what is left of the part, by a
+    /// part of the work that the search has done. None where nothing is to be merged, where the literal is decided before, and
+    /// where that work does not suffice.
+    pub(crate) fn find_left<O: Observer>(
+        &mut self,
+        alloc: Global,
+        merges: bool,
+        observer: &mut O,
+    ) -> Option<Left>
+        ensures whole { self.new.whole ≡ self.old.whole }
+        ensures bads { self.new.bads ≡ self.old.bads }
+        ensures left { IfSome result (λ left. StandFor left.part.netlist.circuit
+            left.part.netlist.circuit.bads.items self.old.whole.now.circuit self.old.bads.now) }
+    {
+        if !merges {
+            return None;
+        }
+        let mut done = FIRST;
+        for _ in 0..SWEEPS {
+            done = self.go_on_to(done, observer)?;
+            let left = self.sweep(alloc, done / SHARE);
+            if left.is_some() {
+                return left;
+            }
+            done = done.saturating_mul(LATER);
+        }
+        None
+    }
+
+    // What is left of the part, if so much work suffices to find that out.
+    fn sweep(&self, alloc: Global, work: u64) -> Option<Left>
+        ensures { IfSome result (λ left. StandFor left.part.netlist.circuit
+            left.part.netlist.circuit.bads.items self.now.whole.now.circuit self.now.bads.now) }
+    {
+        Left::of::<S>(alloc, &self.part.netlist, work)
+    }
+
+    // Goes on with the search about the first literal, until IC3 has propagated so many literals, and answers how many it
+    // has. None where the literal is decided before, or the search cannot go on.
+    fn go_on_to<O: Observer>(&mut self, propagations: u64, observer: &mut O) -> Option<u64>
+        ensures whole { self.new.whole ≡ self.old.whole }
+        ensures bads { self.new.bads ≡ self.old.bads }
+    {
+        let mut meter = Meter::new(observer);
+        for depth in 0..usize::MAX {
+            if !self.joint.find_out_to(0, depth, &mut meter) {
+                return None;
+            }
+            if meter.propagations >= propagations {
+                return Some(meter.propagations);
+            }
+        }
+        None
+    }
+
+    /// Whether nothing is decided about the literal at a place.
+    pub(crate) fn is_open(&self, at: usize) -> bool {
+        self.joint.findings.is_open(at)
+    }
+
+    /// Goes on until the literal at one of the places is decided, and answers what is known of it then, by a shortest trace
+    /// where that is wanted and found. A search that is over does not go on.
+    pub(crate) fn find_out<O: Observer>(
+        &mut self,
+        alloc: Global,
+        at: usize,
+        wanted: Wanted,
+        observer: &mut O,
+    ) -> Known
+        requires { at < length self.old.bads.now }
+        ensures whole { self.new.whole ≡ self.old.whole }
+        ensures bads { self.new.bads ≡ self.old.bads }
+        ensures right { (bad : Lit) → slice_get self.old.bads.now at ≡ Some bad →
+            IsKnown self.old.whole.now.circuit bad result }
+    {
+        if wanted == Wanted::Nothing {
+            return self.known(alloc, at);
+        }
+        self.joint.find_out(at, observer);
+        self.tell_engine(at, observer);
+        let verdict = self.told(alloc, at, wanted, observer);
+        let is_refused = self.is_refused(at, &verdict);
+        let _ = observer.note(Event::End { is_refused });
+        verdict
+    }
+
+    /// Goes on until it is known that no trace of at most so many transitions fails as to the literal at one of the places,
+    /// and answers up to how many it is known. None where the literal is decided, or the search cannot go on.
+    pub(crate) fn clear<O: Observer>(
+        &mut self,
+        alloc: Global,
+        at: usize,
+        depth: usize,
+        observer: &mut O,
+    ) -> Option<usize>
+        requires { at < length self.old.bads.now }
+        ensures whole { self.new.whole ≡ self.old.whole }
+        ensures bads { self.new.bads ≡ self.old.bads }
+        ensures clear { IfSome result (λ n. (bad : Lit) → slice_get self.old.bads.now at ≡ Some bad →
+            NeverFailsWithin self.old.whole.now.circuit bad n) }
+    {
+        if !self.joint.find_out_to(at, depth, observer) {
+            return None;
+        }
+        let known = self.known(alloc, at);
+        depth_of(&known)
+    }
+
+    // Tells an observer which engine decided the literal at a place, if it is decided.
+    fn tell_engine<O: Observer>(&self, at: usize, observer: &mut O) {
+        if self.joint.findings.is_open(at) {
+            return;
+        }
+        if let Some(engine) = self.joint.findings.engine(at) {
+            let _ = observer.note(Event::Decided(engine));
+        }
+    }
+
+    // What is told of the literal at a place: what is known, and where that is a trace, a shortest one if that is wanted and
+    // found.
+    fn told<O: Observer>(&self, alloc: Global, at: usize, wanted: Wanted, observer: &mut O) -> Known
+        requires { at < length self.now.bads.now }
+        ensures { (bad : Lit) → slice_get self.now.bads.now at ≡ Some bad →
+            IsKnown self.now.whole.now.circuit bad result }
+    {
+        let known = self.known(alloc, at);
+        if wanted != Wanted::Shortest {
+            return known;
+        }
+        let Some(moments) = moments_of(&known) else {
+            return known;
+        };
+        match self.shorter(alloc, at, moments, observer) {
+            Some(shorter) => shorter,
+            None => known,
+        }
+    }
+
+    // That the literal at a place fails by a shortest trace, by bounded model checking, if one is found that has fewer moments
+    // than so many. The observer is told whether there is known to be none that is shorter still.
+    fn shorter<O: Observer>(
+        &self,
+        alloc: Global,
+        at: usize,
+        moments: usize,
+        observer: &mut O,
+    ) -> Option<Known>
+        requires { at < length self.now.bads.now }
+        ensures { IfSome result (λ known. (bad : Lit) → slice_get self.now.bads.now at ≡ Some bad →
+            IsKnown self.now.whole.now.circuit bad known) }
+    {
+        let bad = self.bads[at];
+        let (trace, is_shortest) = self.shorter_trace(alloc, at, moments, observer);
+        let _ = observer.note(Event::Shortened { is_shortest });
+        let Some(trace) = trace else {
+            return None;
+        };
+        let Ok(known) = self.fails_by(alloc, bad, &trace) else {
+            return None;
+        };
+        if moments_of(&known).is_none() {
+            return None;
+        }
+        Some(known)
+    }
+
+    // A trace of the circuit that is searched on which its literal at a place becomes true, if one is found that has fewer
+    // moments than so many, and whether there is known to be none that is shorter still.
+    fn shorter_trace<O: Observer>(
+        &self,
+        alloc: Global,
+        at: usize,
+        moments: usize,
+        observer: &mut O,
+    ) -> (Option<Trace>, bool) {
+        let Some(depth) = moments.checked_sub(2) else {
+            return (None, true);
+        };
+        let Some(own) = self.joint.findings.bads.get(at).copied() else {
+            return (None, false);
+        };
+        let bounds = Bounds {
+            depth,
+            limit: self.limit,
+            ..Bounds::default()
+        };
+        match search::<S, O>(alloc, self.joint.findings.netlist, own, bounds, observer) {
+            Ok(Verdict::Fails(trace)) => (Some(trace), true),
+            Ok(Verdict::NoFailureWithin(cleared)) => (None, cleared >= depth),
+            _ => (None, false),
+        }
+    }
+
+    // Whether a literal is left open since memory was refused.
+    fn is_refused(&self, at: usize, known: &Known) -> bool {
+        let is_lost = self.joint.is_refused || !self.joint.findings.is_open(at);
+        match known {
+            Known::Fails(_) => false,
+            Known::Safe => false,
+            Known::NoFailureWithin(_) => is_lost,
+            Known::Nothing => is_lost,
+        }
+    }
+
+    /// What is known of the literal at a place: nothing where memory is refused.
+    pub(crate) fn known(&self, alloc: Global, at: usize) -> Known
+        requires { at < length self.now.bads.now }
+        ensures { (bad : Lit) → slice_get self.now.bads.now at ≡ Some bad →
+            IsKnown self.now.whole.now.circuit bad result }
+    {
+        match self.carried(alloc, at) {
+            Ok(known) => known,
+            Err(_) => Known::Nothing,
+        }
+    }
+
+    // What the finding about the literal at a place says of the whole circuit.
+    fn carried(&self, alloc: Global, at: usize) -> Result<Known, AllocError>
+        requires within { at < length self.now.bads.now }
+        requires own { at < length self.now.joint.findings.bads.now }
+        ensures { IfOk result (λ known. (bad : Lit) → slice_get self.now.bads.now at ≡ Some bad →
+            IsKnown self.now.whole.now.circuit bad known) }
+    {
+        let bad = self.bads[at];
+        let own = self.joint.findings.bads[at];
+        let finding = self.joint.findings.at(at);
+        if let Finding::Fails(trace) = finding {
+            return self.fails_by(alloc, bad, trace);
+        }
+        if self.joint.findings.is_shown(alloc, at)? {
+            Ok(self.on_whole(bad, own, finding))
+        } else {
+            Ok(Known::Nothing)
+        }
+    }
+
+    // That the whole circuit fails, where a trace of the one that is searched, carried to it, is a counterexample.
+    fn fails_by(&self, alloc: Global, bad: Literal, trace: &Trace) -> Result<Known, AllocError>
+        ensures { IfOk result (IsKnown self.now.whole.now.circuit bad) }
+    {
+        let trace = self.trace_of(alloc, trace)?;
+        if replay(alloc, self.whole, bad, &trace)? {
+            Ok(Known::Fails(trace))
+        } else {
+            Ok(Known::Nothing)
+        }
+    }
+
+    // The trace of the whole circuit that goes on as one of the circuit that is searched does.
+    fn trace_of(&self, alloc: Global, trace: &Trace) -> Result<Trace, AllocError> {
+        match self.left {
+            Some(left) => {
+                let trace = left.trace_of(alloc, &self.part.netlist, trace)?;
+                self.part.trace_of(alloc, self.whole, &trace)
+            }
+            None => self.part.trace_of(alloc, self.whole, trace),
+        }
+    }
+
+    // What a finding about the literal that stands for the bad one says of the whole circuit.
+    fn on_whole(&self, bad: Literal, own: Literal, finding: &Finding) -> Known
+        requires stands { StandsFor self.now.joint.findings.netlist.now.circuit own self.now.whole.now.circuit bad }
+        requires right { IsRightVerdict self.now.joint.findings.netlist.now.circuit own
+            (verdict_by self.now.joint.findings.invariant finding.now) }
+        ensures { IsKnown self.now.whole.now.circuit bad result }
+    {
+        let (_of, _own) = (bad, own);
+        match finding {
+            Finding::Fails(_) => Known::Nothing,
+            Finding::Safe => Known::Safe,
+            Finding::Inductive(_) => Known::Safe,
+            Finding::NoFailureWithin(depth) => Known::NoFailureWithin(*depth),
+            Finding::Unknown => Known::Nothing,
+        }
+    }
+
+    /// The clauses of the invariant that was found in the part, over the variables of the whole circuit; none where memory is
+    /// refused.
+    pub(crate) fn invariant(&self, alloc: Global) -> Vec<Vec<Literal>> {
+        let clauses = &self.joint.findings.invariant;
+        match self.part.names.clauses_of(alloc, clauses) {
+            Ok(clauses) => clauses,
+            Err(_) => Vec::new(alloc),
+        }
+    }
+
+    /// The greatest k for which a literal was found to be k-inductive, if one was.
+    pub(crate) fn k(&self) -> Option<usize> {
+        let mut greatest = None;
+        for finding in self.joint.findings.each.iter() {
+            greatest = greater(greatest, finding);
+        }
+        greatest
+    }
+}
+
+// The greater one of a k and that of a finding, if there is one.
+fn greater(greatest: Option<usize>, finding: &Finding) -> Option<usize> {
+    let Finding::Inductive(k) = finding else {
+        return greatest;
+    };
+    Some(greatest.unwrap_or(0).max(*k))
+}
+
+// How many moments a trace has that is known.
+fn moments_of(known: &Known) -> Option<usize> {
+    match known {
+        Known::Fails(trace) => Some(trace.inputs.len()),
+        _ => None,
+    }
+}
+
+// Up to how many transitions it is known that nothing fails, if that is all.
+fn depth_of(known: &Known) -> Option<usize>
+    ensures { IfSome result (λ n. known.now ≡ NoFailureWithin n) }
+{
+    match known {
+        Known::NoFailureWithin(depth) => Some(*depth),
+        _ => None,
+    }
+}
+
+// The same plan without simulation.
+fn without_simulation(plan: &Plan) -> Plan {
+    Plan {
+        tries: Tries {
+            rounds: 0,
+            ..plan.tries
+        },
+        ..*plan
+    }
+}
