@@ -77,7 +77,6 @@ PARTS = {
     "gipsat_dimacs": (EXAMPLE, PEER + "CaDiCaL", PROVED, TESTED, CHOICES, COST),
     "gipsat_answers": (EXAMPLE, PROVED, TESTED, CHOICES, COST),
     "gipsat_drat": (EXAMPLE, PEER + "other checkers", PROVED, TESTED, CHOICES, COST),
-    "gipsat_drat_writer": (PROVED, TESTED, CHOICES),
     "gipmc_circuits": (EXAMPLE, PEER + "AIGER", PROVED, TESTED, CHOICES, COST),
     "gipmc_builder": (EXAMPLE, PROVED, TESTED, CHOICES, COST),
     "gipmc_aiger": (EXAMPLE, PEER + "AIGER 1.9", PROVED, TESTED, CHOICES, COST),

@@ -27,8 +27,8 @@ TOLD = [
     ("gipsat_trials", "verdicts::each_question_is_answered", 3),
     ("gipsat_trials", "verdicts::the_clauses_of_the_formula_stay", 6),
     ("gipsat_trials", "refusals::small_questions_are_answered", 100),
-    ("gipsat_texts_trials", "answered::a_text_is_answered", 20),
-    ("gipsat_texts_trials", "checked::a_proof_is_checked", 20),
+    ("gipsat_trials", "texts::answered::a_text_is_answered", 20),
+    ("gipsat_trials", "texts::checked::a_proof_is_checked", 20),
     ("gipmc_circuits_trials", "longer::a_literal_of_no_variable_is_not_followed", 20),
 ]
 
@@ -38,7 +38,7 @@ COLLECTIONS = {"refusals::small_questions_are_answered": 4}
 # Tests that go on behind a refused call, and in how many runs at least.
 KEPT = [
     ("gipsat_trials", "verdicts::no_derivation_is_left_open", 3),
-    ("gipsat_texts_trials", "deletions::forgets_deleted_clauses_alone", 11),
+    ("gipsat_trials", "texts::deletions::forgets_deleted_clauses_alone", 11),
 ]
 
 # Tests, and how many bytes they may hold at a time.

@@ -3,10 +3,10 @@ use Rattle.std.specs.Prelude.{◌&&◌, ◌||◌, is_some, ℕ, List, Bool, code
 use Rattle.gip_cli.specs.Asked.{has, number}
 use Rattle.gipsat_command.specs.Options.{said_of}
 use Rattle.gipsat_command.specs.declared.options.Options.{Options}
-use Rattle.gipsat_drat_writer.specs.declared.writer.Form.{Form}
-use Rattle.gipsat_drat_writer.specs.declared.writer.Form.TheVariants.{Drat, Lrat}
-use Rattle.gipsat_drat_writer.specs.declared.writer.Format.{Format}
-use Rattle.gipsat_drat_writer.specs.declared.writer.Format.TheVariants.{Binary, Text}
+use Rattle.gipsat_answers.specs.declared.proof.writer.Form.{Form}
+use Rattle.gipsat_answers.specs.declared.proof.writer.Form.TheVariants.{Drat, Lrat}
+use Rattle.gipsat_answers.specs.declared.proof.writer.Format.{Format}
+use Rattle.gipsat_answers.specs.declared.proof.writer.Format.TheVariants.{Binary, Text}
 
 -- a switch is given
 abbrev pub is_given : List ℕ → Options → Bool

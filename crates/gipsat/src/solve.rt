@@ -12,12 +12,12 @@ ghost use Rattle.gipsat.specs.declared.solve.SolveError.TheVariants as solve_err
 
 use crate::watch::{Limits, Watch};
 use gip_cli::NewFile;
+use gipsat_answers::proof::{Fault, Form, Format, ProofWriter};
 use gipsat_answers::{Solved, Task, Verdict, are_named, assume, solve_instance};
 use gipsat_cnf::{Cnf, Literal};
 use gipsat_command::Options;
 use gipsat_command::proof_file::{self, ProofError};
 use gipsat_dimacs::{DimacsError, Instance, Reason, read_instance_by};
-use gipsat_drat_writer::{Fault, Form, Format, ProofWriter};
 use gipsat_solver::Inprocessing;
 use gipsat_solver::progress::{Both, Progress};
 use std::alloc::AllocError;

@@ -1,8 +1,10 @@
 mod Asking
 mod Assuming
 pub mod Below
+mod DecimalLemmas
 mod Enumerating
 mod Examples
+mod ProofExamples
 mod Questioning
 mod Renaming
 mod Replying

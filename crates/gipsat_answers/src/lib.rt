@@ -9,6 +9,7 @@ pub mod error;
 pub mod models;
 mod names;
 mod naming;
+pub mod proof;
 pub mod questions;
 pub mod task;
 

@@ -1,4 +1,4 @@
-//! Tests of formulas, of the kernel, of the search and of the solver, and the examples of their pages.
+//! Tests of formulas, of the kernel, of the search, of the solver and of texts, and the examples of their pages.
 //!
 //! They hold what neither a clause nor a row of the built program can say: that a call which may answer None or false
 //! answers more where it can, what the calls of a search between two answers tell, and what a listener hears. They stand
@@ -34,6 +34,8 @@ mod saturation;
 pub mod search_example;
 #[cfg(test)]
 mod sessions;
+#[cfg(test)]
+mod texts;
 #[cfg(test)]
 mod uses;
 #[cfg(test)]

@@ -1,2 +1,0 @@
-mod DecimalLemmas
-mod Examples

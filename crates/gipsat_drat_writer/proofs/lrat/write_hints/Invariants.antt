@@ -1,7 +1,0 @@
--- What was written, and what is left to write, are the hints.
-use Rattle.std.proofs.Common.{◌≡◌, ◌++◌, drop}
-use Rattle.gipsat_drat_writer.specs.Lrat.{hints_bytes}
-use Rattle.gipsat_drat_writer.proofs.lrat.write_hints.Given as goal
-
-abbrev pub invariant-loop-hint : goal.invariant-loop-hint
-invariant-loop-hint l = l.fn.bytes.items ++ hints_bytes l.format l.fn.hints ≡ l.bytes.items ++ hints_bytes l.format (drop l.hint-index l.fn.hints)
