@@ -3,20 +3,15 @@ ghost use Rattle.std.specs.Prelude.{◌≡◌};
 ghost use Rattle.gipsat_kernel.specs.Rat.{KeepsSatisfiable};
 
 use crate::error::{Flaw, Stop};
-use crate::names::Names;
+use crate::hint_list::Hint;
+use crate::met::Met;
+use crate::names::RisingNames;
 use crate::rat::{delete_all, resolvent_with};
 use crate::rup::{begin_true, falsify, resolve_steps};
 use crate::trail::{Reason, Trail, Value};
 use gipsat_cnf::Literal;
 use gipsat_kernel::RatKernel;
 use std::alloc::{AllocError, Global};
-
-// The name of a clause; a negative one is that of a clause with the pivot's negation.
-#[derive(Clone, Copy)]
-pub(crate) struct Hint {
-    pub name: u64,
-    pub positive: bool,
-}
 
 // What a clause leaves open.
 enum Rest {
@@ -48,7 +43,7 @@ fn left(trail: &Trail, clause: &[Literal]) -> Rest {
 
 // The id of the clause that a hint names.
 #[inline]
-fn named(names: &Names, hint: Hint) -> Result<usize, Stop> {
+fn named(names: &RisingNames, hint: Hint) -> Result<usize, Stop> {
     match names.get(hint.name) {
         Some(id) => Ok(id),
         None => Err(Stop::Refused(Flaw::Unnamed)),
@@ -60,7 +55,7 @@ fn named(names: &Names, hint: Hint) -> Result<usize, Stop> {
 fn follow(
     kernel: &RatKernel,
     trail: &mut Trail,
-    names: &Names,
+    names: &RisingNames,
     hints: &[Hint],
 ) -> Result<Option<usize>, Stop> {
     for hint in hints {
@@ -77,17 +72,85 @@ fn follow(
     Ok(None)
 }
 
+// The literal of a clause whose negation the clause that is being derived has.
+#[inline]
+fn pivot(kernel: &RatKernel, id: usize) -> Option<Literal> {
+    for l in kernel.clause(id)? {
+        if kernel.is_marked(l.negated()) {
+            return Some(*l);
+        }
+    }
+    None
+}
+
+// Resolves the clauses of hints, from the last one to the first. Whether each has a pivot, none of which the step has
+// met before. Then each clause but the last is unit where it is followed forwards, and the last one has no literal left.
+fn resolve_backwards(
+    kernel: &mut RatKernel,
+    met: &mut Met,
+    names: &RisingNames,
+    hints: &[Hint],
+) -> Result<bool, AllocError>
+    ensures { kernel.new ≡ kernel.old }
+{
+    let mut is_begun = false;
+    for place in (0..hints.len()).rev() {
+        let Some(hint) = hints.get(place).copied() else {
+            return Ok(false);
+        };
+        if !hint.positive {
+            return Ok(false);
+        }
+        let Some(id) = names.get(hint.name) else {
+            return Ok(false);
+        };
+        if !is_begun {
+            is_begun = kernel.begin(id)?;
+            continue;
+        }
+        let Some(l) = pivot(kernel, id) else {
+            return Ok(false);
+        };
+        if !met.meet(l) || !kernel.resolve(l, id)? {
+            return Ok(false);
+        }
+    }
+    Ok(is_begun)
+}
+
+// Adds a clause that its hints show by resolution, where they are as [`resolve_backwards`] says: its id.
+fn add_backwards(
+    kernel: &mut RatKernel,
+    met: &mut Met,
+    names: &RisingNames,
+    clause: &[Literal],
+    hints: &[Hint],
+) -> Result<Option<usize>, AllocError>
+    ensures { KeepsSatisfiable kernel.old kernel.new }
+{
+    if !met.is_worth() || !met.begin(clause) || !resolve_backwards(kernel, met, names, hints)? {
+        met.count(false);
+        return Ok(None);
+    }
+    met.count(true);
+    kernel.conclude(clause)
+}
+
 // Adds a clause that its hints show, by resolution or as RAT on its first literal: its id.
 pub(crate) fn add_hinted(
     alloc: Global,
     kernel: &mut RatKernel,
     trail: &mut Trail,
-    names: &Names,
+    met: &mut Met,
+    names: &RisingNames,
     clause: &[Literal],
     hints: &[Hint],
 ) -> Result<usize, Stop>
     ensures { KeepsSatisfiable kernel.old kernel.new }
 {
+    if let Some(id) = add_backwards(kernel, met, names, clause, hints)? {
+        return Ok(id);
+    }
     if begin_hinted(kernel, trail, names, clause, hints)? {
         return conclude(kernel, trail, clause);
     }
@@ -112,7 +175,7 @@ pub(crate) fn add_hinted(
 fn begin_hinted(
     kernel: &mut RatKernel,
     trail: &mut Trail,
-    names: &Names,
+    names: &RisingNames,
     clause: &[Literal],
     hints: &[Hint],
 ) -> Result<bool, Stop>
@@ -145,7 +208,7 @@ fn add_rat(
     alloc: Global,
     kernel: &mut RatKernel,
     trail: &mut Trail,
-    names: &Names,
+    names: &RisingNames,
     clause: &[Literal],
     hints: &[Hint],
     resolvents: &mut Vec<usize>,
@@ -192,7 +255,7 @@ fn add_resolvent(
     alloc: Global,
     kernel: &mut RatKernel,
     trail: &mut Trail,
-    names: &Names,
+    names: &RisingNames,
     clause: &[Literal],
     id: usize,
     hints: &[Hint],

@@ -5,8 +5,10 @@ ghost use Rattle.gipsat_drat.specs.Held.{IsConsistent, Keeps, held_of};
 
 use crate::checker::list_ids;
 use crate::error::{Flaw, Stop};
-use crate::hints::{Hint, add_hinted};
-use crate::names::Names;
+use crate::hint_list::Hint;
+use crate::hints::add_hinted;
+use crate::met::Met;
+use crate::names::RisingNames;
 use crate::numbering::{Numbered, Numbering, renumber};
 use crate::trail::Trail;
 use gipsat_cnf::{Cnf, Literal};
@@ -20,7 +22,8 @@ pub(crate) struct LratChecker {
     alloc: Global,
     kernel: RatKernel,
     trail: Trail,
-    names: Names,
+    met: Met,
+    names: RisingNames,
     numbering: Numbering,
     // The greatest name of all that were given.
     last: u64,
@@ -37,6 +40,7 @@ impl Drop for LratChecker {
             alloc: _,
             kernel,
             trail,
+            met,
             names: _,
             numbering,
             last: _,
@@ -78,7 +82,8 @@ impl LratChecker {
             alloc,
             kernel,
             trail: Trail::new(alloc),
-            names: Names::new(alloc),
+            met: Met::new(alloc),
+            names: RisingNames::new(alloc),
             numbering,
             last: 0,
             literals: 0,
@@ -92,6 +97,7 @@ impl LratChecker {
     {
         let len = self.kernel.len();
         self.trail.cover(self.kernel.variables())?;
+        self.met.cover(self.kernel.variables())?;
         name_first(self.alloc, &mut self.names, len)?;
         self.last = len as u64;
         self.literals = self.kernel.literals().len();
@@ -123,10 +129,12 @@ impl LratChecker {
         }
         self.collect_if_sparse()?;
         self.trail.cover_clause(clause)?;
+        self.met.cover(self.trail.capacity())?;
         let added = add_hinted(
             self.alloc,
             &mut self.kernel,
             &mut self.trail,
+            &mut self.met,
             &self.names,
             clause,
             hints,
@@ -186,6 +194,7 @@ impl LratChecker {
         ensures { self.new ≡ self.old }
     {
         list_ids(&self.kernel, stays, ids)?;
+        self.names.retire_if_sparse(self.alloc)?;
         self.kernel.collect(self.alloc)?;
         self.names.renumber(ids);
         Ok(())
@@ -193,7 +202,7 @@ impl LratChecker {
 }
 
 // Names so many clauses of a formula from 1 on.
-fn name_first(alloc: Global, names: &mut Names, len: usize) -> Result<(), AllocError> {
+fn name_first(alloc: Global, names: &mut RisingNames, len: usize) -> Result<(), AllocError> {
     for id in 0..len {
         names.insert(alloc, (id as u64).saturating_add(1), id)?;
     }

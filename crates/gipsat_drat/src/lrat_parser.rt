@@ -125,14 +125,26 @@ fn read_words(
     bytes: &[u8],
     start: usize,
 ) -> Result<Option<usize>, Stop> {
-    for place in start..bytes.len() {
-        let byte = bytes[place];
-        if words.digit(byte) {
+    let mut place = start;
+    // Each round reads a byte at least.
+    for _ in start..bytes.len() {
+        if words.is_between() {
+            place = step.read_hints(bytes, place)?;
+        }
+        if let Some(numeral) = words.numeral(bytes, place) {
+            place = numeral.next;
+            if step.push(numeral.value, numeral.positive)? {
+                return Ok(Some(place));
+            }
             continue;
         }
+        let Some(byte) = bytes.get(place).copied() else {
+            return Ok(None);
+        };
+        place = place.saturating_add(1);
         let word = words.byte(byte)?;
         if take_word(step, word)? {
-            return Ok(Some(place + 1));
+            return Ok(Some(place));
         }
     }
     Ok(None)
@@ -159,9 +171,24 @@ fn read_codes(
     bytes: &[u8],
     start: usize,
 ) -> Result<Option<usize>, Stop> {
-    for place in start..bytes.len() {
-        if take_code(codes, step, bytes[place])? {
-            return Ok(Some(place + 1));
+    let mut place = start;
+    // Each round reads a byte at least.
+    for _ in start..bytes.len() {
+        if step.is_begun() {
+            if let Some(code) = codes.small(bytes, place) {
+                place = code.next;
+                if push_code(step, code.value)? {
+                    return Ok(Some(place));
+                }
+                continue;
+            }
+        }
+        let Some(byte) = bytes.get(place).copied() else {
+            return Ok(None);
+        };
+        place = place.saturating_add(1);
+        if take_code(codes, step, byte)? {
+            return Ok(Some(place));
         }
     }
     Ok(None)
@@ -179,9 +206,15 @@ fn take_code(codes: &mut Codes, step: &mut LratStep, byte: u8) -> Result<bool, S
         }
         return Ok(false);
     }
-    let Some(code) = codes.byte(byte)? else {
-        return Ok(false);
-    };
+    match codes.byte(byte)? {
+        Some(code) => push_code(step, code),
+        None => Ok(false),
+    }
+}
+
+// Adds a number to a step. Whether the step ends by it.
+#[inline]
+fn push_code(step: &mut LratStep, code: u64) -> Result<bool, Stop> {
     if step.is_signed() {
         step.push(code / 2, code % 2 == 0)
     } else {

@@ -2,11 +2,12 @@
 ghost use Rattle.gipsat_drat.specs.Held.{Keeps};
 
 use crate::error::{Flaw, Stop};
-use crate::hints::Hint;
+use crate::hint_list::{Hint, HintList};
 use crate::lrat::LratChecker;
 use crate::step::literal;
+use crate::words::numeral_at;
 use gipsat_cnf::Literal;
-use std::alloc::Global;
+use std::alloc::{AllocError, Global};
 
 // The greatest name.
 pub(crate) const GREATEST_NAME: u64 = 1 << 55;
@@ -32,7 +33,7 @@ pub(crate) struct LratStep {
     name: u64,
     clause: Vec<Literal>,
     // The hints, or the names of the clauses to delete.
-    hints: Vec<Hint>,
+    hints: HintList,
 }
 
 // One call in its owners' proofs, in place of one for each field.
@@ -54,7 +55,7 @@ impl LratStep {
             part: Part::Start,
             name: 0,
             clause: Vec::new(alloc),
-            hints: Vec::new(alloc),
+            hints: HintList::new(alloc),
         }
     }
 
@@ -104,6 +105,28 @@ impl LratStep {
         Ok(false)
     }
 
+    // Reads the small numbers of a text from one place on, as far as they are its hints: the place behind them.
+    pub(crate) fn read_hints(&mut self, bytes: &[u8], start: usize) -> Result<usize, AllocError> {
+        let mut place = start;
+        if self.part != Part::Hints {
+            return Ok(place);
+        }
+        for _ in start..bytes.len() {
+            let Some(numeral) = numeral_at(bytes, place) else {
+                break;
+            };
+            if numeral.value == 0 || numeral.ends_line {
+                break;
+            }
+            self.hints.push(Hint {
+                name: numeral.value,
+                positive: numeral.positive,
+            })?;
+            place = numeral.next;
+        }
+        Ok(place)
+    }
+
     // Its name.
     fn begin(&mut self, name: u64, positive: bool) -> Result<(), Flaw> {
         if !positive {
@@ -134,10 +157,10 @@ impl LratStep {
         ensures { Keeps checker.old checker.new }
     {
         if self.part == Part::Names {
-            checker.delete_all(&self.hints)?;
+            checker.delete_all(self.hints.as_slice())?;
         } else {
             checker.number(&mut self.clause)?;
-            checker.add(self.name, &self.clause, &self.hints)?;
+            checker.add(self.name, &self.clause, self.hints.as_slice())?;
         }
         self.part = Part::Start;
         self.clause.clear();

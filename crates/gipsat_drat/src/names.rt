@@ -133,3 +133,112 @@ impl Names {
         }
     }
 }
+
+// Which clause has a name, where names rise: most are not far from one another.
+#[derive(Drop)]
+pub(crate) struct RisingNames {
+    // The clauses whose names are below `first`.
+    older: Names,
+    first: u64,
+    // The ids of the clauses with the names from `first` on, or `NO_ID`.
+    recent: Vec<u32>,
+    // How many of these there are.
+    held: usize,
+}
+
+const NO_ID: u32 = u32::MAX;
+
+// Between two names that follow each other in the list there are so many at most.
+const GREATEST_GAP: u64 = 8;
+
+// So many entries without a clause are few.
+const FEW_ENTRIES: usize = 65_536;
+
+impl RisingNames {
+    // Of no clause.
+    pub(crate) fn new(alloc: Global) -> Self {
+        RisingNames {
+            older: Names::new(alloc),
+            first: 0,
+            recent: Vec::new(alloc),
+            held: 0,
+        }
+    }
+
+    // The id of the clause with a name, if there is one.
+    #[inline]
+    pub(crate) fn get(&self, name: u64) -> Option<usize> {
+        match self.recent.get(name.wrapping_sub(self.first) as usize) {
+            Some(id) if *id == NO_ID => None,
+            Some(id) => Some(*id as usize),
+            None => self.older.get(name),
+        }
+    }
+
+    // Gives a clause a name that is greater than all before.
+    pub(crate) fn insert(&mut self, alloc: Global, name: u64, id: usize) -> Result<(), AllocError> {
+        let id = u32::try_from(id).map_err(|_| AllocError)?;
+        let next = self.first.saturating_add(self.recent.len() as u64);
+        let gap = name.saturating_sub(next);
+        if gap > GREATEST_GAP {
+            self.retire(alloc)?;
+            self.first = name;
+        } else {
+            for _ in 0..gap {
+                self.recent.push(NO_ID)?;
+            }
+        }
+        self.recent.push(id)?;
+        self.held = self.held.saturating_add(1);
+        Ok(())
+    }
+
+    // Takes the name of a clause out: its id, if there is one.
+    pub(crate) fn remove(&mut self, name: u64) -> Option<usize> {
+        match self.recent.get_mut(name.wrapping_sub(self.first) as usize) {
+            Some(id) if *id == NO_ID => None,
+            Some(id) => {
+                let old = *id;
+                *id = NO_ID;
+                self.held = self.held.saturating_sub(1);
+                Some(old as usize)
+            }
+            None => self.older.remove(name),
+        }
+    }
+
+    // Moves the names of the list to the table.
+    fn retire(&mut self, alloc: Global) -> Result<(), AllocError> {
+        let mut name = self.first;
+        for id in self.recent.iter() {
+            if *id != NO_ID {
+                self.older.insert(alloc, name, *id as usize)?;
+            }
+            name = name.saturating_add(1);
+        }
+        self.first = name;
+        self.recent.clear();
+        self.held = 0;
+        Ok(())
+    }
+
+    // Moves them if most of the list has no clause.
+    pub(crate) fn retire_if_sparse(&mut self, alloc: Global) -> Result<(), AllocError> {
+        let few = self.held.saturating_add(FEW_ENTRIES);
+        if self.recent.len() / 16 > few {
+            self.retire(alloc)?;
+        }
+        Ok(())
+    }
+
+    // Names the clauses by their new ids.
+    pub(crate) fn renumber(&mut self, ids: &[usize]) {
+        for id in self.recent.iter_mut() {
+            if *id != NO_ID {
+                let new = ids.get(*id as usize).copied().unwrap_or(GONE);
+                *id = u32::try_from(new).unwrap_or(NO_ID);
+            }
+        }
+        self.older.renumber(ids);
+    }
+}

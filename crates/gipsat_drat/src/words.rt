@@ -2,8 +2,8 @@
 
 use crate::error::{Flaw, Place};
 
-// With a digit more than a number below, each text may have it.
-const SMALL: u64 = 200_000_000;
+// A small number and the byte behind it take so many bytes at most, so that each text may have it.
+const LONGEST: usize = 17;
 
 // A word, or what there is of one.
 #[derive(Clone, Copy)]
@@ -16,6 +16,16 @@ pub(crate) enum Word {
     Minus,
     // A number that is so great, with a sign.
     Number { positive: bool, value: u64 },
+}
+
+// A small number that was read in one go, with the blank or the end of the line behind it.
+#[derive(Clone, Copy)]
+pub(crate) struct Numeral {
+    pub positive: bool,
+    pub value: u64,
+    // The place behind both.
+    pub next: usize,
+    pub ends_line: bool,
 }
 
 // What has been read of a text.
@@ -52,21 +62,24 @@ impl Words {
         Place::Line(self.line)
     }
 
-    // Reads a byte more, if it is a digit of a number that is small so far. Whether it is.
+    // Whether a word may begin here, and it is not the first one of its line.
     #[inline]
-    pub(crate) fn digit(&mut self, byte: u8) -> bool {
-        if !byte.is_ascii_digit() {
-            return false;
+    pub(crate) fn is_between(&self) -> bool {
+        let is_inside = self.begins_line || self.ends_line || self.in_comment;
+        !is_inside && matches!(self.word, Word::None)
+    }
+
+    // Reads a small number that stands at a place, if no word has begun before it.
+    #[inline]
+    pub(crate) fn numeral(&mut self, bytes: &[u8], place: usize) -> Option<Numeral> {
+        if self.in_comment && !self.ends_line || !matches!(self.word, Word::None) {
+            return None;
         }
-        let Word::Number { positive, value } = self.word else {
-            return false;
-        };
-        if value >= SMALL {
-            return false;
-        }
-        let value = value * 10 + u64::from(byte - b'0');
-        self.word = Word::Number { positive, value };
-        true
+        let numeral = numeral_at(bytes, place)?;
+        self.begin_line();
+        self.begins_line = false;
+        self.ends_line = numeral.ends_line;
+        Some(numeral)
     }
 
     // Reads a byte more: the word that ends before it.
@@ -124,6 +137,32 @@ impl Words {
         self.begin_line();
         self.end_word()
     }
+}
+
+// The small number at a place of a text, if a blank or the end of the line is behind it.
+#[inline]
+pub(crate) fn numeral_at(bytes: &[u8], start: usize) -> Option<Numeral> {
+    let positive = *bytes.get(start)? != b'-';
+    let first = if positive { start } else { start + 1 };
+    let end = bytes.len().min(first.saturating_add(LONGEST));
+    let mut value: u64 = 0;
+    for place in first..end {
+        let byte = bytes[place];
+        let digit = byte.wrapping_sub(b'0');
+        if digit > 9 {
+            if place == first || byte != b' ' && byte != b'\n' {
+                return None;
+            }
+            return Some(Numeral {
+                positive,
+                value,
+                next: place + 1,
+                ends_line: byte == b'\n',
+            });
+        }
+        value = value.wrapping_mul(10).wrapping_add(u64::from(digit));
+    }
+    None
 }
 
 // The word with a byte more.
