@@ -1,5 +1,5 @@
 -- The definitions, computed on worked examples.
-use Rattle.std.specs.Prelude.{◌≡◌, ◌≢◌, zero, suc, ◌+◌, ◌^◌, Bool, true, false, List, [], ◌∷◌, ◌++◌, length, replicate, codes, refl}
+use Rattle.std.specs.Prelude.{◌≡◌, ◌≢◌, zero, suc, ◌+◌, ◌-◌, ◌^◌, Bool, true, false, List, [], ◌∷◌, ◌++◌, drop, length, replicate, take, codes, refl}
 use Rattle.std.proofs.Common.{arith, ap, get_or}
 use Rattle.giputils_bits.specs.Bits.{digits_of, value_of, words_of, one_of, with_word}
 use Rattle.giputils_bits.specs.Ones.{true_count, true_places, HasNoneFrom, IsNextOne, HasOne}
@@ -83,6 +83,36 @@ digits_past_the_list_are_left_out = refl
 other_words_stay : with_word 0 0 (replicate 66 true) ≡ replicate 64 false ++ (true ∷ true ∷ [])
 unfolding digits_of
 other_words_stay = refl
+
+-- ranges
+
+a_range_is_set : take 1 (replicate 5 false) ++ (replicate (3 - 1) true ++ drop 3 (replicate 5 false)) ≡ false ∷ true ∷ true ∷ false ∷ false ∷ []
+a_range_is_set = refl
+
+an_empty_range_sets_nothing : take 2 (true ∷ false ∷ true ∷ []) ++ (replicate (2 - 2) false ++ drop 2 (true ∷ false ∷ true ∷ [])) ≡ true ∷ false ∷ true ∷ []
+an_empty_range_sets_nothing = refl
+
+true_places_of_a_range : true_count (take (4 - 1) (drop 1 (true ∷ true ∷ false ∷ true ∷ true ∷ []))) ≡ 2
+true_places_of_a_range = refl
+
+-- shifts
+
+to_the_left : take 4 (replicate 1 false ++ (true ∷ false ∷ true ∷ true ∷ [])) ≡ false ∷ true ∷ false ∷ true ∷ []
+to_the_left = refl
+
+a_place_to_the_left_doubles_the_number : value_of (take 4 (replicate 1 false ++ (true ∷ true ∷ false ∷ false ∷ []))) ≡ 6
+a_place_to_the_left_doubles_the_number = refl
+
+to_the_right : take 4 (drop 1 (true ∷ false ∷ true ∷ true ∷ []) ++ replicate 1 false) ≡ false ∷ true ∷ true ∷ false ∷ []
+to_the_right = refl
+
+far_to_the_right : take 2 (drop 3 (true ∷ true ∷ []) ++ replicate 3 false) ≡ false ∷ false ∷ []
+far_to_the_right = refl
+
+-- false places
+
+false_places : true_places 0 (not_of (true ∷ false ∷ true ∷ false ∷ [])) ≡ 1 ∷ 3 ∷ []
+false_places = refl
 
 -- what is no list of words
 

@@ -4,7 +4,9 @@ mod Conjoined
 pub mod Digits
 mod Errors
 mod Examples
+mod FalsePlaces
 mod Gathered
+mod Highest
 mod Kept
 pub mod Literals
 pub mod Logic
@@ -16,6 +18,7 @@ mod Overlaid
 mod Parsed
 mod Patterns
 mod Places
+mod Ranged
 mod Replies
 mod Rewritten
 pub mod Rows
@@ -23,6 +26,7 @@ mod RunExamples
 pub mod Runs
 mod SameWords
 pub mod Sets
+mod Shifted
 pub mod Tables
 pub mod Taken
 mod Text

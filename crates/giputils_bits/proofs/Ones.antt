@@ -1,5 +1,5 @@
 -- The true places of a list, and how many they are.
-use Rattle.std.proofs.Common.{◌≡◌, ◌≢◌, ℕ, zero, suc, ◌+◌, ◌*◌, ◌<◌, ◌≤◌, Bool, true, false, not, List, [], ◌∷◌, length, get_or, take, drop, replicate, map, refl, sym, ap, ◌∙◌, arith}
+use Rattle.std.proofs.Common.{◌≡◌, ◌≢◌, ℕ, zero, suc, ◌+◌, ◌*◌, ◌<◌, ◌≤◌, Bool, true, false, not, List, [], ◌∷◌, length, get_or, take, drop, replicate, map, cond, refl, sym, ap, ◌∙◌, arith}
 use Rattle.std.specs.Prelude.{count_ones}
 use Rattle.std.proofs.Math.Seq.{take-add}
 use Rattle.std.proofs.lemmas.Bool.{false≢true}
@@ -8,6 +8,7 @@ use Rattle.std.proofs.lemmas.List.Sums.{sum_by-append, count_by-le-length}
 use Rattle.std.specs.Simd.Lanes.{mask_l}
 use Rattle.std.proofs.lemmas.Simd.{ones-mask_l}
 use Rattle.giputils_bits.specs.Bits.{value_of, word_of, words_of}
+use Rattle.giputils_bits.specs.Logic.{not_of}
 use Rattle.giputils_bits.specs.Ones.{true_count, HasOne}
 use Rattle.giputils_bits.proofs.Words.{length-words_of, get_or-words_of}
 
@@ -43,6 +44,12 @@ count_all bs ws k same past = ap true_count (take_all (64 * k) bs (omega (arith,
 
 pub true_count-within : (bs : List Bool) (n : ℕ) → true_count (take n bs) ≤ length bs
 true_count-within bs n = omega (arith, count_by-le-length (λ b. b) (take n bs), length-take n bs)
+
+-- each place is true or turned round
+pub true_count-not_of : (bs : List Bool) → true_count bs + true_count (not_of bs) ≡ length bs
+true_count-not_of [] = refl
+true_count-not_of (true ∷ bs) = omega (arith, sum_by-append (λ b. cond b 1 0) (true ∷ []) bs, sum_by-append (λ b. cond b 1 0) (false ∷ []) (not_of bs), true_count-not_of bs)
+true_count-not_of (false ∷ bs) = omega (arith, sum_by-append (λ b. cond b 1 0) (false ∷ []) bs, sum_by-append (λ b. cond b 1 0) (true ∷ []) (not_of bs), true_count-not_of bs)
 
 -- ---- that there is one
 -- a true place is within the list

@@ -8,14 +8,9 @@ use Rattle.std.proofs.Math.Bool.{or-false}
 use Rattle.std.proofs.lemmas.List.{length-set, take_all, length-append, length-replicate, get_or-set_same, get_or-set_other, get_or_append_left, get_or-append_right, get_or-replicate}
 use Rattle.std.proofs.lemmas.Bool.{cases_eq, cases_lt}
 use Rattle.giputils_bits.specs.Bits.{has_digit}
-use Rattle.giputils_bits.specs.Places.{place, bits_of, IsPacked, Overlays}
+use Rattle.giputils_bits.specs.Places.{place, bits_of, IsLaid, IsPacked, Overlays}
 use Rattle.giputils_bits.proofs.Digits.{has_digit-or, has_digit-above, has_digit-shl_low, has_digit-shl_high, has_digit-shr}
 use Rattle.giputils_bits.proofs.Places.{place_is, place-past, length-bits_of, get_or-bits_of, bits_of_is}
-
--- the digits of x are the places that are laid on word j, where words are laid from place n on
-pub record IsLaid (n : ℕ) (others : List ℕ) (j x : ℕ) : Type 0 where
-  pub below : (d : ℕ) → d < 64 → 64 * j + d < n → has_digit x d ≡ false
-  pub above : (d : ℕ) → d < 64 → n ≤ 64 * j + d → has_digit x d ≡ place others (64 * j + d - n)
 
 pub Overlays-more : (n : ℕ) (others old mid : List ℕ) (j x : ℕ) → j < length mid → IsLaid n others j x → Overlays n others old mid (64 * j)
     → Overlays n others old (set mid j (bit_or (get_or mid j 0) x)) (64 * j + 64)

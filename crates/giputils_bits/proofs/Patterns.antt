@@ -1,13 +1,15 @@
 -- The words of lists of one value, and of the digits of a number.
-use Rattle.std.proofs.Common.{◌≡◌, ℕ, zero, suc, ◌+◌, ◌-◌, ◌*◌, ◌/◌, ◌^◌, ◌<◌, ◌≤◌, Bool, true, false, List, [], ◌∷◌, length, get_or, take, drop, set, replicate, sym, ap, ◌∙◌, arith, inl, inr, refl}
+use Rattle.std.proofs.Common.{◌≡◌, ℕ, zero, suc, ◌+◌, ◌-◌, ◌*◌, ◌/◌, ◌^◌, ◌<◌, ◌≤◌, Bool, true, false, List, [], ◌∷◌, length, get_or, take, drop, set, replicate, sym, ap, subst, ◌∙◌, arith, inl, inr, refl}
 use Rattle.std.proofs.Math.Nat.{pow-suc}
 use Rattle.std.proofs.Math.Pow.{pow_mono}
 use Rattle.std.proofs.lemmas.List.{length-set, length-replicate, get_or-replicate, get_or-set_same, get_or-set_other, get_or_past, take-replicate, drop-replicate, take_all, length-take, length-drop, get_or-take, get_or-drop}
 use Rattle.std.proofs.lemmas.Nat.{pow_pos}
-use Rattle.std.proofs.lemmas.Bool.{cases_eq, cases_lt}
-use Rattle.giputils_bits.specs.Bits.{digits_of, value_of, word_of, words_of, one_of}
+use Rattle.std.proofs.lemmas.Bool.{cases_eq, cases_lt, false≢true}
+use Rattle.giputils_bits.specs.Bits.{digits_of, has_digit, value_of, word_count, word_of, words_of, one_of}
+use Rattle.giputils_bits.specs.Places.{bits_of, IsPacked}
 use Rattle.giputils_bits.proofs.Digits.{has_digit-zero, has_digit-above, length-digits_of, get_or-digits_of, digits_of-one}
-use Rattle.giputils_bits.proofs.Words.{length-words_of, words_of_is, word_of_is, same_by_words, get_or-words_of_same}
+use Rattle.giputils_bits.proofs.Places.{place_is, kept-length}
+use Rattle.giputils_bits.proofs.Words.{length-words_of, words_of_is, word_of_is, words_of-bits_of, same_by_words, get_or-words_of_same}
 
 -- ---- one value
 pub value_of-zeros : (n : ℕ) → value_of (replicate n false) ≡ 0
@@ -76,6 +78,34 @@ words_of_one bs some e = get_or-words_of_same bs (one_of (length bs)) 0 e (omega
 pub words_of_one_above : (bs : List Bool) → 0 < length bs → bs ≡ one_of (length bs) → (k : ℕ) → k < length (drop 1 (words_of bs)) → get_or (drop 1 (words_of bs)) k 0 ≡ 0
 words_of_one_above bs some e k within =
     get_or-drop 1 (words_of bs) k 0 ∙ get_or-words_of_same bs (one_of (length bs)) (1 + k) e (omega (arith, length-drop 1 (words_of bs))) ∙ one_word_above (length bs) (1 + k) some (omega arith)
+
+-- words that keep a list tell whether its first place alone is true
+module _ (n : ℕ) (ws : List ℕ) (bs : List Bool) (v : bits_of n ws ≡ bs) (p : IsPacked n ws) (fits : (k : ℕ) → get_or ws k 0 < 2 ^ 64) where
+  some_from_one : get_or ws 0 0 ≡ 1 → 0 < length bs
+  some_from_one first = elim (cases_lt 0 n) [
+    | inl l ↦ omega (arith, kept-length n ws bs v)
+    | inr m ↦ absurd (false≢true (sym (p.padding 0 m) ∙ place_is ws 0 ∙ ap (λ w. has_digit w 0) first))
+  ]
+
+  some_from_list : bs ≡ one_of (length bs) → 0 < length bs
+  some_from_list e = omega (arith, ap length e, length-replicate (length bs - 1) false)
+
+  as_words_of : 0 < length bs → ws ≡ words_of bs
+  as_words_of some =
+      sym (take_all (word_count n) ws (omega (arith, p.count, kept-length n ws bs v))) ∙ words_of-bits_of n ws p fits ∙ ap words_of v
+
+  pub one_from_kept : get_or ws 0 0 ≡ 1 → ((k : ℕ) → k < length (drop 1 ws) → get_or (drop 1 ws) k 0 ≡ 0) → bs ≡ one_of (length bs)
+  one_from_kept first none =
+      let some = some_from_one first in
+      let same = as_words_of some in
+      one_from_words bs some (ap (λ vs. get_or vs 0 0) (sym same) ∙ first) (subst (λ vs. (k : ℕ) → k < length (drop 1 vs) → get_or (drop 1 vs) k 0 ≡ 0) same none)
+
+  pub kept_one : bs ≡ one_of (length bs) → get_or ws 0 0 ≡ 1
+  kept_one e = ap (λ vs. get_or vs 0 0) (as_words_of (some_from_list e)) ∙ words_of_one bs (some_from_list e) e
+
+  pub kept_one_above : bs ≡ one_of (length bs) → (k : ℕ) → k < length (drop 1 ws) → get_or (drop 1 ws) k 0 ≡ 0
+  kept_one_above e =
+      subst (λ vs. (k : ℕ) → k < length (drop 1 vs) → get_or (drop 1 vs) k 0 ≡ 0) (sym (as_words_of (some_from_list e))) (words_of_one_above bs (some_from_list e) e)
 
 ones_word : (n k : ℕ) → 64 * k + 64 ≤ n → word_of (replicate n true) k ≡ 2 ^ 64 - 1
 ones_word n k within = word_of-replicate n k true within ∙ value_of-ones 64

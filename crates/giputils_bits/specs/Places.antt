@@ -1,6 +1,6 @@
 -- How words keep a list of booleans: place i is digit i % 64 of word i / 64. Only this crate's own functions speak of
 -- it.
-use Rattle.std.specs.Prelude.{◌≡◌, ◌≢◌, ℕ, ◌+◌, ◌-◌, ◌/◌, ◌%◌, ◌<◌, ◌≤◌, max, Bool, false, ◌||◌, not, List, [], ◌∷◌, ◌++◌, map, length, drop, replicate, slice_index, bit_and, bit_xor}
+use Rattle.std.specs.Prelude.{◌≡◌, ◌≢◌, ℕ, ◌+◌, ◌-◌, ◌*◌, ◌/◌, ◌%◌, ◌^◌, ◌<◌, ◌≤◌, max, min, Bool, true, false, ◌||◌, not, List, [], ◌∷◌, ◌++◌, map, length, drop, replicate, slice_index, bit_and, bit_xor}
 use Rattle.std.specs.List.{range_with_len}
 use Rattle.giputils_bits.specs.Bits.{has_digit, word_count}
 
@@ -35,6 +35,11 @@ pub record SetsDigit (old new k : ℕ) (b : Bool) : Type 0 where
   pub at : has_digit new k ≡ b
   pub others : (j : ℕ) → j < 64 → j ≢ k → has_digit new j ≡ has_digit old j
 
+-- these digits of a word become b, and no other changes
+pub record SetsDigits (old new digits : ℕ) (b : Bool) : Type 0 where
+  pub at : (k : ℕ) → has_digit digits k ≡ true → has_digit new k ≡ b
+  pub others : (k : ℕ) → has_digit digits k ≡ false → has_digit new k ≡ has_digit old k
+
 -- there is room for a place more after n of them, and each place is as it was
 pub record HasRoom (n : ℕ) (old new : List ℕ) : Type 0 where
   pub count : length new ≡ word_count (n + 1)
@@ -60,6 +65,32 @@ pub record Overlays (n : ℕ) (others old new : List ℕ) (end : ℕ) : Type 0 w
   pub laid : (i : ℕ) → n ≤ i → i < end → place new i ≡ (place old i || place others (i - n))
   pub rest : (i : ℕ) → end ≤ i → place new i ≡ place old i
 
+-- the digits of x are the places that are laid on word j, where words are laid from place n on
+pub record IsLaid (n : ℕ) (others : List ℕ) (j x : ℕ) : Type 0 where
+  pub below : (d : ℕ) → d < 64 → 64 * j + d < n → has_digit x d ≡ false
+  pub above : (d : ℕ) → d < 64 → n ≤ 64 * j + d → has_digit x d ≡ place others (64 * j + d - n)
+
+-- from place `start` on each place is n places higher than it was, and those before the first of all are false
+pub record MovesUp (n : ℕ) (old new : List ℕ) (start : ℕ) : Type 0 where
+  pub count : length new ≡ length old
+  pub low : (i : ℕ) → start ≤ i → i < n → place new i ≡ false
+  pub moved : (i : ℕ) → start ≤ i → i < 64 * length old → n ≤ i → place new i ≡ place old (i - n)
+  pub rest : (i : ℕ) → i < start → place new i ≡ place old i
+
+-- before place `end` each place is n places lower than it was
+pub record MovesDown (n : ℕ) (old new : List ℕ) (end : ℕ) : Type 0 where
+  pub count : length new ≡ length old
+  pub moved : (i : ℕ) → i < end → place new i ≡ place old (i + n)
+  pub rest : (i : ℕ) → end ≤ i → place new i ≡ place old i
+
+-- the places from `start` on, before `end`, have become b as far as place `done`, and no other has changed
+pub record SetsRange (start end : ℕ) (b : Bool) (old new : List ℕ) (done : ℕ) : Type 0 where
+  pub count : length new ≡ length old
+  pub inside : (i : ℕ) → start ≤ i → i < end → i < done → place new i ≡ b
+  pub before : (i : ℕ) → i < start → place new i ≡ place old i
+  pub behind : (i : ℕ) → end ≤ i → place new i ≡ place old i
+  pub rest : (i : ℕ) → done ≤ i → place new i ≡ place old i
+
 -- the first n places of both are the same
 abbrev pub AlikeBelow : List ℕ → List ℕ → ℕ → Type 0
 AlikeBelow words others n = (i : ℕ) → i < n → place words i ≡ place others i
@@ -72,6 +103,14 @@ IsDecided words others bit =
 -- the number without the digits that another has
 abbrev pub without_digits : ℕ → ℕ → ℕ
 without_digits a b = bit_xor a (bit_and a b)
+
+-- the digits of word k that stand before place n
+abbrev pub digits_before : ℕ → ℕ → ℕ
+digits_before k n = 2 ^ min (n - 64 * k) 64 - 1
+
+-- the digits of word k that stand from place `start` on, before place `end`
+abbrev pub digits_between : ℕ → ℕ → ℕ → ℕ
+digits_between k start end = without_digits (digits_before k end) (digits_before k start)
 
 -- the digits that both numbers have, each with those of its mask turned round
 abbrev pub common_digits : ℕ → ℕ → ℕ → ℕ → ℕ

@@ -11,10 +11,13 @@ mod make;
 mod ones;
 mod parsed;
 mod queries;
+mod ranges;
+mod shifts;
 mod storage;
 mod text;
 mod words;
 mod writes;
+mod zeros;
 
 pub use error::BitVecError;
 pub use iter::{IntoIter, Iter};
@@ -24,6 +27,7 @@ use std::alloc::{Allocator, Global};
 use std::marker::Model;
 use storage::Storage;
 pub use text::{Hex, binary_texts_tell, hex_texts_do_not_tell};
+pub use zeros::Zeros;
 
 /// A vector of bits, seen as a list of truth values.
 ///

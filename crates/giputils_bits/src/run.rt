@@ -9,6 +9,7 @@ use crate::bitvec::{BitVec, BitVecError};
 use std::alloc::{AllocError, Allocator, Global};
 
 /// A call on a bit vector, with its arguments. What it borrows may be of another allocator.
+#[derive_where(PartialEq, Eq, Debug)]
 pub enum BitCall<'a, A: Allocator = Global> {
     /// [`BitVec::push`] of this bit.
     Push(bool),

@@ -14,7 +14,7 @@ ghost use Rattle.giputils_bits.specs.Places.{bits_of, IsPacked, HasRoom, Appends
 use super::BitVec;
 use super::error::BitVecError;
 use super::storage::Storage;
-use super::words::{filled_word, low_mask, with_bit};
+use super::words::{filled_word, low_mask, with_bit, word_count};
 use std::alloc::{AllocError, Allocator};
 
 impl<A: Allocator> BitVec<A> {
@@ -217,14 +217,6 @@ impl<A: Allocator> BitVec<A> {
         bits.extend(iter)?;
         Ok(bits)
     }
-}
-
-// How many words so many places take.
-#[inline]
-fn word_count(len: usize) -> usize
-    ensures { result ≡ word_count len }
-{
-    len / BitVec::WORD_SIZE + usize::from(len % BitVec::WORD_SIZE != 0)
 }
 
 // Makes room for one place after the first `len`.

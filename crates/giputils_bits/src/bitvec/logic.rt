@@ -79,6 +79,15 @@ impl<A: Allocator> BitVec<A> {
         makes_zeros::<AndNot>(words, others)
     }
 
+    /// Whether each place that is true in `other`, a vector of the same length ([`BitVec::len`]), is true here too.
+    #[inline]
+    pub fn is_superset<B: Allocator>(&self, other: &BitVec<B>) -> bool
+        requires { length self.now ≡ length other.now }
+        ensures { IsTrue result ↔ (and_of other.now self.now ≡ other.now) }
+    {
+        other.is_subset(self)
+    }
+
     /// Whether no place is true in both, of two vectors of one length ([`BitVec::len`]).
     pub fn is_disjoint<B: Allocator>(&self, other: &BitVec<B>) -> bool
         requires { length self.now ≡ length other.now }

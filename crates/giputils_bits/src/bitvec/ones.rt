@@ -1,5 +1,5 @@
 //! The true places of a bit vector, in order. Words without one are stepped over.
-ghost use Rattle.std.specs.Prelude.{◌≡◌, ◌<◌, ◌^◌, ⊤, length, IfSome, IfNone};
+ghost use Rattle.std.specs.Prelude.{◌≡◌, ◌+◌, ◌<◌, ◌^◌, ⊤, true, false, length, slice_index_or, IfSome, IfNone};
 ghost use Rattle.std.specs.Iterator.{YieldsFirst, item_count};
 ghost use Rattle.giputils_bits.specs.Ones.{true_places, HasNoneFrom, IsNextOne};
 
@@ -72,6 +72,27 @@ impl<A: Allocator> BitVec<A> {
         let word = words[k] & u64::MAX << (start % BitVec::WORD_SIZE);
         let mut ones = Ones { words, k, word };
         ones.next()
+    }
+
+    /// The greatest place that is true, if one is.
+    pub fn last_one(&self) -> Option<usize>
+        ensures found { IfSome result (λ place. slice_index_or self.now place false ≡ true) }
+        ensures last { IfSome result (λ place. HasNoneFrom self.now (place + 1)) }
+        ensures none { IfNone result (HasNoneFrom self.now 0) }
+    {
+        // The length is a usize, and so is each place.
+        let _ = self.len();
+        let words = self.words.as_slice();
+        let mut k = words.len();
+        while k > 0 {
+            k -= 1;
+            let word = words[k];
+            if word != 0 {
+                let digit = BitVec::WORD_SIZE - 1 - word.leading_zeros() as usize;
+                return Some(BitVec::WORD_SIZE * k + digit);
+            }
+        }
+        None
     }
 }
 

@@ -1,11 +1,13 @@
 //! What a bit vector answers.
 ghost use Rattle.std.specs.Prelude.{◌≡◌, ◌≢◌, ◌<◌, ◌≤◌, ◌-◌, ◌*◌, ◌/◌, ◌^◌, ◌↔◌, [], ◌∷◌, true, false, length, take, replicate, slice_index, slice_index_or, EachIndex, IsTrue, MatchOption};
 ghost use Rattle.giputils_bits.specs.Bits.{value_of, word_count, words_of, one_of};
+ghost use Rattle.giputils_bits.specs.Logic.{not_of};
 ghost use Rattle.giputils_bits.specs.Ones.{HasOne, true_count};
 
 use super::BitVec;
 use super::words::{bit_at, low_mask};
 use std::alloc::Allocator;
+use std::ops::Index;
 
 impl<A: Allocator> BitVec<A> {
     /// The number of bits.
@@ -75,6 +77,14 @@ impl<A: Allocator> BitVec<A> {
         count
     }
 
+    /// The number of false bits.
+    #[inline]
+    pub fn count_zeros(&self) -> usize
+        ensures { result ≡ true_count (not_of self.now) }
+    {
+        self.len() - self.count_ones()
+    }
+
     /// Whether a bit is true: never in the empty vector.
     #[inline]
     pub fn any(&self) -> bool
@@ -103,30 +113,25 @@ impl<A: Allocator> BitVec<A> {
         all_equal(self.words(), 0)
     }
 
-    /// Whether each bit is false, of a vector that is not empty ([`BitVec::is_empty`]). [`BitVec::none`] takes the
-    /// empty vector too.
+    /// Whether each bit is false, as in the empty vector: the same as [`BitVec::none`].
     #[inline]
     pub fn is_zero(&self) -> bool
-        requires { 0 < length self.now }
         ensures { IsTrue result ↔ (self.now ≡ replicate (length self.now) false) }
     {
         self.none()
     }
 
-    /// Whether bit 0 alone is true, of a vector that is not empty ([`BitVec::is_empty`]).
+    /// Whether bit 0 alone is true: never in the empty vector.
     pub fn is_one(&self) -> bool
-        requires { 0 < length self.now }
         ensures { IsTrue result ↔ (self.now ≡ one_of (length self.now)) }
     {
-        let words = self.words();
+        let words = self.words.as_slice();
         words[0] == 1 && all_equal(&words[1..], 0)
     }
 
-    /// Whether each bit is true, of a vector that is not empty ([`BitVec::is_empty`]). [`BitVec::all`] takes the empty
-    /// vector too.
+    /// Whether each bit is true, as in the empty vector: the same as [`BitVec::all`].
     #[inline]
     pub fn is_ones(&self) -> bool
-        requires { 0 < length self.now }
         ensures { IsTrue result ↔ (self.now ≡ replicate (length self.now) true) }
     {
         self.all()
@@ -152,6 +157,20 @@ impl<A: Allocator> BitVec<A> {
         } else {
             None
         }
+    }
+}
+
+/// The bit at an index below [`BitVec::len`].
+impl<A: Allocator> Index<usize> for BitVec<A> {
+    type Output = bool;
+
+    ghost can_index = { λ v i. i < length v };
+
+    ghost index_gives = { λ v i bit. bit ≡ slice_index_or v i false };
+
+    #[inline]
+    fn index(&self, index: usize) -> &bool {
+        if self.get(index) { &true } else { &false }
     }
 }
 

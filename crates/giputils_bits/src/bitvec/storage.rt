@@ -5,9 +5,11 @@
 
 ghost use Rattle.std.specs.Prelude.{◌≡◌, ◌+◌, ◌-◌, ◌*◌, ◌/◌, ◌<◌, ◌≤◌, [], ◌∷◌, ◌++◌, length, map, replicate, slice_index, slice_set, take, OnErr, OnOk, IfOk, IsOk};
 ghost use Rattle.std.specs.Int.{bit_not, w64};
-ghost use Rattle.giputils_bits.specs.Places.{common_digits, Overlays, Rewrites};
+ghost use Rattle.giputils_bits.specs.Places.{common_digits, MovesDown, MovesUp, Overlays, Rewrites, SetsRange};
 
-use super::words::{WordOp, conjoin_words, join_words, negate_words, overlay_words};
+use super::words::{
+    WordOp, conjoin_words, join_words, negate_words, overlay_words, set_range, shift_down, shift_up,
+};
 use giputils_vec::gvec::Gvec;
 use std::alloc::{AllocError, Allocator};
 use std::marker::Model;
@@ -191,6 +193,52 @@ impl<A: Allocator> Storage<A> {
             self.inline = word[0];
         } else {
             overlay_words(heap, start, others);
+        }
+    }
+
+    // Makes the places from `start` on, before `end`, as told.
+    #[inline]
+    pub(crate) fn set_range(&mut self, start: usize, end: usize, val: bool)
+        requires { end ≤ 64 * length self.old }
+        ensures { SetsRange start end val self.old self.new end }
+    {
+        let heap: &mut [u64] = &mut self.heap;
+        if heap.is_empty() {
+            let mut word = [self.inline];
+            set_range(&mut word, start, end, val);
+            self.inline = word[0];
+        } else {
+            set_range(heap, start, end, val);
+        }
+    }
+
+    // Moves each place up by `n`. The first `n` are false then, and the last `n` go.
+    #[inline]
+    pub(crate) fn shift_up(&mut self, n: usize)
+        ensures { MovesUp n self.old self.new 0 }
+    {
+        let heap: &mut [u64] = &mut self.heap;
+        if heap.is_empty() {
+            let mut word = [self.inline];
+            shift_up(&mut word, n);
+            self.inline = word[0];
+        } else {
+            shift_up(heap, n);
+        }
+    }
+
+    // Moves each place down by `n`. The first `n` go, and as many at the end are false then.
+    #[inline]
+    pub(crate) fn shift_down(&mut self, n: usize)
+        ensures { MovesDown n self.old self.new (64 * length self.old) }
+    {
+        let heap: &mut [u64] = &mut self.heap;
+        if heap.is_empty() {
+            let mut word = [self.inline];
+            shift_down(&mut word, n);
+            self.inline = word[0];
+        } else {
+            shift_down(heap, n);
         }
     }
 
