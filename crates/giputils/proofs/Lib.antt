@@ -31,6 +31,7 @@ pub use Rattle.giputils_bounded.proofs.Levels
 pub use Rattle.giputils_bounded.proofs.OrderLaws
 pub use Rattle.giputils_heap.proofs.Orders
 pub use Rattle.giputils_bounded.proofs.Preorders
+pub use Rattle.giputils_heap.proofs.Priorities
 pub use Rattle.giputils_heap.proofs.Pushes
 pub use Rattle.giputils_heap.proofs.Ranks
 pub use Rattle.giputils_bounded.proofs.Relations

@@ -27,7 +27,9 @@ pub use Rattle.giputils_bounded.specs.Counted
 pub use Rattle.giputils_bounded.specs.Falls
 pub use Rattle.giputils_bounded.specs.InOrder
 pub use Rattle.giputils_bounded.specs.Keys
+pub use Rattle.giputils_heap.specs.Extended as HeapExtended
 pub use Rattle.giputils_heap.specs.Laws
+pub use Rattle.giputils_heap.specs.Priorities
 pub use Rattle.giputils_heap.specs.Record
 pub use Rattle.giputils_bounded.specs.Relations
 pub use Rattle.giputils_bounded.specs.Table

@@ -1,9 +1,9 @@
 -- The definitions of a run on short records, computed by the check: records that a heap may have, and one for each way to
 -- answer wrongly.
-use Rattle.std.proofs.Common.{◌≡◌, ℕ, ◌+◌, Bool, true, false, ◌||◌, List, [], ◌∷◌, Some, None, refl, sym, arith}
-use Rattle.std.specs.Prelude.{◌%◌, ◌==◌}
+use Rattle.std.proofs.Common.{◌≡◌, ◌≢◌, ℕ, ◌+◌, Bool, true, false, ◌||◌, List, [], ◌∷◌, Some, None, refl, ap, sym, arith}
+use Rattle.std.specs.Prelude.{◌%◌, ◌==◌, is_some}
 use Rattle.std.specs.List.{IsDistinct}
-use Rattle.std.proofs.lemmas.Bool.{false≢true}
+use Rattle.std.proofs.lemmas.Bool.{false≢true, ne_eqb}
 use Rattle.std.proofs.lemmas.List.Sorted.{IsPermutation-refl, IsPermutation-to_front, length_permutation}
 use Rattle.std.specs.Ordering.{nat_cmp}
 use Rattle.giputils_bounded.specs.Comparers.{by_number, reverse_of, by_rank, by_ord}
@@ -12,7 +12,9 @@ use Rattle.giputils_bounded.specs.Calls.{Builds, Drains, PushesOrUpdates}
 use Rattle.giputils_bounded.specs.Keys.{HoldsAllBut, HoldsWithin}
 use Rattle.giputils_heap.specs.Record.{Entry, start, answers_from, is_steady, keeps_counts_from, record_of, held_before, KeepsSteps}
 use Rattle.giputils_bounded.specs.Falls.{is_descending}
+use Rattle.giputils_heap.specs.Extended.{Extends}
 use Rattle.giputils_heap.specs.Laws.{PopUntilNone, ListsDownward}
+use Rattle.giputils_heap.specs.Priorities.{Prioritized, filled_up, priority_of, with_priority, ChangesAt, IsFirst, Joins}
 use Rattle.giputils_bounded.specs.Relations.{is_total, is_transitive, is_lawful, agrees_except, has_no_ties, HasRisen, HasFallen, CanRepair}
 use Rattle.giputils_bounded.proofs.HoldAlike.{HoldsAllBut-taken, HoldsWithin-cons}
 use Rattle.giputils_bounded.proofs.OrderLaws.{IsInOrder-empty}
@@ -655,3 +657,62 @@ builds_another_key_too b = false≢true (sym (b.alike 2))
 
 builds_a_key_twice : Builds number (by_number number) (3 ∷ 3 ∷ []) (3 ∷ 3 ∷ []) → ⊥
 builds_a_key_twice b = let same = b.len in omega (arith, same)
+
+-- ---- a queue with its priorities: 0 and 2 are held, and the table has one of 1 as well
+
+abbrev queue : Prioritized ℕ ℕ
+queue = record { keys = 2 ∷ 0 ∷ []; priorities = 5 ∷ 9 ∷ 7 ∷ []; comparisons = 1 }
+
+held_with_seven : priority_of number queue 2 ≡ Some 7
+held_with_seven = refl
+
+in_the_table_alone : priority_of number queue 1 ≡ None
+in_the_table_alone = refl
+
+past_the_table : priority_of number queue 8 ≡ None
+past_the_table = refl
+
+zero_does_not_come_first : IsFirst number nat_cmp queue 0 5 → ⊥
+zero_does_not_come_first first = false≢true (first.greatest 2 7 refl)
+
+abbrev tied : Prioritized ℕ ℕ
+tied = record { keys = 2 ∷ 0 ∷ []; priorities = 7 ∷ 9 ∷ 7 ∷ []; comparisons = 1 }
+
+of_a_tie_zero_does_not : IsFirst number nat_cmp tied 0 7 → ⊥
+of_a_tie_zero_does_not first = let most = first.ties 2 7 refl refl in omega (arith, most)
+
+without_zero : (k : ℕ) → k ≢ 0
+    → priority_of number (record { keys = 2 ∷ []; priorities = 5 ∷ 9 ∷ 7 ∷ []; comparisons = 1 }) k ≡ priority_of number queue k
+without_zero k apart = rw (ne_eqb k 0 apart) refl
+
+zero_is_taken_out : ChangesAt number 0 None queue (record { keys = 2 ∷ []; priorities = 5 ∷ 9 ∷ 7 ∷ []; comparisons = 1 })
+zero_is_taken_out = record { here = refl; others = without_zero }
+
+two_is_lost_too : ChangesAt number 0 None queue (record { keys = []; priorities = 5 ∷ 9 ∷ 7 ∷ []; comparisons = 1 }) → ⊥
+two_is_lost_too changes = false≢true (ap is_some (changes.others 2 (λ same. omega (arith, same))))
+
+filled : filled_up {P = ℕ} (5 ∷ []) 3 9 ≡ 5 ∷ 9 ∷ 9 ∷ 9 ∷ []
+filled = refl
+
+put_past_the_end : with_priority {P = ℕ} (5 ∷ []) 2 9 ≡ 5 ∷ 9 ∷ 9 ∷ []
+put_past_the_end = refl
+
+put_within : with_priority {P = ℕ} (5 ∷ 4 ∷ []) 0 9 ≡ 9 ∷ 4 ∷ []
+put_within = refl
+
+three_joins : Joins number 3 (2 ∷ []) (3 ∷ 2 ∷ [])
+three_joins = record { moved = λ held. absurd (false≢true held); added = λ absent. IsPermutation-refl (3 ∷ 2 ∷ []); alike = λ q. refl }
+
+nothing_joins : Joins number 3 (2 ∷ []) (2 ∷ []) → ⊥
+nothing_joins joins = false≢true (joins.alike 3)
+
+-- ---- a heap that was extended
+
+extended_by_none : Extends number (by_number number) [] (3 ∷ []) (3 ∷ [])
+extended_by_none = record { alike = λ q. refl; in_order = λ ordered lawful. ordered }
+
+extended_by_another : Extends number (by_number number) (3 ∷ []) [] (3 ∷ 2 ∷ []) → ⊥
+extended_by_another e = false≢true (sym (e.alike 2))
+
+loses_two : Extends number (by_number number) (3 ∷ []) (2 ∷ []) (3 ∷ []) → ⊥
+loses_two e = false≢true (e.alike 2)

@@ -2,11 +2,13 @@ pub mod CallBounds
 pub mod ComparerOrders
 pub mod Lent
 pub mod Orders
+pub mod Priorities
 pub mod Pushes
 pub mod Ranks
 pub mod Repairs
 pub mod Steady
 mod Examples
+mod Extended
 mod Records
 mod Runs
 mod Steps

@@ -33,7 +33,7 @@ ge_total Equal = refl
 ge_total Greater = refl
 
 -- a write to a place is none to another
-slice_get-set_other : {X : Type 0} (xs : List X) (i j : ℕ) (x : X) → j ≢ i → slice_get (set xs i x) j ≡ slice_get xs j
+pub slice_get-set_other : {X : Type 0} (xs : List X) (i j : ℕ) (x : X) → j ≢ i → slice_get (set xs i x) j ≡ slice_get xs j
 slice_get-set_other [] i j x apart = refl
 slice_get-set_other (y ∷ xs) zero zero x apart = absurd (apart refl)
 slice_get-set_other (y ∷ xs) zero (suc j) x apart = refl
@@ -53,7 +53,7 @@ slice_get-append (y ∷ xs) x zero apart = refl
 slice_get-append (y ∷ xs) x (suc n) apart = slice_get-append xs x n (λ same. apart (ap suc same))
 
 -- a write to a place that there is is read there
-slice_get-set_same : {X : Type 0} (xs : List X) (i : ℕ) (was x : X) → slice_get xs i ≡ Some was → slice_get (set xs i x) i ≡ Some x
+pub slice_get-set_same : {X : Type 0} (xs : List X) (i : ℕ) (was x : X) → slice_get xs i ≡ Some was → slice_get (set xs i x) i ≡ Some x
 slice_get-set_same [] i was x there = absurd (false≢true (ap is_some there))
 slice_get-set_same (y ∷ xs) zero was x there = refl
 slice_get-set_same (y ∷ xs) (suc i) was x there = slice_get-set_same xs i was x there
@@ -65,7 +65,7 @@ le_turned Equal e = refl
 le_turned Greater e = absurd (false≢true e)
 
 -- and at least is at most
-ge_turned_back : (r : Ordering) → is_ge r ≡ true → is_le (ordering_reverse r) ≡ true
+pub ge_turned_back : (r : Ordering) → is_ge r ≡ true → is_le (ordering_reverse r) ≡ true
 ge_turned_back Less e = absurd (false≢true e)
 ge_turned_back Equal e = refl
 ge_turned_back Greater e = refl

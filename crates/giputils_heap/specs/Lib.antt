@@ -1,5 +1,7 @@
 -- What the contracts of the heap speak of. Stands, Table and Tree are the heap's own.
+pub mod Extended
 pub mod Laws
+pub mod Priorities
 pub mod Record
 pub mod Stands
 pub use Rattle.giputils_bounded.specs.Bounded

@@ -9,9 +9,10 @@ use crate::heap::BinaryHeap;
 use giputils_bounded::counting::Counting;
 use giputils_bounded::key::{BinaryHeapCmp, HeapKey};
 use std::alloc::{AllocError, Allocator};
+use std::fmt;
 
 /// A call of a heap.
-#[derive(Copy)]
+#[derive(Copy, PartialEq, Eq, Debug)]
 pub enum HeapCall<T> {
     /// Holds the key as well.
     Push(T),
@@ -44,7 +45,7 @@ impl<T: Copy> Clone for HeapCall<T> {
 }
 
 /// The answer to a [`HeapCall`].
-#[derive(Copy, PartialEq, Eq)]
+#[derive(Copy, PartialEq, Eq, Debug)]
 pub enum HeapReply<T> {
     /// The key is held, or was held already; the order was repaired; or nothing is held after a `Clear`.
     Done,
@@ -90,6 +91,16 @@ impl<'a, T, C> HeapStep<'a, T, C> {
             call,
             cmp: Counting::new(cmp),
         }
+    }
+}
+
+/// The call, and how often its comparer was asked.
+impl<T: fmt::Debug, C> fmt::Debug for HeapStep<'_, T, C> {
+    fn fmt<W: fmt::Write>(&self, f: &mut fmt::Formatter<W>) -> fmt::Result {
+        f.debug_struct("HeapStep")
+            .field("call", &self.call)
+            .field("asked", &self.cmp.count())
+            .finish()
     }
 }
 
