@@ -1,47 +1,65 @@
--- What a heap of numbers gives up that was lent ranks or deadlines.
-use Rattle.std.proofs.Common.{◌≡◌, ℕ, ◌<◌, List, length, get_or, Option, Some, None}
-use Rattle.std.specs.Prelude.{IfSome}
-use Rattle.std.specs.Ordering.{nat_cmp}
-use Rattle.std.proofs.lemmas.Cmp.{nat_cmp_total}
+-- What comes first in a queue of numbers: by score the most active variable, and by deadline the earliest timer.
+use Rattle.std.proofs.Common.{◌≡◌, ℕ, zero, suc, ◌≤◌, true, List, ◌∷◌, get_or, Option, Some, None, refl, ap, sym, ◌∙◌, subst, arith}
+use Rattle.std.specs.Prelude.{map, replicate, slice_get, slice_index, slice_set, is_some}
+use Rattle.std.specs.Option.{option_map, unwrap_or}
+use Rattle.std.specs.Ordering.{is_le, nat_cmp}
+use Rattle.std.specs.declared.cmp.Reverse.{Reverse}
+use Rattle.std.proofs.lemmas.Bool.{false≢true}
+use Rattle.std.proofs.Math.ListN.{get_or-map}
+use Rattle.std.proofs.lemmas.List.{map-set}
 use Rattle.std.proofs.lemmas.Map.Keys.{le_from_is_le}
-use Rattle.std.proofs.lemmas.Option.{IfSome_then, slice_get-get_or}
-use Rattle.giputils.specs.Comparers.{by_rank}
-use Rattle.giputils.specs.InOrder.{IsInOrder, TakesGreatest}
-use Rattle.giputils.specs.Relations.{IsGreatest}
-use Rattle.giputils.proofs.Greatest.{IsHeld-greatest}
-use Rattle.giputils.proofs.Orders.{greatest-by_least_ord, least_ord}
-use Rattle.giputils.proofs.Ranks.{greatest_rank, greatest-by_rank}
-use Rattle.giputils_uses.specs.Clock.{by_deadline, IsEarliest}
+use Rattle.std.proofs.lemmas.Option.{get_or_from_slice_get, same_Some, slice_get-map, unwrap_or-slice_get}
+use Rattle.giputils.specs.Priorities.{Prioritized, IsFirst}
+use Rattle.giputils.proofs.Priorities.{held-priority}
+use Rattle.giputils_uses.specs.Clock.{deadlines_of, IsEarliest}
 use Rattle.giputils_uses.specs.Ranked.{HasGreatestRank}
 
--- a call that was lent the ranks `now`, which are these
-module _ (ranks now : List ℕ) (same : now ≡ ranks) (keys : List ℕ) (k : ℕ) where
-  -- takes a key of greatest rank out of order by them
-  HasGreatestRank-taken : TakesGreatest (λ n. n) (by_rank (λ n. n) now) keys k → IsInOrder (by_rank (λ n. n) ranks) keys
-      → HasGreatestRank ranks keys k
-  HasGreatestRank-taken takes ordered =
-      let greatest : IsGreatest (λ n. n) (by_rank (λ n. n) ranks) keys k = greatest-by_rank (λ n. n) ranks now same keys k takes ordered in record {
-        held = IsHeld-greatest (λ n. n) (by_rank (λ n. n) ranks) keys k greatest;
-        greatest = greatest_rank (λ n. n) (λ x y is. is) ranks keys k greatest;
-      }
+-- a value that is at most a number where there is one, and 0 where there is none
+unwrap_or-le : (o : Option ℕ) (most : ℕ) → ((q : ℕ) → o ≡ Some q → q ≤ most) → unwrap_or o 0 ≤ most
+unwrap_or-le None most each = omega arith
+unwrap_or-le (Some q) most each = each q refl
 
--- and so of an answer, where there is one
-module _ (ranks now : List ℕ) (same : now ≡ ranks) (keys : List ℕ) (answer : Option ℕ) where
-  pub HasGreatestRank-picked : IfSome answer (TakesGreatest (λ n. n) (by_rank (λ n. n) now) keys) → IsInOrder (by_rank (λ n. n) ranks) keys
-      → IfSome answer (HasGreatestRank ranks keys)
-  HasGreatestRank-picked takes ordered = IfSome_then answer takes (λ k taken. HasGreatestRank-taken ranks now same keys k taken ordered)
+-- the first by score has the greatest
+pub HasGreatestRank-first : (queue : Prioritized ℕ ℕ) (k p : ℕ) → IsFirst (λ n. n) nat_cmp queue k p → HasGreatestRank queue.priorities queue.keys k
+HasGreatestRank-first queue k p first =
+    let at_k = held-priority (λ n. n) queue k p first.held in
+    record {
+      held = at_k.0;
+      greatest = λ other held.
+          rw (get_or_from_slice_get queue.priorities k p 0 at_k.1, ← unwrap_or-slice_get queue.priorities other 0)
+          (unwrap_or-le (slice_get queue.priorities other) p (λ q there. le_from_is_le q p (first.greatest other q (rw held there))));
+    }
 
--- a call that was lent the deadlines `now`, which are these, and answers a timer that has one, where it answers one
-module _ (deadlines now : List ℕ) (same : now ≡ deadlines) (running : List ℕ) where
-  -- takes an earliest timer out of order by them
-  pub IsEarliest-picked : (answer : Option ℕ) → IfSome answer (TakesGreatest (λ n. n) (by_deadline now) running) → IfSome answer (λ timer. timer < length deadlines)
-      → IsInOrder (by_deadline deadlines) running → IfSome answer (IsEarliest record { running = running; deadlines = deadlines })
-  IsEarliest-picked None takes inside ordered = tt
-  IsEarliest-picked (Some timer) takes inside ordered =
-      let greatest = greatest-by_least_ord (λ n. n) nat_cmp nat_cmp_total deadlines now same running timer takes ordered in
-      record {
-        runs = IsHeld-greatest (λ n. n) (by_deadline deadlines) running timer greatest;
-        earliest = λ other deadline runs there.
-            let most = least_ord (λ n. n) nat_cmp nat_cmp_total (λ x y is. is) deadlines running timer greatest other runs in
-            le_from_is_le (get_or deadlines timer 0) deadline (rw (slice_get-get_or deadlines timer 0 inside, there) at most);
-      }
+-- a deadline that there is is no earlier than one that comes first
+deadline-le : (o : Option (Reverse ℕ)) (least deadline : ℕ) → ((q : Reverse ℕ) → o ≡ Some q → is_le (nat_cmp least q.0) ≡ true)
+    → option_map (λ r. r.0) o ≡ Some deadline → least ≤ deadline
+deadline-le None least deadline each there = absurd (false≢true (ap is_some there))
+deadline-le (Some q) least deadline each there =
+    let at_most : is_le (nat_cmp least q.0) ≡ true = each q refl in
+    let same : q.0 ≡ deadline = same_Some q.0 deadline there in
+    subst (λ d. least ≤ d) same (le_from_is_le least q.0 at_most)
+
+-- the first by deadline has the earliest
+pub IsEarliest-first : (queue : Prioritized ℕ (Reverse ℕ)) (k : ℕ) (p : Reverse ℕ) → IsFirst (λ n. n) (λ x y. nat_cmp y.0 x.0) queue k p
+    → IsEarliest record { running = queue.keys; deadlines = deadlines_of queue.priorities } k
+IsEarliest-first queue k p first =
+    let table = queue.priorities in
+    let at_k = held-priority (λ n. n) queue k p first.held in
+    record {
+      runs = at_k.0;
+      earliest = λ other deadline runs there.
+          rw (get_or_from_slice_get (deadlines_of table) k p.0 0 (slice_get-map (λ r. r.0) table k ∙ ap (option_map (λ r. r.0)) at_k.1))
+          (deadline-le (slice_get table other) p.0 deadline (λ q at_q. first.greatest other q (rw runs at_q))
+          (sym (slice_get-map (λ r. r.0) table other) ∙ there));
+    }
+
+-- ---- the deadlines in a table of equal priorities, and in one that changed at a timer
+pub deadlines_of-replicate : (n d : ℕ) → deadlines_of (replicate n (record { 0 = d })) ≡ replicate n d
+deadlines_of-replicate zero d = refl
+deadlines_of-replicate (suc n) d = ap (λ ds. d ∷ ds) (deadlines_of-replicate n d)
+
+pub deadlines_of-set : (table : List (Reverse ℕ)) (timer d : ℕ) → deadlines_of (slice_set table timer (record { 0 = d })) ≡ slice_set (deadlines_of table) timer d
+deadlines_of-set table timer d = map-set (λ r. r.0) table timer (record { 0 = d })
+
+pub slice_index-deadlines_of : (table : List (Reverse ℕ)) (timer : ℕ) → slice_index (deadlines_of table) timer ≡ (get_or table timer (record { 0 = 0 })).0
+slice_index-deadlines_of table timer = get_or-map (λ r. r.0) table timer (record { 0 = 0 })

@@ -11,6 +11,7 @@ pub mod paths;
 pub mod reachable;
 pub mod report;
 pub mod rows;
+pub mod scheduler;
 pub mod sieve;
 pub mod simulate;
 pub mod small_set;

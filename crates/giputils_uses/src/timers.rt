@@ -4,29 +4,26 @@ ghost use Rattle.std.specs.List.Sorted.{IsPermutation};
 ghost use Rattle.giputils.specs.Keys.{is_held, IsAbsent, HoldAlike};
 ghost use Rattle.giputils_uses.specs.Clock.{Runs, IsEarliest};
 
-use giputils::heap::{BoundedHeap, ByOrd};
+use giputils::heap::PriorityQueue;
 use std::alloc::{AllocError, Allocator, Global};
 use std::cmp::Reverse;
 use std::marker::Model;
 
 /// Timers by their numbers, each with a deadline. All memory is taken where they are made.
 ///
-/// Shows a queue whose least rank of 64 bits goes first (`Reverse(ByOrd(..))`): `push_or_update` puts a timer where it
-/// belongs whose deadline is set to anything, and `up` one whose deadline has come nearer.
+/// Shows a queue whose least priority goes first (`Reverse`): a timer whose deadline is set to anything, or has come
+/// nearer, is moved by `change_priority`.
 #[derive(Drop)]
 pub struct Timers<A: Allocator = Global> {
-    running: BoundedHeap<u32, A>,
-    deadlines: Vec<u64, A>,
+    queue: PriorityQueue<u32, Reverse<u64>, A>,
 }
 
 impl<A: Allocator> Model for Timers<A> {
-    ghost use Rattle.giputils_uses.specs.Clock.{Clock, IsTimed};
+    ghost use Rattle.giputils_uses.specs.Clock.{deadlines_of, Clock};
 
     ghost Value = { Clock };
 
-    ghost view = { λ t. record { running = t.running.keys; deadlines = t.deadlines.items } };
-
-    ghost invariant = { λ t. IsTimed t.running t.deadlines.items };
+    ghost view = { λ t. record { running = t.queue.keys; deadlines = deadlines_of t.queue.priorities } };
 }
 
 impl<A: Allocator + Copy> Timers<A> {
@@ -38,9 +35,9 @@ impl<A: Allocator + Copy> Timers<A> {
         ensures running { IfOk result (λ t. t.running ≡ []) }
         ensures deadlines { IfOk result (λ t. t.deadlines ≡ replicate count 0) }
     {
-        let deadlines = vec![in alloc; 0; count as usize]?;
-        let running = BoundedHeap::with_bound(alloc, count)?;
-        Ok(Timers { running, deadlines })
+        Ok(Timers {
+            queue: PriorityQueue::with_bound(alloc, count, Reverse(0))?,
+        })
     }
 
     /// Sets the deadline of a timer, which runs from then on. One that runs is moved to the new deadline.
@@ -49,9 +46,8 @@ impl<A: Allocator + Copy> Timers<A> {
         ensures runs { HoldAlike (λ k. k) self.new.running (timer ∷ self.old.running) }
         ensures deadline { self.new.deadlines ≡ slice_set self.old.deadlines timer deadline }
     {
-        self.deadlines[timer as usize] = deadline;
-        self.running
-            .push_or_update(timer, &Reverse(ByOrd(&self.deadlines)));
+        self.queue.hold(timer);
+        self.queue.change_priority(timer, Reverse(deadline));
     }
 
     /// Brings the deadline of a timer forward to `deadline`, unless it is earlier. The same timers run.
@@ -61,9 +57,8 @@ impl<A: Allocator + Copy> Timers<A> {
         ensures deadline { self.new.deadlines ≡
             slice_set self.old.deadlines timer (min (slice_index self.old.deadlines timer) deadline) }
     {
-        let earlier = self.deadlines[timer as usize].min(deadline);
-        self.deadlines[timer as usize] = earlier;
-        self.running.up(timer, &Reverse(ByOrd(&self.deadlines)));
+        let earlier = self.queue.priorities()[timer as usize].0.min(deadline);
+        self.queue.change_priority(timer, Reverse(earlier));
     }
 
     /// Stops a timer with the earliest deadline, and answers it. `None` where none runs.
@@ -73,7 +68,8 @@ impl<A: Allocator + Copy> Timers<A> {
         ensures none { IfNone result (self.old.running ≡ []) }
         ensures deadlines { self.new.deadlines ≡ self.old.deadlines }
     {
-        self.running.pop(&Reverse(ByOrd(&self.deadlines)))
+        let (timer, _) = self.queue.pop()?;
+        Some(timer)
     }
 
     /// Stops a timer, and answers whether it ran. The others run on.
@@ -86,6 +82,6 @@ impl<A: Allocator + Copy> Timers<A> {
         ensures others { IsAbsent (λ k. k) self.old.running timer → (self.new.running ≡ self.old.running) }
         ensures deadlines { self.new.deadlines ≡ self.old.deadlines }
     {
-        self.running.remove(timer, &Reverse(ByOrd(&self.deadlines)))
+        self.queue.remove(timer).is_some()
     }
 }

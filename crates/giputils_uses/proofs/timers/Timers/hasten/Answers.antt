@@ -1,20 +1,13 @@
--- One deadline came nearer: `up` repairs the order.
-use Rattle.std.proofs.Common.{◌<◌, length, get_or, ap, arith}
-use Rattle.std.proofs.lemmas.Cmp.{nat_cmp_total}
-use Rattle.std.proofs.lemmas.Grind.{common_steps}
-use Rattle.std.proofs.lemmas.Option.{slice_get-get_or}
-use Rattle.std.specs.Ordering.{nat_cmp}
-use Rattle.giputils.proofs.Orders.{is_le-nat, risen-by_least_ord}
+-- One deadline came nearer.
+use Rattle.std.proofs.Common.{◌≡◌, min, sym}
+use Rattle.std.specs.Prelude.{slice_index}
+use Rattle.giputils_uses.specs.Clock.{deadlines_of}
+use Rattle.giputils_uses.proofs.Picked.{deadlines_of-set, slice_index-deadlines_of}
 use Rattle.giputils_uses.proofs.timers.Timers.hasten.Goals as goal
 
-pub invariant_of-self : goal.invariant_of-self
-invariant_of-self g c =
-    let deadlines = c.self.inside.deadlines.items in
-    let inside : c.args.timer < length deadlines = rw (ap (λ clock. clock.deadlines) c.self.view_is) c.requires in
-    record {
-      in_order =
-          risen-by_least_ord (λ k. k) nat_cmp nat_cmp_total c.args.timer _ _ _ c.deref.ensures.value _ _ _ (slice_get-get_or deadlines c.args.timer 0 inside)
-          (is_le-nat c.min-earlier.result (get_or deadlines c.args.timer 0) (grind (arith, common_steps, c.index.ensures, c.min-earlier.ensures)))
-          c.up.ensures.goes_up.repaired c.self.invariant.in_order;
-      bound = grind (arith, common_steps, c.up.ensures.bound, c.self.invariant.bound);
-    }
+pub returns-clause-deadline : goal.returns-clause-deadline
+returns-clause-deadline g c =
+    let table = c.self.inside.queue.priorities in
+    let earlier : c.min-earlier.result ≡ min (slice_index (deadlines_of table) c.args.timer) c.args.deadline =
+    rw (slice_index-deadlines_of table c.args.timer) (rw c.priorities.ensures at c.min-earlier.ensures) in
+    rw (sym c.self.view_is, c.change_priority.ensures.priorities, ← earlier) (deadlines_of-set table c.args.timer c.min-earlier.result)
