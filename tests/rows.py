@@ -2,13 +2,13 @@
 """Tests the stored lists of calls: that those which were written by hand are those of tools/rows, formulas, and that a
 solver goes on behind a request for memory that is refused.
 
-    tests/rows.py GIPSAT_REPLAY
+    tests/rows.py GIPUTILS_REPLAY
 
-`tools/make_lists.py --rows` puts the lists of tools/rows first into stdin and stdout of the programs that run them. A
-file of tools/rows counts as a test, and so do the lists behind its rows, which begin where the rows end.
+`tools/make_lists.py --rows` puts the lists of tools/rows first into stdin and stdout of the program that runs them. A
+file of tools/rows counts as a test, and so do the lists behind the rows, which begin where the rows end.
 
-The lists of tests/lists are of formulas. Each is given as calls to GIPSAT_REPLAY, the program that `rt ci` has built
-(crates/gipsat_replay/out/gipsat_replay), and its answers are compared. Sessions of calls at random are run again with
+The lists of tests/lists are of formulas. Each is given as calls to GIPUTILS_REPLAY, the program that `rt ci` has built
+(crates/giputils_replay/out/giputils_replay), and its answers are compared. Sessions of calls at random are run again with
 each request for memory refused alone, as tests/memory.py does: one call tells that at the most, no clause is left open,
 and the last answer is that of the session without this call. Where the call is made again, it is not refused, and the
 last answer is that of the session in which nothing is refused. A few requests are of the input or of the text of a reply,
@@ -48,16 +48,15 @@ MORE = "clause 2001 2003"
 AGAIN, BEHIND_MORE = 8, 22
 
 
-def faults(program):
-    """What is wrong with each part of a program's lists: the rows of each file, and the lists behind them."""
-    stored, begin = make_lists.stored_lines(program), 0
-    for path in make_lists.row_files(program):
+def faults():
+    """What is wrong with the lists of each file of tools/rows, and with those behind them."""
+    stored, begin = make_lists.stored_lines(), 0
+    for path in make_lists.ROWS:
         rows = list(make_lists.rows_of(path))
         found = stored[begin : begin + len(rows)]
-        yield "" if found == rows else f"{program}: lines from {begin + 1} on are not those of {path.relative_to(ROOT)}"
+        yield "" if found == rows else f"the lines from {begin + 1} on are not those of {path.relative_to(ROOT)}"
         begin += len(rows)
-    behind = stored[begin:] == make_lists.generated(program)
-    yield "" if behind else f"{program}: line {begin + 1} is of no file of tools/rows"
+    yield "" if stored[begin:] == make_lists.generated() else f"line {begin + 1} is of no file of tools/rows"
 
 
 def clause_call(clause):
@@ -139,7 +138,7 @@ def session(rng):
 def replies(machine, calls, refused=0):
     """How the program ends where one request is refused, unless it is number 0, and what is replied to calls."""
     text = "".join(f"{line}\n" for line in ["new solver a session", *calls])
-    status, out, _ = machine.result(memory.Run("", "gipsat_replay", [], text.encode()), [], refused, refused)
+    status, out, _ = machine.result(memory.Run("", "giputils_replay", [], text.encode()), [], refused, refused)
     return status, out.decode().splitlines()[1:]
 
 
@@ -192,11 +191,11 @@ def costs(machine):
 
 def main():
     parser = argparse.ArgumentParser(description=__doc__, formatter_class=argparse.RawDescriptionHelpFormatter)
-    parser.add_argument("program", metavar="GIPSAT_REPLAY")
+    parser.add_argument("program", metavar="GIPUTILS_REPLAY")
     asked = parser.parse_args()
     if not pathlib.Path(asked.program).is_file():
         parser.error(f"there is no program {asked.program}")
-    found = [fault for program in make_lists.PROGRAMS for fault in faults(program)]
+    found = list(faults())
     for fault in filter(None, found):
         print(f"FAILED: {fault}: tools/make_lists.py --rows")
     passed, failed = found.count(""), len(found) - found.count("")
@@ -206,8 +205,8 @@ def main():
             print(f"FAILED: {path.name}: {line[:100]}")
         passed, failed = passed + right, failed + len(wrong)
     with tempfile.TemporaryDirectory() as folder:
-        machine = memory.Machine({"gipsat_replay": str(pathlib.Path(asked.program).resolve())}, folder)
-        machine.lay_out(memory.Run("", "gipsat_replay", []))
+        machine = memory.Machine({"giputils_replay": str(pathlib.Path(asked.program).resolve())}, folder)
+        machine.lay_out(memory.Run("", "giputils_replay", []))
         for fault, told in refused_sessions(machine):
             print(f"FAILED: a session: {fault}" if fault else f"ok: a session, of which {told} calls were refused")
             passed, failed = passed + (fault is None), failed + (fault is not None)

@@ -1,7 +1,7 @@
 #!/usr/bin/env python3
-"""Makes the lists of calls that giputils_replay and gipsat_replay run, and asks another program for the answers.
+"""Makes the lists of calls that giputils_replay runs, and asks another program for the answers.
 
-    tools/make_lists.py PROGRAM       writes stdin and stdout of both crates, and tests/lists/tables.txt
+    tools/make_lists.py PROGRAM       writes stdin and stdout of the crate, and tests/lists/tables.txt
     tools/make_lists.py --rows        writes anew the lists of tools/rows alone, which come first in stdin and stdout
 
 A file of tools/rows has lists that were written by hand, each with what it shows: a line `new NAME TITLE`, and then
@@ -34,11 +34,13 @@ ROOT = Path(__file__).resolve().parent.parent
 
 TABLES = ROOT / "tests" / "lists" / "tables.txt"
 
-# The files of tools/rows whose lists each program runs, and the first line behind them.
-PROGRAMS = {
-    "giputils_replay": (("base", "bits"), "new galloc"),
-    "gipsat_replay": (("solver",), f"new solver {solver_lists.FORMULAS[0][0]}"),
-}
+# The folder of the program that runs the lists.
+REPLAY = ROOT / "crates" / "giputils_replay"
+
+# The files of tools/rows, and the first line behind their lists.
+ROWS = tuple(ROOT / "tools" / "rows" / f"{name}.txt" for name in ("base", "bits", "solver"))
+
+FIRST = "new galloc"
 
 LARGEST_VALUE = 2**32 - 1
 
@@ -369,10 +371,6 @@ def answers_of(program, header, calls):
     return answers
 
 
-def row_files(program):
-    return [ROOT / "tools" / "rows" / f"{name}.txt" for name in PROGRAMS[program][0]]
-
-
 def rows_of(path):
     """The lists of a file of tools/rows, as lines with their answers. The answer to a list's first line is that line."""
     for number, line in enumerate(path.read_text(encoding="utf-8").splitlines(), 1):
@@ -385,27 +383,28 @@ def rows_of(path):
             sys.exit(f"{path}:{number}: neither 'new NAME TITLE' nor 'CALL -> ANSWER'")
 
 
-def hand_written(program):
-    """The lists of the files of tools/rows that a program runs."""
-    return [line for path in row_files(program) for line in rows_of(path)]
+def hand_written():
+    """The lists of the files of tools/rows."""
+    return [line for path in ROWS for line in rows_of(path)]
 
 
-def stored_lines(program):
-    """The lines of all lists that a program is run on, with their answers."""
-    folder = ROOT / "crates" / program
-    calls, answers = ((folder / name).read_text(encoding="utf-8").splitlines() for name in ("stdin", "stdout"))
+def stored_lines():
+    """The lines of all lists that the program is run on, with their answers."""
+    calls, answers = ((REPLAY / name).read_text(encoding="utf-8").splitlines() for name in ("stdin", "stdout"))
     return list(zip(calls, answers, strict=True))
 
 
-def generated(program):
+def generated():
     """The stored lines behind those that were written by hand."""
-    lines, first = stored_lines(program), PROGRAMS[program][1]
-    return lines[lines.index((first, first)) :]
+    lines = stored_lines()
+    return lines[lines.index((FIRST, FIRST)) :]
 
 
-def write(program, lines):
+def write(generated):
+    """Writes the lists that were written by hand, and others behind them."""
+    lines = [*hand_written(), *generated]
     for place, name in enumerate(("stdin", "stdout")):
-        (ROOT / "crates" / program / name).write_text("".join(f"{line[place]}\n" for line in lines), encoding="utf-8")
+        (REPLAY / name).write_text("".join(f"{line[place]}\n" for line in lines), encoding="utf-8")
 
 
 def main():
@@ -415,22 +414,19 @@ def main():
     source.add_argument("program", nargs="?", metavar="PROGRAM")
     asked = parser.parse_args()
     if asked.rows:
-        for program in PROGRAMS:
-            write(program, [*hand_written(program), *generated(program)])
+        write(generated())
         return
     if not shutil.which(asked.program):
         parser.error(f"there is no program '{asked.program}'")
-    of_containers = []
+    lists, tables = [], []
     for header, *calls in all_lists():
-        of_containers += [(header, header), *zip(calls, answers_of(asked.program, header, calls))]
-    write("giputils_replay", [*hand_written("giputils_replay"), *of_containers])
-    of_solver, tables = [], []
+        lists += [(header, header), *zip(calls, answers_of(asked.program, header, calls))]
     for header, calls, wanted in solver_lists.lists():
         if header.startswith("new tables"):
             tables += [header, *(f"{call} -> {answer}" for call, answer in zip(calls, wanted))]
         else:
-            of_solver += [(header, header), *zip(calls, wanted)]
-    write("gipsat_replay", [*hand_written("gipsat_replay"), *of_solver])
+            lists += [(header, header), *zip(calls, wanted)]
+    write(lists)
     TABLES.write_text("".join(f"{line}\n" for line in tables), encoding="utf-8")
 
 

@@ -1,8 +1,8 @@
-//! Runs lists of calls on the containers, and answers each line with a line.
+//! Runs lists of calls on the containers and on the solver, and answers each line with a line.
 //!
 //! A line `new NAME TITLE` begins a list, names the container that its calls are made on, which is empty at first, and
 //! may say what the list shows. It is answered by itself. A container has a module of its own, which makes its calls and
-//! tells their replies. `new texts` begins a list of questions on statistics.
+//! tells their replies, and so has the solver. `new texts` begins a list of questions on statistics.
 //!
 //! The lists of the file `stdin` and the answers of the file `stdout` are made by `tools/make_lists.py`. The README says
 //! where the answers come from. A line that is no call, and want of memory, show where the answers are compared: a word
@@ -17,6 +17,7 @@ mod map;
 mod replies;
 mod set;
 mod slots;
+mod solver;
 mod texts;
 mod vector;
 
@@ -57,6 +58,7 @@ fn replay(alloc: Global, name: &str, calls: &str, replies: &mut Replies) {
         "map" => map::replay(alloc, calls, replies),
         "set" => set::replay(alloc, calls, replies),
         "slots" => slots::replay(alloc, calls, replies),
+        "solver" => solver::replay(alloc, calls, replies),
         "texts" => texts::replay(alloc, calls, replies),
         "vector" => vector::replay(alloc, calls, replies),
         _ => replies.line("no container has this name"),

@@ -74,6 +74,6 @@ impl Replies {
 
     /// A line: there is no such call.
     pub(crate) fn unknown(&mut self) {
-        self.line("no call of the container");
+        self.line("no such call");
     }
 }

@@ -1,4 +1,4 @@
-//! Calls of a solver, which has no clause at first.
+//! Lists of calls of the solver, which has no clause at first.
 //!
 //! A literal is a number as DIMACS has it: 1 is the first variable, and -1 its negation.
 //!
@@ -126,7 +126,7 @@ fn tell_numbers(numbers: &[i64], replies: &mut Replies) {
     replies.piece("unsat");
     for number in numbers {
         replies.piece(" ");
-        replies.number(*number);
+        replies.shown(number);
     }
     replies.line("");
 }
@@ -192,13 +192,13 @@ impl Session {
     // Tells what a call asks for.
     fn tell(&self, name: &str, first: u64, replies: &mut Replies) {
         match name {
-            "known" => replies.count(self.solver.len() as u64),
-            "learned" => replies.count(self.solver.learned() as u64),
-            "decisions" => replies.count(self.solver.stats().decisions),
+            "known" => replies.number(self.solver.len()),
+            "learned" => replies.number(self.solver.learned()),
+            "decisions" => replies.number(self.solver.stats().decisions as usize),
             "conflicts_above" => replies.flag(self.solver.stats().conflicts > first),
             "known_below" => replies.flag((self.most as u64) < first),
             "value" => replies.line(self.value(first)),
-            _ => replies.line("no call of the solver"),
+            _ => replies.unknown(),
         }
     }
 
