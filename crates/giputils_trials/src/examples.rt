@@ -10,7 +10,7 @@ use giputils::decimal::{Decimal, rounded};
 use giputils::grc::Grc;
 use giputils::gvec::Gvec;
 use giputils::hash::GHashMap;
-use giputils::heap::{BinaryHeap, BoundedHeap, ByNumber, ByRank};
+use giputils::heap::{BinaryHeap, BoundedHeap, ByNumber, ByRank, PriorityQueue};
 use giputils::logger::IntervalLogger;
 use giputils::statistic::Average;
 use log::Level;
@@ -39,6 +39,24 @@ fn change_ranks(rt: &impl Abort, heap: &mut BinaryHeap<u8>) -> Result<(), Fail> 
     assert!(rt; heap.peek() == Some(1));
     assert!(rt; heap.remove(1, &ByRank(&ranks)));
     assert!(rt; !heap.contains(1));
+    Ok(())
+}
+
+#[test]
+fn a_queue(rt: HostRuntime) -> Result<(), Fail> {
+    let mut queue: PriorityQueue<u8, u32> = PriorityQueue::new(rt.alloc())?;
+    change_priorities(&rt, &mut queue)
+}
+
+fn change_priorities(rt: &impl Abort, queue: &mut PriorityQueue<u8, u32>) -> Result<(), Fail> {
+    queue.push(0, 5)?;
+    queue.push(2, 4)?;
+    queue.change_priority(0, 1);
+    assert!(rt; queue.peek() == Some((2, 4)));
+    assert!(rt; queue.push(0, 9)? == Some(1));
+    assert!(rt; queue.pop() == Some((0, 9)));
+    assert!(rt; queue.remove(2) == Some(4));
+    assert!(rt; queue.is_empty());
     Ok(())
 }
 

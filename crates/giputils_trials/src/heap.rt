@@ -18,6 +18,8 @@ pub mod list_heap;
 #[cfg(test)]
 mod orders;
 #[cfg(test)]
+mod queue;
+#[cfg(test)]
 mod refusals;
 #[cfg(test)]
 mod rows;

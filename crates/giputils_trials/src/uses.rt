@@ -59,7 +59,8 @@ fn a_heap_is_drained(rt: HostRuntime) {
 
 fn put_back(alloc: Global) -> Result<(), AllocError> {
     let mut activity = Activity::new(alloc, 4)?;
-    activity.put_back(1)
+    activity.put_back(1);
+    Ok(())
 }
 
 #[test]
