@@ -1,0 +1,9 @@
+-- One literal more.
+use Rattle.gipsat_encodings.proofs.Parts.{Counts-next}
+use Rattle.gipsat_encodings.proofs.counts.count_in_line.Goals as goal
+
+pub loop-place-preserved : goal.loop-place-preserved
+loop-place-preserved g c =
+    Counts-next _ _ _ _ _ _ c.args.literals.now c.loop-place.place c.index-literals-place.result c.loop-place.row.items _ c.in_ok-row-2.row.items _ _ _ c.requires.some
+    c.requires.below c.loop-place-test.true c.index-literals-place.is c.deref.ensures.value c.loop-place.invariant c.in_ok-row-2.ensures.len c.in_ok-row-2.ensures.fresh
+    c.in_ok-row-2.ensures.next c.in_ok-row-2.ensures.up

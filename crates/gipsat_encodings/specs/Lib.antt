@@ -1,0 +1,4 @@
+pub mod Extending
+pub mod Counts
+pub mod Gates
+pub mod Outputs
