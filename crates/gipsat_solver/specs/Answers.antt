@@ -39,10 +39,8 @@ IsRight old new limit Unsat = ¬ (IsSatisfiable old.formula)
 IsRight old new limit Unknown = HasMore limit old new
 
 -- it is right, and not Unknown
-abbrev pub IsDecided : Formula → Answer → Type 0
-IsDecided formula (Sat model) = IsModel formula model.items
-IsDecided formula Unsat = ¬ (IsSatisfiable formula)
-IsDecided formula Unknown = ⊥
+abbrev pub IsDecidedUnder : List Lit → Formula → AnswerUnder → Type 0
+IsDecidedUnder assumed formula answer = IsRightOr formula assumed ⊥ answer
 
 -- Sat comes with a model that makes the assumptions true, Unsat with a core; at Unknown, `limit` clauses were learned
 abbrev pub IsRightUnder : List Lit → SolverState → SolverState → ℕ → AnswerUnder → Type 0

@@ -1,5 +1,8 @@
 //! How a search ends.
-use gipsat_cnf::Literal;
+ghost use Rattle.std.specs.Prelude.{ℕ, []};
+ghost use Rattle.gipsat_solver.specs.Answers.{IsRight, IsRightUnder, SolverState};
+
+use gipsat_cnf::{Answer, AnswerUnder, Literal};
 
 // How a search ends before its limit of learned clauses.
 #[derive(Drop)]
@@ -12,4 +15,16 @@ pub(crate) enum End {
     Guessed,
     // Its budget is spent.
     Spent,
+}
+
+// An answer where nothing was assumed: a core says that nothing satisfies the formula.
+pub(crate) fn answer_of(answer: AnswerUnder) -> Answer
+    ensures { (old new : SolverState) → (limit : ℕ) → IsRightUnder [] old new limit answer →
+        IsRight old new limit result }
+{
+    match answer {
+        AnswerUnder::Sat(model) => Answer::Sat(model),
+        AnswerUnder::Unsat(_) => Answer::Unsat,
+        AnswerUnder::Unknown => Answer::Unknown,
+    }
 }

@@ -1,11 +1,11 @@
 //! A search in slices, with pauses: at each it tells how far it is, and may be stopped.
 ghost use Rattle.std.specs.Prelude.{◌≡◌, ◌+◌, ◌≤◌, IfNone, IfOk, IfSome, IsTrue, OnErr, OnOk};
-ghost use Rattle.gipsat_solver.specs.Answers.{HasNoFewer, HasUpTo, IsDecided, IsRight};
+ghost use Rattle.gipsat_solver.specs.Answers.{HasNoFewer, HasUpTo, IsDecidedUnder, IsRight, IsRightUnder};
 
-use crate::answers::End;
+use crate::answers::{End, answer_of};
 pub use crate::listener::{Both, Progress, Report};
 use crate::solver::Solver;
-use gipsat_cnf::Answer;
+use gipsat_cnf::{Answer, AnswerUnder, Literal};
 use gipsat_search::Query;
 use gipsat_search::settings::SETTINGS;
 use std::alloc::AllocError;
@@ -26,8 +26,33 @@ pub fn solve_in_slices<P: Progress>(
     ensures learned { HasNoFewer solver.old solver.new }
     ensures most { OnOk result (solver.new.learned ≤ solver.old.learned + limit) }
 {
+    match solve_under_in_slices(solver, &[], limit, progress)? {
+        Some(answer) => Ok(Some(answer_of(answer))),
+        None => Ok(None),
+    }
+}
+
+/// Finds out whether anything satisfies the solver's formula and makes each assumption true, as
+/// [`Solver::solve_under`] does, and tells `progress` now and then how far it is. None where `progress` stopped the
+/// search.
+///
+/// # Errors
+/// Those of [`Solver::solve_under`].
+pub fn solve_under_in_slices<P: Progress>(
+    solver: &mut Solver,
+    assumptions: &[Literal],
+    limit: usize,
+    progress: &mut P,
+) -> Result<Option<AnswerUnder>, AllocError>
+    ensures right { IfOk result
+        (λ found. IfSome found (IsRightUnder assumptions.now solver.old solver.new limit)) }
+    ensures stopped { IfOk result (λ found. IfNone found (IsTrue (P.wants_stop progress.new))) }
+    ensures formula { solver.new.formula ≡ solver.old.formula }
+    ensures learned { HasNoFewer solver.old solver.new }
+    ensures most { OnOk result (solver.new.learned ≤ solver.old.learned + limit) }
+{
     solver.tell_from_now_on(progress.wants_chains());
-    let found = solve_on(solver, limit, progress);
+    let found = solve_on(solver, assumptions, limit, progress);
     solver.tell_added(progress);
     solver.tell_from_now_on(false);
     let found = found?;
@@ -41,10 +66,12 @@ const PAUSES: u64 = 16;
 // The search, without its end. Between two pauses it goes on where it was.
 fn solve_on<P: Progress>(
     solver: &mut Solver,
+    assumptions: &[Literal],
     limit: usize,
     progress: &mut P,
-) -> Result<Option<Answer>, AllocError>
-    ensures right { IfOk result (λ found. IfSome found (IsRight solver.old solver.new limit)) }
+) -> Result<Option<AnswerUnder>, AllocError>
+    ensures right { IfOk result
+        (λ found. IfSome found (IsRightUnder assumptions.now solver.old solver.new limit)) }
     ensures stopped { IfOk result (λ found. IfNone found (IsTrue (P.wants_stop progress.new))) }
     ensures formula { solver.new.formula ≡ solver.old.formula }
     ensures learned { HasNoFewer solver.old solver.new }
@@ -55,45 +82,46 @@ fn solve_on<P: Progress>(
     for _ in 0..usize::MAX {
         progress.begin(solver.report());
         let before = solver.learned();
-        if let Some(answer) = solve_to_pause(solver, left, slice, progress)? {
+        if let Some(answer) = solve_to_pause(solver, assumptions, left, slice, progress)? {
             return Ok(Some(answer));
         }
         left -= solver.learned() - before;
         if left == 0 {
-            return Ok(Some(Answer::Unknown));
+            return Ok(Some(AnswerUnder::Unknown));
         }
         solver.tell_added(progress);
         if progress.note(solver.report()).is_break() {
             return Ok(None);
         }
-        slice = end_slice(solver, slice)?;
+        slice = end_slice(solver, assumptions, slice)?;
         solver.tell_added(progress);
     }
-    Ok(Some(solver.solve(left)?))
+    Ok(Some(solver.solve_under(assumptions, left)?))
 }
 
 // Solves up to the next pause of a slice. None where no answer was found so far.
 fn solve_to_pause<P: Progress>(
     solver: &mut Solver,
+    assumptions: &[Literal],
     limit: usize,
     slice: Slice,
     progress: &mut P,
-) -> Result<Option<Answer>, AllocError>
-    ensures some { IfOk result (λ found. IfSome found (IsDecided solver.old.formula)) }
+) -> Result<Option<AnswerUnder>, AllocError>
+    ensures some { IfOk result (λ found. IfSome found (IsDecidedUnder assumptions.now solver.old.formula)) }
     ensures most { OnOk result (HasUpTo limit solver.old solver.new) }
     ensures refused { OnErr result (HasNoFewer solver.old solver.new) }
     ensures formula { solver.new.formula ≡ solver.old.formula }
 {
     let query = Query {
-        assumptions: &[],
+        assumptions,
         domain: None,
         propagations: SETTINGS.slice_propagations / PAUSES,
         is_guess: false,
     };
     let clauses = limit.min(slice.clauses_left(solver));
     match solver.resume(&query, clauses, slice.has_begun, progress)? {
-        Some(End::Model(model)) => Ok(Some(Answer::Sat(model))),
-        Some(End::Core(_)) => Ok(Some(Answer::Unsat)),
+        Some(End::Model(model)) => Ok(Some(AnswerUnder::Sat(model))),
+        Some(End::Core(core)) => Ok(Some(AnswerUnder::Unsat(core))),
         Some(End::Guessed | End::Spent) | None => Ok(None),
     }
 }
@@ -158,7 +186,11 @@ impl Slice {
 
 // The next slice where this one is over, and this one else. Between two slices variables are eliminated, after the first
 // one alone, and the clauses shortened that the last one learned, unless that is not wanted.
-fn end_slice(solver: &mut Solver, slice: Slice) -> Result<Slice, AllocError>
+fn end_slice(
+    solver: &mut Solver,
+    assumptions: &[Literal],
+    slice: Slice,
+) -> Result<Slice, AllocError>
     ensures { solver.new ≡ solver.old }
 {
     if !slice.is_over(solver) {
@@ -167,19 +199,20 @@ fn end_slice(solver: &mut Solver, slice: Slice) -> Result<Slice, AllocError>
             ..slice
         });
     }
-    inprocess(solver, slice)?;
+    inprocess(solver, assumptions, slice)?;
     Ok(slice.next(solver))
 }
 
-// Eliminates variables if the slice was the first, and shortens the clauses that it learned, as far as that is wanted.
-fn inprocess(solver: &mut Solver, slice: Slice) -> Result<(), AllocError>
+// Eliminates variables that are not assumed if the slice was the first, and shortens the clauses that it learned, as far
+// as that is wanted.
+fn inprocess(solver: &mut Solver, assumptions: &[Literal], slice: Slice) -> Result<(), AllocError>
     ensures { solver.new ≡ solver.old }
 {
     let wanted = solver.inprocessing();
     let propagations = slice.work(solver);
     if slice.is_first && wanted.eliminates {
         let more = (solver.literals() as u64).saturating_mul(SETTINGS.literal_steps);
-        solver.eliminate(&[], SETTINGS.elimination_steps.saturating_add(more))?;
+        solver.eliminate_others(assumptions, SETTINGS.elimination_steps.saturating_add(more))?;
     }
     if wanted.vivifies {
         solver.vivify(propagations / SETTINGS.vivification_share)?;

@@ -6,7 +6,7 @@ ghost use Rattle.gipsat_cnf.specs.Models.{IsModel};
 ghost use Rattle.gipsat_cnf.specs.Simplifying.{SaysSame};
 ghost use Rattle.gipsat_solver.specs.Answers.{HasMore, HasNoFewer, HasUpTo, IsRight, IsRightEnd, IsRightGuess, IsRightLimited, IsRightUnder};
 
-use crate::answers::End;
+use crate::answers::{End, answer_of};
 use crate::listener::{Progress, Report};
 use crate::turns::{Step, end_of_lost, solve_one_conflict};
 use gipsat_cnf::{Answer, AnswerUnder, Budget, ClauseSink, Cnf, Effort, Guess, Literal, SatSolver};
@@ -172,11 +172,7 @@ impl Solver {
         ensures learned { OnOk result (HasUpTo limit self.old self.new) }
         ensures refused { OnErr result (HasNoFewer self.old self.new) }
     {
-        Ok(match self.solve_under(&[], limit)? {
-            AnswerUnder::Sat(model) => Answer::Sat(model),
-            AnswerUnder::Unsat(_) => Answer::Unsat,
-            AnswerUnder::Unknown => Answer::Unknown,
-        })
+        Ok(answer_of(self.solve_under(&[], limit)?))
     }
 
     /// Finds out whether anything satisfies the formula and makes each assumption true, and gives up after it has
@@ -536,6 +532,21 @@ impl Solver {
         ensures { self.new ≡ self.old }
     {
         self.search.eliminate(&mut self.kernel, frozen, steps)
+    }
+
+    // Eliminates variables, as `eliminate` does, but those of some literals.
+    pub(crate) fn eliminate_others(
+        &mut self,
+        literals: &[Literal],
+        steps: u64,
+    ) -> Result<(), AllocError>
+        ensures { self.new ≡ self.old }
+    {
+        let mut frozen = Vec::new(self.alloc);
+        for l in literals {
+            frozen.push(l.variable())?;
+        }
+        self.eliminate(&frozen, steps)
     }
 
     /// Shortens learned clauses of more than two literals, those of low glue that were learned since the last call, the
