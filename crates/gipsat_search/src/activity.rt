@@ -1,4 +1,5 @@
-//! The order in which variables are decided: the most active first.
+//! The order in which variables are decided: the most active first (VSIDS: M. Moskewicz, C. Madigan, Y. Zhao, L. Zhang
+//! and S. Malik, 2001).
 
 use crate::domain::Domain;
 use crate::scores::ByScore;

@@ -1,4 +1,4 @@
-//! Conflict analysis: resolution to the first UIP, and minimization.
+//! Conflict analysis: resolution to the first UIP (J. Marques-Silva and K. Sakallah, 1996), and minimization.
 ghost use Rattle.std.specs.Prelude.{◌≡◌};
 
 use crate::derive::{drop_root, resolve_between};

@@ -1,4 +1,4 @@
-//! Assumptions: they are decided before all other variables.
+//! Assumptions: they are decided before all other variables (N. Eén and N. Sörensson, 2003).
 ghost use Rattle.std.specs.Prelude.{◌≡◌};
 
 use crate::analyze::analyze_final;

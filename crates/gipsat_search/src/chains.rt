@@ -1,4 +1,4 @@
-//! Chains of reasons: which literals of a clause follow from its other literals.
+//! Chains of reasons: which literals of a clause follow from its other literals (N. Sörensson and A. Biere, 2009).
 
 use crate::stamps::Stamps;
 use crate::trail::Trail;

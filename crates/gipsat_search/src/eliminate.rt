@@ -1,4 +1,5 @@
-//! Elimination of variables, with subsumption: the clauses of a variable give way to their resolvents.
+//! Elimination of variables, with subsumption: the clauses of a variable give way to their resolvents (N. Eén and A.
+//! Biere, 2005).
 ghost use Rattle.std.specs.Prelude.{◌≡◌};
 
 use crate::derive::{Resolution, derive_resolvents};

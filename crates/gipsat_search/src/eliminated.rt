@@ -1,4 +1,5 @@
-//! Eliminated variables: which they are, the clauses that were taken out with each, and their values at the end.
+//! Eliminated variables: which they are, the clauses that were taken out with each, and their values at the end (M.
+//! Järvisalo and A. Biere, 2010).
 
 use crate::activity::Activity;
 use crate::clauses::{Clauses, Status};

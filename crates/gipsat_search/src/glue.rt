@@ -1,4 +1,4 @@
-//! Glue: on how many decision levels the literals of a clause lie (LBD).
+//! Glue: on how many decision levels the literals of a clause lie (LBD: G. Audemard and L. Simon, 2009).
 
 use crate::stamps::Stamps;
 use crate::trail::Trail;

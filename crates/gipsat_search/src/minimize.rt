@@ -1,4 +1,5 @@
-//! Minimization: literals of a clause that follow from the others, by chains of reasons, are resolved away.
+//! Minimization: literals of a clause that follow from the others, by chains of reasons, are resolved away (N.
+//! Sörensson and A. Biere, 2009).
 ghost use Rattle.std.specs.Prelude.{◌≡◌};
 
 use crate::chains::Chains;

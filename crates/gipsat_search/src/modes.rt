@@ -1,4 +1,4 @@
-//! The modes of a search, by turns: the focused one restarts often, the stable one seldom.
+//! The modes of a search, by turns: the focused one restarts often, the stable one seldom (C. Oh, 2015).
 
 use crate::settings::SETTINGS;
 

@@ -1,4 +1,5 @@
-//! The phases with which variables are decided: those of the longest trails without a conflict.
+//! The phases with which variables are decided: those of the longest trails without a conflict (A. Biere and M. Fleury,
+//! 2020).
 
 use crate::settings::SETTINGS;
 use crate::trail::Trail;

@@ -1,4 +1,5 @@
-//! Propagation: unit clauses assign their literals, until a clause is falsified or none is unit.
+//! Propagation: unit clauses assign their literals, until a clause is falsified or none is unit. Two literals of a
+//! clause are watched (Moskewicz and others, 2001), and the search for a third goes on where it ended (I. Gent, 2013).
 
 use crate::activity::Activity;
 use crate::arena::{Arena, HEADER, Header};

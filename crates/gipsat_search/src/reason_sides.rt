@@ -1,4 +1,5 @@
-//! Reason sides: the variables in the reasons of a learned clause, which are bumped too in the stable mode.
+//! Reason sides: the variables in the reasons of a learned clause, which are bumped too in the stable mode (J. H.
+//! Liang, V. Ganesh, P. Poupart and K. Czarnecki, 2016).
 
 use crate::settings::SETTINGS;
 use crate::stamps::Stamps;

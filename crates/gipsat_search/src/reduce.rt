@@ -1,4 +1,4 @@
-//! Reductions: most of the learned clauses that were not used of late are deleted.
+//! Reductions: most of the learned clauses that were not used of late are deleted (Audemard and Simon, 2009; Oh, 2015).
 
 use crate::clauses::{Clauses, Rating};
 use crate::settings::SETTINGS;

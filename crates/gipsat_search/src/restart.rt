@@ -1,4 +1,5 @@
-//! Restarts: decisions are taken back so that others come first.
+//! Restarts: decisions are taken back so that others come first. Those that would be made again stay (P. van der Tak,
+//! A. Ramos and M. Heule, 2011).
 
 use crate::backtrack::backtrack;
 use crate::state::State;

@@ -1,4 +1,5 @@
-//! When to restart, and when to delete learned clauses.
+//! When to restart (moving averages: A. Biere and A. Fröhlich, 2015; the stable mode: M. Luby, A. Sinclair and D.
+//! Zuckerman, 1993), and when to delete learned clauses.
 
 use crate::modes::Modes;
 use crate::settings::SETTINGS;

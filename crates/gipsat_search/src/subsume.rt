@@ -1,4 +1,4 @@
-//! Subsumption: clauses that follow from another one, alone or but for one literal.
+//! Subsumption: clauses that follow from another one, alone or but for one literal (Eén and Biere, 2005).
 ghost use Rattle.std.specs.Prelude.{◌^◌, ◌<◌};
 
 use crate::derive::Resolution;

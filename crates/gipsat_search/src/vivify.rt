@@ -1,4 +1,4 @@
-//! Vivification: learned clauses are shortened by propagation.
+//! Vivification: learned clauses are shortened by propagation (M. Luo, C.-M. Li, F. Xiao, F. Manyà and Z. Lü, 2017).
 ghost use Rattle.std.specs.Prelude.{◌≡◌};
 
 use crate::backtrack::backtrack;

@@ -1,4 +1,5 @@
-//! Local search: from some phases on, variables are flipped one by one so that fewer clauses are falsified (ProbSAT).
+//! Local search: from some phases on, variables are flipped one by one so that fewer clauses are falsified (ProbSAT: A.
+//! Balint and U. Schöning, 2012).
 
 use crate::clauses::Clauses;
 use crate::settings::SETTINGS;
