@@ -2,8 +2,10 @@
 
 use crate::numbers::{add_all, literal, literals};
 use gipsat_cnf::Literal;
+use gipsat_encodings::counts::{Counter, add_at_least, add_at_most, add_exactly};
+use gipsat_encodings::pairs::{add_at_least_one, add_at_most_one, add_exactly_one};
+use gipsat_encodings::parity::add_parity;
 use gipsat_solver::{AnswerUnder, Solver};
-use gipsat_uses::cardinality::{add_at_least_one, add_at_most_one, add_exactly_one};
 use gipsat_uses::first_question::values_with_c;
 use gipsat_uses::incremental::{cover, longest_start, model_with};
 use gipsat_uses::minimal_core::minimal_core;
@@ -52,6 +54,10 @@ enum Count {
     AtLeastOne,
     AtMostOne,
     ExactlyOne,
+    AtLeastTwo,
+    AtMostTwo,
+    ExactlyTwo,
+    Odd,
 }
 
 // What is said of four variables, and the assumptions of questions behind it.
@@ -62,13 +68,46 @@ const QUESTIONS: &[(Count, &[&[i32]])] = &[
         Count::AtLeastOne,
         &[&[1, 2, 3, 4], &[-2, -3, -4], &[-1, -2, -3, -4]],
     ),
+    (Count::AtLeastTwo, &[&[], &[-1, -2], &[-1, -2, -3]]),
+    (Count::AtMostTwo, &[&[], &[1, 2], &[1, 2, 3]]),
+    (Count::ExactlyTwo, &[&[1, 2], &[-1, -2], &[1, 2, 3]]),
+    (Count::Odd, &[&[1, -2, -3], &[1, 2, 3, 4]]),
 ];
 
-fn add(solver: &mut Solver, count: Count, literals: &[Literal]) -> Result<(), AllocError> {
+fn add(
+    alloc: Global,
+    solver: &mut Solver,
+    variables: &mut usize,
+    count: Count,
+    literals: &[Literal],
+) -> Result<(), AllocError> {
     match count {
         Count::AtLeastOne => add_at_least_one(solver, literals),
         Count::AtMostOne => add_at_most_one(solver, literals),
         Count::ExactlyOne => add_exactly_one(solver, literals),
+        _ => add_counted(alloc, solver, variables, count, literals),
+    }
+}
+
+// The same, where clauses have variables of their own.
+fn add_counted(
+    alloc: Global,
+    solver: &mut Solver,
+    variables: &mut usize,
+    count: Count,
+    literals: &[Literal],
+) -> Result<(), AllocError> {
+    match count {
+        Count::AtLeastTwo => {
+            add_at_least(alloc, solver, variables, literals, 2, Counter::Totalizer)
+        }
+        Count::AtMostTwo => {
+            add_at_most(alloc, solver, variables, literals, 2, Counter::Sequential)
+        }
+        Count::ExactlyTwo => {
+            add_exactly(alloc, solver, variables, literals, 2, Counter::Totalizer)
+        }
+        _ => add_parity(solver, variables, literals, true),
     }
 }
 
@@ -84,7 +123,9 @@ fn answered(
     count: Count,
     questions: &[&[i32]],
 ) -> Result<usize, AllocError> {
-    add(solver, count, &literals(alloc, &[1, 2, 3, 4])?)?;
+    let mut variables = 5;
+    let counted = literals(alloc, &[1, 2, 3, 4])?;
+    add(alloc, solver, &mut variables, count, &counted)?;
     let mut answered = 0usize;
     for assumed in questions {
         let is_one = is_answered(alloc, solver, assumed)?;

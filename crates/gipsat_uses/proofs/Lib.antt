@@ -1,4 +1,3 @@
-mod Cardinalities
 mod Examples
 mod FirstQuestion
 mod Followed

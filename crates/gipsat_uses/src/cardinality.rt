@@ -1,64 +1,36 @@
-//! Clauses that say how many of some literals are true.
-ghost use Rattle.std.specs.Prelude.{◌≡◌, ◌++◌, map, OnOk};
-ghost use Rattle.gipsat_cnf.specs.Encodings.{Adds, AtLeastOneTrue, AtMostOneTrue, ExactlyOneTrue, at_most_one, one_false};
+//! A model in which few of some literals are true.
+ghost use Rattle.std.specs.Prelude.{IfNone, IfOk, IfSome, IsTrue};
+ghost use Rattle.gipsat_cnf.specs.Formulas.{Assignment, satisfies};
+ghost use Rattle.gipsat_cnf.specs.Models.{IsModel, assignment_in};
+ghost use Rattle.gipsat_encodings.specs.Counts.{AtMostTrue};
+ghost use Rattle.gipsat_encodings.specs.Extending.{SpeaksBelow};
 
-use gipsat_cnf::{ClauseSink, Literal};
-use std::alloc::AllocError;
+use gipsat_cnf::{Literal, SatSolver};
+use gipsat_encodings::counts::{Counter, add_at_most};
+use std::alloc::{AllocError, Global};
 
-/// Adds the clause that at least one of the literals is true.
+/// A model of the formula in which at most k of the literals are true. None where there is none.
+///
+/// The formula may speak of the variables below the count alone. The clauses that are added take others, and stay.
+///
+/// Shows a constraint of `gipsat_encodings`: its two sides, `sound` and `complete`, are all that is asked of clauses.
 ///
 /// # Errors
-/// `AllocError` where memory is refused. The formula stays as it was.
-pub fn add_at_least_one<S: ClauseSink>(
+/// `AllocError` where memory is refused, or where a variable would be 2^31 or more. Some of the clauses may have been
+/// added.
+pub fn model_with_at_most<S: SatSolver>(
+    alloc: Global,
     solver: &mut S,
+    variables: &mut usize,
     literals: &[Literal],
-) -> Result<(), AllocError>
-    ensures { OnOk result (Adds (AtLeastOneTrue literals.now) (S.formula solver.old) (S.formula solver.new)) }
+    k: usize,
+) -> Result<Option<Vec<bool>>, AllocError>
+    requires { SpeaksBelow variables.old (S.formula solver.old) }
+    ensures model { IfOk result (λ found. IfSome found (λ model. IsModel (S.formula solver.old) model.items)) }
+    ensures few { IfOk result (λ found. IfSome found (λ model. AtMostTrue k literals.now (assignment_in model.items))) }
+    ensures none { IfOk result (λ found. IfNone found
+        ((a : Assignment) → IsTrue (satisfies a (S.formula solver.old)) → ¬ (AtMostTrue k literals.now a))) }
 {
-    solver.add_clause(literals)
-}
-
-/// Adds the clauses that at most one of the literals is true: one for each pair, n (n - 1) / 2 for n literals.
-///
-/// # Errors
-/// `AllocError` where memory is refused. Some of the clauses may have been added.
-pub fn add_at_most_one<S: ClauseSink>(
-    solver: &mut S,
-    literals: &[Literal],
-) -> Result<(), AllocError>
-    ensures clauses { OnOk result (S.formula solver.new ≡ S.formula solver.old ++ at_most_one literals.now) }
-    ensures means { OnOk result (Adds (AtMostOneTrue literals.now) (S.formula solver.old) (S.formula solver.new)) }
-{
-    for place in 0..literals.len() {
-        add_pairs(solver, literals[place], &literals[place + 1..])?;
-    }
-    Ok(())
-}
-
-/// Adds the clauses that exactly one of the literals is true.
-///
-/// # Errors
-/// `AllocError` where memory is refused. Some of the clauses may have been added.
-pub fn add_exactly_one<S: ClauseSink>(
-    solver: &mut S,
-    literals: &[Literal],
-) -> Result<(), AllocError>
-    ensures { OnOk result (Adds (ExactlyOneTrue literals.now) (S.formula solver.old) (S.formula solver.new)) }
-{
-    add_at_least_one(solver, literals)?;
-    add_at_most_one(solver, literals)
-}
-
-// Adds the clauses that the literal and another one are not both true, for each of the others.
-fn add_pairs<S: ClauseSink>(
-    solver: &mut S,
-    literal: Literal,
-    others: &[Literal],
-) -> Result<(), AllocError>
-    ensures { OnOk result (S.formula solver.new ≡ S.formula solver.old ++ map (one_false literal) others.now) }
-{
-    for other in others {
-        solver.add_clause(&[literal.negated(), other.negated()])?;
-    }
-    Ok(())
+    add_at_most(alloc, solver, variables, literals, k, Counter::Totalizer)?;
+    solver.find_model()
 }

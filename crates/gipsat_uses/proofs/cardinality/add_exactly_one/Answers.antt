@@ -1,7 +1,0 @@
--- First at least one, and then at most one.
-use Rattle.std.proofs.lemmas.Result.{on_ok_weaker}
-use Rattle.gipsat_cnf.proofs.Encodings.{Adds-both}
-use Rattle.gipsat_uses.proofs.cardinality.add_exactly_one.Goals as goal
-
-pub returns : goal.returns
-returns g c = on_ok_weaker c.add_at_most_one.result (Adds-both _ _ _ _ _ c.in_ok-add_at_least_one.ensures) c.add_at_most_one.ensures.means
