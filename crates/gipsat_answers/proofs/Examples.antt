@@ -2,6 +2,7 @@
 use Rattle.std.proofs.Common.{◌≡◌, ◌==◌, ℕ, zero, suc, Bool, true, false, [], ◌∷◌, refl, codes, Some, None, ⊎_elim, inl, inr, arith}
 use Rattle.std.specs.Fmt.{digits}
 use Rattle.std.proofs.lemmas.Bool.{false≢true}
+use Rattle.std.specs.Option.{option_map}
 use Rattle.gipsat_cnf.specs.Formulas.{satisfies}
 use Rattle.gipsat_cnf.specs.Literals.{Lit}
 use Rattle.gipsat_dimacs.specs.Texts.{Problem}
@@ -9,7 +10,7 @@ use Rattle.gipsat_answers.specs.Answers.{IsRightText, laid_out, values_text, ver
 use Rattle.gipsat_answers.specs.Assumed.{assuming, first_variables, literals_in}
 use Rattle.gipsat_answers.specs.Enumeration.{IsModelsText, IsRightVerdict, differing, first_verdict}
 use Rattle.gipsat_answers.specs.Names.{first_names, name_in, named, numbers_below}
-use Rattle.gipsat_answers.specs.Questions.{AreAskedOf, AreRightReplies, AsksSoFar, IsRightReply, Question, is_header, is_silent, part_in, questions_of, verdict_with}
+use Rattle.gipsat_answers.specs.Questions.{AreAskedOf, AreRightReplies, AsksSoFar, IsRightReply, Question, cubes_asked, is_header, is_silent, part_in, questions_of, verdict_with}
 use Rattle.gipsat_answers.specs.declared.answers.Verdict.TheVariants.{Satisfiable, Unsatisfiable, Unknown, Stopped}
 
 -- the values of two variables
@@ -127,6 +128,11 @@ asked = refl
 asked-lines : questions_of (codes "p inccnf\na -1 c 0\n\nc 2\n2\n0 c 1\n1 0\na 0")
     ≡ Some (record { formula = []; assumed = not_ 0 ∷ yes 1 ∷ [] } ∷ record { formula = (yes 0 ∷ []) ∷ []; assumed = [] } ∷ [])
 asked-lines = refl
+
+-- clauses beside cubes are passed over
+cubes-read : option_map cubes_asked (questions_of (codes "p inccnf\na 1 -2 0\n1 2 0\na\n0\n"))
+    ≡ Some ((yes 0 ∷ not_ 1 ∷ []) ∷ [] ∷ [])
+cubes-read = refl
 
 asked-cut_off : questions_of (codes "p inccnf\n1 0\na 1\n") ≡ None
 asked-cut_off = refl

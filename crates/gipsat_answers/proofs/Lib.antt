@@ -1,6 +1,7 @@
 mod Asking
 mod Assuming
 pub mod Below
+mod CubesRead
 mod DecimalLemmas
 mod Enumerating
 mod Examples

@@ -191,11 +191,11 @@ right_of_all : (asked : List Question) (verdict : Option Verdict) → IsRightSoF
 right_of_all asked None right = tt
 right_of_all asked (Some verdict) right = right
 
-all_left : (left : Option (List Question)) → left ≡ option_map (λ more. [] ++ more) left
+pub all_left : (left : Option (List Question)) → left ≡ option_map (λ more. [] ++ more) left
 all_left None = refl
 all_left (Some more) = refl
 
-one_left : (asked : List Question) (formula : Formula) (assumed : List Lit) (left : Option (List Question))
+pub one_left : (asked : List Question) (formula : Formula) (assumed : List Lit) (left : Option (List Question))
     → option_map (λ more. asked ++ more) (first_of formula assumed left)
     ≡ option_map (λ more. (asked ++ record { formula = formula; assumed = assumed } ∷ []) ++ more) left
 one_left asked formula assumed None = refl

@@ -1,5 +1,5 @@
 -- Questions that an incremental text asks, and the texts of right replies.
-use Rattle.std.specs.Prelude.{◌≡◌, ℕ, ◌+◌, ◌≤◌, ◌<◌, ◌==◌, ◌||◌, Bool, true, false, List, [], ◌∷◌, ◌++◌, drop, length, slice_get, if◌then◌else◌, codes, Option, Some, None, IfSome, IsTrue, is_some, ⊤, ◌⊎◌}
+use Rattle.std.specs.Prelude.{◌≡◌, ℕ, ◌+◌, ◌≤◌, ◌<◌, ◌==◌, ◌||◌, Bool, true, false, List, [], ◌∷◌, ◌++◌, drop, length, map, slice_get, if◌then◌else◌, codes, Option, Some, None, IfSome, IsTrue, is_some, ⊤, ◌⊎◌}
 use Rattle.std.specs.Option.{option_map, option_and_then}
 use Rattle.std.specs.Str.{byte, bytes_eq}
 use Rattle.std.specs.Io.KnownBytes.{Appends}
@@ -107,6 +107,10 @@ questions_in (line ∷ lines) =
 -- the questions that a text asks, if it has the form
 abbrev pub questions_of : List ℕ → Option (List Question)
 questions_of text = questions_in (text_lines text)
+
+-- what the questions assume, as clauses
+abbrev pub cubes_asked : List Question → Formula
+cubes_asked questions = map (λ question. question.assumed) questions
 
 -- each of the questions is asked of clauses with which the formula begins
 abbrev pub AreAskedOf : Formula → List Question → Type 0

@@ -134,7 +134,7 @@ fn name_clause(
 }
 
 // A literal under the name of its variable; one that has none stays as it is.
-fn name_of(names: &[u32], l: Literal) -> Literal {
+pub(crate) fn name_of(names: &[u32], l: Literal) -> Literal {
     let name = name_in(names, l.variable());
     if name < 1 << 31 {
         Literal::new(name, l.is_positive())

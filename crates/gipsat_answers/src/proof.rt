@@ -2,7 +2,9 @@
 mod decimal;
 mod lrat;
 mod names;
+pub mod part;
 mod steps;
 pub mod writer;
 
-pub use writer::{Fault, Form, Format, ProofWriter};
+pub use part::PartWriter;
+pub use writer::{Fault, Form, Format, ProofSteps, ProofWriter};

@@ -100,7 +100,7 @@ pub fn answer_questions<R: Read, W: Write, P: Progress>(
 }
 
 // The bytes of a text.
-fn read_text<R: Read>(alloc: Global, reader: &mut R) -> Result<Vec<u8>, DimacsError>
+pub(crate) fn read_text<R: Read>(alloc: Global, reader: &mut R) -> Result<Vec<u8>, DimacsError>
     ensures read_to_end { OnOk result (IsAtEnd (R.remaining reader.new)) }
     ensures text { IfOk result (λ read. IfSome (R.remaining reader.old) (λ text. read.items ≡ text)) }
 {
@@ -136,7 +136,7 @@ fn answer_text<W: Write, P: Progress>(
 }
 
 // What stands behind the header, and behind how many lines.
-fn behind_header(text: &[u8]) -> Result<(usize, &[u8]), DimacsError>
+pub(crate) fn behind_header(text: &[u8]) -> Result<(usize, &[u8]), DimacsError>
     ensures { IfOk result (λ found. questions_of text.now ≡ questions_after [] [] None (text_lines found.1.now)) }
 {
     let mut lines = 0usize;
@@ -174,7 +174,7 @@ fn is_header(line: &[u8]) -> bool
 
 // Clauses that were read since the last question, and where.
 #[derive(Drop)]
-struct Begun {
+pub(crate) struct Begun {
     // Their lines.
     text: Vec<u8>,
     // How many lines stand before them.
@@ -182,8 +182,26 @@ struct Begun {
 }
 
 impl Begun {
+    // None, behind so many lines.
+    pub(crate) fn new(alloc: Global, lines_before: usize) -> Self
+        ensures { result.text.items ≡ [] }
+    {
+        Begun {
+            text: Vec::new(alloc),
+            lines_before,
+        }
+    }
+
+    // None again, behind so many lines.
+    pub(crate) fn restart(&mut self, lines_before: usize)
+        ensures { self.new.text.items ≡ [] }
+    {
+        self.text.clear();
+        self.lines_before = lines_before;
+    }
+
     // Adds a line.
-    fn push(&mut self, line: &[u8]) -> Result<(), AllocError>
+    pub(crate) fn push(&mut self, line: &[u8]) -> Result<(), AllocError>
         ensures { OnOk result (self.new.text.items ≡ self.old.text.items ++ line.now ++ codes "\n") }
     {
         self.text.extend_from_slice(line)?;
@@ -300,7 +318,7 @@ fn add_begun(
 }
 
 // The clauses that have begun.
-fn read_begun(alloc: Global, begun: &Begun) -> Result<Cnf, DimacsError>
+pub(crate) fn read_begun(alloc: Global, begun: &Begun) -> Result<Cnf, DimacsError>
     ensures { IfOk result (λ clauses. clauses_in begun.now.text.items ≡ Some clauses) }
 {
     let mut text = begun.text.as_slice();

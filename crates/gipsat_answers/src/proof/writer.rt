@@ -63,13 +63,13 @@ const BUFFER_SIZE: usize = 65_536;
 pub struct ProofWriter<W: Write> {
     writer: W,
     form: Form,
-    format: Format,
+    pub(crate) format: Format,
     // The names of clauses, in LRAT alone.
-    names: Names,
+    pub(crate) names: Names,
     // What was not written yet.
-    bytes: Vec<u8>,
+    pub(crate) bytes: Vec<u8>,
     // Why the proof is not whole.
-    fault: Option<Fault>,
+    pub(crate) fault: Option<Fault>,
 }
 
 // One call in its owners' proofs, in place of one for each field.
@@ -167,7 +167,7 @@ impl<W: Write> ProofWriter<W> {
     }
 
     // Writes what was not written yet, once it is much.
-    fn flush_much(&mut self) -> Result<(), Fault>
+    pub(crate) fn flush_much(&mut self) -> Result<(), Fault>
         ensures written { OnOk result (Appends (W.contents self.old.writer)
             (append_known (W.contents self.new.writer) self.new.bytes.items) self.old.bytes.items) }
         ensures form { self.new.form ≡ self.old.form }
@@ -195,6 +195,22 @@ impl<W: Write> ProofWriter<W> {
             Ok(()) => Ok(()),
             Err(error) => Err(Fault::Output(error)),
         }
+    }
+}
+
+/// ProofSteps of a proof that are written as the search goes on.
+pub trait ProofSteps: Progress {
+    /// Writes what is left. `refuted` says whether the search found that nothing satisfies its formula.
+    ///
+    /// # Errors
+    /// The first failure of all: `Output` where a write failed, `Memory` where memory was refused.
+    fn end_steps(&mut self, refuted: bool) -> Result<(), Fault>
+        ensures { OnOk result (¬ (IsTrue (Self.wants_stop self.old))) };
+}
+
+impl<W: Write> ProofSteps for ProofWriter<W> {
+    fn end_steps(&mut self, refuted: bool) -> Result<(), Fault> {
+        self.finish(refuted)
     }
 }
 
