@@ -50,6 +50,26 @@ impl HintList {
         Ok(())
     }
 
+    // How many there are.
+    pub(crate) fn len(&self) -> usize {
+        self.len.min(self.hints.len())
+    }
+
+    // The one at a place.
+    pub(crate) fn get(&self, place: usize) -> Option<Hint> {
+        self.as_slice().get(place).copied()
+    }
+
+    // The one at a place, to change it.
+    pub(crate) fn get_mut(&mut self, place: usize) -> Option<&mut Hint> {
+        self.hints.get_mut(place)
+    }
+
+    // Drops all but the first, so many.
+    pub(crate) fn truncate(&mut self, len: usize) {
+        self.len = self.len.min(len);
+    }
+
     // Drops all.
     pub(crate) fn clear(&mut self) {
         self.len = 0;

@@ -11,6 +11,8 @@ mod form;
 mod hint_list;
 mod hints;
 mod index;
+pub mod join;
+mod joined;
 mod log;
 mod lrat;
 mod lrat_parser;
@@ -32,5 +34,6 @@ mod words;
 
 pub use checker::Checker;
 pub use error::{DratError, Flaw, Notes, OtherForm, Outcome, Place, Refusal};
+pub use join::{Joiner, PartError};
 pub use lrat_writer::LratFormat;
 pub use task::{check_text, check_text_noting, lrat_from_drat};

@@ -112,6 +112,11 @@ impl LratChecker {
         self.refuted
     }
 
+    // Whether a clause has a name.
+    pub(crate) fn has(&self, name: u64) -> bool {
+        self.names.get(name).is_some()
+    }
+
     // Turns a clause of a text into one of the variables that are held.
     pub(crate) fn number(&mut self, clause: &mut [Literal]) -> Result<(), AllocError>
         ensures { self.new ≡ self.old }

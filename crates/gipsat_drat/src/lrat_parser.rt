@@ -4,6 +4,7 @@ ghost use Rattle.gipsat_drat.specs.Held.{IsRightOf, Keeps};
 
 use crate::codes::Codes;
 use crate::error::{Failure, Flaw, Outcome, Place, Stop};
+use crate::joined::JoinedSteps;
 use crate::lrat::LratChecker;
 use crate::lrat_step::{GREATEST_NAME, LratStep};
 use crate::words::{Word, Words};
@@ -65,6 +66,38 @@ impl LratParser {
             }
         }
         Ok(())
+    }
+
+    // Whether it reads a text.
+    pub(crate) fn is_text(&self) -> bool {
+        matches!(self.input, Input::Text(_))
+    }
+
+    // Whether a step has begun that has not ended.
+    pub(crate) fn is_begun(&self) -> bool {
+        self.step.is_begun()
+    }
+
+    // Reads bytes as far as the end of a step, gives it its names in a joined proof, and writes it there: the place behind
+    // it.
+    pub(crate) fn read_joined(
+        &mut self,
+        joined: &mut JoinedSteps,
+        bytes: &[u8],
+        start: usize,
+    ) -> Result<Option<usize>, Stop> {
+        let next = self.read(bytes, start)?;
+        if next.is_some() {
+            self.step.join(joined)?;
+        }
+        Ok(next)
+    }
+
+    // Ends the step that was read.
+    pub(crate) fn end_step(&mut self, checker: &mut LratChecker) -> Result<(), Stop>
+        ensures { Keeps checker.old checker.new }
+    {
+        self.step.end(checker)
     }
 
     // Reads bytes from one place on, as far as the end of a step: the place behind it.

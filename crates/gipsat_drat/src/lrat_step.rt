@@ -3,6 +3,7 @@ ghost use Rattle.gipsat_drat.specs.Held.{Keeps};
 
 use crate::error::{Flaw, Stop};
 use crate::hint_list::{Hint, HintList};
+use crate::joined::JoinedSteps;
 use crate::lrat::LratChecker;
 use crate::step::literal;
 use crate::words::numeral_at;
@@ -149,6 +150,15 @@ impl LratStep {
                 Ok(false)
             }
             Part::Hints | Part::Names => Ok(true),
+        }
+    }
+
+    // Gives it its names in a joined proof, and writes it there.
+    pub(crate) fn join(&mut self, joined: &mut JoinedSteps) -> Result<(), Stop> {
+        if self.part == Part::Names {
+            joined.delete(&mut self.hints)
+        } else {
+            joined.add(&mut self.name, &self.clause, &mut self.hints)
         }
     }
 

@@ -2,6 +2,7 @@
 ghost use Rattle.std.specs.Prelude.{◌≡◌, ◌≢◌, IfErr};
 
 use crate::error::Failure;
+use crate::hint_list::Hint;
 use crate::log::{Added, Log, Trim, Use};
 use crate::numbering::Numbering;
 use gipsat_cnf::Literal;
@@ -106,8 +107,50 @@ fn write_step(
     Ok(())
 }
 
+// Writes a step of this name that adds a clause.
+pub(crate) fn write_hinted(
+    bytes: &mut Vec<u8>,
+    format: LratFormat,
+    name: u64,
+    clause: &[Literal],
+    hints: &[Hint],
+) -> Result<(), AllocError> {
+    begin_addition(bytes, format, short(name))?;
+    for l in clause {
+        let number = l.variable().saturating_add(1);
+        write_signed(bytes, format, number, l.is_positive())?;
+    }
+    end_list(bytes, format, b"0 ")?;
+    for hint in hints {
+        write_signed(bytes, format, short(hint.name), hint.positive)?;
+    }
+    end_list(bytes, format, b"0\n")
+}
+
+// Writes the names of clauses that are deleted behind a step, if there are any.
+pub(crate) fn write_deleted_names(
+    bytes: &mut Vec<u8>,
+    format: LratFormat,
+    behind: u64,
+    names: &[Hint],
+) -> Result<(), AllocError> {
+    if names.is_empty() {
+        return Ok(());
+    }
+    begin_deletion(bytes, format, short(behind))?;
+    for hint in names {
+        write_name(bytes, format, short(hint.name))?;
+    }
+    end_list(bytes, format, b"0\n")
+}
+
+// A name in 32 bits; one that has more is not joined.
+fn short(name: u64) -> u32 {
+    u32::try_from(name).unwrap_or(u32::MAX)
+}
+
 // Writes what was not written yet.
-fn flush<W: Write>(bytes: &mut Vec<u8>, writer: &mut W) -> Result<(), Failure>
+pub(crate) fn flush<W: Write>(bytes: &mut Vec<u8>, writer: &mut W) -> Result<(), Failure>
     ensures { IfErr result (λ why. why ≡ Failure.Output) }
 {
     let done = writer.write_all(bytes);
@@ -149,6 +192,15 @@ fn write_deletion(
     if names.is_empty() {
         return Ok(());
     }
+    begin_deletion(bytes, format, behind)?;
+    for name in names {
+        write_name(bytes, format, *name)?;
+    }
+    end_list(bytes, format, b"0\n")
+}
+
+// Begins the list of clauses that are deleted behind a step.
+fn begin_deletion(bytes: &mut Vec<u8>, format: LratFormat, behind: u32) -> Result<(), AllocError> {
     match format {
         LratFormat::Text => {
             write_number(bytes, behind)?;
@@ -156,10 +208,7 @@ fn write_deletion(
         }
         LratFormat::Binary => bytes.push(b'd')?,
     }
-    for name in names {
-        write_name(bytes, format, *name)?;
-    }
-    end_list(bytes, format, b"0\n")
+    Ok(())
 }
 
 // Writes the name of a clause that is added, or deleted.
@@ -170,6 +219,14 @@ fn write_name(bytes: &mut Vec<u8>, format: LratFormat, name: u32) -> Result<(), 
     }
 }
 
+// Begins a step that adds a clause.
+fn begin_addition(bytes: &mut Vec<u8>, format: LratFormat, name: u32) -> Result<(), AllocError> {
+    if format == LratFormat::Binary {
+        bytes.push(b'a')?;
+    }
+    write_name(bytes, format, name)
+}
+
 // Writes a step that adds a clause.
 fn write_addition(
     bytes: &mut Vec<u8>,
@@ -177,10 +234,7 @@ fn write_addition(
     format: LratFormat,
     step: Added<'_>,
 ) -> Result<(), AllocError> {
-    if format == LratFormat::Binary {
-        bytes.push(b'a')?;
-    }
-    write_name(bytes, format, step.name)?;
+    begin_addition(bytes, format, step.name)?;
     write_literals(bytes, numbering, format, step.literals)?;
     write_hints(bytes, format, step.uses)
 }

@@ -19,7 +19,7 @@ use std::alloc::{AllocError, Global};
 use std::io::{Read, Write};
 
 // How many bytes are asked for at a time.
-const BUFFER_SIZE: usize = 65_536;
+pub(crate) const BUFFER_SIZE: usize = 65_536;
 
 /// Reads a formula in the DIMACS form, and in the DRAT or LRAT form, as text or binary, a proof that nothing satisfies
 /// it; checks that, and writes `s VERIFIED` or `s NOT VERIFIED`.
@@ -126,7 +126,7 @@ pub fn lrat_from_drat<F: Read, P: Read, W: Write>(
 }
 
 // Checks a proof without hints, and writes one with hints where it is verified.
-fn convert<P: Read, W: Write>(
+pub(crate) fn convert<P: Read, W: Write>(
     alloc: Global,
     formula: Cnf,
     proof: &mut P,
@@ -298,7 +298,7 @@ fn check_parsed<P: Read>(
 }
 
 // The first bytes of a proof: so many at least, or all of one that is shorter.
-fn read_start<P: Read>(alloc: Global, proof: &mut P) -> Result<Vec<u8>, Failure> {
+pub(crate) fn read_start<P: Read>(alloc: Global, proof: &mut P) -> Result<Vec<u8>, Failure> {
     let mut start = Vec::new(alloc);
     let mut buf = zeros(alloc, BUFFER_SIZE)?;
     for _ in 0..BUFFER_SIZE {
@@ -368,7 +368,7 @@ fn check_hinted_rest<P: Read>(
 }
 
 // So many zeros.
-fn zeros(alloc: Global, len: usize) -> Result<Vec<u8>, AllocError>
+pub(crate) fn zeros(alloc: Global, len: usize) -> Result<Vec<u8>, AllocError>
     ensures { IfOk result (λ zeros. vec_len zeros ≡ len) }
 {
     vec![in alloc; 0u8; len]
