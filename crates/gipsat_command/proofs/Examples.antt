@@ -9,10 +9,10 @@ use Rattle.gipsat_dimacs.specs.declared.rule.HeaderRule.TheVariants.{Relaxed, St
 use Rattle.gipsat_drat.specs.declared.error.Flaw.TheVariants.{NotShown}
 use Rattle.gipsat_drat.specs.declared.error.Outcome.TheVariants.{Verified, Refused}
 use Rattle.gipsat_drat.specs.declared.error.Place.TheVariants.{Line}
-use Rattle.gipsat_command.specs.Misuses.{Words, ExtraFile, MissingFile, MissingModels, MissingProof, ProofOfMore, NotForCheck, InputTwice}
+use Rattle.gipsat_command.specs.Misuses.{Words, CheckOfMore, CubesOfMore, ExtraFile, MissingCubes, MissingFile, MissingHints, MissingModels, MissingProof, PartOfMore, ProofOfMore, NotForCheck, InputTwice}
 use Rattle.gipsat_command.specs.Options.{Request, table}
 use Rattle.gipsat_command.specs.Statuses.{TellsVerified, checking_status}
-use Rattle.gipsat_command.specs.Words.{work_asked, Tell, Solve, Check, Convert}
+use Rattle.gipsat_command.specs.Words.{work_asked, Tell, Solve, Check, Convert, Cubes, Part, Join}
 
 abbrev said : List (List ℕ) → List Said
 said words = said_by table words
@@ -98,6 +98,46 @@ refused-check_in_binary = refl
 refused-convert_with_option : work_asked (codes "--lrat-from-drat" ∷ codes "o" ∷ codes "--lrat" ∷ codes "a" ∷ codes "b" ∷ [])
     ≡ Err (NotForCheck (codes "--lrat"))
 refused-convert_with_option = refl
+
+-- cubes, a part, whose cubes may be standard input, and proofs to join
+abbrev cubes : List (List ℕ)
+cubes = codes "--cubes=4" ∷ codes "a" ∷ []
+
+cubes-asked : work_asked cubes ≡ Ok (Cubes (asked cubes (Some (codes "a"))) 4)
+cubes-asked = refl
+
+abbrev part : List (List ℕ)
+part = codes "--cube" ∷ codes "2" ∷ codes "a" ∷ codes "-" ∷ codes "--lrat" ∷ codes "--proof=p" ∷ []
+
+part-asked : work_asked part ≡ Ok (Part (asked part (Some (codes "a"))) None 2)
+part-asked = refl
+
+abbrev join : List (List ℕ)
+join = codes "-f" ∷ codes "--join=o" ∷ codes "a" ∷ codes "b" ∷ codes "c" ∷ codes "d" ∷ []
+
+join-asked : work_asked join ≡ Ok (Join (record (asked join (Some (codes "a"))) { force = true }) (Some (codes "b")) (codes "o"))
+join-asked = refl
+
+refused-part_without_cubes : work_asked (codes "--cube=1" ∷ codes "a" ∷ []) ≡ Err MissingCubes
+refused-part_without_cubes = refl
+
+refused-part_of_stdin : work_asked (codes "--cube=1" ∷ codes "-" ∷ codes "-" ∷ []) ≡ Err InputTwice
+refused-part_of_stdin = refl
+
+refused-part_of_models : work_asked (codes "--cube=1" ∷ codes "--models=2" ∷ codes "a" ∷ codes "b" ∷ []) ≡ Err PartOfMore
+refused-part_of_models = refl
+
+refused-part_in_drat : work_asked (codes "--cube=1" ∷ codes "--proof=p" ∷ codes "a" ∷ codes "b" ∷ []) ≡ Err MissingHints
+refused-part_in_drat = refl
+
+refused-cubes_and_a_proof : work_asked (codes "--cubes=1" ∷ codes "--proof=p" ∷ codes "a" ∷ []) ≡ Err CubesOfMore
+refused-cubes_and_a_proof = refl
+
+refused-join_with_option : work_asked (codes "--join=o" ∷ codes "--lrat" ∷ codes "a" ∷ codes "b" ∷ []) ≡ Err (NotForCheck (codes "--lrat"))
+refused-join_with_option = refl
+
+refused-join_and_check : work_asked (codes "--join=o" ∷ codes "--check" ∷ codes "a" ∷ codes "b" ∷ []) ≡ Err CheckOfMore
+refused-join_and_check = refl
 
 -- the help is told whatever stands behind it
 help : work_asked (codes "--stats" ∷ codes "-h" ∷ codes "--other" ∷ []) ≡ Ok (Tell info.Help)

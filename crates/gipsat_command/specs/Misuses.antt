@@ -5,8 +5,9 @@ use Rattle.gipsat_command.specs.declared.errors.UsageError.{UsageError}
 use Rattle.gipsat_command.specs.declared.errors.UsageError.TheVariants as error
 
 -- words without a meaning by the table, a file too many or too few, `--lrat` without a proof, `--project` without
--- `--models`, a proof beside assumptions or several models, an option that a check does not take, and standard input as
--- both of its files
+-- `--models`, a proof beside assumptions or several models, a cube beside them, a proof of a part without hints, cubes
+-- beside an answer or a proof, no file of cubes, proofs to join beside another check, an option that a check does not
+-- take, and standard input as two files
 pub data Misuse : Type 0 where
   Words : items.Misuse → Misuse
   ExtraFile : List ℕ → Misuse
@@ -14,6 +15,11 @@ pub data Misuse : Type 0 where
   MissingProof : Misuse
   MissingModels : Misuse
   ProofOfMore : Misuse
+  PartOfMore : Misuse
+  MissingHints : Misuse
+  CubesOfMore : Misuse
+  MissingCubes : Misuse
+  CheckOfMore : Misuse
   NotForCheck : List ℕ → Misuse
   InputTwice : Misuse
 
@@ -25,5 +31,10 @@ misuse_of error.MissingFile = MissingFile
 misuse_of error.MissingProof = MissingProof
 misuse_of error.MissingModels = MissingModels
 misuse_of error.ProofOfMore = ProofOfMore
+misuse_of error.PartOfMore = PartOfMore
+misuse_of error.MissingHints = MissingHints
+misuse_of error.CubesOfMore = CubesOfMore
+misuse_of error.MissingCubes = MissingCubes
+misuse_of error.CheckOfMore = CheckOfMore
 misuse_of (error.NotForCheck word) = NotForCheck word.now
 misuse_of error.InputTwice = InputTwice

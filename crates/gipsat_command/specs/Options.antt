@@ -8,7 +8,7 @@ use Rattle.gip_cli.specs.Options.{Entry}
 use Rattle.gip_cli.specs.Options as option
 use Rattle.gipsat_dimacs.specs.declared.rule.HeaderRule.{HeaderRule}
 use Rattle.gipsat_dimacs.specs.declared.rule.HeaderRule.TheVariants as rule
-use Rattle.gipsat_command.specs.Misuses.{Misuse, MissingModels, MissingProof, ProofOfMore}
+use Rattle.gipsat_command.specs.Misuses.{Misuse, CubesOfMore, MissingHints, MissingModels, MissingProof, PartOfMore, ProofOfMore}
 use Rattle.gipsat_command.specs.declared.options.Options.{Options}
 
 -- the options: the names of each, what stands behind it, and its scope
@@ -18,6 +18,9 @@ table =
     option.text (codes "--assume") (codes "search") ∷
     option.number (codes "--models") [] (codes "search") ∷
     option.text (codes "--project") (codes "search") ∷
+    option.number (codes "--cubes") [] (codes "search") ∷
+    option.number (codes "--cube") [] (codes "search") ∷
+    option.output (codes "--join") (codes "check") ∷
     option.switch (codes "--no-eliminate") [] (codes "search") ∷
     option.switch (codes "--no-vivify") [] (codes "search") ∷
     option.switch (codes "--no-simplify") [] (codes "search") ∷
@@ -73,6 +76,10 @@ clash said =
     if has (codes "--lrat") said && not (has (codes "--proof") said) then Some MissingProof
     else if has (codes "--project") said && not (has (codes "--models") said) then Some MissingModels
     else if has (codes "--proof") said && (has (codes "--assume") said || has (codes "--models") said) then Some ProofOfMore
+    else if has (codes "--cube") said && (has (codes "--assume") said || has (codes "--models") said) then Some PartOfMore
+    else if has (codes "--cube") said && has (codes "--proof") said && not (has (codes "--lrat") said) then Some MissingHints
+    else if has (codes "--cubes") said && (has (codes "--assume") said || has (codes "--models") said) then Some CubesOfMore
+    else if has (codes "--cubes") said && (has (codes "--proof") said || has (codes "--cube") said) then Some CubesOfMore
     else None
 
 -- the file to read has this name; standard input has none

@@ -17,6 +17,9 @@ pub const ABOUT: About = About {
         "gipsat [OPTION]... [FORMULA]",
         "gipsat --check FORMULA PROOF",
         "gipsat --lrat-from-drat OUT FORMULA PROOF",
+        "gipsat --cubes N [FORMULA]",
+        "gipsat --cube I FORMULA CUBES",
+        "gipsat --join OUT FORMULA CUBES [PROOF]...",
     ],
     summary: &[
         "Reads a formula in the DIMACS form from the file FORMULA, or from standard input where none is named or its name \
@@ -67,6 +70,33 @@ pub const OPTIONS: &[Opt] = &[
         scope: SEARCH,
         section: "Several answers",
         help: "let no two models agree on all of these variables, as in --project '1 2'; without it, on all variables",
+    },
+    Opt {
+        long: "--cubes",
+        short: "",
+        kind: Kind::Number("N"),
+        scope: SEARCH,
+        section: "Parts",
+        help: "write N cubes at most, which are to take about as long as one another: behind a line `p inccnf` a line `a .. 0` \
+               for each. Values that satisfy the formula make all literals of a cube true",
+    },
+    Opt {
+        long: "--cube",
+        short: "",
+        kind: Kind::Number("I"),
+        scope: SEARCH,
+        section: "Parts",
+        help: "solve the formula with the cube of this number in the file CUBES, the first being 1: `s UNSATISFIABLE` says \
+               that nothing satisfies both. Beside it a proof shows, by --lrat alone, that no values satisfy both",
+    },
+    Opt {
+        long: "--join",
+        short: "",
+        kind: Kind::Output("OUT"),
+        scope: CHECK,
+        section: "Parts",
+        help: "check that the cubes cover the formula, and one proof of each part, and write `s VERIFIED`, and one LRAT proof of \
+               the formula to the file OUT; --binary and --force stand for OUT then. The file appears where all is verified",
     },
     Opt {
         long: "--no-eliminate",

@@ -15,11 +15,13 @@ use gipsat_drat::error::{DratError, Notes, Outcome};
 use gipsat_drat::{LratFormat, lrat_from_drat};
 use std::io::{self, Read, Write};
 
-// A file that is written, and why the last write failed.
+/// A file that is written, and why the last write failed.
 #[derive(Drop)]
-struct Written<'a> {
-    file: NewFile<'a>,
-    error: Option<io::Error>,
+pub struct Written<'a> {
+    /// The file.
+    pub file: NewFile<'a>,
+    /// Why the last write failed.
+    pub error: Option<io::Error>,
 }
 
 impl Write for Written<'_> {

@@ -2,6 +2,7 @@
 use crate::proof_file::ProofError;
 use gip_cli::{Cause, Fault};
 use gipsat_dimacs::{Compression, Reason};
+use gipsat_drat::PartError;
 use gipsat_drat::error::{OtherForm, Place, Refusal};
 use std::fmt::{self, Display};
 use std::io;
@@ -21,9 +22,19 @@ pub enum UsageError<'a> {
     MissingModels,
     /// A proof is to be written beside assumptions or several models.
     ProofOfMore,
+    /// A search under a cube has other assumptions, or is for several models.
+    PartOfMore,
+    /// A proof of a part is to be written without hints.
+    MissingHints,
+    /// Cubes are to be written beside an answer or a proof.
+    CubesOfMore,
+    /// Fewer files are named than that of a formula and that of its cubes.
+    MissingCubes,
+    /// Proofs are to be joined, and another check is asked for.
+    CheckOfMore,
     /// A check takes no such option.
     NotForCheck(&'a str),
-    /// Standard input is named as the formula and as the proof.
+    /// Standard input is named as the formula and as the other file.
     InputTwice,
 }
 
@@ -38,9 +49,22 @@ impl Display for UsageError<'_> {
             UsageError::ProofOfMore => f.write_str(
                 "'--proof' is of the formula alone, without '--assume' and '--models'",
             ),
+            UsageError::PartOfMore => {
+                f.write_str("'--cube' has a meaning without '--assume' and '--models'")
+            }
+            UsageError::MissingHints => f.write_str("a proof of '--cube' needs '--lrat'"),
+            UsageError::CubesOfMore => f.write_str(
+                "'--cubes' has a meaning without '--assume', '--models', '--proof' and '--cube'",
+            ),
+            UsageError::MissingCubes => {
+                f.write_str("'--cube' and '--join' take a file FORMULA and a file CUBES")
+            }
+            UsageError::CheckOfMore => {
+                f.write_str("'--join' has a meaning without '--check' and '--lrat-from-drat'")
+            }
             UsageError::NotForCheck(word) => write!(f, "'--check' takes no option '{word}'"),
             UsageError::InputTwice => {
-                f.write_str("'--check' takes one file at most from standard input")
+                f.write_str("one file at most is read from standard input")
             }
         }
     }
@@ -65,6 +89,14 @@ pub enum Failure<'a> {
     Literals(&'static str, Reason),
     /// Behind this option a literal has a variable that the formula of this input does not have.
     Unnamed(Option<&'a str>, &'static str),
+    /// The cubes in this input have none of this number, but are so many.
+    NoCube(Option<&'a str>, usize, usize),
+    /// This proof of a part is not joined, for this reason.
+    Part(&'a str, PartError),
+    /// In this input no proof has the cube of this number.
+    Missing(Option<&'a str>, usize),
+    /// Propagation does not show that the cubes in this input cover the formula.
+    Uncovered(Option<&'a str>),
     /// This input has questions, beside which this option has no meaning.
     Questions(Option<&'a str>, &'a str),
     /// The proof was not written.
@@ -112,6 +144,22 @@ impl Display for Failure<'_> {
                 let name = name.unwrap_or("<stdin>");
                 write!(f, "{option}: a variable that {name} does not have")
             }
+            Failure::NoCube(name, number, count) => {
+                let name = name.unwrap_or("<stdin>");
+                write!(f, "{name}: no cube {number}, of {count}")
+            }
+            Failure::Part(name, error) => write!(f, "{}", PartFault(name, error)),
+            Failure::Missing(name, number) => {
+                let name = name.unwrap_or("<stdin>");
+                write!(f, "{name}: no proof of cube {number}")
+            }
+            Failure::Uncovered(name) => {
+                let name = name.unwrap_or("<stdin>");
+                write!(
+                    f,
+                    "{name}: propagation does not show that the cubes cover the formula"
+                )
+            }
             Failure::Questions(name, option) => {
                 let name = name.unwrap_or("<stdin>");
                 write!(
@@ -130,6 +178,33 @@ impl Display for Failure<'_> {
             }
             Failure::Form(name, form) => write!(f, "{}: {form}", name.unwrap_or("<stdin>")),
             Failure::Memory => f.write_str("memory: refused"),
+        }
+    }
+}
+
+// Why the proof of a part in this file is not joined.
+#[derive(Clone, Copy)]
+struct PartFault<'a>(&'a str, PartError);
+
+impl Display for PartFault<'_> {
+    fn fmt<W: fmt::Write>(&self, f: &mut fmt::Formatter<W>) -> fmt::Result {
+        let name = self.0;
+        match self.1 {
+            PartError::Refused(refusal) => {
+                let flaw = refusal.flaw;
+                match refusal.place {
+                    Place::Line(line) => write!(f, "{name}:{line}: {flaw}"),
+                    Place::Byte(byte) => write!(f, "{name}: byte {byte}: {flaw}"),
+                }
+            }
+            PartError::NotLrat => write!(f, "{name}: not in the LRAT form"),
+            PartError::OtherClause => {
+                write!(f, "{name}: its last clause is not the negation of a cube")
+            }
+            PartError::Twice(number) => write!(f, "{name}: another proof of cube {number}"),
+            PartError::Proof => write!(f, "{name}: cannot be read"),
+            PartError::Memory => f.write_str("memory: refused"),
+            PartError::Output => f.write_str("the joined proof cannot be written"),
         }
     }
 }

@@ -12,6 +12,7 @@ pub mod proof_file;
 
 pub use about::ABOUT;
 pub use checks::{check_files, check_in, convert_in, convert_proof};
+pub use convert::Written;
 pub use errors::{Failure, UsageError};
 pub use files::{Output, Source, Stream};
 pub use options::{Options, Task};

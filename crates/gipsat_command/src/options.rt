@@ -2,12 +2,12 @@
 ghost use Rattle.std.specs.Prelude.{◌≡◌, map, string_bytes};
 ghost use Rattle.std.specs.Option.{option_map};
 ghost use Rattle.std.specs.Result.{result_map_both};
-ghost use Rattle.gip_cli.specs.Asked.{asked_said, has, number, said_by, word};
+ghost use Rattle.gip_cli.specs.Asked.{asked_said, file_at, has, number, said_by, word};
 ghost use Rattle.gip_cli.specs.Options.{entry_of};
 ghost use Rattle.gipsat_command.specs.Misuses.{misuse_of};
 ghost use Rattle.gipsat_command.specs.Options.{clash, models_of, request, request_of, rule_of, said_of, table};
-ghost use Rattle.gipsat_command.specs.Words.{check, conversion, files_of, names_of, plain_check, search, work, work_asked};
-ghost use Rattle.gipsat_command.specs.Words.{work_of};
+ghost use Rattle.gipsat_command.specs.Words.{check, conversion, cubes_of, files_of, join, names_of, part, plain_check, search};
+ghost use Rattle.gipsat_command.specs.Words.{work, work_asked, work_of};
 
 use crate::about::{FORM, OPTIONS, SEARCH};
 use crate::errors::UsageError;
@@ -27,6 +27,14 @@ pub enum Task<'a> {
     /// To check a proof without hints, and to write one with hints in the form that the options say: the file of the proof,
     /// and that of the new one. None is standard input.
     Convert(Options<'a>, Option<&'a str>, &'a str),
+    /// To write cubes of a formula, so many at most.
+    Cubes(Options<'a>, usize),
+    /// To solve a formula under one of some cubes: the file of the cubes, and the number of the one, which counts from 1.
+    /// None is standard input.
+    Part(Options<'a>, Option<&'a str>, usize),
+    /// To join proofs of all parts, which the options name behind two other files: the file of the cubes, and that of the
+    /// new proof. None is standard input.
+    Join(Options<'a>, Option<&'a str>, &'a str),
 }
 
 impl<'a> Task<'a> {
@@ -114,6 +122,13 @@ impl<'a> Options<'a> {
         self.asked().number(name)
     }
 
+    /// The name of the file at this place among those that are named, counted from 0.
+    pub fn file_at(&self, place: usize) -> Option<&'a str>
+        ensures { option_map (λ name. name.now) result ≡ file_at place (said_of self.now) }
+    {
+        self.asked().file(place)
+    }
+
     /// The word behind the option of this long name: the last one, if it is given several times.
     pub fn word(&self, name: &str) -> Option<&'a str>
         ensures { option_map (λ word. word.now) result ≡ word name.now (said_of self.now) }
@@ -151,11 +166,14 @@ fn rule_of(is_relaxed: bool) -> HeaderRule
     }
 }
 
-// A search or a check, of two files at most.
+// To join proofs, or a search or a check, of two files at most.
 fn work<'a>(asked: Asked<'a>, words: &'a [String]) -> Result<Task<'a>, UsageError<'a>>
     requires { asked_said asked ≡ said_by table (map string_bytes words.now) }
     ensures { result_map_both work_of misuse_of result ≡ work (asked_said asked.entry) }
 {
+    if let Some(out) = asked.word("--join") {
+        return join(asked, words, out);
+    }
     if let Some(name) = asked.file(2) {
         return Err(UsageError::ExtraFile(name));
     }
@@ -165,18 +183,68 @@ fn work<'a>(asked: Asked<'a>, words: &'a [String]) -> Result<Task<'a>, UsageErro
     search(asked, words)
 }
 
-// The search: of one file at most, with options that have a meaning together.
+// To join proofs to one in this file: with no option besides but those of the proof that it writes.
+fn join<'a>(asked: Asked<'a>, words: &'a [String], out: &'a str) -> Result<Task<'a>, UsageError<'a>>
+    requires { asked_said asked ≡ said_by table (map string_bytes words.now) }
+    ensures { result_map_both work_of misuse_of result ≡ join (asked_said asked.entry) out.now }
+{
+    if let Some(given) = asked.last_in(SEARCH) {
+        return Err(UsageError::NotForCheck(given.word));
+    }
+    if asked.has("--check") || asked.has("--lrat-from-drat") {
+        return Err(UsageError::CheckOfMore);
+    }
+    let cubes = cubes_of(asked)?;
+    Ok(Task::Join(Options::new(asked, words), cubes, out))
+}
+
+// The search: of one file at most, with options that have a meaning together. Under a cube there is a file of cubes too.
 fn search<'a>(asked: Asked<'a>, words: &'a [String]) -> Result<Task<'a>, UsageError<'a>>
     requires { asked_said asked ≡ said_by table (map string_bytes words.now) }
     ensures { result_map_both work_of misuse_of result ≡ search (asked_said asked.entry) }
 {
+    if let Some(number) = asked.number("--cube") {
+        return part(asked, words, number);
+    }
     if let Some(name) = asked.file(1) {
         return Err(UsageError::ExtraFile(name));
     }
-    match clash(asked) {
-        Some(error) => Err(error),
+    if let Some(error) = clash(asked) {
+        return Err(error);
+    }
+    match asked.number("--cubes") {
+        Some(most) => Ok(Task::Cubes(Options::new(asked, words), most)),
         None => Ok(Task::Solve(Options::new(asked, words))),
     }
+}
+
+// The search under the cube of this number, which has a file of cubes.
+fn part<'a>(
+    asked: Asked<'a>,
+    words: &'a [String],
+    number: usize,
+) -> Result<Task<'a>, UsageError<'a>>
+    requires { asked_said asked ≡ said_by table (map string_bytes words.now) }
+    ensures { result_map_both work_of misuse_of result ≡ part (asked_said asked.entry) number }
+{
+    if let Some(error) = clash(asked) {
+        return Err(error);
+    }
+    let cubes = cubes_of(asked)?;
+    Ok(Task::Part(Options::new(asked, words), cubes, number))
+}
+
+// The file of cubes behind that of a formula, one of which may be standard input.
+fn cubes_of<'a>(asked: Asked<'a>) -> Result<Option<&'a str>, UsageError<'a>>
+    ensures { result_map_both (option_map (λ name. name.now)) misuse_of result ≡ cubes_of (asked_said asked.entry) }
+{
+    let (Some(formula), Some(cubes)) = (asked.file(0), asked.file(1)) else {
+        return Err(UsageError::MissingCubes);
+    };
+    if formula == "-" && cubes == "-" {
+        return Err(UsageError::InputTwice);
+    }
+    Ok(input(cubes))
 }
 
 // Why these options have no meaning together.
@@ -191,6 +259,18 @@ fn clash<'a>(asked: Asked<'a>) -> Option<UsageError<'a>>
     }
     if asked.has("--proof") && (asked.has("--assume") || asked.has("--models")) {
         return Some(UsageError::ProofOfMore);
+    }
+    if asked.has("--cube") && (asked.has("--assume") || asked.has("--models")) {
+        return Some(UsageError::PartOfMore);
+    }
+    if asked.has("--cube") && asked.has("--proof") && !asked.has("--lrat") {
+        return Some(UsageError::MissingHints);
+    }
+    if asked.has("--cubes") && (asked.has("--assume") || asked.has("--models")) {
+        return Some(UsageError::CubesOfMore);
+    }
+    if asked.has("--cubes") && (asked.has("--proof") || asked.has("--cube")) {
+        return Some(UsageError::CubesOfMore);
     }
     None
 }
