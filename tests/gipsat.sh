@@ -151,7 +151,7 @@ help=$("$gipsat" --help)
 try "the help" 0 "" "$help" "" -h
 [ -z "$(printf '%s\n' "$help" | grep '.\{81\}')" ]
 told "the help fits into 80 columns" $?
-for option in --conflicts -t --time --memory -n --no-witness -q --quiet --stats --proof --binary --lrat -f --force --relaxed -v --verbose --no-eliminate --no-vivify --no-simplify --assume --models --project --check --lrat-from-drat -h --help --version --; do
+for option in --conflicts -t --time --memory -n --no-witness -q --quiet --stats --proof --binary --lrat -f --force --relaxed -v --verbose --no-eliminate --no-vivify --no-simplify --assume --models --project --check --lrat-from-drat --cubes --cube --join -h --help --version --; do
     printf '%s\n' "$help" | grep -qE -- "^ *([^ ]+ )?${option}[ ,]"
     told "the help tells of $option" $?
 done
@@ -198,10 +198,23 @@ try_usage "'--check' takes no option '--proof'" --check --proof a b c
 try_usage "'--check' takes no option '--lrat'" --check --lrat a b
 try_usage "'--check' takes no option '--time=9'" --check --time=9 a b
 try_usage "'--check' takes no option '--binary'" --check --binary a b
-try_usage "'--check' takes one file at most from standard input" --check - -
+try_usage "one file at most is read from standard input" --check - -
 try_usage "'--check' takes two files, FORMULA and PROOF" --lrat-from-drat a b
 try_usage "'--check' takes no option '--lrat'" --lrat-from-drat a --lrat b c
 try_usage "'-' names no file to write, since standard output has the answer" --lrat-from-drat - a b
+try_usage "'--cube' and '--join' take a file FORMULA and a file CUBES" --cube 1 a
+try_usage "'--cube' and '--join' take a file FORMULA and a file CUBES" --join o a
+try_usage "one file at most is read from standard input" --cube 1 - -
+try_usage "one file too many, 'c'" --cube 1 a b c
+try_usage "one file too many, 'b'" --cubes 9 a b
+try_usage "'--cube' has a meaning without '--assume' and '--models'" --cube 1 --assume 2 a b
+try_usage "a proof of '--cube' needs '--lrat'" --cube 1 --proof p a b
+try_usage "'--cubes' has a meaning without '--assume', '--models', '--proof' and '--cube'" --cubes 9 --models 2 a
+try_usage "'--cubes' has a meaning without '--assume', '--models', '--proof' and '--cube'" --cubes 9 --proof p a
+try_usage "'--cubes' has a meaning without '--assume', '--models', '--proof' and '--cube'" --cubes 9 --cube 1 a b
+try_usage "'--check' takes no option '--lrat'" --join o --lrat a b c
+try_usage "'--join' has a meaning without '--check' and '--lrat-from-drat'" --join o --check a b c
+try_usage "'-' names no file to write, since standard output has the answer" --join - a b
 
 # On a terminal it tells that it reads standard input, but for `-q`.
 # NAME ERROR [ARGUMENT..]: types a formula, and expects this on standard error.

@@ -1,3 +1,4 @@
 mod Answered
 mod Examples
+mod Joined
 mod Problems

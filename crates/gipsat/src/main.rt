@@ -9,7 +9,9 @@
 ghost use Rattle.std.specs.Prelude.{◌≡◌, [], IfNone, IfOk, IfSome, Some};
 ghost use Rattle.gipsat_answers.specs.Assumed.{literals_in};
 
+mod join;
 mod models;
+mod parts;
 mod questions;
 mod search;
 mod solve;
@@ -20,6 +22,8 @@ use gipsat_answers::read_literals;
 use gipsat_cnf::Literal;
 use gipsat_command::{ABOUT, Failure, Options, Output, Source, Task, check_files, convert_proof};
 use gipsat_dimacs::DimacsError;
+use join::join_files;
+use parts::{run_part, write_cubes};
 use search::search_in;
 use std::process::ExitCode;
 
@@ -31,6 +35,9 @@ fn main(rt: HostRuntime) -> ExitCode {
     match Task::parse(&words) {
         Ok(Task::Tell(info)) => tell(&rt, &ABOUT, info),
         Ok(Task::Solve(options)) => run_search(&rt, &options),
+        Ok(Task::Cubes(options, most)) => write_cubes(&rt, &options, most),
+        Ok(Task::Part(options, cubes, number)) => run_part(&rt, &options, cubes, number),
+        Ok(Task::Join(options, cubes, out)) => join_files(&rt, &options, cubes, out),
         Ok(Task::Check(formula, proof)) => check_files(&rt, formula, proof),
         Ok(Task::Convert(options, proof, out)) => convert_proof(&rt, &options, proof, out),
         Err(error) => explain(&rt, "gipsat", &error),

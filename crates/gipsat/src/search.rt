@@ -148,13 +148,15 @@ fn of_one_formula(options: &Options) -> Option<&'static str> {
         Some("--models")
     } else if options.has("--assume") {
         Some("--assume")
+    } else if options.has("--cube") {
+        Some("--cube")
     } else {
         None
     }
 }
 
 // Why the questions from this source were not answered to their end.
-fn questions_failure<'a, R: Read, W: Write>(
+pub fn questions_failure<'a, R: Read, W: Write>(
     source: &Source<'a, R>,
     output: &Output<W>,
     error: QuestionsError,

@@ -12,7 +12,7 @@ ghost use Rattle.gipsat.specs.declared.solve.SolveError.TheVariants as solve_err
 
 use crate::watch::{Limits, Watch};
 use gip_cli::NewFile;
-use gipsat_answers::proof::{Fault, Form, Format, ProofWriter};
+use gipsat_answers::proof::{Fault, Form, Format, PartWriter, ProofSteps, ProofWriter};
 use gipsat_answers::{Solved, Task, Verdict, are_named, assume, solve_instance};
 use gipsat_cnf::{Cnf, Literal};
 use gipsat_command::Options;
@@ -30,6 +30,8 @@ pub enum ListOption {
     Assume,
     /// `--project`.
     Project,
+    /// `--cube`.
+    Cube,
 }
 
 impl ListOption {
@@ -38,6 +40,7 @@ impl ListOption {
         match self {
             ListOption::Assume => "--assume",
             ListOption::Project => "--project",
+            ListOption::Cube => "--cube",
         }
     }
 }
@@ -90,7 +93,7 @@ pub fn solve<'a, R: Read, W: Write>(
 {
     let watch = Watch::new(rt, options)?;
     let instance = read_assuming(rt, options, assumed, reader, &watch)?;
-    let proof = open_proof(rt, options, reader)?;
+    let proof = open_proof(rt, options, assumed, reader)?;
     answer(rt, options, instance, proof, watch, writer)
 }
 
@@ -119,7 +122,7 @@ pub fn read_assuming<'a, R: Read>(
     };
     watch.note_read(&instance);
     if !are_named(instance.variables, assumed) {
-        return Err(SolveError::Unnamed(ListOption::Assume));
+        return Err(SolveError::Unnamed(assumed_by(options)));
     }
     match assume(&mut instance, assumed) {
         Ok(()) => Ok(instance),
@@ -127,12 +130,29 @@ pub fn read_assuming<'a, R: Read>(
     }
 }
 
+// The option that names the assumptions.
+fn assumed_by(options: &Options) -> ListOption {
+    if options.has("--cube") {
+        ListOption::Cube
+    } else {
+        ListOption::Assume
+    }
+}
+
+// The file of a proof, and of which cube it is, if it is one of a part.
+#[derive(Drop)]
+struct ProofFile<'s, 'a> {
+    file: NewFile<'a>,
+    cube: Option<&'s [Literal]>,
+}
+
 // The file of the proof, if one is wanted. It is begun once the formula was read to its end.
-fn open_proof<'a, R: Read>(
+fn open_proof<'s, 'a, R: Read>(
     rt: &HostRuntime,
     options: &Options<'a>,
+    assumed: &'s [Literal],
     reader: &R,
-) -> Result<Option<NewFile<'a>>, SolveError<'a>>
+) -> Result<Option<ProofFile<'s, 'a>>, SolveError<'a>>
     requires read_to_end { IsAtEnd (R.remaining reader.now) }
     ensures other { (error : DimacsError) → ¬ (IsErrOf result (SolveError.Task error)) }
 {
@@ -140,7 +160,10 @@ fn open_proof<'a, R: Read>(
         return Ok(None);
     };
     match proof_file::create(rt, options, path, reader) {
-        Ok(file) => Ok(Some(file)),
+        Ok(file) => Ok(Some(ProofFile {
+            file,
+            cube: options.number("--cube").map(|_| assumed),
+        })),
         Err(error) => Err(SolveError::Proof(error)),
     }
 }
@@ -175,7 +198,7 @@ fn answer<'a, W: Write>(
     rt: &HostRuntime,
     options: &Options<'a>,
     instance: Instance<Cnf>,
-    proof: Option<NewFile<'a>>,
+    proof: Option<ProofFile<'_, 'a>>,
     watch: Watch,
     writer: &mut W,
 ) -> Result<Solved, SolveError<'a>>
@@ -212,7 +235,7 @@ fn answer_told<'a, W: Write, P: Progress + Drop>(
     rt: &HostRuntime,
     options: &Options<'a>,
     instance: Instance<Cnf>,
-    proof: Option<NewFile<'a>>,
+    proof: Option<ProofFile<'_, 'a>>,
     mut progress: P,
     writer: &mut W,
 ) -> Result<Told<P>, SolveError<'a>>
@@ -226,8 +249,8 @@ fn answer_told<'a, W: Write, P: Progress + Drop>(
         ¬ (IsErrOf result (SolveError.Task (DimacsError.Line line reason))) }
     ensures unwritten { IfErr result (λ error. error ≢ SolveError.Task DimacsError.Output → writer.new ≡ writer.old) }
 {
-    if let Some(file) = proof {
-        return prove(rt, options, instance, file, progress, writer);
+    if let Some(proof) = proof {
+        return prove(rt, options, instance, proof, progress, writer);
     }
     let task = task_of(options);
     match solve_instance(rt.alloc(), instance, writer, task, &mut progress) {
@@ -241,7 +264,7 @@ fn prove<'a, W: Write, P: Progress + Drop>(
     rt: &HostRuntime,
     options: &Options<'a>,
     instance: Instance<Cnf>,
-    mut file: NewFile<'a>,
+    proof: ProofFile<'_, 'a>,
     progress: P,
     writer: &mut W,
 ) -> Result<Told<P>, SolveError<'a>>
@@ -255,8 +278,9 @@ fn prove<'a, W: Write, P: Progress + Drop>(
         ¬ (IsErrOf result (SolveError.Task (DimacsError.Line line reason))) }
     ensures unwritten { IfErr result (λ error. error ≢ SolveError.Task DimacsError.Output → writer.new ≡ writer.old) }
 {
+    let ProofFile { mut file, cube } = proof;
     let mut text = Vec::new(rt.alloc());
-    let told = match prove_to(rt, options, instance, &mut file, progress, &mut text) {
+    let told = match prove_to(rt, options, instance, &mut file, cube, progress, &mut text) {
         Ok(told) => told,
         Err(error) => return Err(error),
     };
@@ -269,12 +293,13 @@ fn prove<'a, W: Write, P: Progress + Drop>(
     }
 }
 
-// Solves a formula that was read, writes a proof to a file, and the answer.
+// Solves a formula that was read, writes a proof to a file, of this cube if it is one of a part, and the answer.
 fn prove_to<'a, W: Write, P: Progress + Drop>(
     rt: &HostRuntime,
     options: &Options<'a>,
     instance: Instance<Cnf>,
     file: &mut NewFile<'a>,
+    cube: Option<&[Literal]>,
     progress: P,
     writer: &mut W,
 ) -> Result<Told<P>, SolveError<'a>>
@@ -287,11 +312,41 @@ fn prove_to<'a, W: Write, P: Progress + Drop>(
     ensures other { (line : ℕ) (reason : Reason) →
         ¬ (IsErrOf result (SolveError.Task (DimacsError.Line line reason))) }
 {
-    let path = file.name();
+    let (alloc, path) = (rt.alloc(), file.name());
     let (form, format) = (form_of(options), format_of(options));
+    let Some(cube) = cube else {
+        let proof = ProofWriter::in_form(alloc, file, form, format);
+        return prove_by(rt, options, instance, path, proof, progress, writer);
+    };
+    let proof = match PartWriter::new(alloc, file, format, cube, &instance.clauses) {
+        Ok(proof) => proof,
+        Err(AllocError) => return Err(SolveError::Task(DimacsError::Memory)),
+    };
+    prove_by(rt, options, instance, path, proof, progress, writer)
+}
+
+// Solves a formula that was read, and writes a proof to the file of this name by these steps, and the answer.
+fn prove_by<'a, W: Write, P: Progress + Drop, Q: Progress + ProofSteps + Drop>(
+    rt: &HostRuntime,
+    options: &Options<'a>,
+    instance: Instance<Cnf>,
+    path: &'a str,
+    proof: Q,
+    progress: P,
+    writer: &mut W,
+) -> Result<Told<P>, SolveError<'a>>
+    ensures written { IfOk result (λ told. WritesAnswerWith options.now.witness
+        (problem_of instance.variables instance.clauses) options.now.conflicts told.solved
+        (W.contents writer.old) (W.contents writer.new)) }
+    ensures formula { IfOk result (λ told. formula_of told.solved ≡ instance.clauses) }
+    ensures stopped { IfOk result (λ told.
+        told.solved.verdict ≡ Verdict.Stopped → IsTrue (P.wants_stop told.progress)) }
+    ensures other { (line : ℕ) (reason : Reason) →
+        ¬ (IsErrOf result (SolveError.Task (DimacsError.Line line reason))) }
+{
     let mut both = Both {
         first: progress,
-        second: ProofWriter::in_form(rt.alloc(), file, form, format),
+        second: proof,
     };
     let task = task_of(options);
     let solved = match solve_instance(rt.alloc(), instance, writer, task, &mut both) {
@@ -302,7 +357,7 @@ fn prove_to<'a, W: Write, P: Progress + Drop>(
         first: progress,
         second: mut proof,
     } = both;
-    match proof.finish(solved.verdict == Verdict::Unsatisfiable) {
+    match proof.end_steps(solved.verdict == Verdict::Unsatisfiable) {
         Ok(()) => Ok(Told { solved, progress }),
         Err(Fault::Memory) => Err(SolveError::Task(DimacsError::Memory)),
         Err(Fault::Output(error)) => Err(SolveError::Proof(ProofError::Write(path, error))),
