@@ -98,7 +98,7 @@ adds_latches_then first then = record {
   constraints = then.constraints ∙ first.constraints;
 }
 
-none_behind : {X : Type 0} (xs : List X) → xs ≡ xs ++ []
+pub none_behind : {X : Type 0} (xs : List X) → xs ≡ xs ++ []
 none_behind [] = refl
 none_behind (x ∷ xs) = ap (λ ys. x ∷ ys) (none_behind xs)
 

@@ -30,7 +30,7 @@ state_along c bad step start is_bad m n t is (suc i) within =
     ∙ ap (λ s. step s (m.input (t i))) (state_along c bad step start is_bad m n t is i (omega (arith, within)))
 
 -- the variable is none of these
-abbrev differ : ℕ → List ℕ → Bool
+abbrev pub differ : ℕ → List ℕ → Bool
 differ w vs = list_all (λ v. not (eqb w v)) vs
 
 other_not : (w v : ℕ) (defined : ℕ → Bool) → defined w ≡ true → not (defined v) ≡ true → not (eqb w v) ≡ true
@@ -39,7 +39,7 @@ other_not w v defined is new =
     (λ other. ap not other) (cases_Bool (eqb w v))
 
 -- what is defined before differs from what is new
-new_differ : (vs : List ℕ) (defined : ℕ → Bool) (w : ℕ) → defined w ≡ true → IsTrue (are_new vs defined) → IsTrue (differ w vs)
+pub new_differ : (vs : List ℕ) (defined : ℕ → Bool) (w : ℕ) → defined w ≡ true → IsTrue (are_new vs defined) → IsTrue (differ w vs)
 new_differ [] defined w is new = refl
 new_differ (v ∷ vs) defined w is new =
     let (here, rest) = and_parts (not (defined v)) (are_new vs (with_variable v defined)) new in
@@ -54,7 +54,7 @@ held_other (l ∷ ls) value a w other =
     let (here, rest) = and_parts (not (eqb w l.variable)) (differ w (map (λ k. k.variable) ls)) other in
     cond-false (eqb w l.variable) (value l) (held ls value a w) (not-true (eqb w l.variable) here) ∙ held_other ls value a w rest
 
-turned : (v w : ℕ) → not (eqb w v) ≡ true → eqb v w ≡ false
+pub turned : (v w : ℕ) → not (eqb w v) ≡ true → eqb v w ≡ false
 turned v w other =
     ⊎_elim (λ same. absurd (both_ways (eqb w v) (not-true (eqb w v) other) (eq-eqb w v (sym (eqb-true v w same)))))
     (λ is. is) (cases_Bool (eqb v w))

@@ -27,7 +27,7 @@ pub number_over-zero : (a : Assignment) (ls : List Lit) → number_over a ls 0 �
 number_over-zero a [] = refl
 number_over-zero a (l ∷ ls) = ap (λ k. bit_of a l + 2 * k) (number_over-zero a ls)
 
-bit_small : (value : Bool) → cond value 1 0 < 2
+pub bit_small : (value : Bool) → cond value 1 0 < 2
 bit_small true = omega arith
 bit_small false = omega arith
 
@@ -36,7 +36,7 @@ doubled b n k bit less =
     let next : 2 ^ suc k ≡ 2 ^ k + 2 ^ k = two-pow-succ k in omega (arith, next, bit, less)
 
 -- with k digits a number is below 2^k
-number_small : (a : Assignment) (ls : List Lit) → number_of a ls < 2 ^ length ls
+pub number_small : (a : Assignment) (ls : List Lit) → number_of a ls < 2 ^ length ls
 number_small a [] = omega arith
 number_small a (l ∷ ls) =
     doubled (bit_of a l) (number_of a ls) (length ls) (bit_small (is_true a l)) (number_small a ls)
@@ -46,7 +46,7 @@ shifted_once b n m s k is =
     let next : n * 2 ^ suc k ≡ n * 2 ^ k + n * 2 ^ k = ap (λ p. n * p) (two-pow-succ k) ∙ mul-add n (2 ^ k) (2 ^ k) in
     omega (arith, next, is)
 
-number_over-split : (a : Assignment) (ls : List Lit) (n : ℕ) → number_over a ls n ≡ n * 2 ^ length ls + number_of a ls
+pub number_over-split : (a : Assignment) (ls : List Lit) (n : ℕ) → number_over a ls n ≡ n * 2 ^ length ls + number_of a ls
 number_over-split a [] n = omega arith
 number_over-split a (l ∷ ls) n =
     shifted_once (bit_of a l) n (number_of a ls) (number_over a ls n) (length ls) (number_over-split a ls n)

@@ -1,7 +1,7 @@
 -- Circuits that are built step by step: what a step adds, and what it gives.
-use Rattle.std.specs.Prelude.{◌≡◌, ℕ, ◌+◌, ◌*◌, ◌^◌, ◌%◌, ◌&&◌, ◌||◌, ◌++◌, ◌==◌, Bool, false, not, List, [], ◌∷◌, length, map, Option, if◌then◌else◌, IsTrue}
+use Rattle.std.specs.Prelude.{◌≡◌, ℕ, ◌+◌, ◌*◌, ◌^◌, ◌/◌, ◌%◌, ◌&&◌, ◌||◌, ◌++◌, ◌==◌, ltb, Bool, false, not, List, [], ◌∷◌, length, map, Option, if◌then◌else◌, IsTrue}
 use Rattle.std.specs.Bool.{beq}
-use Rattle.std.specs.List.{list_all}
+use Rattle.std.specs.List.{list_all, list_any}
 use Rattle.gipsat_cnf.specs.Formulas.{Assignment, is_true}
 use Rattle.gipsat_cnf.specs.Literals.{Lit}
 use Rattle.gipmc_circuits.specs.declared.circuit.Circuit.{Circuit}
@@ -67,6 +67,10 @@ Becomes c l next = (a b : Assignment) → IsTrue (is_transition c a b) → is_tr
 abbrev pub GivesAnd : Circuit → Lit → Lit → Lit → Type 0
 GivesAnd c x y o = (a : Assignment) → IsTrue (is_valuation c a) → is_true a o ≡ (is_true a x && is_true a y)
 
+-- wherever variable 0 is false, the literal is true exactly if both others are
+abbrev pub FoldsAnd : Lit → Lit → Lit → Type 0
+FoldsAnd x y o = (a : Assignment) → a 0 ≡ false → is_true a o ≡ (is_true a x && is_true a y)
+
 -- in each valuation the literal is true exactly if one of the others is, or both
 abbrev pub GivesOr : Circuit → Lit → Lit → Lit → Type 0
 GivesOr c x y o = (a : Assignment) → IsTrue (is_valuation c a) → is_true a o ≡ (is_true a x || is_true a y)
@@ -84,6 +88,14 @@ abbrev pub GivesMux : Circuit → Lit → Lit → Lit → Lit → Type 0
 GivesMux c s x y o =
     (a : Assignment) → IsTrue (is_valuation c a) → is_true a o ≡ (if is_true a s then is_true a x else is_true a y)
 
+-- in each valuation the literal is true exactly if all of them are
+abbrev pub GivesAll : Circuit → List Lit → Lit → Type 0
+GivesAll c ls o = (a : Assignment) → IsTrue (is_valuation c a) → is_true a o ≡ list_all (is_true a) ls
+
+-- in each valuation the literal is true exactly if any of them is
+abbrev pub GivesAny : Circuit → List Lit → Lit → Type 0
+GivesAny c ls o = (a : Assignment) → IsTrue (is_valuation c a) → is_true a o ≡ list_any (is_true a) ls
+
 -- 1 where the literal is true, and else 0
 abbrev pub bit_of : Assignment → Lit → ℕ
 bit_of a l = if is_true a l then 1 else 0
@@ -98,10 +110,36 @@ abbrev pub GivesDigits : Circuit → Lit → Lit → Lit → Lit → Lit → Typ
 GivesDigits c x y z low high =
     (a : Assignment) → IsTrue (is_valuation c a) → bit_of a low + 2 * bit_of a high ≡ bit_of a x + bit_of a y + bit_of a z
 
+-- in each valuation the literal is true exactly if the one bit is less than the other two together
+abbrev pub GivesBorrow : Circuit → Lit → Lit → Lit → Lit → Type 0
+GivesBorrow c x y z o =
+    (a : Assignment) → IsTrue (is_valuation c a) → is_true a o ≡ ltb (bit_of a x) (bit_of a y + bit_of a z)
+
+-- in each valuation the low digit is the one bit less the other two, with 2 borrowed where the high one is true
+abbrev pub GivesDifferenceDigits : Circuit → Lit → Lit → Lit → Lit → Lit → Type 0
+GivesDifferenceDigits c x y z low high =
+    (a : Assignment) → IsTrue (is_valuation c a) → bit_of a low + bit_of a y + bit_of a z ≡ bit_of a x + 2 * bit_of a high
+
 -- in each valuation the number is the sum of the others
 abbrev pub GivesSum : Circuit → List Lit → List Lit → List Lit → Type 0
 GivesSum c xs ys zs =
     (a : Assignment) → IsTrue (is_valuation c a) → number_of a zs ≡ number_of a xs + number_of a ys
+
+-- in each valuation the number is one more than the other
+abbrev pub GivesSuccessor : Circuit → List Lit → List Lit → Type 0
+GivesSuccessor c xs zs = (a : Assignment) → IsTrue (is_valuation c a) → number_of a zs ≡ number_of a xs + 1
+
+-- in each valuation the number is the difference of the others, and 2 to the power of its digits more where it were below 0
+abbrev pub GivesDifference : Circuit → List Lit → List Lit → List Lit → Type 0
+GivesDifference c xs ys zs =
+    (a : Assignment) → IsTrue (is_valuation c a)
+    → number_of a zs + number_of a ys
+    ≡ number_of a xs + (if ltb (number_of a xs) (number_of a ys) then 2 ^ length zs else 0)
+
+-- in each valuation the literal is true exactly if the one number is less than the other
+abbrev pub GivesLess : Circuit → List Lit → List Lit → Lit → Type 0
+GivesLess c xs ys o =
+    (a : Assignment) → IsTrue (is_valuation c a) → is_true a o ≡ ltb (number_of a xs) (number_of a ys)
 
 -- in each valuation the number is the one where the selector is true, and else the other
 abbrev pub GivesChoice : Circuit → Lit → List Lit → List Lit → List Lit → Type 0
@@ -133,6 +171,14 @@ constant value = record { variable = 0; positive = not value }
 -- the literals are the digits of the number, wherever variable 0 is false
 abbrev pub AreDigits : ℕ → List Lit → Type 0
 AreDigits n ls = (a : Assignment) → a 0 ≡ false → number_of a ls ≡ n
+
+-- wherever variable 0 is false, the number is the other one, doubled so many times
+abbrev pub IsShiftedLeft : List Lit → ℕ → List Lit → Type 0
+IsShiftedLeft xs k zs = (a : Assignment) → a 0 ≡ false → number_of a zs ≡ number_of a xs * 2 ^ k
+
+-- the number is the other one, halved so many times
+abbrev pub IsShiftedRight : List Lit → ℕ → List Lit → Type 0
+IsShiftedRight xs k zs = (a : Assignment) → number_of a zs ≡ number_of a xs / 2 ^ k
 
 -- the variables of the literals
 abbrev pub variables_of : List Lit → List ℕ

@@ -1,17 +1,20 @@
 //! Circuits that are built step by step, each step with its meaning.
-ghost use Rattle.std.specs.Prelude.{◌≡◌, ◌+◌, ◌≤◌, ◌∷◌, [], true, if◌then◌else◌, length, option_map, slice_index_or};
-ghost use Rattle.std.specs.Prelude.{false, IfOk, IsTrue, MatchOption, OnOk};
+ghost use Rattle.std.specs.Prelude.{◌≡◌, ◌+◌, ◌≤◌, ◌⊎◌, ◌∷◌, [], true, if◌then◌else◌, length, max, option_map};
+ghost use Rattle.std.specs.Prelude.{false, slice_index_or, IfOk, IfSome, IsTrue, MatchOption, OnOk};
 ghost use Rattle.std.specs.Bool.{beq};
 ghost use Rattle.gipsat_cnf.specs.Literals.{negated};
 ghost use Rattle.gipmc_circuits.specs.WellFormed.{is_well_formed};
 ghost use Rattle.gipmc_builder.specs.Build.{AddsInputs, AddsLatches, AddsProperties, IsEmpty, Keeps};
 ghost use Rattle.gipmc_builder.specs.Build.{AreDigits, are_positive, constant, variables_of};
 ghost use Rattle.gipmc_builder.specs.Build.{Becomes, StartsAs, StartsAt, Takes};
-ghost use Rattle.gipmc_builder.specs.Build.{GivesAnd, GivesEqual, GivesMux, GivesOr, GivesXor};
-ghost use Rattle.gipmc_builder.specs.Build.{GivesChoice, GivesDigits, GivesSame, GivesSum};
+ghost use Rattle.gipmc_builder.specs.Build.{FoldsAnd, GivesAnd, GivesEqual, GivesMux, GivesOr, GivesXor};
+ghost use Rattle.gipmc_builder.specs.Build.{GivesAll, GivesAny, GivesBorrow, GivesDifferenceDigits, GivesDigits};
+ghost use Rattle.gipmc_builder.specs.Build.{GivesChoice, GivesDifference, GivesLess, GivesSame, GivesSuccessor, GivesSum};
+ghost use Rattle.gipmc_builder.specs.Build.{IsShiftedLeft, IsShiftedRight};
 
 use gipmc_circuits::{And, Circuit, Latch, Netlist};
 use gipsat_cnf::Literal;
+use giputils_hash::hash::GHashMap;
 use std::alloc::{AllocError, Global};
 
 /// The literal that is always true, or always false.
@@ -61,8 +64,46 @@ fn signed_reset(reset: Option<bool>, same: bool) -> Option<bool>
     }
 }
 
+// Whether both are one literal.
+fn is_same(left: Literal, right: Literal) -> bool
+    ensures { IsTrue result → left ≡ right }
+{
+    left.code() == right.code()
+}
+
+// The literal that is true where both are, if it needs no gate: one is constant, or both are of one variable.
+fn folded(left: Literal, right: Literal) -> Option<Literal>
+    ensures { IfSome result (FoldsAnd left right) }
+{
+    if is_same(left, constant(true)) {
+        return Some(right);
+    }
+    if is_same(right, constant(true)) {
+        return Some(left);
+    }
+    if is_same(left, right) {
+        return Some(left);
+    }
+    if is_same(left, constant(false)) {
+        return Some(left);
+    }
+    if is_same(right, constant(false)) {
+        return Some(right);
+    }
+    if is_same(left, right.negated()) {
+        return Some(constant(false));
+    }
+    None
+}
+
+// The number under which a gate with these operands is kept.
+fn key_of(left: Literal, right: Literal) -> u64 {
+    (left.code() as u64) * (1 << 32) + right.code() as u64
+}
+
 // The length of the longer list.
 fn width_of(left: &[Literal], right: &[Literal]) -> usize
+    ensures max { result ≡ max (length left.now) (length right.now) }
     ensures left { length left.now ≤ result }
     ensures right { length right.now ≤ result }
 {
@@ -79,6 +120,10 @@ pub struct Builder {
     pub circuit: Circuit,
     /// The variable that the next step takes.
     pub variables: usize,
+    // The places of the gates that the calls added, by their operands.
+    places: GHashMap<u64, usize>,
+    // What the calls take memory of.
+    alloc: Global,
 }
 
 impl Builder {
@@ -89,17 +134,23 @@ impl Builder {
         Builder {
             circuit: Circuit::new(alloc),
             variables: 1,
+            places: GHashMap::new(alloc),
+            alloc,
         }
     }
 
-    /// The builder of a circuit that begins with these gates, latches and inputs.
+    /// The builder of a circuit that begins with these gates, latches and inputs. It shares the gates of its own calls
+    /// alone.
     pub fn over(netlist: Netlist) -> Self
         ensures circuit { result.circuit ≡ netlist.circuit }
         ensures variables { result.variables ≡ netlist.variables }
     {
+        let alloc = *netlist.circuit.gates.allocator();
         Builder {
             variables: netlist.variables,
             circuit: netlist.circuit,
+            places: GHashMap::new(alloc),
+            alloc,
         }
     }
 
@@ -108,11 +159,11 @@ impl Builder {
     ///
     /// # Errors
     /// `AllocError` where memory is refused.
-    pub fn finish(self, alloc: Global) -> Result<Option<Netlist>, AllocError>
+    pub fn finish(self) -> Result<Option<Netlist>, AllocError>
         ensures { IfOk result
             (λ made. MatchOption made (is_well_formed self.circuit ≡ false) (λ n. n.circuit ≡ self.circuit)) }
     {
-        Netlist::new(alloc, self.circuit)
+        Netlist::new(self.alloc, self.circuit)
     }
 
     /// A variable that no other literal has. It is to become a latch, by `latch` or `register`.
@@ -137,12 +188,12 @@ impl Builder {
     ///
     /// # Errors
     /// `AllocError` where memory is refused, or where a variable would be 2^31 or more.
-    pub fn bits(&mut self, alloc: Global, width: usize) -> Result<Vec<Literal>, AllocError>
+    pub fn bits(&mut self, width: usize) -> Result<Vec<Literal>, AllocError>
         ensures same { self.new.circuit ≡ self.old.circuit }
         ensures width { IfOk result (λ bits. length bits.items ≡ width) }
         ensures positive { IfOk result (λ bits. IsTrue (are_positive bits.items)) }
     {
-        let mut bits = Vec::with_capacity(alloc, width)?;
+        let mut bits = Vec::with_capacity(self.alloc, width)?;
         while bits.len() < width {
             let bit = self.bit()?;
             bits.push(bit)?;
@@ -167,13 +218,13 @@ impl Builder {
     ///
     /// # Errors
     /// `AllocError` where memory is refused, or where a variable would be 2^31 or more.
-    pub fn inputs(&mut self, alloc: Global, width: usize) -> Result<Vec<Literal>, AllocError>
+    pub fn inputs(&mut self, width: usize) -> Result<Vec<Literal>, AllocError>
         ensures adds { IfOk result (λ bits.
             AddsInputs self.old.circuit self.new.circuit (variables_of bits.items)) }
         ensures width { IfOk result (λ bits. length bits.items ≡ width) }
         ensures positive { IfOk result (λ bits. IsTrue (are_positive bits.items)) }
     {
-        let mut bits = Vec::with_capacity(alloc, width)?;
+        let mut bits = Vec::with_capacity(self.alloc, width)?;
         while bits.len() < width {
             let bit = self.input()?;
             bits.push(bit)?;
@@ -249,7 +300,8 @@ impl Builder {
         Ok(())
     }
 
-    /// The literal that is true where both are. Adds a gate.
+    /// The literal that is true where both are. Adds at most a gate: none where there is one of these two literals, where
+    /// one of them is constant, or where both are of one variable.
     ///
     /// # Errors
     /// `AllocError` where memory is refused, or where a variable would be 2^31 or more.
@@ -257,16 +309,55 @@ impl Builder {
         ensures keeps { Keeps self.old.circuit self.new.circuit }
         ensures gives { IfOk result (GivesAnd self.new.circuit left right) }
     {
+        if left.code() > right.code() {
+            return self.and_in_order(right, left);
+        }
+        self.and_in_order(left, right)
+    }
+
+    // The literal of both, whose gate is shared with each other call of the two in this order.
+    fn and_in_order(&mut self, left: Literal, right: Literal) -> Result<Literal, AllocError>
+        ensures keeps { Keeps self.old.circuit self.new.circuit }
+        ensures gives { IfOk result (GivesAnd self.new.circuit left right) }
+    {
+        if let Some(folded) = folded(left, right) {
+            return Ok(folded);
+        }
+        if let Some(shared) = self.shared(left, right) {
+            return Ok(shared);
+        }
+        self.gate(left, right)
+    }
+
+    // The output of the gate of these operands, if a call has added one.
+    fn shared(&self, left: Literal, right: Literal) -> Option<Literal>
+        ensures { IfSome result (GivesAnd self.now.circuit left right) }
+    {
+        let place = *self.places.get(&key_of(left, right))?;
+        let gate = *self.circuit.gates.get(place)?;
+        if !is_same(gate.left, left) || !is_same(gate.right, right) || gate.output >= 1 << 31 {
+            return None;
+        }
+        Some(Literal::new(gate.output, true))
+    }
+
+    // The output of a gate that is added.
+    fn gate(&mut self, left: Literal, right: Literal) -> Result<Literal, AllocError>
+        ensures keeps { Keeps self.old.circuit self.new.circuit }
+        ensures gives { IfOk result (GivesAnd self.new.circuit left right) }
+    {
         let output = self.bit()?;
+        let place = self.circuit.gates.len();
         self.circuit.gates.push(And {
             output: output.variable(),
             left,
             right,
         })?;
+        self.places.insert(key_of(left, right), place)?;
         Ok(output)
     }
 
-    /// The literal that is true where one of them is, or both. Adds a gate.
+    /// The literal that is true where one of them is, or both. Adds at most a gate.
     ///
     /// # Errors
     /// `AllocError` where memory is refused, or where a variable would be 2^31 or more.
@@ -278,7 +369,7 @@ impl Builder {
         Ok(neither.negated())
     }
 
-    /// The literal that is true where one of them is, and not both. Adds three gates.
+    /// The literal that is true where one of them is, and not both. Adds at most three gates.
     ///
     /// # Errors
     /// `AllocError` where memory is refused, or where a variable would be 2^31 or more.
@@ -291,7 +382,7 @@ impl Builder {
         self.or(only_left, only_right)
     }
 
-    /// The literal that is true where both are, and where neither is. Adds three gates.
+    /// The literal that is true where both are, and where neither is. Adds at most three gates.
     ///
     /// # Errors
     /// `AllocError` where memory is refused, or where a variable would be 2^31 or more.
@@ -303,7 +394,7 @@ impl Builder {
         Ok(differ.negated())
     }
 
-    /// What `left` is where the selector is true, and else what `right` is. Adds three gates.
+    /// What `left` is where the selector is true, and else what `right` is. Adds at most three gates.
     ///
     /// # Errors
     /// `AllocError` where memory is refused, or where a variable would be 2^31 or more.
@@ -343,16 +434,11 @@ impl Builder {
     ///
     /// # Errors
     /// `AllocError` where memory is refused, or where a variable would be 2^31 or more.
-    pub fn add(
-        &mut self,
-        alloc: Global,
-        left: &[Literal],
-        right: &[Literal],
-    ) -> Result<Vec<Literal>, AllocError>
+    pub fn add(&mut self, left: &[Literal], right: &[Literal]) -> Result<Vec<Literal>, AllocError>
         ensures keeps { Keeps self.old.circuit self.new.circuit }
         ensures gives { IfOk result (λ sum. GivesSum self.new.circuit left.now right.now sum.items) }
     {
-        let mut sum = Vec::new(alloc);
+        let mut sum = Vec::new(self.alloc);
         let mut carry = constant(false);
         let width = width_of(left, right);
         for place in 0..width {
@@ -370,7 +456,6 @@ impl Builder {
     /// `AllocError` where memory is refused, or where a variable would be 2^31 or more.
     pub fn choose(
         &mut self,
-        alloc: Global,
         selector: Literal,
         left: &[Literal],
         right: &[Literal],
@@ -379,13 +464,151 @@ impl Builder {
         ensures gives { IfOk result (λ chosen.
             GivesChoice self.new.circuit selector left.now right.now chosen.items) }
     {
-        let mut chosen = Vec::new(alloc);
+        let mut chosen = Vec::new(self.alloc);
         let width = width_of(left, right);
         for place in 0..width {
             let bit = self.mux(selector, bit_at(left, place), bit_at(right, place))?;
             chosen.push(bit)?;
         }
         Ok(chosen)
+    }
+
+    /// The number that is one more, with a digit more.
+    ///
+    /// # Errors
+    /// `AllocError` where memory is refused, or where a variable would be 2^31 or more.
+    pub fn increment(&mut self, bits: &[Literal]) -> Result<Vec<Literal>, AllocError>
+        ensures keeps { Keeps self.old.circuit self.new.circuit }
+        ensures gives { IfOk result (λ next. GivesSuccessor self.new.circuit bits.now next.items) }
+    {
+        self.add(bits, &[constant(true)])
+    }
+
+    // The digit of the difference of two bits and a borrowed one, and whether they borrow from the digit above.
+    fn sub_bits(
+        &mut self,
+        left: Literal,
+        right: Literal,
+        borrow: Literal,
+    ) -> Result<(Literal, Literal), AllocError>
+        ensures keeps { Keeps self.old.circuit self.new.circuit }
+        ensures gives { IfOk result (λ digits.
+            GivesDifferenceDigits self.new.circuit left right borrow digits.0 digits.1) }
+    {
+        let half = self.xor(left, right)?;
+        let low = self.xor(half, borrow)?;
+        let high = self.borrow(left, right, borrow)?;
+        Ok((low, high))
+    }
+
+    // The literal that is true where the left bit is less than the other two together.
+    fn borrow(
+        &mut self,
+        left: Literal,
+        right: Literal,
+        borrow: Literal,
+    ) -> Result<Literal, AllocError>
+        ensures keeps { Keeps self.old.circuit self.new.circuit }
+        ensures gives { IfOk result (GivesBorrow self.new.circuit left right borrow) }
+    {
+        let differ = self.xor(left, right)?;
+        self.mux(differ, right, borrow)
+    }
+
+    /// The difference of two numbers, with as many digits as the longer one has, and 2 to the power of these digits more
+    /// where `right` is greater: as `wrapping_sub` of integers.
+    ///
+    /// # Errors
+    /// `AllocError` where memory is refused, or where a variable would be 2^31 or more.
+    pub fn sub(&mut self, left: &[Literal], right: &[Literal]) -> Result<Vec<Literal>, AllocError>
+        ensures keeps { Keeps self.old.circuit self.new.circuit }
+        ensures gives { IfOk result (λ difference.
+            GivesDifference self.new.circuit left.now right.now difference.items) }
+        ensures width { IfOk result (λ difference.
+            length difference.items ≡ max (length left.now) (length right.now)) }
+    {
+        let mut difference = Vec::new(self.alloc);
+        let mut borrow = constant(false);
+        let width = width_of(left, right);
+        for place in 0..width {
+            let (low, high) = self.sub_bits(bit_at(left, place), bit_at(right, place), borrow)?;
+            difference.push(low)?;
+            borrow = high;
+        }
+        Ok(difference)
+    }
+
+    /// The literal that is true where `left` is the smaller number.
+    ///
+    /// # Errors
+    /// `AllocError` where memory is refused, or where a variable would be 2^31 or more.
+    pub fn less(&mut self, left: &[Literal], right: &[Literal]) -> Result<Literal, AllocError>
+        ensures keeps { Keeps self.old.circuit self.new.circuit }
+        ensures gives { IfOk result (GivesLess self.new.circuit left.now right.now) }
+    {
+        let mut less = constant(false);
+        let width = width_of(left, right);
+        for place in 0..width {
+            less = self.borrow(bit_at(left, place), bit_at(right, place), less)?;
+        }
+        Ok(less)
+    }
+
+    /// The number times 2 to the power of `places`, with so many digits more. Adds no gate.
+    ///
+    /// # Errors
+    /// `AllocError` where memory is refused.
+    pub fn shift_left(&self, bits: &[Literal], places: usize) -> Result<Vec<Literal>, AllocError>
+        ensures { IfOk result (λ shifted. IsShiftedLeft bits.now places shifted.items) }
+    {
+        let mut shifted = Vec::new(self.alloc);
+        shifted.resize(places, constant(false))?;
+        shifted.extend_from_slice(bits)?;
+        Ok(shifted)
+    }
+
+    /// The number by 2 to the power of `places`, rounded down, with so many digits less. Adds no gate.
+    ///
+    /// # Errors
+    /// `AllocError` where memory is refused.
+    pub fn shift_right(&self, bits: &[Literal], places: usize) -> Result<Vec<Literal>, AllocError>
+        ensures { IfOk result (λ shifted. IsShiftedRight bits.now places shifted.items) }
+    {
+        let mut shifted = Vec::new(self.alloc);
+        for place in places..bits.len() {
+            shifted.push(bits[place])?;
+        }
+        Ok(shifted)
+    }
+
+    /// The literal that is true where all of them are, and where there are none.
+    ///
+    /// # Errors
+    /// `AllocError` where memory is refused, or where a variable would be 2^31 or more.
+    pub fn and_all(&mut self, literals: &[Literal]) -> Result<Literal, AllocError>
+        ensures keeps { Keeps self.old.circuit self.new.circuit }
+        ensures gives { IfOk result (GivesAll self.new.circuit literals.now) }
+    {
+        let mut all = constant(true);
+        for place in 0..literals.len() {
+            all = self.and(all, literals[place])?;
+        }
+        Ok(all)
+    }
+
+    /// The literal that is true where any of them is.
+    ///
+    /// # Errors
+    /// `AllocError` where memory is refused, or where a variable would be 2^31 or more.
+    pub fn or_all(&mut self, literals: &[Literal]) -> Result<Literal, AllocError>
+        ensures keeps { Keeps self.old.circuit self.new.circuit }
+        ensures gives { IfOk result (GivesAny self.new.circuit literals.now) }
+    {
+        let mut any = constant(false);
+        for place in 0..literals.len() {
+            any = self.or(any, literals[place])?;
+        }
+        Ok(any)
     }
 
     /// The literal that is true where the two numbers are the same.
