@@ -2,9 +2,13 @@
 
 use crate::limited::Limited;
 use gipmc_aiger::AigerError;
+use gipmc_builder::{Builder, digits};
 use gipmc_uses::adders::majority_adder;
+use gipmc_uses::arbiter::never_grants_twice;
 use gipmc_uses::confirm::confirms;
 use gipmc_uses::counter::{counter, is_never_three};
+use gipmc_uses::larger::larger;
+use gipmc_uses::lights::never_both_green;
 use gipsat_cnf::SatSolver;
 use gipsat_plain::Plain;
 use std::alloc::{AllocError, Global};
@@ -20,6 +24,26 @@ fn size_of_counter(alloc: Global) -> Result<(usize, usize), AllocError> {
 fn the_counter_is_never_three(rt: HostRuntime) -> Result<(), AllocError> {
     assert!(rt; is_never_three::<Plain>(rt.alloc())?);
     assert!(rt; size_of_counter(rt.alloc())? == (2, 1));
+    Ok(())
+}
+
+// How many digits the larger one of two constants has.
+fn digits_of_larger(alloc: Global) -> Result<usize, AllocError> {
+    let mut build = Builder::new(alloc);
+    let found = larger(&mut build, &digits(alloc, 6)?, &digits(alloc, 1)?)?;
+    Ok(found.len())
+}
+
+#[test]
+fn the_larger_number_has_the_digits_of_the_longer(rt: HostRuntime) -> Result<(), AllocError> {
+    assert!(rt; digits_of_larger(rt.alloc())? == 3);
+    Ok(())
+}
+
+#[test]
+fn lights_and_an_arbiter_are_safe(rt: HostRuntime) -> Result<(), AllocError> {
+    assert!(rt; never_both_green::<Plain>(rt.alloc())?);
+    assert!(rt; never_grants_twice::<Plain>(rt.alloc())?);
     Ok(())
 }
 

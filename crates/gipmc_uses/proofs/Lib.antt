@@ -1,2 +1,1 @@
-mod Counters
 mod SameSums

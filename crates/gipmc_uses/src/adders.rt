@@ -36,12 +36,12 @@ pub fn majority_adder<S: SatSolver + Drop>(
         GivesSum adder.netlist.circuit adder.left.items adder.right.items adder.sum.items)) }
 {
     let mut build = Builder::new(alloc);
-    let left = build.inputs(alloc, width)?;
-    let right = build.inputs(alloc, width)?;
+    let left = build.inputs(width)?;
+    let right = build.inputs(width)?;
     let sum = add_by_majorities(alloc, &mut build, &left, &right)?;
-    let wanted = build.add(alloc, &left, &right)?;
+    let wanted = build.add(&left, &right)?;
     let same = build.are_same(&sum, &wanted)?;
-    let Some(netlist) = build.finish(alloc)? else {
+    let Some(netlist) = build.finish()? else {
         return Ok(None);
     };
     let clauses = Vec::new(alloc);

@@ -2,5 +2,8 @@
 #![tactic(auto)]
 
 pub mod adders;
+pub mod arbiter;
 pub mod confirm;
 pub mod counter;
+pub mod larger;
+pub mod lights;
