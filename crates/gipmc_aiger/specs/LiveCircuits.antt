@@ -5,6 +5,7 @@ use Rattle.gipsat_cnf.specs.Literals.{Lit}
 use Rattle.gipmc_circuits.specs.WellFormed.{is_variable}
 use Rattle.gipmc_circuits.specs.declared.circuit.Circuit.{Circuit}
 use Rattle.gipmc_aiger.specs.declared.liveness.Liveness.{Liveness}
+use Rattle.gipmc_aiger.specs.declared.problem.Problem.{Problem}
 use Rattle.gipmc_aiger.specs.Circuits.{IsReordering, LiveRows, live_rows_of, rows_of}
 
 -- the literals of each justice property, without where they lie in memory
@@ -24,6 +25,10 @@ pub record AreRowsOf (c : Circuit) (l : Liveness) (n : LiveRows) : Type 0 where
 -- a text writes a circuit, whose gates may stand in another order, with these justice properties and fairness constraints
 abbrev pub WritesLive : List ℕ → Circuit → Liveness → Type 0
 WritesLive text c l = (n : LiveRows) × (live_rows_of text ≡ Some n) × AreRowsOf c l n
+
+-- a text writes a problem
+abbrev pub IsProblemOf : List ℕ → Problem → Type 0
+IsProblemOf text p = WritesLive text p.netlist.circuit p.liveness
 
 -- the literals of some lists
 abbrev pub flattened : List (List Lit) → List Lit

@@ -1,10 +1,10 @@
-//! Readers of circuits, and of circuits with their justice properties and fairness constraints.
+//! Readers of circuits, and of problems: circuits with their justice properties and fairness constraints.
 ghost use Rattle.std.specs.Prelude.{◌≡◌, ◌++◌, ℕ, None, IfErr, IfOk, IfSome, IsErrOf, IsTrue, OnOk, map, take};
 ghost use Rattle.gipmc_circuits.specs.WellFormed.{is_well_formed};
 ghost use Rattle.gipmc_aiger.specs.Reading.{Gives};
 ghost use Rattle.gipmc_aiger.specs.Defects.{IsCyclic, IsErrorOf, WritesLiveRows, WritesRows, as_bads, is_twice, is_undefined, with_bads};
-ghost use Rattle.gipmc_aiger.specs.Circuits.{bads_of, body_at, circuit_of, is_live_alone, live_rows_of, rows_of, IsReordering, Writes};
-ghost use Rattle.gipmc_aiger.specs.LiveCircuits.{are_defined, flattened, justice_view, live_literals, live_rows, WritesLive};
+ghost use Rattle.gipmc_aiger.specs.Circuits.{bads_of, body_at, circuit_of, live_rows_of, rows_of, IsReordering, Writes};
+ghost use Rattle.gipmc_aiger.specs.LiveCircuits.{are_defined, flattened, justice_view, live_literals, live_rows, IsProblemOf};
 
 use crate::error::{AigerError, Place, Reason, Stop};
 use crate::header::{Form, Header};
@@ -12,6 +12,7 @@ use crate::headers::header;
 use crate::liveness::{Liveness, properties};
 use crate::order::order;
 use crate::place::error_at;
+use crate::problem::{Problem, is_live_alone};
 use crate::rows::rows;
 use crate::tails::tail;
 use gipmc_circuits::well_formed::is_well_formed;
@@ -21,7 +22,7 @@ use std::alloc::{AllocError, Global};
 
 /// Reads a circuit in either form of AIGER 1.9. Where the text has neither bad literals nor justice properties, its outputs
 /// are taken for bad literals. Beside bad literals, justice properties and fairness constraints are read over;
-/// [`read_liveness`] reads them.
+/// [`read_problem`] reads them.
 ///
 /// Gates of an `aag` text may stand in any order; the circuit has each behind those that it depends on.
 ///
@@ -49,16 +50,17 @@ pub fn read_circuit(alloc: Global, text: &[u8]) -> Result<Netlist, AigerError>
 }
 
 /// Reads a circuit as [`read_circuit`] does, with its justice properties and fairness constraints. The text need not have
-/// bad literals; where it has justice properties and no bad literals, the circuit has none.
+/// bad literals; where it has justice properties and no bad literals, the circuit has none. Else it is the circuit that
+/// [`read_circuit`] reads.
 ///
 /// Variables have the numbers that the text gives them.
 ///
 /// # Errors
 /// As for [`read_circuit`]. A variable of a justice property or of a fairness constraint that is not defined is one that
 /// is used.
-pub fn read_liveness(alloc: Global, text: &[u8]) -> Result<(Netlist, Liveness), AigerError>
-    ensures ok { IfOk result (λ x. WritesLive text.now x.0.circuit x.1) }
-    ensures defined { IfOk result (λ x. IsTrue (are_defined x.0.circuit x.1)) }
+pub fn read_problem(alloc: Global, text: &[u8]) -> Result<Problem, AigerError>
+    ensures ok { IfOk result (IsProblemOf text.now) }
+    ensures defined { IfOk result (λ p. IsTrue (are_defined p.netlist.circuit p.liveness)) }
     ensures refused { (place : Place) (reason : Reason) → IsErrOf result (AigerError.Refused place reason) →
         live_rows_of text.now ≡ None }
     ensures twice { (v : ℕ) → IsErrOf result (AigerError.Twice v) →
@@ -73,7 +75,7 @@ pub fn read_liveness(alloc: Global, text: &[u8]) -> Result<(Netlist, Liveness), 
         Err(stop) => return Err(error_at(text, stop)),
     };
     let netlist = ordered_with(alloc, header.form, circuit, &liveness)?;
-    Ok((netlist, liveness))
+    Ok(Problem { netlist, liveness })
 }
 
 // The header and the rows of a circuit, whose justice properties stand beside bad literals alone.
@@ -86,13 +88,6 @@ fn alone(alloc: Global, text: &[u8]) -> Result<(Header, Circuit), Stop>
         return Err(Stop::Refused(Reason::Liveness, text.len()));
     }
     Ok((header, circuit))
-}
-
-// Whether there are justice properties, and no bad literals.
-fn is_live_alone(circuit: &Circuit, liveness: &Liveness) -> bool
-    ensures { result ≡ is_live_alone (live_rows circuit.now liveness.now) }
-{
-    !liveness.justice.is_empty() && circuit.bads.is_empty()
 }
 
 // The header and the rows.
