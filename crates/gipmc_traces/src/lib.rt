@@ -7,7 +7,7 @@ mod signals;
 mod table;
 mod waves;
 
-pub use names::{Names, Property};
+pub use names::Names;
 pub use rows::latch_rows;
 pub use signals::Scene;
 pub use table::{known_text, table_text};

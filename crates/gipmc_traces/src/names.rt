@@ -1,16 +1,8 @@
 //! The names of a circuit's inputs, latches and properties, which its text has behind the gates.
+use gipmc_aiger::Property;
 use gipmc_circuits::Circuit;
 use giputils_text::{number, split_line, split_once};
 use std::alloc::{AllocError, Global};
-
-/// A property of a circuit, by its place among those of its kind.
-#[derive(Clone, Copy)]
-pub enum Property {
-    /// A bad literal.
-    Bad(usize),
-    /// A justice property.
-    Justice(usize),
-}
 
 /// The names of a circuit, as its text writes them. Where there is none, it is empty.
 pub struct Names<'a> {

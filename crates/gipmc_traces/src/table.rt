@@ -1,12 +1,13 @@
 //! What changes from moment to moment of a trace, in lines that a reader of witnesses passes over.
-use crate::names::{Names, Property};
+use crate::names::Names;
 use crate::signals::{Scene, Signal, signals};
+use gipmc_aiger::Property;
 use std::alloc::{AllocError, Global};
 use std::io::Write;
 
 /// The table of a trace by which a property fails: a line with the name of the property, then lines
-/// `c #MOMENT NAME = VALUE` for what each input and latch is at moment 0, and later for what is another value than at the
-/// moment before. A lasso ends with the line `c #END is #START again`: behind its last moment its loop begins anew.
+/// `c #MOMENT NAME = VALUE` for what each input and latch is at moment 0, and later for what is another value than at
+/// the moment before. A lasso ends with the line `c #END is #START again`: behind its last moment its loop begins anew.
 ///
 /// # Errors
 /// `AllocError` where memory is refused.

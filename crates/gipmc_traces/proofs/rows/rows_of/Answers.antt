@@ -12,7 +12,8 @@ use Rattle.gipmc_traces.proofs.rows.rows_of.Goals as goal
 
 pub loop-place-init : goal.loop-place-init
 loop-place-init c =
-    let (initial, moment, latches, row) = rw (c.in-Some-2.is, c.deref-2.ensures.value, c.deref-3.ensures.value) at c.in_ok-values.ensures in
+    let (initial, moment, latches, row) =
+    rw (c.in-Some-2.is, c.deref-2.ensures.value, c.deref-3.ensures.value) at c.in_ok-values.ensures in
     let a = assignment_in c.in-Some-2.values.items in
     let held = rw (c.deref-4.ensures.value) at c.in_ok-row_of.ensures in (
       (λ i. a),
@@ -42,8 +43,9 @@ loop-place-preserved c =
       followed_by-new now c.loop-place.place t,
       subst (λ a. HoldsRow a (latch_variables c.args.circuit.now) c.args.trace.now.latches.items)
           (sym (followed_by-old now c.loop-place.place t 0 (omega arith))) latches,
-      holds_more c.loop-place.place t now c.args.circuit.now.inputs.items c.args.trace.now.inputs.items c.in-Some.rest.now c.in-Some.first.now
-          c.index-rest-place.result (sym c.deref.ensures.value ∙ c.in-Some.ensures.cases.0) c.index-rest-place.is rows row,
+      holds_more c.loop-place.place t now c.args.circuit.now.inputs.items c.args.trace.now.inputs.items
+          c.in-Some.rest.now c.in-Some.first.now c.index-rest-place.result
+          (sym c.deref.ensures.value ∙ c.in-Some.ensures.cases.0) c.index-rest-place.is rows row,
       grind (arith, common_steps),
       held-more c.args.circuit.now c.loop-place.place t now c.loop-place.rows.items c.push-in-loop-place.new.self.items
           c.in_ok-row_of-2.field-0 all are c.in_ok-push-2.ensures.items held,
