@@ -5,6 +5,7 @@
 mod alone;
 pub mod bounded;
 pub mod engines;
+mod explicit;
 pub mod findings;
 mod guide;
 mod hits;

@@ -1,9 +1,13 @@
 //! Engines that decide whether a circuit is live, by longer circuits that those of this crate decide.
 
+mod chain;
+mod counting;
+pub mod decide;
 mod hearing;
-pub mod rounds;
+mod merged;
+mod saving;
 mod shown;
 pub mod verdict;
 
-pub use rounds::{Bounds, decide_live};
+pub use decide::decide_live;
 pub use verdict::Verdict;

@@ -78,6 +78,43 @@ pub(crate) const MOMENT_WORK: u64 = 8;
 // How often the inputs of a moment are drawn for a run, where a constraint is false by those that were drawn before.
 pub(crate) const DRAWS: u64 = 8;
 
+// With more latches or inputs a circuit has too many states, or too many values of its inputs for one word.
+pub(crate) const EXPLICIT_LATCHES: usize = 20;
+
+pub(crate) const EXPLICIT_INPUTS: usize = 6;
+
+// How many states an explicit-state search looks at in a turn.
+pub(crate) const EXPLICIT_STATES: usize = 1000;
+
+// How many gates it evaluates first, and how many for each literal that the others propagate.
+pub(crate) const EXPLICIT_FIRST: u64 = 1_000_000;
+
+pub(crate) const EXPLICIT_GATES: u64 = 2;
+
+// How many clauses its invariant has at most: they are certified.
+pub(crate) const EXPLICIT_CLAUSES: usize = 10_000;
+
 // How often ternary simulation makes the values at most. Where they change still, nothing is known: as behind a longer
 // shift register.
 pub(crate) const TERNARY_SWEEPS: u32 = 30;
+
+// How many stages the first chain has in which literals are counted that are met in turn: most properties that hold are
+// shown by few. How many times as many the next one has, which begins anew, and how many one has at most: each frame of
+// IC3 is asked about the literals of all stages that are left.
+pub(crate) const FIRST_CHAIN: usize = 4;
+
+pub(crate) const CHAIN_GROWTH: usize = 4;
+
+pub(crate) const MOST_CHAIN: usize = 1024;
+
+// How much more the search that counts does than the one for lassos, in the first chain: small counts are decided sooner
+// than lassos are looked for. And how much a turn of either takes beside what is propagated.
+pub(crate) const CHAIN_LEAD: u64 = 30_000;
+
+pub(crate) const TURN_WORK: u64 = 1000;
+
+// How much is done in longer circuits before equal variables of them are merged, and how much that may take of each. How
+// many stages the one chain has in which literals are counted then.
+pub(crate) const MERGE_WORK: u64 = 200_000;
+
+pub(crate) const MERGED_CHAIN: usize = 64;

@@ -3,7 +3,8 @@ ghost use Rattle.std.specs.Prelude.{[], ◌∷◌, IfOk};
 ghost use Rattle.gipmc_engines.specs.Liveness.{IsRightVerdict};
 
 use gipmc_circuits::{And, Circuit, Latch, Netlist};
-use gipmc_engines::liveness::{Bounds, Verdict, decide_live};
+use gipmc_engines::Plan;
+use gipmc_engines::liveness::{Verdict, decide_live};
 use gipmc_reduce::Means;
 use gipsat_cnf::Literal;
 use gipsat_plain::Plain;
@@ -35,8 +36,8 @@ pub fn verdict(
 ) -> Result<Verdict, AllocError>
     ensures { IfOk result (IsRightVerdict netlist.now.circuit fairness.now (waits ∷ [])) }
 {
-    let bounds = Bounds::default();
-    decide_live::<Plain, _>(alloc, netlist, fairness, &[waits], bounds, &mut ())
+    let plan = Plan::default();
+    decide_live::<Plain, _>(alloc, netlist, fairness, &[waits], &plan, &mut ())
 }
 
 #[test]

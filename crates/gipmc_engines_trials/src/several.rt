@@ -112,6 +112,24 @@ fn finds_constants_alone_without_calls(rt: HostRuntime) -> Result<(), AllocError
     Ok(())
 }
 
+#[test]
+fn explores_states_alone(rt: HostRuntime) -> Result<(), AllocError> {
+    let explores = Plan {
+        explores: true,
+        ..plan(Engine::Simulation, 0, 0)
+    };
+    let (open, fails, now) = (Said::Unknown, Said::Fails(3), Said::Fails(1));
+    let found = found_out(rt.alloc(), &explores, 4)?;
+    assert!(rt; found == [Said::Safe, fails, now, fails, open]);
+    // The counter comes to three of its four states: one clause excludes the last one, in which gate 6 is true.
+    let netlist = made(rt.alloc(), THREE)?;
+    let bads = [Literal::new(6, true)];
+    let found = check_all::<Plain, _>(rt.alloc(), &netlist, &bads, &explores, &mut ())?;
+    assert!(rt; found.engine(0) == Some(Technique::Explicit));
+    assert!(rt; found.invariant.len() == 1);
+    Ok(())
+}
+
 // Which engines found out what stands about the first four literals.
 fn engines_of(alloc: Global, engine: Engine) -> Result<[Option<Technique>; 4], AllocError> {
     let netlist = made(alloc, SHIFTER)?;

@@ -1,8 +1,8 @@
 //! Bounds and observers that end a search.
 
 use crate::small::{Form, ONES, SIX_ONES, literal, made};
-use gipmc_engines::liveness::{Bounds, Verdict, decide_live};
-use gipmc_engines::{Event, Observer};
+use gipmc_engines::liveness::{Verdict, decide_live};
+use gipmc_engines::{Bounds, Engine, Event, Observer, Plan, Tries};
 use gipsat_plain::Plain;
 use std::alloc::{AllocError, Global};
 use std::ops::ControlFlow;
@@ -62,34 +62,52 @@ const SIXTH_IS_NOT_SET: u8 = 13;
 
 const NO_VARIABLE: u8 = 40;
 
-// What is said of a register within bounds, and how often an observer is told that may be told so often.
+// What an engine says of a register within so many calls of IC3, and how often an observer is told that may be told so
+// often.
 fn heard(
     alloc: Global,
     form: Form,
     justice: u8,
-    bounds: (usize, usize, usize),
+    (engine, calls): (Engine, usize),
     most: usize,
 ) -> Result<(Said, usize), AllocError> {
     let netlist = made(alloc, form)?;
-    let (k, calls, rounds) = bounds;
-    let bounds = Bounds { k, calls, rounds };
+    let plan = Plan {
+        engine,
+        tries: Tries {
+            rounds: usize::from(engine == Engine::Simulation),
+            ..Tries::default()
+        },
+        bounds: Bounds {
+            depth: 9,
+            calls,
+            ..Bounds::default()
+        },
+        ..Plan::default()
+    };
     let mut observer = Stopper { most, told: 0 };
     let justice = [literal(justice)];
-    let verdict = decide_live::<Plain, _>(alloc, &netlist, &[], &justice, bounds, &mut observer)?;
+    let verdict = decide_live::<Plain, _>(alloc, &netlist, &[], &justice, &plan, &mut observer)?;
     Ok((said_by(&verdict), observer.told))
 }
 
-// A literal that is to recur, the bounds (literals, calls, rounds), and what is said.
-const BOUNDED: &[(u8, (usize, usize, usize), Said)] = &[
-    (LAST_IS_SET, (2, 1000, 1), Said::Fails),
+// A literal that is to recur, the engine, how many calls IC3 may make, and what is said.
+const BOUNDED: &[(u8, (Engine, usize), Said)] = &[
+    (LAST_IS_SET, (Engine::All, 1000), Said::Fails),
+    (LAST_IS_SET, (Engine::Simulation, 0), Said::Fails),
+    (LAST_IS_SET, (Engine::Bounded, 0), Said::Fails),
+    (LAST_IS_SET, (Engine::Induction, 0), Said::Fails),
+    (LAST_IS_SET, (Engine::Ic3, 1000), Said::Fails),
     // Three literals are met in turn, and not a fourth one.
-    (LAST_IS_NOT_SET, (4, 1000, 2), Said::Live),
-    // No literal is counted, but there is no lasso.
-    (LAST_IS_NOT_SET, (0, 1000, 1), Said::Live),
-    (LAST_IS_NOT_SET, (4, 1000, 0), Said::Unknown),
+    (LAST_IS_NOT_SET, (Engine::All, 1000), Said::Live),
+    (LAST_IS_NOT_SET, (Engine::Ic3, 1000), Said::Live),
+    (LAST_IS_NOT_SET, (Engine::Invariants, 1000), Said::Live),
+    // These look for a lasso alone.
+    (LAST_IS_NOT_SET, (Engine::Simulation, 1000), Said::Unknown),
+    (LAST_IS_NOT_SET, (Engine::Bounded, 1000), Said::Unknown),
     // No call is allowed.
-    (LAST_IS_NOT_SET, (4, 0, 9), Said::Unknown),
-    (NO_VARIABLE, (4, 1000, 2), Said::Unknown),
+    (LAST_IS_NOT_SET, (Engine::Ic3, 0), Said::Unknown),
+    (NO_VARIABLE, (Engine::All, 1000), Said::Unknown),
 ];
 
 #[test]
@@ -104,7 +122,13 @@ fn bounds_end_a_search(rt: HostRuntime) -> Result<(), AllocError> {
 #[test]
 fn an_observer_that_stops_is_told_no_more(rt: HostRuntime) -> Result<(), AllocError> {
     for most in 1..7 {
-        let (said, told) = heard(rt.alloc(), SIX_ONES, SIXTH_IS_NOT_SET, (7, 1000, 9), most)?;
+        let (said, told) = heard(
+            rt.alloc(),
+            SIX_ONES,
+            SIXTH_IS_NOT_SET,
+            (Engine::All, 1000),
+            most,
+        )?;
         assert!(rt; said == Said::Unknown);
         assert!(rt; told == most);
     }
