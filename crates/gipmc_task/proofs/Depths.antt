@@ -1,16 +1,15 @@
 -- Lines that tell depths are read over where witnesses are read.
 use Rattle.std.proofs.Common.{◌≡◌, ◌∙◌, ℕ, ◌<◌, ◌^◌, false, List, [], ◌∷◌, ◌++◌, arith, refl, ap, append_assoc, cond, decimal}
 use Rattle.std.specs.Prelude.{◌==◌}
-use Rattle.std.specs.List.{All, onto_first}
+use Rattle.std.specs.List.{onto_first}
 use Rattle.std.specs.Str.Parse.{AllDigits}
 use Rattle.std.proofs.lemmas.Fmt.{decimal_is_IsNumeral}
-use Rattle.std.proofs.lemmas.List.Elements.{All-head, All-tail}
 use Rattle.std.proofs.lemmas.Str.Parse.{digit_from_value}
 use Rattle.giputils_text.specs.Lines.{pieces}
 use Rattle.giputils_text.proofs.Pieces.{text_lines-at}
 use Rattle.gipmc_aiger.specs.Lists.{Every}
 use Rattle.gipmc_aiger.specs.Witnesses.{said_lines}
-use Rattle.gipmc_task.specs.Answers.{depth_text, depths_text}
+use Rattle.gipmc_task.specs.Verdicts.{depth_text, depths_text}
 
 -- a byte that ends no line
 abbrev IsInLine : ℕ → Type 0
@@ -39,10 +38,9 @@ depth-read_over n rest fits =
     let same : depth_text n ++ rest ≡ (117 ∷ decimal n) ++ 10 ∷ rest = simp append_assoc in
     ap said_lines same ∙ remark-read_over (decimal n) rest (digits-in_line (decimal n) (decimal_is_IsNumeral n fits).0.1)
 
-pub depths-read_over : (depths rest : List ℕ) → All (λ n. n < 2 ^ 64) depths
+pub depths-read_over : (P : ℕ → Type 0) (depths rest : List ℕ) → Every (λ n. P n × (n < 2 ^ 64)) depths
     → said_lines (depths_text depths ++ rest) ≡ said_lines rest
-depths-read_over [] rest all = refl
-depths-read_over (n ∷ before) rest all =
-    ap said_lines (append_assoc (depths_text before) (depth_text n) rest)
-    ∙ (depths-read_over before (depth_text n ++ rest) (All-tail (λ k. k < 2 ^ 64) n before all)
-    ∙ depth-read_over n rest (All-head (λ k. k < 2 ^ 64) n before all))
+depths-read_over P [] rest all = refl
+depths-read_over P (n ∷ depths) rest ((holds, fits), others) =
+    ap said_lines (append_assoc (depth_text n) (depths_text depths) rest)
+    ∙ (depth-read_over n (depths_text depths ++ rest) fits ∙ depths-read_over P depths rest others)

@@ -1,5 +1,5 @@
 -- What is found of each item of a list in turn.
-use Rattle.std.proofs.Common.{◌≡◌, ℕ, ◌+◌, ◌<◌, ◌≤◌, List, [], ◌∷◌, length, drop, get_or}
+use Rattle.std.proofs.Common.{◌≡◌, ℕ, ◌+◌, ◌<◌, ◌≤◌, List, [], ◌∷◌, ◌++◌, length, drop, get_or}
 use Rattle.std.proofs.lemmas.List.{drop_all, drop_more}
 use Rattle.std.proofs.Common.{Bool, refl}
 use Rattle.std.specs.List.{list_any}
@@ -14,6 +14,11 @@ every_next P xs i d less here others = rw (drop_more xs i d less) (here, others)
 -- none is left at the end
 pub every_last : {X : Type 0} (P : X → Type 0) (xs : List X) (n : ℕ) → length xs ≤ n → Every P (drop n xs)
 every_last P xs n past = rw (drop_all n xs past) tt
+
+-- those of two lists have it
+pub every_append : {X : Type 0} (P : X → Type 0) (xs ys : List X) → Every P xs → Every P ys → Every P (xs ++ ys)
+every_append P [] ys all more = more
+every_append P (x ∷ xs) ys (here, rest) more = (here, every_append P xs ys rest more)
 
 -- what a view of each has
 pub every_view : {X Y : Type 0} (P : Y → Type 0) (view : X → Y) (xs : List X) → Every (λ x. P (view x)) xs

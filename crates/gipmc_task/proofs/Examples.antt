@@ -1,5 +1,5 @@
 -- Worked examples: texts of answers, what witnesses name, certificates, and some that are refused.
-use Rattle.std.proofs.Common.{◌≡◌, ℕ, zero, suc, ◌<◌, eqb, Bool, true, false, not, List, [], ◌∷◌, Vec, Option, Some, None, IsTrue, codes, arith, length, map, refl, subst}
+use Rattle.std.proofs.Common.{◌≡◌, ℕ, zero, suc, eqb, Bool, true, false, not, List, [], ◌∷◌, Vec, Option, Some, None, IsTrue, codes, arith, length, map, refl, subst}
 use Rattle.std.specs.Prelude.{slice_get}
 use Rattle.std.specs.declared.alloc.Global.{Global}
 use Rattle.std.specs.Bool.{beq}
@@ -8,7 +8,6 @@ use Rattle.std.specs.List.{list_all, list_any}
 use Rattle.std.specs.Str.{bytes_eq}
 use Rattle.std.proofs.Math.Nat.{le_refl}
 use Rattle.std.proofs.lemmas.Bool.{and_parts, false≢true}
-use Rattle.std.proofs.lemmas.List.Elements.{All-nil}
 use Rattle.gipsat_cnf.specs.Assumptions.{makes_true}
 use Rattle.gipsat_cnf.specs.Formulas.{Assignment}
 use Rattle.gipsat_cnf.specs.Literals.{Lit}
@@ -20,45 +19,62 @@ use Rattle.gipmc_circuits.specs.Circuit.{FailsAfter, IsSafe, has_value, is_momen
 use Rattle.gipmc_circuits.specs.Traces.{FailsBy}
 use Rattle.gipmc_circuits.specs.declared.circuit.Circuit.{Circuit}
 use Rattle.gipmc_circuits.specs.declared.trace.Trace.{Trace}
-use Rattle.gipmc_engines.specs.Verdicts.{NeverFailsWithin}
+use Rattle.gipmc_reduce.specs.declared.means.Means.{Means}
+use Rattle.gipmc_aiger.specs.declared.problem.Property.TheVariants.{Bad, Justice}
 use Rattle.gipmc_task.specs.Outcomes.{both}
 use Rattle.gipmc_task.specs.declared.outcome.Outcome.TheVariants.{Fails, Safe, Open}
-use Rattle.gipmc_task.specs.Answers.{IsCircuitIn, IsKnown, Tells, TellsAny, TellsFirst, depths_text, known_text, outcome_of}
-use Rattle.gipmc_task.specs.Certificates.{BeginsWithK, CertifiesCircuit, clauses_behind, k_in}
+use Rattle.gipmc_task.specs.Answers.{Tells, TellsAny, TellsFirst}
+use Rattle.gipmc_task.specs.Certificates.{BeginsWithK, Certifies, clauses_behind, k_in}
 use Rattle.gipmc_task.specs.Left.{StandsFor}
 use Rattle.gipmc_task.specs.Witnesses.{Replays, ReplaysAll, claimed, names_asked, names_place}
 use Rattle.gipmc_task.specs.declared.certificates.Certificate.TheVariants as certificate
-use Rattle.gipmc_task.specs.declared.known.Known.{Known}
-use Rattle.gipmc_task.specs.declared.known.Known.TheVariants as known
+use Rattle.gipmc_task.specs.Verdicts.{IsAnswerBy, depths_text, outcome_of, text_of}
+use Rattle.gipmc_task.specs.declared.answered.Answered.{Answered}
+use Rattle.gipmc_task.specs.declared.verdict.Evidence.TheVariants.{Invariant, Longer}
+use Rattle.gipmc_task.specs.declared.verdict.Verdict.TheVariants as verdict
+use Rattle.gipmc_task.proofs.ForAll.{known_safe, none_open}
+use Rattle.gipmc_task.proofs.Told.{Tells-by}
 
 -- a variable
 abbrev yes_of : ℕ → Lit
 yes_of v = record { variable = v; positive = true }
 
--- texts of what is known of a literal
-safe_text : known_text 3 known.Safe ≡ codes "0\nb3\n.\n"
+-- texts of what is known of a property
+safe_text : text_of (Bad 3) (verdict.Holds Invariant) ≡ codes "0\nb3\n.\n"
 unfolding digits
 safe_text = refl
 
-depth_text : known_text 0 (known.NoFailureWithin 40) ≡ codes "u40\n2\nb0\n.\n"
+live_text : (means : Means) (clauses : Vec (Vec Lit Global) Global)
+    → text_of (Justice 3) (verdict.Holds (Longer means clauses)) ≡ codes "0\nj3\n.\n"
 unfolding digits
-depth_text = refl
+live_text means clauses = refl
 
-unknown_text : known_text 12 known.Nothing ≡ codes "2\nb12\n.\n"
+clear_text : text_of (Bad 0) (verdict.ClearTo 40) ≡ codes "u40\n2\nb0\n.\n"
+unfolding digits
+clear_text = refl
+
+unknown_text : text_of (Justice 12) verdict.Unknown ≡ codes "2\nj12\n.\n"
 unfolding digits
 unknown_text = refl
 
-refused-text_of_another : bytes_eq (known_text 3 known.Safe) (codes "0\nb4\n.\n") ≡ false
+refused-text_of_another : bytes_eq (text_of (Bad 3) verdict.Unknown) (codes "2\nb4\n.\n") ≡ false
 unfolding digits
 refused-text_of_another = refl
 
--- of some depths the last one stands first, and its line is the last one
-two_depths : depths_text (9 ∷ 2 ∷ []) ≡ codes "u2\nu9\n"
+-- a lasso of a latch that is 1 and of an input that is 0
+lasso_text_of_one : (trace : Trace) (row : Vec Bool Global) → trace.latches.items ≡ true ∷ []
+    → trace.inputs.items ≡ row ∷ [] → row.items ≡ false ∷ []
+    → text_of (Justice 0) (verdict.Fails trace) ≡ codes "1\nj0\n1\n0\n.\n"
+unfolding digits
+lasso_text_of_one trace row latches rows is = rw (latches, rows, is) refl
+
+-- the depths that were told stand before it
+two_depths : depths_text (2 ∷ 9 ∷ []) ≡ codes "u2\nu9\n"
 unfolding digits
 two_depths = refl
 
 -- a depth alone leaves a literal open; one that is open leaves all open, unless one fails
-depth_is_open : outcome_of (known.NoFailureWithin 40) ≡ Open
+depth_is_open : outcome_of (verdict.ClearTo 40) ≡ Open
 depth_is_open = refl
 
 one_is_open : both Safe Open ≡ Open
@@ -80,62 +96,42 @@ not_constant c a moment bad =
 constant_is_safe : (c : Circuit) → IsSafe c (yes_of 0)
 constant_is_safe c n (t, trace, bad) = not_constant c (t n) (trace.moments n (le_refl n)) bad
 
--- so it is told that it is safe, and nothing of an input behind it
-tells_of_constant : (c : Circuit) → slice_get c.bads.items 0 ≡ Some (yes_of 0) → Tells c 0 Safe (codes "0\nb0\n.\n")
-unfolding digits
-tells_of_constant c here = (
-  yes_of 0,
-  here,
-  [],
-  ([], All-nil (NeverFailsWithin c (yes_of 0)), All-nil (λ n. n < 18446744073709551616), refl),
-  known.Safe,
-  constant_is_safe c,
-  refl,
-  refl,
-  omega arith,
-)
+-- so an answer may say that it is safe, and nothing of an input behind it
+tells_of_constant : (c : Circuit) (a : Answered) → slice_get c.bads.items 0 ≡ Some (yes_of 0)
+    → IsAnswerBy (Bad 0) [] (verdict.Holds Invariant) a → Tells c 0 a
+tells_of_constant c a here is = Tells-by c 0 (yes_of 0) [] (verdict.Holds Invariant) a here tt (constant_is_safe c) is
 
-tells_of_input : (c : Circuit) → slice_get c.bads.items 1 ≡ Some (yes_of 1) → Tells c 1 Open (codes "2\nb1\n.\n")
-unfolding digits
-tells_of_input c here = (
-  yes_of 1,
-  here,
-  [],
-  ([], All-nil (NeverFailsWithin c (yes_of 1)), All-nil (λ n. n < 18446744073709551616), refl),
-  known.Nothing,
-  tt,
-  refl,
-  refl,
-  omega arith,
-)
+tells_of_input : (c : Circuit) (a : Answered) → slice_get c.bads.items 1 ≡ Some (yes_of 1)
+    → IsAnswerBy (Bad 1) [] verdict.Unknown a → Tells c 1 a
+tells_of_input c a here is = Tells-by c 1 (yes_of 1) [] verdict.Unknown a here tt tt is
 
-tells_of_both : (c : Circuit) → c.bads.items ≡ yes_of 0 ∷ yes_of 1 ∷ []
-    → TellsFirst c 2 Open (codes "0\nb0\n.\n2\nb1\n.\n")
-tells_of_both c bads = (
-  Safe,
-  Open,
-  codes "0\nb0\n.\n",
-  codes "2\nb1\n.\n",
-  (Safe, Safe, [], codes "0\nb0\n.\n", (refl, refl), tells_of_constant c (rw bads refl), refl, refl),
-  tells_of_input c (rw bads refl),
-  refl,
+tells_of_both : (c : Circuit) (a b : Answered) → c.bads.items ≡ yes_of 0 ∷ yes_of 1 ∷ []
+    → IsAnswerBy (Bad 0) [] (verdict.Holds Invariant) a → IsAnswerBy (Bad 1) [] verdict.Unknown b
+    → TellsFirst (Tells c) 2 (a ∷ b ∷ [])
+tells_of_both c a b bads is_safe is_open = (
+  a ∷ [],
+  b,
+  ([], a, refl, tells_of_constant c a (rw bads refl) is_safe, refl),
+  tells_of_input c b (rw bads refl) is_open,
   refl,
 )
 
--- in place of both it is told of the one that is open
-tells_any_open : (c : Circuit) → c.bads.items ≡ yes_of 0 ∷ yes_of 1 ∷ [] → TellsAny c Open (codes "2\nb1\n.\n")
-tells_any_open c bads = (1, tells_of_input c (rw bads refl), λ is. absurd cc)
+-- in place of both there may be one on that which is open
+tells_any_open : (c : Circuit) (a : Answered) → c.bads.items ≡ yes_of 0 ∷ yes_of 1 ∷ []
+    → IsAnswerBy (Bad 1) [] verdict.Unknown a → TellsAny c a
+tells_any_open c a bads (of, told, says, small) =
+    ((1, tells_of_input c a (rw bads refl) (of, told, says, small)), λ all. none_open (rw says at all))
 
 -- and that all are safe where the constant is the only one
 only : (l m : Lit) (k : ℕ) → slice_get (l ∷ []) k ≡ Some m → l ≡ m
 only l m zero at = same_some l m at
 only l m (suc k) at = none_some m at
 
-tells_any_safe : (c : Circuit) → c.bads.items ≡ yes_of 0 ∷ [] → TellsAny c Safe (codes "0\nb0\n.\n")
-tells_any_safe c bads = (
-  0,
-  tells_of_constant c (rw bads refl),
-  λ is k bad here. subst (IsSafe c) (only (yes_of 0) bad k (rw bads at here)) (constant_is_safe c),
+tells_any_safe : (c : Circuit) (a : Answered) → c.bads.items ≡ yes_of 0 ∷ []
+    → IsAnswerBy (Bad 0) [] (verdict.Holds Invariant) a → TellsAny c a
+tells_any_safe c a bads is = (
+  (0, tells_of_constant c a (rw bads refl) is),
+  λ all k bad here. subst (IsSafe c) (only (yes_of 0) bad k (rw bads at here)) (constant_is_safe c),
 )
 
 -- an input may be true at the start
@@ -154,24 +150,18 @@ input_fails c latches gates constraints = (
   refl,
 )
 
--- so no text may tell that it is safe
-known_safe : (c : Circuit) (bad : Lit) (k : Known) → Safe ≡ outcome_of k → IsKnown c bad k → IsSafe c bad
-known_safe c bad (known.Fails trace) is holds = absurd cc
-known_safe c bad known.Safe is holds = holds
-known_safe c bad (known.NoFailureWithin n) is holds = absurd cc
-known_safe c bad known.Nothing is holds = absurd cc
-
-refused-safe : (c : Circuit) (text : List ℕ) → c.latches.items ≡ [] → c.gates.items ≡ [] → c.constraints.items ≡ []
-    → c.bads.items ≡ yes_of 1 ∷ [] → ¬ (Tells c 0 Safe text)
-refused-safe c text latches gates constraints bads (bad, here, front, depths, k, holds, is, outcome, small) =
-    known_safe c bad k outcome holds 0
+-- so no answer may say that it is safe
+refused-safe : (c : Circuit) (a : Answered) → c.latches.items ≡ [] → c.gates.items ≡ [] → c.constraints.items ≡ []
+    → c.bads.items ≡ yes_of 1 ∷ [] → outcome_of a.verdict ≡ Safe → ¬ (Tells c 0 a)
+refused-safe c a latches gates constraints bads says (of, small, (bad, here, holds, clear)) =
+    known_safe c bad a.verdict says holds 0
     (subst (λ l. FailsAfter c l 0) (same_some (yes_of 1) bad (rw bads at here)) (input_fails c latches gates constraints))
 
 -- nor in place of a constant beside it
-refused-any_safe : (c : Circuit) (text : List ℕ) → c.latches.items ≡ [] → c.gates.items ≡ [] → c.constraints.items ≡ []
-    → c.bads.items ≡ yes_of 0 ∷ yes_of 1 ∷ [] → ¬ (TellsAny c Safe text)
-refused-any_safe c text latches gates constraints bads (place, told, safe) =
-    safe refl 1 (yes_of 1) (rw bads refl) 0 (input_fails c latches gates constraints)
+refused-any_safe : (c : Circuit) (a : Answered) → c.latches.items ≡ [] → c.gates.items ≡ [] → c.constraints.items ≡ []
+    → c.bads.items ≡ yes_of 0 ∷ yes_of 1 ∷ [] → outcome_of a.verdict ≡ Safe → ¬ (TellsAny c a)
+refused-any_safe c a latches gates constraints bads says (told, safe) =
+    safe says 1 (yes_of 1) (rw bads refl) 0 (input_fails c latches gates constraints)
 
 -- nor may a constant stand for it in a smaller circuit
 refused-constant_for_input : (small whole : Circuit) → whole.latches.items ≡ [] → whole.gates.items ≡ []
@@ -202,14 +192,12 @@ claims_no_other : claimed (2 ∷ 5 ∷ []) (Some 1) ≡ []
 claims_no_other = refl
 
 -- a text of one witness, of the bad input of a circuit without latches
-one_witness : (bytes : List ℕ) (c : Circuit) (trace : Trace) (row : Vec Bool Global) → IsCircuitIn bytes c
+one_witness : (c : Circuit) (trace : Trace) (row : Vec Bool Global)
     → c.inputs.items ≡ 1 ∷ [] → c.latches.items ≡ [] → c.bads.items ≡ yes_of 1 ∷ [] → trace.latches.items ≡ []
     → trace.inputs.items ≡ row ∷ [] → row.items ≡ true ∷ [] → FailsBy c (yes_of 1) trace
-    → Replays bytes (codes "1\nb0\n\n1\n.\n") (Some 0)
+    → Replays c (codes "1\nb0\n\n1\n.\n") (Some 0)
 unfolding claim_of
-one_witness bytes c trace row written inputs latches bads none rows is fails = (
-  c,
-  written,
+one_witness c trace row inputs latches bads none rows is fails = (
   (0 ∷ [], trace) ∷ [],
   rw (latches, inputs, none, rows, is) refl,
   refl,
@@ -217,11 +205,11 @@ one_witness bytes c trace row written inputs latches bads none rows is fails = (
 )
 
 -- a text of a lasso alone has no witness of a bad literal, and so it is no replay
-no_witness : (bytes : List ℕ) (c : Circuit) → IsCircuitIn bytes c → ReplaysAll bytes (codes "1\nj0\n0\n1\n.\n") 0
-no_witness bytes c written = (c, written, [], refl, refl, tt)
+no_witness : (c : Circuit) → ReplaysAll c (codes "1\nj0\n0\n1\n.\n") 0
+no_witness c = ([], refl, refl, tt)
 
-refused-no_witness : (bytes : List ℕ) (asked : Option ℕ) → ¬ (Replays bytes (codes "1\nj0\n0\n1\n.\n") asked)
-refused-no_witness bytes asked (c, written, witnesses, are, named, right) = none_named witnesses are named
+refused-no_witness : (c : Circuit) (asked : Option ℕ) → ¬ (Replays c (codes "1\nj0\n0\n1\n.\n") asked)
+refused-no_witness c asked (witnesses, are, named, right) = none_named witnesses are named
   where
     none_named : (witnesses : List (List ℕ × Trace)) → Some [] ≡ Some (map (λ w. claim_by w.0 w.1) witnesses)
         → ¬ (IsTrue (list_any (λ w. names_asked w.0 asked) witnesses))
@@ -247,7 +235,7 @@ k_before_clauses = (codes "k 2", refl, refl)
 
 -- no clauses show that the constant is never true; they show nothing where there is no bad literal
 no_clauses : (c : Circuit) (clauses : Vec (Vec Lit Global) Global) → c.latches.items ≡ []
-    → c.bads.items ≡ yes_of 0 ∷ [] → clauses.items ≡ [] → CertifiesCircuit c (codes "p cnf 0 0\n") None
+    → c.bads.items ≡ yes_of 0 ∷ [] → clauses.items ≡ [] → Certifies c (codes "p cnf 0 0\n") None
 unfolding invariant_in
 no_clauses c clauses latches bads none = (
   certificate.Clauses clauses,
@@ -265,6 +253,6 @@ no_clauses c clauses latches bads none = (
   ),
 )
 
-refused-no_bad_literal : (c : Circuit) (text : List ℕ) → c.bads.items ≡ [] → ¬ (CertifiesCircuit c text None)
+refused-no_bad_literal : (c : Circuit) (text : List ℕ) → c.bads.items ≡ [] → ¬ (Certifies c text None)
 refused-no_bad_literal c text bads (shown, is, (some, each)) =
     let none : length c.bads.items ≡ 0 = rw bads refl in absurd (omega (arith, some, none))

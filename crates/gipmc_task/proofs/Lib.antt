@@ -4,14 +4,14 @@ pub mod Claims
 mod Depths
 pub mod Each
 mod Examples
+mod ForAll
 mod JusticeClaimed
 mod JusticeExamples
-mod JusticeFindings
 mod JusticeTold
 pub mod JusticeWitnessed
 mod OnWhole
+pub mod Outcomes
 mod Shown
-mod Together
 mod Told
 pub mod Widths
 pub mod Witnessed

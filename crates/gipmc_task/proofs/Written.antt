@@ -1,6 +1,8 @@
 -- What was written of one text after another.
-use Rattle.std.proofs.Common.{◌≡◌, ℕ, List, [], ◌++◌, None, Some, IsTrue, refl, subst}
+use Rattle.std.proofs.Common.{◌≡◌, ◌∙◌, ℕ, List, [], ◌∷◌, ◌++◌, None, Some, IsTrue, ap, append-nil, refl, subst, sym}
+use Rattle.std.specs.List.{flat_map}
 use Rattle.std.specs.Prelude.{Option, IsSome, is_some}
+use Rattle.std.proofs.lemmas.List.Concat.{flat_map-append}
 use Rattle.std.proofs.KnownBytes.{Appends-nil, Appends-trans, Keeps-refl, Keeps-trans}
 use Rattle.gipmc_task.specs.Output.{IsWritten}
 
@@ -28,3 +30,12 @@ IsWritten-more one two three old mid new before last written more = (
       (first, Appends-trans old mid new before last grew grown)),
   (λ some. Keeps-trans old mid new (written.1 some) (more.1 (still_failed one two some written.0))),
 )
+
+-- the text of one item more was
+pub IsWritten-push : {E X : Type 0} (f : X → List ℕ) (one two three : Option E) (old mid new : Option (List ℕ)) (xs : List X) (x : X)
+    → IsWritten one two old mid (flat_map f xs) → IsWritten two three mid new (f x)
+    → IsWritten one three old new (flat_map f (xs ++ x ∷ []))
+IsWritten-push f one two three old mid new xs x written more =
+    subst (λ t. IsWritten one three old new t)
+    (sym (flat_map-append f xs (x ∷ []) ∙ ap (λ t. flat_map f xs ++ t) (append-nil (f x))))
+    (IsWritten-more one two three old mid new (flat_map f xs) (f x) written more)

@@ -13,7 +13,6 @@ use Rattle.gipmc_circuits.specs.declared.witness_circuit.WitnessCircuit.{Witness
 use Rattle.gipmc_engines.specs.Verdicts.{IsSafeByInduction}
 use Rattle.giputils_text.specs.Lines.{pieces, space, text_lines}
 use Rattle.giputils_text.specs.Numbers.{number_up_to}
-use Rattle.gipmc_task.specs.Answers.{IsCircuitIn}
 use Rattle.gipmc_task.specs.declared.certificates.Certificate.{Certificate}
 use Rattle.gipmc_task.specs.declared.certificates.Certificate.TheVariants as certificate
 
@@ -70,10 +69,5 @@ ShowsSafeAsked c shown None = ShowsSafeAll c shown
 ShowsSafeAsked c shown (Some place) = ShowsSafeAt c shown place
 
 -- the text writes a certificate by which the circuit is safe so
-abbrev pub CertifiesCircuit : Circuit → List ℕ → Option ℕ → Type 0
-CertifiesCircuit c text asked =
-    (shown : Certificate) × IsCertificateIn c text shown × ShowsSafeAsked c shown asked
-
--- the bytes write a circuit, and the text a certificate by which it is safe so
-abbrev pub Certifies : List ℕ → List ℕ → Option ℕ → Type 0
-Certifies bytes text asked = (c : Circuit) × IsCircuitIn bytes c × CertifiesCircuit c text asked
+abbrev pub Certifies : Circuit → List ℕ → Option ℕ → Type 0
+Certifies c text asked = (shown : Certificate) × IsCertificateIn c text shown × ShowsSafeAsked c shown asked

@@ -5,4 +5,5 @@ pub mod Justice
 pub mod Left
 pub mod Outcomes
 pub mod Output
+pub mod Verdicts
 pub mod Witnesses

@@ -7,7 +7,6 @@ use Rattle.gipmc_aiger.specs.Lists.{Every}
 use Rattle.gipmc_circuits.specs.Traces.{FailsBy}
 use Rattle.gipmc_circuits.specs.declared.circuit.Circuit.{Circuit}
 use Rattle.gipmc_circuits.specs.declared.trace.Trace.{Trace}
-use Rattle.gipmc_task.specs.Answers.{IsCircuitIn}
 
 -- the text writes witnesses for the circuit: the places of the bad literals that each names, and its trace
 abbrev pub AreWitnessesIn : Circuit → List ℕ → List (List ℕ × Trace) → Type 0
@@ -37,15 +36,14 @@ FailsAt c trace place = (bad : Lit) × (slice_get c.bads.items place ≡ Some ba
 abbrev pub IsRight : Circuit → Option ℕ → List ℕ × Trace → Type 0
 IsRight c asked w = Every (FailsAt c w.1) (claimed w.0 asked)
 
--- the bytes write a circuit, and the text witnesses for it, all of which are right, and of which one is one of what is
--- asked for
-abbrev pub Replays : List ℕ → List ℕ → Option ℕ → Type 0
-Replays bytes text asked =
-    (c : Circuit) × IsCircuitIn bytes c × (witnesses : List (List ℕ × Trace)) × AreWitnessesIn c text witnesses
+-- the text writes witnesses for the circuit, all of which are right, and of which one is one of what is asked for
+abbrev pub Replays : Circuit → List ℕ → Option ℕ → Type 0
+Replays c text asked =
+    (witnesses : List (List ℕ × Trace)) × AreWitnessesIn c text witnesses
     × IsTrue (list_any (λ w. names_asked w.0 asked) witnesses) × Every (IsRight c asked) witnesses
 
--- the bytes write a circuit, and the text n witnesses for it, which are right whatever they name
-abbrev pub ReplaysAll : List ℕ → List ℕ → ℕ → Type 0
-ReplaysAll bytes text n =
-    (c : Circuit) × IsCircuitIn bytes c × (witnesses : List (List ℕ × Trace)) × AreWitnessesIn c text witnesses
-    × (length witnesses ≡ n) × Every (IsRight c None) witnesses
+-- the text writes n witnesses for the circuit, which are right whatever they name
+abbrev pub ReplaysAll : Circuit → List ℕ → ℕ → Type 0
+ReplaysAll c text n =
+    (witnesses : List (List ℕ × Trace)) × AreWitnessesIn c text witnesses × (length witnesses ≡ n)
+    × Every (IsRight c None) witnesses

@@ -1,14 +1,15 @@
 //! What one search about some literals finds out of whether any of them fails.
 ghost use Rattle.std.specs.Prelude.{◌≡◌, ℕ, ◌<◌, ◌⊎◌, true, false, length, slice_get, Some};
 ghost use Rattle.gipsat_cnf.specs.Literals.{Lit};
-ghost use Rattle.gipmc_task.specs.Answers.{IsKnown, outcome_of};
+ghost use Rattle.gipmc_task.specs.Answers.{IsKnown};
+ghost use Rattle.gipmc_task.specs.Verdicts.{outcome_of};
 ghost use Rattle.gipmc_circuits.specs.Circuit.{IsSafe};
 ghost use Rattle.gipmc_task.specs.declared.outcome.Outcome.TheVariants.{Fails, Safe};
 
 use crate::answers::wanted_of;
-use crate::known::Known;
 use crate::output::Wanted;
 use crate::query::Query;
+use crate::verdict::Verdict;
 use gipmc_engines::Observer;
 use gipsat_cnf::SatSolver;
 use std::alloc::Global;
@@ -17,7 +18,7 @@ use std::alloc::Global;
 #[derive(Drop)]
 pub(crate) struct Placed {
     pub(crate) place: usize,
-    pub(crate) known: Known,
+    pub(crate) known: Verdict,
 }
 
 /// What is known of the literal that stands for all that a search is about: of the first that is found to fail, or else
@@ -68,12 +69,12 @@ fn find_at<S: SatSolver + Drop, O: Observer>(
 }
 
 // Whether a literal fails.
-fn is_failing(known: &Known) -> bool
+fn is_failing(known: &Verdict) -> bool
     ensures { result ≡ true → outcome_of known.now ≡ Fails }
 {
     match known {
-        Known::Fails(_) => true,
-        Known::Safe | Known::NoFailureWithin(_) | Known::Nothing => false,
+        Verdict::Fails(_) => true,
+        Verdict::Holds(_) | Verdict::ClearTo(_) | Verdict::Unknown => false,
     }
 }
 
@@ -91,35 +92,35 @@ fn less_known(found: Placed, next: Placed) -> Placed
 }
 
 // Whether the one says that a literal fails, or less than the other one.
-fn is_less(one: &Known, other: &Known) -> bool
+fn is_less(one: &Verdict, other: &Verdict) -> bool
     ensures less { result ≡ true → outcome_of one.now ≡ Safe → outcome_of other.now ≡ Safe }
     ensures more { result ≡ false → outcome_of other.now ≡ Safe → outcome_of one.now ≡ Safe }
 {
     match one {
-        Known::Fails(_) => true,
-        Known::Nothing => is_something(other),
-        Known::NoFailureWithin(depth) => is_beyond(other, *depth),
-        Known::Safe => false,
+        Verdict::Fails(_) => true,
+        Verdict::Unknown => is_something(other),
+        Verdict::ClearTo(depth) => is_beyond(other, *depth),
+        Verdict::Holds(_) => false,
     }
 }
 
 // Whether a depth is known up to which nothing fails, or that nothing does.
-fn is_something(known: &Known) -> bool
+fn is_something(known: &Verdict) -> bool
     ensures { outcome_of known.now ≡ Safe → result ≡ true }
 {
     match known {
-        Known::Safe | Known::NoFailureWithin(_) => true,
-        Known::Fails(_) | Known::Nothing => false,
+        Verdict::Holds(_) | Verdict::ClearTo(_) => true,
+        Verdict::Fails(_) | Verdict::Unknown => false,
     }
 }
 
 // The same of a greater depth than this.
-fn is_beyond(known: &Known, depth: usize) -> bool
+fn is_beyond(known: &Verdict, depth: usize) -> bool
     ensures { outcome_of known.now ≡ Safe → result ≡ true }
 {
     match known {
-        Known::Safe => true,
-        Known::NoFailureWithin(other) => depth < *other,
-        Known::Fails(_) | Known::Nothing => false,
+        Verdict::Holds(_) => true,
+        Verdict::ClearTo(other) => depth < *other,
+        Verdict::Fails(_) | Verdict::Unknown => false,
     }
 }

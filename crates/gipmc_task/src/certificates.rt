@@ -1,12 +1,11 @@
-//! Certificates that a circuit is safe, from the bytes of texts to the answer.
+//! Certificates that a circuit is safe, as texts.
 ghost use Rattle.std.specs.Prelude.{◌≡◌, ℕ, ◌<◌, length, slice_get, Some, IfNone, IfOk, IsTrue};
 ghost use Rattle.gipmc_circuits.specs.declared.certificate.Verdict.TheVariants.{Certified};
 ghost use Rattle.gipmc_aiger.specs.Invariants.{clauses_view, invariant_for};
-ghost use Rattle.gipmc_task.specs.Certificates.{AreShownSafe, Certifies, CertifiesCircuit, IsCertificateIn, clauses_behind};
+ghost use Rattle.gipmc_task.specs.Certificates.{AreShownSafe, Certifies, IsCertificateIn, clauses_behind};
 ghost use Rattle.gipmc_task.specs.Certificates.{ShowsSafeAll, ShowsSafeAsked, ShowsSafeAt};
 ghost use Rattle.gipmc_task.specs.declared.certificates.Certificate.TheVariants as certificate;
 
-use crate::answers::netlist_in;
 use crate::error::TaskError;
 use crate::induction::{InductionDoubt, behind_k, unless_certified};
 use crate::strengthened::strengthened;
@@ -84,57 +83,42 @@ fn write_verdict<W: fmt::Write>(f: &mut fmt::Formatter<W>, verdict: Verdict) -> 
     }
 }
 
-/// Whether the certificate that a text writes shows that the circuit of another text is safe, as [`doubt_of`] finds out.
+/// Whether the certificate that a text writes shows that the circuit is safe, as [`doubt_of`] finds out.
 ///
 /// # Errors
 /// Those of [`doubt_of`].
 pub fn certifies<S: SatSolver + Drop>(
     alloc: Global,
-    bytes: &[u8],
+    netlist: &Netlist,
     text: &[u8],
     asked: Option<usize>,
     limit: usize,
 ) -> Result<bool, TaskError>
-    ensures { IfOk result (λ safe. IsTrue safe → Certifies bytes.now text.now asked) }
+    ensures { IfOk result (λ safe. IsTrue safe → Certifies netlist.now.circuit text.now asked) }
 {
-    match doubt_of::<S>(alloc, bytes, text, asked, limit)? {
+    match doubt_of::<S>(alloc, netlist, text, asked, limit)? {
         None => Ok(true),
         Some(_) => Ok(false),
     }
 }
 
-/// Why the certificate that a text writes is not known to show that the circuit of another text is safe: as to the bad
-/// literal at the place that is asked for, or as to all. None if it shows it. Each question to the solver may learn
-/// `limit` clauses.
+/// Why the certificate that a text writes is not known to show that the circuit is safe: as to the bad literal at the
+/// place that is asked for, or as to all. None if it shows it. Each question to the solver may learn `limit` clauses.
 ///
 /// # Errors
-/// - [`TaskError::Circuit`] and [`TaskError::Certificate`] where a text has another form.
+/// - [`TaskError::Certificate`] where the text has another form.
 /// - [`TaskError::NoSimulation`] where the certificate is a circuit that cannot go along with the other one.
 /// - [`TaskError::NoBad`] where there is no bad literal at the place.
 /// - [`TaskError::NoBads`] where there is none at all.
 /// - [`TaskError::Memory`] where memory is refused.
 pub fn doubt_of<S: SatSolver + Drop>(
     alloc: Global,
-    bytes: &[u8],
-    text: &[u8],
-    asked: Option<usize>,
-    limit: usize,
-) -> Result<Option<Doubt>, TaskError>
-    ensures { IfOk result (λ doubt. IfNone doubt (Certifies bytes.now text.now asked)) }
-{
-    let netlist = netlist_in(alloc, bytes)?;
-    certifies_circuit::<S>(alloc, &netlist, text, asked, limit)
-}
-
-// Why the certificate that a text writes is not known to show that the circuit is safe. None if it shows it.
-fn certifies_circuit<S: SatSolver + Drop>(
-    alloc: Global,
     netlist: &Netlist,
     text: &[u8],
     asked: Option<usize>,
     limit: usize,
 ) -> Result<Option<Doubt>, TaskError>
-    ensures { IfOk result (λ doubt. IfNone doubt (CertifiesCircuit netlist.now.circuit text.now asked)) }
+    ensures { IfOk result (λ doubt. IfNone doubt (Certifies netlist.now.circuit text.now asked)) }
 {
     let certificate = certificate_in(alloc, &netlist.circuit, text)?;
     certifies_asked::<S>(alloc, netlist, &certificate, asked, limit)
@@ -155,10 +139,10 @@ pub fn certificate_of<S: SatSolver + Drop>(
     asked: Option<usize>,
     limit: usize,
 ) -> Result<Vec<u8>, TaskError>
-    ensures { IfOk result (λ text. CertifiesCircuit netlist.now.circuit text.items asked) }
+    ensures { IfOk result (λ text. Certifies netlist.now.circuit text.items asked) }
 {
     let text = claims_text(alloc, netlist, invariant, k)?;
-    if let Some(_) = certifies_circuit::<S>(alloc, netlist, &text, asked, limit)? {
+    if let Some(_) = doubt_of::<S>(alloc, netlist, &text, asked, limit)? {
         return Err(TaskError::Uncertified);
     }
     Ok(text)
@@ -178,10 +162,10 @@ pub fn witness_circuit_of<S: SatSolver + Drop>(
     asked: Option<usize>,
     limit: usize,
 ) -> Result<Vec<u8>, TaskError>
-    ensures { IfOk result (λ text. CertifiesCircuit netlist.now.circuit text.items asked) }
+    ensures { IfOk result (λ text. Certifies netlist.now.circuit text.items asked) }
 {
     let text = strengthened_text(alloc, netlist, invariant, asked)?;
-    if let Some(_) = certifies_circuit::<S>(alloc, netlist, &text, asked, limit)? {
+    if let Some(_) = doubt_of::<S>(alloc, netlist, &text, asked, limit)? {
         return Err(TaskError::Uncertified);
     }
     Ok(text)
@@ -216,8 +200,8 @@ fn claims_text(
     Ok(text)
 }
 
-// The text of some clauses over the latches of the circuit.
-fn invariant_text(
+/// The text of some clauses over the latches of the circuit.
+pub(crate) fn invariant_text(
     alloc: Global,
     netlist: &Netlist,
     invariant: &[Vec<Literal>],
@@ -292,7 +276,7 @@ fn certifies_asked<S: SatSolver + Drop>(
         Some(place) if place < netlist.circuit.bads.len() => {
             certifies_at::<S>(alloc, netlist, certificate, place, limit)
         }
-        Some(place) => Err(TaskError::NoBad(place, netlist.circuit.bads.len())),
+        Some(place) => Err(TaskError::no_bad(place, netlist.circuit.bads.len())),
     }
 }
 
@@ -471,8 +455,12 @@ fn certificate_in(alloc: Global, circuit: &Circuit, text: &[u8]) -> Result<Certi
     }
 }
 
-// The clauses that a text writes for a circuit.
-fn clauses_in(alloc: Global, circuit: &Circuit, text: &[u8]) -> Result<Vec<Vec<Literal>>, TaskError>
+/// The clauses that a text writes for a circuit.
+pub(crate) fn clauses_in(
+    alloc: Global,
+    circuit: &Circuit,
+    text: &[u8],
+) -> Result<Vec<Vec<Literal>>, TaskError>
     ensures { IfOk result (λ clauses. invariant_for circuit.now text.now ≡ Some (clauses_view clauses.items)) }
 {
     match read_invariant_for(alloc, circuit, text) {

@@ -25,15 +25,30 @@ pub enum TaskError {
     /// The circuit has no bad literal at all.
     #[error("no bad literal")]
     NoBads,
+    /// There is no justice property at this place; there are so many.
+    #[error("no justice property {0}, of {1}")]
+    NoJustice(usize, usize),
+    /// There is no justice property at all.
+    #[error("no justice property")]
+    NoJustices,
     /// A witness names the bad literal at this place; the circuit has so many.
     #[error("it names bad literal {0}, and the circuit has {1}")]
     OtherBad(usize, usize),
+    /// A witness names the justice property at this place; there are so many.
+    #[error("it names justice property {0}, and the circuit has {1}")]
+    OtherJustice(usize, usize),
     /// The text has no witness of the bad literal at this place, which is asked for.
     #[error("no witness of bad literal {0}")]
     NoWitnessOf(usize),
     /// The text has no witness at all.
     #[error("no witness")]
     NoWitness,
+    /// The text has no witness of the justice property at this place, which is asked for.
+    #[error("no witness of justice property {0}")]
+    NoLassoOf(usize),
+    /// The text has no witness of a justice property.
+    #[error("no witness of a justice property")]
+    NoLasso,
     /// The clauses that were found do not certify the circuit.
     #[error("what was found does not certify the circuit")]
     Uncertified,
@@ -43,6 +58,15 @@ pub enum TaskError {
 }
 
 impl TaskError {
+    // Why there is no bad literal at this place, of so many.
+    pub(crate) fn no_bad(place: usize, count: usize) -> Self {
+        if count == 0 {
+            TaskError::NoBads
+        } else {
+            TaskError::NoBad(place, count)
+        }
+    }
+
     /// Why no circuit was read.
     pub fn of_circuit(error: AigerError) -> Self {
         match error {

@@ -1,14 +1,14 @@
-//! What is found out about a circuit, from the bytes of its text to those of answers, and what witnesses and
-//! certificates of other programs show of it. The type parameter `S` is what solves.
+//! What is found out about a problem, as texts of answers, and what witnesses and certificates of other programs show
+//! of it. The type parameter `S` is what solves.
 #![tactic(auto)]
 
+pub mod answered;
 pub mod answers;
 mod any;
 pub mod certificates;
 pub mod error;
 pub mod induction;
 pub mod justice;
-pub mod known;
 mod left;
 mod meter;
 pub mod outcome;
@@ -16,15 +16,17 @@ pub mod output;
 mod parted;
 mod query;
 mod strengthened;
+pub mod verdict;
 pub mod witnesses;
 
-pub use answers::{Answered, Said, Which, answer};
+pub use answered::{Answered, together};
+pub use answers::{Said, answer};
 pub use certificates::{
     Certificate, Doubt, certificate_of, certifies, doubt_of, witness_circuit_of,
 };
 pub use error::TaskError;
 pub use induction::InductionDoubt;
-pub use known::Known;
 pub use outcome::Outcome;
 pub use output::{Certifying, Lost, Output, Traces, Wanted};
+pub use verdict::{Evidence, Verdict};
 pub use witnesses::{WitnessDoubt, replay_all, replays, witness_doubt};

@@ -3,17 +3,17 @@ ghost use Rattle.std.specs.Prelude.{◌≡◌, ◌<◌, length, map, slice_get, 
 ghost use Rattle.gipsat_cnf.specs.Literals.{Lit};
 ghost use Rattle.gipmc_task.specs.Answers.{IsKnown};
 ghost use Rattle.gipmc_task.specs.Left.{StandFor, StandsFor};
-ghost use Rattle.gipmc_task.specs.declared.known.Known.TheVariants.{NoFailureWithin};
+ghost use Rattle.gipmc_task.specs.declared.verdict.Verdict.TheVariants.{ClearTo};
 ghost use Rattle.gipmc_engines.specs.Findings.{verdict_by};
 ghost use Rattle.gipmc_engines.specs.Verdicts.{IsRightVerdict, NeverFailsWithin};
 ghost use Rattle.gipmc_reduce.specs.Cone.{IsPartOf, literal_named};
 
-use crate::known::Known;
 use crate::left::Left;
 use crate::meter::Meter;
 use crate::output::Wanted;
+use crate::verdict::{Evidence, Verdict};
 use gipmc_circuits::{Netlist, Trace, replay};
-use gipmc_engines::{Bounds, Event, Finding, Joint, Observer, Plan, Tries, Verdict, search};
+use gipmc_engines::{Bounds, Event, Finding, Joint, Observer, Plan, Tries, search};
 use gipmc_reduce::Cone;
 use gipsat_cnf::{Literal, SatSolver};
 use std::alloc::{AllocError, Global};
@@ -194,7 +194,7 @@ impl<'a, S: SatSolver + Drop> Parted<'a, S> {
         at: usize,
         wanted: Wanted,
         observer: &mut O,
-    ) -> Known
+    ) -> Verdict
         requires { at < length self.old.bads.now }
         ensures whole { self.new.whole ≡ self.old.whole }
         ensures bads { self.new.bads ≡ self.old.bads }
@@ -246,7 +246,13 @@ impl<'a, S: SatSolver + Drop> Parted<'a, S> {
 
     // What is told of the literal at a place: what is known, and where that is a trace, a shortest one if that is wanted and
     // found.
-    fn told<O: Observer>(&self, alloc: Global, at: usize, wanted: Wanted, observer: &mut O) -> Known
+    fn told<O: Observer>(
+        &self,
+        alloc: Global,
+        at: usize,
+        wanted: Wanted,
+        observer: &mut O,
+    ) -> Verdict
         requires { at < length self.now.bads.now }
         ensures { (bad : Lit) → slice_get self.now.bads.now at ≡ Some bad →
             IsKnown self.now.whole.now.circuit bad result }
@@ -272,7 +278,7 @@ impl<'a, S: SatSolver + Drop> Parted<'a, S> {
         at: usize,
         moments: usize,
         observer: &mut O,
-    ) -> Option<Known>
+    ) -> Option<Verdict>
         requires { at < length self.now.bads.now }
         ensures { IfSome result (λ known. (bad : Lit) → slice_get self.now.bads.now at ≡ Some bad →
             IsKnown self.now.whole.now.circuit bad known) }
@@ -313,37 +319,37 @@ impl<'a, S: SatSolver + Drop> Parted<'a, S> {
             ..Bounds::default()
         };
         match search::<S, O>(alloc, self.joint.findings.netlist, own, bounds, observer) {
-            Ok(Verdict::Fails(trace)) => (Some(trace), true),
-            Ok(Verdict::NoFailureWithin(cleared)) => (None, cleared >= depth),
+            Ok(gipmc_engines::Verdict::Fails(trace)) => (Some(trace), true),
+            Ok(gipmc_engines::Verdict::NoFailureWithin(cleared)) => (None, cleared >= depth),
             _ => (None, false),
         }
     }
 
     // Whether a literal is left open since memory was refused.
-    fn is_refused(&self, at: usize, known: &Known) -> bool {
+    fn is_refused(&self, at: usize, known: &Verdict) -> bool {
         let is_lost = self.joint.is_refused || !self.joint.findings.is_open(at);
         match known {
-            Known::Fails(_) => false,
-            Known::Safe => false,
-            Known::NoFailureWithin(_) => is_lost,
-            Known::Nothing => is_lost,
+            Verdict::Fails(_) => false,
+            Verdict::Holds(_) => false,
+            Verdict::ClearTo(_) => is_lost,
+            Verdict::Unknown => is_lost,
         }
     }
 
     /// What is known of the literal at a place: nothing where memory is refused.
-    pub(crate) fn known(&self, alloc: Global, at: usize) -> Known
+    pub(crate) fn known(&self, alloc: Global, at: usize) -> Verdict
         requires { at < length self.now.bads.now }
         ensures { (bad : Lit) → slice_get self.now.bads.now at ≡ Some bad →
             IsKnown self.now.whole.now.circuit bad result }
     {
         match self.carried(alloc, at) {
             Ok(known) => known,
-            Err(_) => Known::Nothing,
+            Err(_) => Verdict::Unknown,
         }
     }
 
     // What the finding about the literal at a place says of the whole circuit.
-    fn carried(&self, alloc: Global, at: usize) -> Result<Known, AllocError>
+    fn carried(&self, alloc: Global, at: usize) -> Result<Verdict, AllocError>
         requires within { at < length self.now.bads.now }
         requires own { at < length self.now.joint.findings.bads.now }
         ensures { IfOk result (λ known. (bad : Lit) → slice_get self.now.bads.now at ≡ Some bad →
@@ -358,19 +364,19 @@ impl<'a, S: SatSolver + Drop> Parted<'a, S> {
         if self.joint.findings.is_shown(alloc, at)? {
             Ok(self.on_whole(bad, own, finding))
         } else {
-            Ok(Known::Nothing)
+            Ok(Verdict::Unknown)
         }
     }
 
     // That the whole circuit fails, where a trace of the one that is searched, carried to it, is a counterexample.
-    fn fails_by(&self, alloc: Global, bad: Literal, trace: &Trace) -> Result<Known, AllocError>
+    fn fails_by(&self, alloc: Global, bad: Literal, trace: &Trace) -> Result<Verdict, AllocError>
         ensures { IfOk result (IsKnown self.now.whole.now.circuit bad) }
     {
         let trace = self.trace_of(alloc, trace)?;
         if replay(alloc, self.whole, bad, &trace)? {
-            Ok(Known::Fails(trace))
+            Ok(Verdict::Fails(trace))
         } else {
-            Ok(Known::Nothing)
+            Ok(Verdict::Unknown)
         }
     }
 
@@ -386,7 +392,7 @@ impl<'a, S: SatSolver + Drop> Parted<'a, S> {
     }
 
     // What a finding about the literal that stands for the bad one says of the whole circuit.
-    fn on_whole(&self, bad: Literal, own: Literal, finding: &Finding) -> Known
+    fn on_whole(&self, bad: Literal, own: Literal, finding: &Finding) -> Verdict
         requires stands { StandsFor self.now.joint.findings.netlist.now.circuit own self.now.whole.now.circuit bad }
         requires right { IsRightVerdict self.now.joint.findings.netlist.now.circuit own
             (verdict_by self.now.joint.findings.invariant finding.now) }
@@ -394,11 +400,11 @@ impl<'a, S: SatSolver + Drop> Parted<'a, S> {
     {
         let (_of, _own) = (bad, own);
         match finding {
-            Finding::Fails(_) => Known::Nothing,
-            Finding::Safe => Known::Safe,
-            Finding::Inductive(_) => Known::Safe,
-            Finding::NoFailureWithin(depth) => Known::NoFailureWithin(*depth),
-            Finding::Unknown => Known::Nothing,
+            Finding::Fails(_) => Verdict::Unknown,
+            Finding::Safe => Verdict::Holds(Evidence::Invariant),
+            Finding::Inductive(k) => Verdict::Holds(Evidence::Induction(*k)),
+            Finding::NoFailureWithin(depth) => Verdict::ClearTo(*depth),
+            Finding::Unknown => Verdict::Unknown,
         }
     }
 
@@ -431,19 +437,19 @@ fn greater(greatest: Option<usize>, finding: &Finding) -> Option<usize> {
 }
 
 // How many moments a trace has that is known.
-fn moments_of(known: &Known) -> Option<usize> {
+fn moments_of(known: &Verdict) -> Option<usize> {
     match known {
-        Known::Fails(trace) => Some(trace.inputs.len()),
+        Verdict::Fails(trace) => Some(trace.inputs.len()),
         _ => None,
     }
 }
 
 // Up to how many transitions it is known that nothing fails, if that is all.
-fn depth_of(known: &Known) -> Option<usize>
-    ensures { IfSome result (λ n. known.now ≡ NoFailureWithin n) }
+fn depth_of(known: &Verdict) -> Option<usize>
+    ensures { IfSome result (λ n. known.now ≡ ClearTo n) }
 {
     match known {
-        Known::NoFailureWithin(depth) => Some(*depth),
+        Verdict::ClearTo(depth) => Some(*depth),
         _ => None,
     }
 }

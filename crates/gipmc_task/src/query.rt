@@ -6,10 +6,10 @@ ghost use Rattle.gipmc_task.specs.Answers.{IsKnown};
 ghost use Rattle.gipmc_task.specs.Left.{StandFor};
 ghost use Rattle.gipmc_engines.specs.Verdicts.{NeverFailsWithin};
 
-use crate::known::Known;
 use crate::left::Left;
 use crate::output::Wanted;
 use crate::parted::Parted;
+use crate::verdict::Verdict;
 use gipmc_circuits::Netlist;
 use gipmc_engines::{Observer, Plan};
 use gipsat_cnf::{Literal, SatSolver};
@@ -79,7 +79,7 @@ impl<'a, S: SatSolver + Drop> Query<'a, S> {
         at: usize,
         wanted: Wanted,
         observer: &mut O,
-    ) -> Known
+    ) -> Verdict
         requires { at < length self.old.bads.now }
         ensures whole { self.new.whole ≡ self.old.whole }
         ensures bads { self.new.bads ≡ self.old.bads }
@@ -162,13 +162,13 @@ fn beside<'a, S: SatSolver + Drop>(
 }
 
 // Whether the one is a depth up to which nothing fails, and the other one says less.
-fn is_more(one: &Known, other: &Known) -> bool {
-    let Known::NoFailureWithin(depth) = one else {
+fn is_more(one: &Verdict, other: &Verdict) -> bool {
+    let Verdict::ClearTo(depth) = one else {
         return false;
     };
     match other {
-        Known::NoFailureWithin(less) => less < depth,
-        Known::Nothing => true,
-        Known::Fails(_) | Known::Safe => false,
+        Verdict::ClearTo(less) => less < depth,
+        Verdict::Unknown => true,
+        Verdict::Fails(_) | Verdict::Holds(_) => false,
     }
 }

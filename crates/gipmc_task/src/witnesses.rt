@@ -1,11 +1,10 @@
-//! Witnesses of counterexamples, from the bytes of texts to the answer.
+//! Witnesses of counterexamples, as texts.
 ghost use Rattle.std.specs.Prelude.{◌≡◌, ◌==◌, ◌<◌, ◌∷◌, [], length, map, IfNone, IfOk, IsTrue, None, Some};
 ghost use Rattle.std.specs.List.{list_any};
 ghost use Rattle.gipmc_aiger.specs.Lists.{Every};
 ghost use Rattle.gipmc_task.specs.Witnesses.{AreWitnessesIn, FailsAt, IsRight, Replays, ReplaysAll};
 ghost use Rattle.gipmc_task.specs.Witnesses.{claimed, names_asked, names_place};
 
-use crate::answers::netlist_in;
 use crate::error::TaskError;
 use gipmc_aiger::{Claim, read_claims};
 use gipmc_circuits::{Netlist, Trace, TraceDoubt, replay, trace_doubt};
@@ -24,78 +23,86 @@ pub struct WitnessDoubt {
     pub trace: TraceDoubt,
 }
 
-/// A line that says which witness, which bad literal, and what is wrong: at which moment, with which constraint or latch.
+/// A line that says which witness, which bad literal, and what is wrong: at which moment, with which constraint or
+/// latch.
 impl Display for WitnessDoubt {
     fn fmt<W: fmt::Write>(&self, f: &mut fmt::Formatter<W>) -> fmt::Result {
         write!(f, "witness {}, b{}: {}", self.witness, self.bad, self.trace)
     }
 }
 
-/// Whether each trace that the witnesses of a text write is a counterexample to the circuit that the other text writes,
-/// as [`witness_doubt`] finds out.
+/// Whether each trace that the witnesses of a text write is a counterexample to the circuit, as [`witness_doubt`] finds
+/// out.
 ///
 /// # Errors
 /// Those of [`witness_doubt`].
 pub fn replays(
     alloc: Global,
-    bytes: &[u8],
+    netlist: &Netlist,
     text: &[u8],
     asked: Option<usize>,
 ) -> Result<bool, TaskError>
-    ensures { IfOk result (λ fails. IsTrue fails → Replays bytes.now text.now asked) }
+    ensures { IfOk result (λ fails. IsTrue fails → Replays netlist.now.circuit text.now asked) }
 {
-    match witness_doubt(alloc, bytes, text, asked)? {
+    match witness_doubt(alloc, netlist, text, asked)? {
         None => Ok(true),
         Some(_) => Ok(false),
     }
 }
 
-/// Why one of the witnesses of a text is no counterexample to the circuit that the other text writes: at the bad literal
-/// at the place that is asked for, if the witness names it, or at each that it names. None if all are. A witness without
-/// names, as abc writes it, stands for what is asked for, or for the first bad literal.
+/// Why one of the witnesses of a text is no counterexample to the circuit: at the bad literal at the place that is
+/// asked for, if the witness names it, or at each that it names. None if all are. A witness without names, as abc
+/// writes it, stands for what is asked for, or for the first bad literal.
 ///
 /// # Errors
-/// - [`TaskError::Circuit`] and [`TaskError::Witness`] where a text has another form.
+/// - [`TaskError::Witness`] where the text has another form.
 /// - [`TaskError::NoBads`] and [`TaskError::NoBad`] where the circuit has no bad literal, or not the one that is asked
 ///   for.
-/// - [`TaskError::NoWitness`] and [`TaskError::NoWitnessOf`] where the text has no witness, or none of what is asked for.
+/// - [`TaskError::NoWitness`] and [`TaskError::NoWitnessOf`] where the text has no witness, or none of what is asked
+///   for.
 /// - [`TaskError::OtherBad`] where the circuit has not the bad literal that a witness names.
 /// - [`TaskError::Memory`] where memory is refused.
 pub fn witness_doubt(
     alloc: Global,
-    bytes: &[u8],
+    netlist: &Netlist,
     text: &[u8],
     asked: Option<usize>,
 ) -> Result<Option<WitnessDoubt>, TaskError>
-    ensures { IfOk result (λ doubt. IfNone doubt (Replays bytes.now text.now asked)) }
+    ensures { IfOk result (λ doubt. IfNone doubt (Replays netlist.now.circuit text.now asked)) }
 {
-    let netlist = netlist_in(alloc, bytes)?;
-    has_asked(&netlist, asked)?;
-    let claims = claims_in(alloc, &netlist, text)?;
+    has_asked(netlist, asked)?;
+    let claims = claims_in(alloc, netlist, text)?;
     if !name_asked(&claims, asked) {
         return Err(unnamed(asked));
     }
-    first_doubt(alloc, &netlist, &claims, asked)
+    first_doubt(alloc, netlist, &claims, asked)
 }
 
-/// How many witnesses a text has, and why one of them is no counterexample to the circuit that the other text writes, at
-/// one of the bad literals that it names. None if all are. There may be no witness; else this is what [`witness_doubt`]
-/// finds out where no literal is asked for.
+/// How many witnesses a text has, and why one of them is no counterexample to the circuit, at one of the bad literals
+/// that it names. None if all are. There may be no witness, and then no bad literal; else this is what
+/// [`witness_doubt`] finds out where no literal is asked for.
 ///
 /// # Errors
 /// Those of [`witness_doubt`] but for the lack of a witness.
 pub fn replay_all(
     alloc: Global,
-    bytes: &[u8],
+    netlist: &Netlist,
     text: &[u8],
 ) -> Result<(usize, Option<WitnessDoubt>), TaskError>
-    ensures { IfOk result (λ found. IfNone found.1 (ReplaysAll bytes.now text.now found.0)) }
+    ensures { IfOk result (λ found. IfNone found.1 (ReplaysAll netlist.now.circuit text.now found.0)) }
 {
-    let netlist = netlist_in(alloc, bytes)?;
-    has_asked(&netlist, None)?;
-    let claims = claims_in(alloc, &netlist, text)?;
-    let doubt = first_doubt(alloc, &netlist, &claims, None)?;
+    let claims = claims_in(alloc, netlist, text)?;
+    has_claimed(netlist, &claims)?;
+    let doubt = first_doubt(alloc, netlist, &claims, None)?;
     Ok((claims.len(), doubt))
+}
+
+// Tests that the circuit has a bad literal, if there is a witness of one.
+fn has_claimed(netlist: &Netlist, claims: &[Claim]) -> Result<(), TaskError> {
+    if claims.is_empty() {
+        return Ok(());
+    }
+    has_asked(netlist, None)
 }
 
 // Tests that the circuit has the bad literal that is asked for, or one at all.
@@ -103,7 +110,7 @@ fn has_asked(netlist: &Netlist, asked: Option<usize>) -> Result<(), TaskError> {
     let count = netlist.circuit.bads.len();
     match asked {
         None if count == 0 => Err(TaskError::NoBads),
-        Some(place) if place >= count => Err(TaskError::NoBad(place, count)),
+        Some(place) if place >= count => Err(TaskError::no_bad(place, count)),
         _ => Ok(()),
     }
 }

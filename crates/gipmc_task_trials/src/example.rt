@@ -1,22 +1,24 @@
-//! What is answered about the circuit of a text.
+//! What is said of a circuit.
 ghost use Rattle.std.specs.Prelude.{IfOk};
-ghost use Rattle.gipmc_task.specs.Answers.{Answers};
-ghost use Rattle.gipmc_task.specs.declared.answers.Which.TheVariants.{All};
+ghost use Rattle.gipmc_aiger.specs.declared.problem.Subject.TheVariants.{All};
+ghost use Rattle.gipmc_task.specs.Answers.{TellsAsked};
 
+use gipmc_aiger::Subject;
+use gipmc_circuits::Netlist;
 use gipmc_engines::Plan;
-use gipmc_task::{Answered, Lost, Output, TaskError, Which, answer};
+use gipmc_task::{Lost, Output, Said, TaskError, answer};
 use gipsat_plain::Plain;
 use std::alloc::Global;
 
-/// The circuit of a text, and what is said of all its bad literals.
-pub fn answered(alloc: Global, text: &[u8]) -> Result<Answered, TaskError>
-    ensures { IfOk result (λ a. Answers text.now All a.said.outcome a.said.text.items) }
+/// What is said of all bad literals of a circuit.
+pub fn said(alloc: Global, netlist: &Netlist) -> Result<Said, TaskError>
+    ensures { IfOk result (λ said. TellsAsked netlist.now.circuit All said.answers.items) }
 {
     let mut output = Output::new(Vec::new(alloc), Lost::GoOn);
     answer::<Plain, _, _>(
         alloc,
-        text,
-        Which::All,
+        netlist,
+        Subject::All,
         &Plan::default(),
         &mut (),
         &mut output,

@@ -1,26 +1,42 @@
-//! What is answered about the justice properties of a text.
-ghost use Rattle.std.specs.Prelude.{None, IfOk};
-ghost use Rattle.gipmc_task.specs.Justice.Answers.{Answers};
+//! What is answered about the justice properties of a problem.
+ghost use Rattle.std.specs.Prelude.{IfOk};
+ghost use Rattle.gipmc_aiger.specs.declared.problem.Subject.TheVariants.{All};
+ghost use Rattle.gipmc_task.specs.Justice.Answers.{TellsAsked};
 
-use gipmc_engines::liveness::Bounds;
-use gipmc_task::justice::{Answered, JusticeError, answer};
-use gipmc_task::{Lost, Output};
+use gipmc_aiger::{Problem, Subject, read_problem};
+use gipmc_engines::Plan;
+use gipmc_task::justice::answer;
+use gipmc_task::{Answered, Lost, Output, TaskError};
 use gipsat_plain::Plain;
 use std::alloc::Global;
 
-/// The circuit of a text, and what is said of all its justice properties.
-pub fn answered(alloc: Global, text: &[u8]) -> Result<Answered, JusticeError>
-    ensures { IfOk result (λ a. Answers text.now None a.said.outcome a.said.text.items) }
+/// The answers about all justice properties of a problem.
+pub fn answers(alloc: Global, problem: &Problem) -> Result<Vec<Answered>, TaskError>
+    ensures { IfOk result (λ answers.
+        TellsAsked problem.now.netlist.circuit problem.now.liveness All answers.items) }
 {
     let mut output = Output::new(Vec::new(alloc), Lost::GoOn);
-    answer::<Plain, _, _>(alloc, text, None, Bounds::default(), &mut (), &mut output)
+    answer::<Plain, _, _>(
+        alloc,
+        problem,
+        Subject::All,
+        &Plan::default(),
+        &mut (),
+        &mut output,
+    )
+}
+
+// The problem that a text writes.
+pub(crate) fn problem_of(alloc: Global, text: &[u8]) -> Result<Problem, TaskError> {
+    match read_problem(alloc, text) {
+        Ok(problem) => Ok(problem),
+        Err(error) => Err(TaskError::of_circuit(error)),
+    }
 }
 
 #[test]
-fn nothing_is_said_of_no_property(rt: HostRuntime) -> Result<(), JusticeError> {
-    let answered = answered(rt.alloc(), b"aag 1 0 1 0 0 1\n2 2\n2\n")?;
-    assert!(rt;
-        answered.said.outcome == gipmc_task::Outcome::Safe && answered.said.text.is_empty()
-    );
+fn no_property_has_no_answer(rt: HostRuntime) -> Result<(), TaskError> {
+    let problem = problem_of(rt.alloc(), b"aag 1 0 1 0 0 1\n2 2\n2\n")?;
+    assert!(rt; answers(rt.alloc(), &problem)?.is_empty());
     Ok(())
 }

@@ -1,18 +1,18 @@
 //! Circuits with justice properties and fairness constraints, and lassos: what is written is read again.
 
-use gipmc_aiger::{read_lassos, read_liveness, write_lasso, write_live_aag, write_live_aig};
+use gipmc_aiger::{read_lassos, read_problem, write_lasso, write_live_aag, write_live_aig};
 use std::alloc::Global;
 
 // What a text writes, in the ascii form. None where it is not read or not written.
 fn ascii(alloc: Global, text: &[u8]) -> Option<Vec<u8>> {
-    let (netlist, liveness) = read_liveness(alloc, text).ok()?;
-    write_live_aag(alloc, &netlist.circuit, &liveness).ok()
+    let problem = read_problem(alloc, text).ok()?;
+    write_live_aag(alloc, &problem.netlist.circuit, &problem.liveness).ok()
 }
 
 // The same in the binary form.
 fn binary(alloc: Global, text: &[u8]) -> Option<Vec<u8>> {
-    let (netlist, liveness) = read_liveness(alloc, text).ok()?;
-    write_live_aig(alloc, &netlist.circuit, &liveness).ok()
+    let problem = read_problem(alloc, text).ok()?;
+    write_live_aig(alloc, &problem.netlist.circuit, &problem.liveness).ok()
 }
 
 // The text of the first lasso of a text for one latch and two inputs.

@@ -1,8 +1,9 @@
 //! What a write that is lost ends.
 
-use crate::observers::SWAPPED;
+use crate::observers::{says, swapped};
+use gipmc_aiger::Subject;
 use gipmc_engines::Plan;
-use gipmc_task::{Lost, Output, TaskError, Which, answer};
+use gipmc_task::{Lost, Outcome, Output, TaskError, answer};
 use gipsat_plain::Plain;
 use giputils_refusing::devices::{Failure, Sink};
 use std::alloc::Global;
@@ -13,16 +14,16 @@ use std::io::ErrorKind;
 fn goes_on(alloc: Global, lost: Lost) -> Result<(bool, bool), TaskError> {
     let writer = Sink::new(alloc, 9, 1, Failure::Refuses(ErrorKind::Other));
     let mut output = Output::new(writer, lost);
-    let answered = answer::<Plain, _, _>(
+    let netlist = swapped(alloc)?;
+    let said = answer::<Plain, _, _>(
         alloc,
-        SWAPPED,
-        Which::All,
+        &netlist,
+        Subject::All,
         &Plan::default(),
         &mut (),
         &mut output,
     )?;
-    let is_safe = answered.said.text.ends_with(b"0\nb1\n.\n");
-    Ok((is_safe, output.failure.is_some()))
+    Ok((says(&said, Outcome::Safe), output.failure.is_some()))
 }
 
 #[test]

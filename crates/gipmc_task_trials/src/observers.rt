@@ -1,13 +1,31 @@
 //! What an observer is told, and what it stops.
 
+use gipmc_aiger::{Subject, read_circuit};
+use gipmc_circuits::Netlist;
 use gipmc_engines::{Event, Observer, Plan};
-use gipmc_task::{Lost, Outcome, Output, TaskError, Which, answer};
+use gipmc_task::{Lost, Outcome, Output, Said, TaskError, answer, together};
 use gipsat_plain::Plain;
 use std::alloc::Global;
 use std::ops::ControlFlow;
 
-/// A latch that holds next what the input was, and one that stays 0. Both are bad.
-pub const SWAPPED: &[u8] = b"aag 3 1 2 0 0 2\n2\n4 4\n6 2\n6\n4\n";
+// A latch that holds next what the input was, and one that stays 0. Both are bad.
+const SWAPPED: &[u8] = b"aag 3 1 2 0 0 2\n2\n4 4\n6 2\n6\n4\n";
+
+// This circuit.
+pub(crate) fn swapped(alloc: Global) -> Result<Netlist, TaskError> {
+    match read_circuit(alloc, SWAPPED) {
+        Ok(netlist) => Ok(netlist),
+        Err(error) => Err(TaskError::of_circuit(error)),
+    }
+}
+
+// Whether the last of the answers says this of its literal.
+pub(crate) fn says(said: &Said, outcome: Outcome) -> bool {
+    match said.answers.last() {
+        Some(answer) => answer.verdict.outcome() == outcome,
+        None => false,
+    }
+}
 
 // Lets no search begin about the bad literal at a place, and counts those that began and ended.
 #[derive(Clone, Copy, PartialEq, Eq)]
@@ -38,17 +56,22 @@ fn said(alloc: Global, place: usize) -> Result<(Outcome, bool, usize, usize), Ta
         ended: 0,
     };
     let mut output = Output::new(Vec::new(alloc), Lost::GoOn);
-    let answered = answer::<Plain, _, _>(
+    let netlist = swapped(alloc)?;
+    let said = answer::<Plain, _, _>(
         alloc,
-        SWAPPED,
-        Which::All,
+        &netlist,
+        Subject::All,
         &Plan::default(),
         &mut stopper,
         &mut output,
     )?;
-    let said = &answered.said;
-    let is_open = said.text.ends_with(b"2\nb1\n.\n");
-    Ok((said.outcome, is_open, stopper.begun, stopper.ended))
+    let is_open = says(&said, Outcome::Open);
+    Ok((
+        together(&said.answers),
+        is_open,
+        stopper.begun,
+        stopper.ended,
+    ))
 }
 
 #[test]

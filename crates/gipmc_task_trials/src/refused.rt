@@ -1,7 +1,9 @@
 //! Texts that a reader refuses where the program `gipmc` reads them by another one, or reads on.
 
-use gipmc_aiger::{AigerError, Place, Reason, read_circuit, read_liveness, read_witness};
-use gipmc_task::justice::{JusticeError, replays};
+use crate::justice::problem_of;
+use gipmc_aiger::{AigerError, Place, Reason, read_circuit, read_problem, read_witness};
+use gipmc_task::TaskError;
+use gipmc_task::justice::replays;
 use std::alloc::Global;
 
 // How a text of a circuit is refused; None where it is read.
@@ -62,10 +64,9 @@ fn texts_are_refused(rt: HostRuntime) {
 
 // How a text of a circuit with its justice properties is refused.
 fn live_refusal(alloc: Global, text: &[u8]) -> Option<AigerError> {
-    read_liveness(alloc, text).err()
+    read_problem(alloc, text).err()
 }
 
-// The program reads a circuit without a justice property by the other reader, which passes over fairness constraints.
 #[test]
 fn a_fairness_constraint_beside_no_property_is_of_a_variable(rt: HostRuntime) {
     let refusal = live_refusal(rt.alloc(), b"aag 2 1 0 0 0 0 0 0 1\n2\n5\n");
@@ -73,14 +74,11 @@ fn a_fairness_constraint_beside_no_property_is_of_a_variable(rt: HostRuntime) {
     assert!(rt; live_refusal(rt.alloc(), b"aag 2 1 0 0 0 0 0 0 1\n2\n3\n").is_none());
 }
 
-// The program replays witnesses of bad literals alone where there is no justice property.
+// The program replays witnesses of all kinds where no property is asked about.
 #[test]
-fn no_property_has_a_witness(rt: HostRuntime) {
-    let said = replays(
-        rt.alloc(),
-        b"aag 1 0 1 0 0 1\n2 2\n2\n",
-        b"1\nj0\n0\n\n.\n",
-        None,
-    );
-    assert!(rt; said == Err(JusticeError::NoProperties));
+fn no_property_has_a_witness(rt: HostRuntime) -> Result<(), TaskError> {
+    let problem = problem_of(rt.alloc(), b"aag 1 0 1 0 0 1\n2 2\n2\n")?;
+    let said = replays(rt.alloc(), &problem, b"1\nj0\n0\n\n.\n", None);
+    assert!(rt; said == Err(TaskError::NoJustices));
+    Ok(())
 }

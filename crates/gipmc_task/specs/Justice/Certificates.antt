@@ -9,7 +9,6 @@ use Rattle.gipmc_circuits.specs.declared.circuit.Circuit.{Circuit}
 use Rattle.gipmc_reduce.specs.Liveness.{IsLive}
 use Rattle.gipmc_reduce.specs.Longer.{IsMadeBy}
 use Rattle.gipmc_reduce.specs.declared.means.Means.{Means}
-use Rattle.gipmc_task.specs.Justice.Answers.{IsPropertiesIn}
 
 -- the text writes clauses over the latches of the longer circuit, by which that is safe
 abbrev pub IsSafelyMadeBy : Circuit → List Lit → Means → List ℕ → Type 0
@@ -23,12 +22,7 @@ IsLiveByText c fairness justice text =
     ((means : Means) × IsSafelyMadeBy c (fairness ++ justice) means text) × IsLive c fairness justice
 
 -- by the text the circuit is live as to the property at a place, which it has
-abbrev pub CertifiesAt : Circuit → Liveness → List ℕ → ℕ → Type 0
-CertifiesAt c l text place =
+abbrev pub Certifies : Circuit → Liveness → List ℕ → ℕ → Type 0
+Certifies c l text place =
     (justice : Vec Lit Global) × (slice_get l.justice.items place ≡ Some justice)
     × IsLiveByText c l.fairness.items justice.items text
-
--- the bytes write a circuit with properties, and the text what shows that the one at a place holds
-abbrev pub Certifies : List ℕ → List ℕ → ℕ → Type 0
-Certifies bytes text place =
-    (c : Circuit) × (l : Liveness) × IsPropertiesIn bytes c l × CertifiesAt c l text place

@@ -10,7 +10,6 @@ use Rattle.gipmc_circuits.specs.declared.circuit.Circuit.{Circuit}
 use Rattle.gipmc_circuits.specs.declared.trace.Trace.{Trace}
 use Rattle.gipmc_reduce.specs.Lassos.{IsLasso}
 use Rattle.gipmc_reduce.specs.Liveness.{FailsForever}
-use Rattle.gipmc_task.specs.Justice.Answers.{IsPropertiesIn}
 
 -- the text writes witnesses for the circuit: the places of the justice properties that each names, and its trace
 abbrev pub AreLassosIn : Circuit → List ℕ → List (List ℕ × Trace) → Type 0
@@ -42,16 +41,14 @@ claimed names (Some asked) = if list_any (λ name. name == asked) names then ask
 abbrev pub IsRight : Circuit → Liveness → Option ℕ → List ℕ × Trace → Type 0
 IsRight c l asked w = Every (FailsAt c l w.1) (claimed w.0 asked)
 
--- the bytes write a circuit with properties, and the text witnesses for it, all of which are right, and of which one is
--- one of what is asked for
-abbrev pub Replays : List ℕ → List ℕ → Option ℕ → Type 0
-Replays bytes text asked =
-    (c : Circuit) × (l : Liveness) × IsPropertiesIn bytes c l × (witnesses : List (List ℕ × Trace))
-    × AreLassosIn c text witnesses × IsTrue (list_any (λ w. names_asked w.0 asked) witnesses)
-    × Every (IsRight c l asked) witnesses
+-- the text writes witnesses for the circuit, all of which are right, and of which one is one of what is asked for
+abbrev pub Replays : Circuit → Liveness → List ℕ → Option ℕ → Type 0
+Replays c l text asked =
+    (witnesses : List (List ℕ × Trace)) × AreLassosIn c text witnesses
+    × IsTrue (list_any (λ w. names_asked w.0 asked) witnesses) × Every (IsRight c l asked) witnesses
 
--- the bytes write a circuit with properties, and the text n witnesses for it, which are right whatever they name
-abbrev pub ReplaysAll : List ℕ → List ℕ → ℕ → Type 0
-ReplaysAll bytes text n =
-    (c : Circuit) × (l : Liveness) × IsPropertiesIn bytes c l × (witnesses : List (List ℕ × Trace))
-    × AreLassosIn c text witnesses × (length witnesses ≡ n) × Every (IsRight c l None) witnesses
+-- the text writes n witnesses for the circuit, which are right whatever they name
+abbrev pub ReplaysAll : Circuit → Liveness → List ℕ → ℕ → Type 0
+ReplaysAll c l text n =
+    (witnesses : List (List ℕ × Trace)) × AreLassosIn c text witnesses × (length witnesses ≡ n)
+    × Every (IsRight c l None) witnesses

@@ -1,20 +1,17 @@
-//! Certificates that justice properties hold, from the bytes of texts to the answer: clauses over the latches of a longer
-//! circuit.
-ghost use Rattle.std.specs.Prelude.{◌≡◌, ◌<◌, Some, length, IfNone, IfOk, IsTrue};
-ghost use Rattle.gipmc_aiger.specs.Invariants.{clauses_view, invariant_for};
+//! Certificates that justice properties hold, as texts: clauses over the latches of a longer circuit.
+ghost use Rattle.std.specs.Prelude.{◌<◌, length, IfNone, IfOk, IsTrue};
 ghost use Rattle.gipmc_circuits.specs.Certificate.{is_certified};
-ghost use Rattle.gipmc_task.specs.Justice.Certificates.{Certifies, CertifiesAt, IsLiveByText};
+ghost use Rattle.gipmc_task.specs.Justice.Certificates.{Certifies, IsLiveByText};
 
+use crate::certificates::{clauses_in, invariant_text};
 use crate::error::TaskError;
-use crate::justice::answers::{Found, properties_in};
-use crate::justice::error::JusticeError;
-use gipmc_aiger::{Liveness, read_invariant_for, write_invariant};
+use gipmc_aiger::Problem;
 use gipmc_circuits::certificate::Verdict;
 use gipmc_circuits::{Circuit, Netlist};
 use gipmc_reduce::{Means, certify_all, longer};
 use gipsat_cnf::{Literal, SatSolver};
 use giputils_text::{number, split_line};
-use std::alloc::{AllocError, Global};
+use std::alloc::Global;
 use std::fmt::{self, Display};
 
 /// Why a certificate is not known to show that a justice property holds.
@@ -51,66 +48,70 @@ impl Display for JusticeDoubt {
     }
 }
 
-/// Whether the certificate that a text writes shows that the justice property at a place holds of the circuit of another
-/// text, as [`doubt_of`] finds out.
+/// Whether the certificate that a text writes shows that the justice property at a place holds, as [`doubt_of`] finds
+/// out.
 ///
 /// # Errors
 /// Those of [`doubt_of`].
 pub fn certifies<S: SatSolver + Drop>(
     alloc: Global,
-    bytes: &[u8],
+    problem: &Problem,
     text: &[u8],
     place: usize,
     limit: usize,
-) -> Result<bool, JusticeError>
-    ensures { IfOk result (λ live. IsTrue live → Certifies bytes.now text.now place) }
+) -> Result<bool, TaskError>
+    ensures { IfOk result
+        (λ live. IsTrue live → Certifies problem.now.netlist.circuit problem.now.liveness text.now place) }
 {
-    match doubt_of::<S>(alloc, bytes, text, place, limit)? {
+    match doubt_of::<S>(alloc, problem, text, place, limit)? {
         None => Ok(true),
         Some(_) => Ok(false),
     }
 }
 
-/// Why the certificate that a text writes is not known to show that the justice property at a place holds of the circuit of
-/// another text. None if it shows it. Each question to the solver may learn `limit` clauses.
+/// Why the certificate that a text writes is not known to show that the justice property at a place holds. None if it
+/// shows it. Each question to the solver may learn `limit` clauses.
 ///
-/// A certificate is clauses over the latches of the circuit and, behind these, over those of the longer circuit. That is
-/// the one that saves what the latches hold, if the text has the line `c no lasso` before its header, and else one that
-/// counts: so the text tells by its number of latches how far.
+/// A certificate is clauses over the latches of the circuit and, behind these, over those of the longer circuit. That
+/// is the one that saves what the latches hold, if the text has the line `c no lasso` before its header, and else one
+/// that counts: so the text tells by its number of latches how far.
 ///
 /// # Errors
-/// - [`JusticeError::Task`] where a text has another form, where the clauses are over fewer latches than the circuit has,
-///   or where memory is refused.
-/// - [`JusticeError::NoProperty`] where there is no justice property at the place.
+/// - [`TaskError::Certificate`] where the text has another form, or the clauses are over fewer latches than the circuit
+///   has.
+/// - [`TaskError::Memory`] where memory is refused.
+/// - [`TaskError::NoJustice`] where there is no justice property at the place.
 pub fn doubt_of<S: SatSolver + Drop>(
     alloc: Global,
-    bytes: &[u8],
+    problem: &Problem,
     text: &[u8],
     place: usize,
     limit: usize,
-) -> Result<Option<JusticeDoubt>, JusticeError>
-    ensures { IfOk result (λ doubt. IfNone doubt (Certifies bytes.now text.now place)) }
+) -> Result<Option<JusticeDoubt>, TaskError>
+    ensures { IfOk result
+        (λ doubt. IfNone doubt (Certifies problem.now.netlist.circuit problem.now.liveness text.now place)) }
 {
-    let read = properties_in(alloc, bytes)?;
-    if place >= read.1.justice.len() {
-        return Err(JusticeError::NoProperty(place, read.1.justice.len()));
+    let count = problem.liveness.justice.len();
+    if place >= count {
+        return Err(TaskError::NoJustice(place, count));
     }
-    certifies_at::<S>(alloc, &read.0, &read.1, text, place, limit)
+    certifies_at::<S>(alloc, problem, text, place, limit)
 }
 
 // Why the certificate that a text writes is not known to show that the property at a place holds. None if it shows it.
 fn certifies_at<S: SatSolver + Drop>(
     alloc: Global,
-    netlist: &Netlist,
-    liveness: &Liveness,
+    problem: &Problem,
     text: &[u8],
     place: usize,
     limit: usize,
-) -> Result<Option<JusticeDoubt>, JusticeError>
-    requires { place < length liveness.now.justice.items }
-    ensures { IfOk result (λ doubt. IfNone doubt (CertifiesAt netlist.now.circuit liveness.now text.now place)) }
+) -> Result<Option<JusticeDoubt>, TaskError>
+    requires { place < length problem.now.liveness.justice.items }
+    ensures { IfOk result
+        (λ doubt. IfNone doubt (Certifies problem.now.netlist.circuit problem.now.liveness text.now place)) }
 {
-    let (fairness, justice) = (&liveness.fairness, &liveness.justice[place]);
+    let (fairness, justice) = (&problem.liveness.fairness, &problem.liveness.justice[place]);
+    let netlist = &problem.netlist;
     let means = means_in(&netlist.circuit, text);
     match shown_by::<S>(alloc, netlist, fairness, justice, means, text, limit)? {
         Verdict::Certified => Ok(None),
@@ -131,7 +132,7 @@ fn shown_by<S: SatSolver + Drop>(
     means: Means,
     text: &[u8],
     limit: usize,
-) -> Result<Verdict, JusticeError>
+) -> Result<Verdict, TaskError>
     ensures { IfOk result (λ verdict. IsTrue (is_certified verdict) →
         IsLiveByText netlist.now.circuit fairness.now justice.now text.now) }
 {
@@ -141,20 +142,6 @@ fn shown_by<S: SatSolver + Drop>(
     let clauses = clauses_in(alloc, &made.circuit, text)?;
     let verdicts = certify_all::<S>(alloc, &made, &[bad], &clauses, limit)?;
     Ok(verdicts[0])
-}
-
-// The clauses that a text writes over the latches of a circuit.
-fn clauses_in(
-    alloc: Global,
-    circuit: &Circuit,
-    text: &[u8],
-) -> Result<Vec<Vec<Literal>>, JusticeError>
-    ensures { IfOk result (λ clauses. invariant_for circuit.now text.now ≡ Some (clauses_view clauses.items)) }
-{
-    match read_invariant_for(alloc, circuit, text) {
-        Ok(clauses) => Ok(clauses),
-        Err(error) => Err(JusticeError::of_certificate(error)),
-    }
 }
 
 // The line, before the header, that says that the clauses are over the latches of the circuit that saves.
@@ -183,103 +170,55 @@ fn latches_in(counts: &[u8]) -> Option<usize> {
     Some(latches as usize)
 }
 
-/// The text of a certificate that a justice property holds, by what was found of it. It is read back, and certifies the
-/// property again. Each question to the solver may learn `limit` clauses.
+/// The text of a certificate that the justice property at a place holds, by the clauses of an invariant of a longer
+/// circuit. It is read back, and certifies the property again. Each question to the solver may learn `limit` clauses.
 ///
 /// # Errors
-/// - [`JusticeError::Task`] with [`TaskError::Uncertified`] where the clauses do not show it, and with
-///   [`TaskError::Memory`] where memory is refused.
-/// - [`JusticeError::NoProperty`] where there is no justice property at the place.
+/// - [`TaskError::Uncertified`] where the clauses do not show it.
+/// - [`TaskError::NoJustice`] where there is no justice property at the place.
+/// - [`TaskError::Memory`] where memory is refused.
 pub fn certificate_of<S: SatSolver + Drop>(
     alloc: Global,
-    netlist: &Netlist,
-    liveness: &Liveness,
-    found: &Found,
+    problem: &Problem,
+    place: usize,
+    means: Means,
+    invariant: &[Vec<Literal>],
     limit: usize,
-) -> Result<Vec<u8>, JusticeError>
-    ensures { IfOk result (λ text. CertifiesAt netlist.now.circuit liveness.now text.items found.now.place) }
+) -> Result<Vec<u8>, TaskError>
+    ensures { IfOk result
+        (λ text. Certifies problem.now.netlist.circuit problem.now.liveness text.items place) }
 {
-    let place = found.place;
-    if place >= liveness.justice.len() {
-        return Err(JusticeError::NoProperty(place, liveness.justice.len()));
+    let count = problem.liveness.justice.len();
+    if place >= count {
+        return Err(TaskError::NoJustice(place, count));
     }
-    let text = text_of(alloc, netlist, liveness, found)?;
-    if let Some(_) = certifies_at::<S>(alloc, netlist, liveness, &text, place, limit)? {
-        return Err(JusticeError::Task(TaskError::Uncertified));
+    let text = text_of(alloc, problem, place, means, invariant)?;
+    if let Some(_) = certifies_at::<S>(alloc, problem, &text, place, limit)? {
+        return Err(TaskError::Uncertified);
     }
     Ok(text)
 }
 
-// The text of the clauses that were found, over the latches of the longer circuit.
+// The text of the clauses, over the latches of the longer circuit, and before it the line that says which one that is.
 fn text_of(
     alloc: Global,
-    netlist: &Netlist,
-    liveness: &Liveness,
-    found: &Found,
-) -> Result<Vec<u8>, JusticeError> {
-    let justice: &[Literal] = match liveness.justice.get(found.place) {
-        Some(justice) => justice,
-        None => &[],
+    problem: &Problem,
+    place: usize,
+    means: Means,
+    invariant: &[Vec<Literal>],
+) -> Result<Vec<u8>, TaskError> {
+    let (netlist, liveness) = (&problem.netlist, &problem.liveness);
+    let Some(justice) = liveness.justice.get(place) else {
+        return Err(TaskError::Uncertified);
     };
-    let made = longer(alloc, netlist, &liveness.fairness, justice, found.means)?;
-    let Some((made, _)) = made else {
-        return Err(JusticeError::Task(TaskError::Uncertified));
+    let Some((made, _)) = longer(alloc, netlist, &liveness.fairness, justice, means)? else {
+        return Err(TaskError::Uncertified);
     };
-    let places = places_of(alloc, &made)?;
-    let mut clauses = Vec::new(alloc);
-    for clause in &found.invariant {
-        let clause = over_places(alloc, &places, clause)?;
-        clauses.reserve(1)?;
-        clauses.push_reserved(clause);
+    let mut text = Vec::new(alloc);
+    if means == Means::Saving {
+        text.extend_from_slice(NO_LASSO)?;
+        text.extend_from_slice(b"\n")?;
     }
-    let written = write_invariant(alloc, made.circuit.latches.len(), &clauses)?;
-    Ok(told_of(alloc, found.means, written)?)
-}
-
-// The text of the clauses, and before it the line that says of which circuit they are.
-fn told_of(alloc: Global, means: Means, written: Vec<u8>) -> Result<Vec<u8>, AllocError> {
-    match means {
-        Means::Counting(_) => Ok(written),
-        Means::Saving => {
-            let mut text = Vec::new(alloc);
-            text.extend_from_slice(NO_LASSO)?;
-            text.push(b'\n')?;
-            text.extend_from_slice(&written)?;
-            Ok(text)
-        }
-    }
-}
-
-// The place of the latch of each variable that is a latch's.
-fn places_of(alloc: Global, netlist: &Netlist) -> Result<Vec<Option<u32>>, AllocError> {
-    let mut places = Vec::new(alloc);
-    places.resize(netlist.variables, None)?;
-    for (place, latch) in netlist.circuit.latches.iter().enumerate() {
-        if let Some(entry) = places.get_mut(latch.variable as usize) {
-            *entry = u32::try_from(place).ok();
-        }
-    }
-    Ok(places)
-}
-
-// The most latches that the text of an invariant may name.
-const LATCHES: u32 = 2_147_483_647;
-
-// A clause over variables of latches, over their places.
-fn over_places(
-    alloc: Global,
-    places: &[Option<u32>],
-    clause: &[Literal],
-) -> Result<Vec<Literal>, JusticeError> {
-    let mut moved = Vec::new(alloc);
-    for l in clause {
-        match places.get(l.variable() as usize) {
-            Some(Some(place)) if *place < LATCHES => {
-                moved.reserve(1)?;
-                moved.push_reserved(Literal::new(*place, l.is_positive()));
-            }
-            _ => return Err(JusticeError::Task(TaskError::Uncertified)),
-        }
-    }
-    Ok(moved)
+    text.extend_from_slice(&invariant_text(alloc, &made, invariant)?)?;
+    Ok(text)
 }

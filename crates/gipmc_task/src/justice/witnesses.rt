@@ -1,13 +1,12 @@
-//! Witnesses that justice properties fail, from the bytes of texts to the answer.
+//! Witnesses that justice properties fail, as texts.
 ghost use Rattle.std.specs.Prelude.{◌≡◌, ◌==◌, ◌<◌, ◌∷◌, [], length, map, IfNone, IfOk, IsTrue, None, Some};
 ghost use Rattle.std.specs.List.{list_any};
 ghost use Rattle.gipmc_aiger.specs.Lists.{Every};
 ghost use Rattle.gipmc_task.specs.Justice.Witnesses.{AreLassosIn, FailsAt, IsRight, Replays, ReplaysAll};
 ghost use Rattle.gipmc_task.specs.Justice.Witnesses.{claimed, names_asked};
 
-use crate::justice::answers::properties_in;
-use crate::justice::error::JusticeError;
-use gipmc_aiger::{Claim, Liveness, read_lassos};
+use crate::error::TaskError;
+use gipmc_aiger::{Claim, Liveness, Problem, read_lassos};
 use gipmc_circuits::{Circuit, Netlist, Trace, TraceDoubt, trace_doubt};
 use gipmc_reduce::closed;
 use gipsat_cnf::Literal;
@@ -69,98 +68,107 @@ impl Display for LassoDoubt {
     }
 }
 
-/// Whether each trace that the witnesses of a text write is a lasso of the circuit that the other text writes, by which
-/// a justice property fails, as [`lasso_doubt`] finds out.
+/// Whether each trace that the witnesses of a text write is a lasso by which a justice property fails, as
+/// [`lasso_doubt`] finds out.
 ///
 /// # Errors
 /// Those of [`lasso_doubt`].
 pub fn replays(
     alloc: Global,
-    bytes: &[u8],
+    problem: &Problem,
     text: &[u8],
     asked: Option<usize>,
-) -> Result<bool, JusticeError>
-    ensures { IfOk result (λ fails. IsTrue fails → Replays bytes.now text.now asked) }
+) -> Result<bool, TaskError>
+    ensures { IfOk result
+        (λ fails. IsTrue fails → Replays problem.now.netlist.circuit problem.now.liveness text.now asked) }
 {
-    match lasso_doubt(alloc, bytes, text, asked)? {
+    match lasso_doubt(alloc, problem, text, asked)? {
         None => Ok(true),
         Some(_) => Ok(false),
     }
 }
 
-/// Which of the witnesses of a text shows no failure of a justice property of the circuit that the other text writes: of
-/// the one at the place that is asked for, if the witness names it, or of each that it names. None if all do.
+/// Which of the witnesses of a text shows no failure of a justice property: of the one at the place that is asked for,
+/// if the witness names it, or of each that it names. None if all do.
 ///
 /// # Errors
-/// - [`JusticeError::Task`] where a text has another form, or memory is refused.
-/// - [`JusticeError::NoProperties`] and [`JusticeError::NoProperty`] where the circuit has no justice property, or not the
-///   one that is asked for.
-/// - [`JusticeError::NoWitness`] and [`JusticeError::NoWitnessOf`] where the text has no witness, or none of what is asked
-///   for.
-/// - [`JusticeError::OtherProperty`] where the circuit has not the property that a witness names.
+/// - [`TaskError::Witness`] where the text has another form.
+/// - [`TaskError::NoJustices`] and [`TaskError::NoJustice`] where there is no justice property, or not the one that is
+///   asked for.
+/// - [`TaskError::NoLasso`] and [`TaskError::NoLassoOf`] where the text has no witness, or none of what is asked for.
+/// - [`TaskError::OtherJustice`] where the circuit has not the property that a witness names.
+/// - [`TaskError::Memory`] where memory is refused.
 pub fn lasso_doubt(
     alloc: Global,
-    bytes: &[u8],
+    problem: &Problem,
     text: &[u8],
     asked: Option<usize>,
-) -> Result<Option<LassoDoubt>, JusticeError>
-    ensures { IfOk result (λ doubt. IfNone doubt (Replays bytes.now text.now asked)) }
+) -> Result<Option<LassoDoubt>, TaskError>
+    ensures { IfOk result
+        (λ doubt. IfNone doubt (Replays problem.now.netlist.circuit problem.now.liveness text.now asked)) }
 {
-    let read = properties_in(alloc, bytes)?;
-    has_asked(&read.1, asked)?;
-    let claims = claims_in(alloc, &read.0.circuit, text)?;
+    has_asked(&problem.liveness, asked)?;
+    let claims = claims_in(alloc, &problem.netlist.circuit, text)?;
     if !name_asked(&claims, asked) {
         return Err(unnamed(asked));
     }
-    first_doubt(alloc, &read.0, &read.1, &claims, asked)
+    first_doubt(alloc, problem, &claims, asked)
 }
 
-/// How many witnesses of justice properties a text has, and which of them shows no failure of one that it names, of the
-/// circuit that the other text writes. None if all do. There may be no witness; else this is what [`lasso_doubt`] finds
-/// out where no property is asked for.
+/// How many witnesses of justice properties a text has, and which of them shows no failure of one that it names. None
+/// if all do. There may be no witness, and then no justice property; else this is what [`lasso_doubt`] finds out where
+/// no property is asked for.
 ///
 /// # Errors
 /// Those of [`lasso_doubt`] but for the lack of a witness.
 pub fn replay_all(
     alloc: Global,
-    bytes: &[u8],
+    problem: &Problem,
     text: &[u8],
-) -> Result<(usize, Option<LassoDoubt>), JusticeError>
-    ensures { IfOk result (λ found. IfNone found.1 (ReplaysAll bytes.now text.now found.0)) }
+) -> Result<(usize, Option<LassoDoubt>), TaskError>
+    ensures { IfOk result (λ found. IfNone found.1
+        (ReplaysAll problem.now.netlist.circuit problem.now.liveness text.now found.0)) }
 {
-    let read = properties_in(alloc, bytes)?;
-    has_asked(&read.1, None)?;
-    let claims = claims_in(alloc, &read.0.circuit, text)?;
-    let doubt = first_doubt(alloc, &read.0, &read.1, &claims, None)?;
+    let claims = claims_in(alloc, &problem.netlist.circuit, text)?;
+    has_claimed(&problem.liveness, &claims)?;
+    let doubt = first_doubt(alloc, problem, &claims, None)?;
     Ok((claims.len(), doubt))
 }
 
+// Tests that there is a justice property, if there is a witness of one.
+fn has_claimed(liveness: &Liveness, claims: &[Claim]) -> Result<(), TaskError> {
+    if claims.is_empty() {
+        return Ok(());
+    }
+    has_asked(liveness, None)
+}
+
 // Tests that the circuit has the property that is asked for, or one at all.
-fn has_asked(liveness: &Liveness, asked: Option<usize>) -> Result<(), JusticeError> {
+fn has_asked(liveness: &Liveness, asked: Option<usize>) -> Result<(), TaskError> {
     let count = liveness.justice.len();
     match asked {
-        None if count == 0 => Err(JusticeError::NoProperties),
-        Some(place) if place >= count => Err(JusticeError::NoProperty(place, count)),
+        None if count == 0 => Err(TaskError::NoJustices),
+        Some(place) if place >= count => Err(TaskError::NoJustice(place, count)),
         _ => Ok(()),
     }
 }
 
 // Why no witness is one of what is asked for.
-fn unnamed(asked: Option<usize>) -> JusticeError {
+fn unnamed(asked: Option<usize>) -> TaskError {
     match asked {
-        Some(place) => JusticeError::NoWitnessOf(place),
-        None => JusticeError::NoWitness,
+        Some(place) => TaskError::NoLassoOf(place),
+        None => TaskError::NoLasso,
     }
 }
 
 // What the witnesses of a text claim of a circuit's properties.
-fn claims_in(alloc: Global, circuit: &Circuit, text: &[u8]) -> Result<Vec<Claim>, JusticeError>
+fn claims_in(alloc: Global, circuit: &Circuit, text: &[u8]) -> Result<Vec<Claim>, TaskError>
     ensures { IfOk result (λ claims.
         AreLassosIn circuit.now text.now (map (λ x. (x.properties.items, x.trace)) claims.items)) }
 {
     match read_lassos(alloc, circuit.latches.len(), circuit.inputs.len(), text) {
         Ok(claims) => Ok(claims),
-        Err(error) => Err(JusticeError::of_witness(error)),
+        Err(error) => Err(TaskError::of_witness(error)),
     }
 }
 
@@ -193,17 +201,17 @@ fn is_one_of(places: &[u32], place: usize) -> bool
 // Which of some witnesses shows no failure. None if all do, here and below.
 fn first_doubt(
     alloc: Global,
-    netlist: &Netlist,
-    liveness: &Liveness,
+    problem: &Problem,
     claims: &[Claim],
     asked: Option<usize>,
-) -> Result<Option<LassoDoubt>, JusticeError>
+) -> Result<Option<LassoDoubt>, TaskError>
     ensures { IfOk result (λ doubt. IfNone doubt
-        (Every (λ x. IsRight netlist.now.circuit liveness.now asked (x.properties.items, x.trace)) claims.now)) }
+        (Every (λ x. IsRight problem.now.netlist.circuit problem.now.liveness asked (x.properties.items, x.trace))
+        claims.now)) }
 {
     for place in 0..claims.len() {
-        if let Some(property) = claim_doubt(alloc, netlist, liveness, &claims[place], asked)? {
-            let reason = reason_of(alloc, netlist, liveness, property, &claims[place].trace)?;
+        if let Some(property) = claim_doubt(alloc, problem, &claims[place], asked)? {
+            let reason = reason_of(alloc, problem, property, &claims[place].trace)?;
             return Ok(Some(LassoDoubt {
                 witness: place.saturating_add(1),
                 property,
@@ -217,58 +225,49 @@ fn first_doubt(
 // The place of a property whose failure a witness does not show.
 fn claim_doubt(
     alloc: Global,
-    netlist: &Netlist,
-    liveness: &Liveness,
+    problem: &Problem,
     claim: &Claim,
     asked: Option<usize>,
-) -> Result<Option<usize>, JusticeError>
+) -> Result<Option<usize>, TaskError>
     ensures { IfOk result (λ doubt. IfNone doubt
-        (IsRight netlist.now.circuit liveness.now asked (claim.now.properties.items, claim.now.trace))) }
+        (IsRight problem.now.netlist.circuit problem.now.liveness asked
+        (claim.now.properties.items, claim.now.trace))) }
 {
     match asked {
-        None => doubt_at_each(alloc, netlist, liveness, &claim.properties, &claim.trace),
-        Some(place) => doubt_at_asked(
-            alloc,
-            netlist,
-            liveness,
-            &claim.properties,
-            place,
-            &claim.trace,
-        ),
+        None => doubt_at_each(alloc, problem, &claim.properties, &claim.trace),
+        Some(place) => doubt_at_asked(alloc, problem, &claim.properties, place, &claim.trace),
     }
 }
 
 // The same where this one is asked for.
 fn doubt_at_asked(
     alloc: Global,
-    netlist: &Netlist,
-    liveness: &Liveness,
+    problem: &Problem,
     names: &[u32],
     asked: usize,
     trace: &Trace,
-) -> Result<Option<usize>, JusticeError>
+) -> Result<Option<usize>, TaskError>
     ensures { IfOk result (λ doubt. IfNone doubt
-        (Every (FailsAt netlist.now.circuit liveness.now trace.now) (claimed names.now (Some asked)))) }
+        (Every (FailsAt problem.now.netlist.circuit problem.now.liveness trace.now) (claimed names.now (Some asked)))) }
 {
     if !is_one_of(names, asked) {
         return Ok(None);
     }
-    doubt_at(alloc, netlist, liveness, asked, trace)
+    doubt_at(alloc, problem, asked, trace)
 }
 
 // The place of one of these properties that does not fail by the trace.
 fn doubt_at_each(
     alloc: Global,
-    netlist: &Netlist,
-    liveness: &Liveness,
+    problem: &Problem,
     places: &[u32],
     trace: &Trace,
-) -> Result<Option<usize>, JusticeError>
+) -> Result<Option<usize>, TaskError>
     ensures { IfOk result (λ doubt. IfNone doubt
-        (Every (FailsAt netlist.now.circuit liveness.now trace.now) places.now)) }
+        (Every (FailsAt problem.now.netlist.circuit problem.now.liveness trace.now) places.now)) }
 {
     for k in 0..places.len() {
-        if let Some(property) = doubt_at(alloc, netlist, liveness, places[k] as usize, trace)? {
+        if let Some(property) = doubt_at(alloc, problem, places[k] as usize, trace)? {
             return Ok(Some(property));
         }
     }
@@ -278,18 +277,18 @@ fn doubt_at_each(
 // The place, if the property there does not fail by the trace.
 fn doubt_at(
     alloc: Global,
-    netlist: &Netlist,
-    liveness: &Liveness,
+    problem: &Problem,
     place: usize,
     trace: &Trace,
-) -> Result<Option<usize>, JusticeError>
+) -> Result<Option<usize>, TaskError>
     ensures { IfOk result (λ doubt. IfNone doubt
-        (Every (FailsAt netlist.now.circuit liveness.now trace.now) (place ∷ []))) }
+        (Every (FailsAt problem.now.netlist.circuit problem.now.liveness trace.now) (place ∷ []))) }
 {
-    if place >= liveness.justice.len() {
-        return Err(JusticeError::OtherProperty(place, liveness.justice.len()));
+    let count = problem.liveness.justice.len();
+    if place >= count {
+        return Err(TaskError::OtherJustice(place, count));
     }
-    if fails_at(alloc, netlist, liveness, place, trace)? {
+    if fails_at(alloc, problem, place, trace)? {
         Ok(None)
     } else {
         Ok(Some(place))
@@ -299,16 +298,22 @@ fn doubt_at(
 // Whether the property at a place fails by the trace.
 fn fails_at(
     alloc: Global,
-    netlist: &Netlist,
-    liveness: &Liveness,
+    problem: &Problem,
     place: usize,
     trace: &Trace,
 ) -> Result<bool, AllocError>
-    requires { place < length liveness.now.justice.items }
-    ensures { IfOk result (λ fails. IsTrue fails → FailsAt netlist.now.circuit liveness.now trace.now place) }
+    requires { place < length problem.now.liveness.justice.items }
+    ensures { IfOk result
+        (λ fails. IsTrue fails → FailsAt problem.now.netlist.circuit problem.now.liveness trace.now place) }
 {
-    let justice = &liveness.justice[place];
-    match closed(alloc, netlist, &liveness.fairness, justice, trace)? {
+    let justice = &problem.liveness.justice[place];
+    match closed(
+        alloc,
+        &problem.netlist,
+        &problem.liveness.fairness,
+        justice,
+        trace,
+    )? {
         Some(_) => Ok(true),
         None => Ok(false),
     }
@@ -317,11 +322,11 @@ fn fails_at(
 // Why the trace is no lasso of the property at a place, where it is none.
 fn reason_of(
     alloc: Global,
-    netlist: &Netlist,
-    liveness: &Liveness,
+    problem: &Problem,
     place: usize,
     trace: &Trace,
 ) -> Result<LassoReason, AllocError> {
+    let (netlist, liveness) = (&problem.netlist, &problem.liveness);
     let always = Literal::new(0, false);
     if let Some(doubt) = trace_doubt(alloc, netlist, always, trace)? {
         return Ok(LassoReason::Trace(doubt));

@@ -1,5 +1,5 @@
--- What is said is what is told.
+-- The only answer is said.
 use Rattle.gipmc_task.proofs.answers.say_any.Goals as goal
 
 pub returns-clause-tells : goal.returns-clause-tells
-returns-clause-tells g c = rw (c.made_of.ensures.text, c.made_of.ensures.outcome) c.in_ok-told.ensures.tells
+returns-clause-tells g c = (c.in_ok-answer.answer, c.in_ok-answers.ensures.items, c.in_ok-answer.ensures.tells)

@@ -1,14 +1,16 @@
--- The text tells of each place so far, and was written if no write has failed. The circuit and the literals stay.
+-- Each place so far is answered, and that was written if no write has failed. The circuit and the literals stay.
 use Rattle.std.proofs.Common.{◌≡◌}
-use Rattle.gipmc_task.specs.Answers.{TellsFirst}
+use Rattle.gipmc_task.specs.Answers.{Tells, TellsFirst}
 use Rattle.gipmc_task.specs.Output.{IsWritten}
+use Rattle.gipmc_task.specs.Verdicts.{texts_of}
 use Rattle.gipmc_task.proofs.answers.tell_all.Given as goal
 
 abbrev pub invariant-loop-place : goal.invariant-loop-place
 invariant-loop-place g l = record {
   whole : l.query.whole ≡ l.fn.query.whole;
   bads : l.query.bads ≡ l.fn.query.bads;
-  tells : TellsFirst l.fn.query.whole.now.circuit l.place l.outcome l.text.items;
+  tells : TellsFirst (Tells l.fn.query.whole.now.circuit) l.place l.answers.items;
   written
-      : IsWritten l.fn.output.failure l.output.failure (g.W.Write.contents l.fn.output.writer) (g.W.Write.contents l.output.writer) l.text.items;
+      : IsWritten l.fn.output.failure l.output.failure (g.W.Write.contents l.fn.output.writer) (g.W.Write.contents l.output.writer)
+      (texts_of l.answers.items);
 }

@@ -2,8 +2,9 @@
 use Rattle.std.proofs.Common.{rules, ◌≡◌, ◌∙◌, ◌<◌, ◌^◌, Some, subst, sym}
 use Rattle.std.specs.Prelude.{slice_get}
 use Rattle.gipmc_engines.specs.Verdicts.{NeverFailsWithin}
-use Rattle.gipmc_task.proofs.Told.{TellsDepths-more}
-use Rattle.gipmc_task.proofs.Written.{IsWritten-more}
+use Rattle.gipmc_task.specs.Verdicts.{depth_text}
+use Rattle.gipmc_task.proofs.Told.{AreClear-more}
+use Rattle.gipmc_task.proofs.Written.{IsWritten-push}
 use Rattle.gipmc_task.proofs.answers.tell_depths.Goals as goal
 
 pub loop-preserved : goal.loop-preserved
@@ -17,8 +18,9 @@ loop-preserved g c =
     record {
       whole = c.in-Some.ensures.whole ∙ c.loop.invariant.whole;
       bads = c.in-Some.ensures.bads ∙ c.loop.invariant.bads;
-      depths = rw (c.in_ok-tell_depth.ensures.text)
-          (TellsDepths-more circuit bad depth c.loop.text.items c.loop.invariant.depths never fits);
-      written = rw (c.in_ok-tell_depth.ensures.text)
-          (IsWritten-more _ _ _ _ _ _ _ _ c.loop.invariant.written c.in_ok-tell_depth.ensures.written);
+      depths = rw (c.in_ok-push.ensures.items)
+          (AreClear-more circuit bad c.loop.depths.items depth c.loop.invariant.depths never fits);
+      written = rw (c.in_ok-push.ensures.items)
+          (IsWritten-push depth_text _ _ _ _ _ _ c.loop.depths.items depth c.loop.invariant.written
+          (rw (c.deref.ensures.value, c.in_ok-depth_text.ensures) at c.tell.ensures));
     }

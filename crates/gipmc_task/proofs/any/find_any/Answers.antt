@@ -5,7 +5,7 @@ use Rattle.std.proofs.lemmas.Option.{slice_get_within}
 use Rattle.gipsat_cnf.specs.Literals.{Lit}
 use Rattle.gipmc_task.specs.Answers.{IsKnown}
 use Rattle.gipmc_task.specs.declared.any.Placed.{Placed}
-use Rattle.gipmc_task.proofs.Together.{safe-first, safe-more}
+use Rattle.gipmc_task.proofs.ForAll.{safe-first, safe-more}
 use Rattle.gipmc_task.proofs.any.find_any.Goals as goal
 
 -- what holds of both holds of the one that is taken

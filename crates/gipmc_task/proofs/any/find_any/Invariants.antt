@@ -3,7 +3,8 @@
 use Rattle.std.proofs.Common.{◌≡◌, ℕ, ◌<◌, length, slice_get, Some}
 use Rattle.gipsat_cnf.specs.Literals.{Lit}
 use Rattle.gipmc_circuits.specs.Circuit.{IsSafe}
-use Rattle.gipmc_task.specs.Answers.{IsKnown, outcome_of}
+use Rattle.gipmc_task.specs.Answers.{IsKnown}
+use Rattle.gipmc_task.specs.Verdicts.{outcome_of}
 use Rattle.gipmc_task.specs.declared.outcome.Outcome.TheVariants.{Safe}
 use Rattle.gipmc_task.proofs.any.find_any.Given as goal
 

@@ -2,4 +2,4 @@
 use Rattle.gipmc_task.proofs.certificates.certificate_of.Goals as goal
 
 pub returns : goal.returns
-returns g c = rw (c.deref.ensures.value) at (rw (c.in_default.is) at c.in_ok-certifies_circuit.ensures)
+returns g c = rw (c.deref.ensures.value) at (rw (c.in_default.is) at c.in_ok-doubt_of.ensures)

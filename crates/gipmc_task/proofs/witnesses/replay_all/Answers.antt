@@ -1,4 +1,4 @@
--- The circuit and the witnesses are those that the texts write.
+-- The witnesses are those that the text writes.
 use Rattle.std.proofs.Common.{◌≡◌, ◌∙◌, None, arith, length, map}
 use Rattle.std.proofs.lemmas.Grind.{common_steps}
 use Rattle.std.proofs.lemmas.List.{length-map}
@@ -14,11 +14,9 @@ returns c =
     let count : length claims ≡ c.len.result = grind (arith, common_steps) in
     IfNone-more c.in_ok-doubt.doubt
     (λ right. (
-      c.in_ok-netlist.netlist.circuit,
-      c.in_ok-netlist.ensures,
       map witness_by claims,
       c.in_ok-claims.ensures,
       length-map claims witness_by ∙ count,
-      every_view (IsRight c.in_ok-netlist.netlist.circuit None) witness_by claims right,
+      every_view (IsRight c.args.netlist.now.circuit None) witness_by claims right,
     ))
-    (rw (c.deref.ensures.value) at c.in_ok-doubt.ensures)
+    (rw (c.deref-2.ensures.value) at c.in_ok-doubt.ensures)

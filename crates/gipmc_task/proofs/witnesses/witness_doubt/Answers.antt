@@ -1,4 +1,4 @@
--- The circuit and the witnesses are those that the texts write.
+-- The witnesses are those that the text writes.
 use Rattle.std.proofs.Common.{◌≡◌, map, rules, true}
 use Rattle.std.specs.List.{list_any}
 use Rattle.std.proofs.lemmas.Result.{IfOk-weaker}
@@ -15,11 +15,9 @@ returns c =
     search rules in
     IfOk-weaker c.first_doubt.result _ _
     (λ doubt. IfNone-more doubt (λ right. (
-      c.in_ok-netlist.netlist.circuit,
-      c.in_ok-netlist.ensures,
       map witness_by c.in_ok-claims.claims.items,
       c.in_ok-claims.ensures,
       rw (asked_of_witnesses c.args.asked c.in_ok-claims.claims.items) named,
-      every_view (IsRight c.in_ok-netlist.netlist.circuit c.args.asked) witness_by c.in_ok-claims.claims.items right,
+      every_view (IsRight c.args.netlist.now.circuit c.args.asked) witness_by c.in_ok-claims.claims.items right,
     )))
     (rw (c.deref-2.ensures.value) at c.first_doubt.ensures)

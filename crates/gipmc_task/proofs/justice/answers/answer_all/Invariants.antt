@@ -1,14 +1,15 @@
--- The text tells of each place so far, and was written if no write has failed. What was found is of the place that it
--- names.
-use Rattle.gipmc_aiger.specs.Lists.{Every}
+-- Each place so far is answered and shown, and that was written if no write has failed.
+use Rattle.gipmc_task.specs.Answers.{TellsFirst}
+use Rattle.gipmc_task.specs.Justice.Answers.{AreShown, Tells}
 use Rattle.gipmc_task.specs.Output.{IsWritten}
-use Rattle.gipmc_task.specs.Justice.Answers.{IsFoundAt, TellsFirst}
+use Rattle.gipmc_task.specs.Verdicts.{texts_of}
 use Rattle.gipmc_task.proofs.justice.answers.answer_all.Given as goal
 
 abbrev pub invariant-loop-place : goal.invariant-loop-place
 invariant-loop-place g l = record {
-  tells : TellsFirst l.netlist.circuit l.liveness l.place l.outcome l.text.items;
-  found : Every (λ f. IsFoundAt l.netlist.circuit l.liveness f.place f) l.found.items;
+  tells : TellsFirst (Tells l.problem.netlist.circuit l.problem.liveness) l.place l.answers.items;
+  shown : AreShown l.problem.netlist.circuit l.problem.liveness l.answers.items;
   written
-      : IsWritten l.fn.output.failure l.output.failure (g.W.Write.contents l.fn.output.writer) (g.W.Write.contents l.output.writer) l.text.items;
+      : IsWritten l.fn.output.failure l.output.failure (g.W.Write.contents l.fn.output.writer) (g.W.Write.contents l.output.writer)
+      (texts_of l.answers.items);
 }

@@ -1,22 +1,28 @@
 -- The property is the one at the place.
 use Rattle.std.proofs.Common.{length, refl}
 use Rattle.std.proofs.lemmas.Option.{slice_get_read}
-use Rattle.std.proofs.lemmas.Result.{IfOk-weaker}
-use Rattle.gipmc_task.proofs.JusticeFindings.{found_at}
+use Rattle.gipmc_task.proofs.JusticeTold.{IsShownAt-by, Tells-by}
+use Rattle.gipmc_task.proofs.Told.{ok_more}
 use Rattle.gipmc_task.proofs.justice.answers.answer_at.Goals as goal
 
 pub returns-clause-tells : goal.returns-clause-tells
 returns-clause-tells g c =
-    let properties = c.args.liveness.now.justice.items in
-    let here = slice_get_read properties (length properties) c.args.place c.index-property.result.now refl c.requires c.index-property.ensures in
-    IfOk-weaker c.answer_about.result _ _ (λ said is. (c.index-property.result.now, here, is))
-    (rw (c.deref.ensures.value) at c.answer_about.ensures.tells)
-
-pub returns-clause-found : goal.returns-clause-found
-returns-clause-found g c =
-    let properties = c.args.liveness.now.justice.items in
+    let problem = c.args.problem.now in
+    let properties = problem.liveness.justice.items in
     let property = c.index-property.result.now in
     let here = slice_get_read properties (length properties) c.args.place property refl c.requires c.index-property.ensures in
-    IfOk-weaker c.answer_about.result _ _
-    (λ said is. found_at c.args.netlist.now.circuit c.args.liveness.now property c.args.place said.found.items here is)
-    (rw (c.deref.ensures.value) at c.answer_about.ensures.found)
+    ok_more _ _ c.tell.result
+    (λ a is. Tells-by problem.netlist.circuit problem.liveness c.args.place property c.find_out-verdict.result a here
+    (rw (c.deref.ensures.value) at c.find_out-verdict.ensures.known) is)
+    c.tell.ensures.answer
+
+pub returns-clause-shown : goal.returns-clause-shown
+returns-clause-shown g c =
+    let problem = c.args.problem.now in
+    let properties = problem.liveness.justice.items in
+    let property = c.index-property.result.now in
+    let here = slice_get_read properties (length properties) c.args.place property refl c.requires c.index-property.ensures in
+    ok_more _ _ c.tell.result
+    (λ a is. IsShownAt-by problem.netlist.circuit problem.liveness c.args.place property c.find_out-verdict.result a here
+    (rw (c.deref.ensures.value) at c.find_out-verdict.ensures.shown) is)
+    c.tell.ensures.answer

@@ -10,11 +10,11 @@ loop-k-preserved c =
     let less : c.loop-k.k < length c.args.places.now = grind (arith, common_steps) in
     let here = rw (c.in_default.is) at c.in_ok-property.ensures in
     λ rest. c.loop-k.invariant
-    (every_next (FailsAt c.args.netlist.now.circuit c.args.liveness.now c.args.trace.now) c.args.places.now c.loop-k.k 0 less
+    (every_next (FailsAt c.args.problem.now.netlist.circuit c.args.problem.now.liveness c.args.trace.now) c.args.places.now c.loop-k.k 0 less
     here.0 rest)
 
 pub returns : goal.returns
 returns c =
     let past : length c.args.places.now ≤ c.loop-k.k = grind (arith, common_steps) in
     c.loop-k.invariant
-    (every_last (FailsAt c.args.netlist.now.circuit c.args.liveness.now c.args.trace.now) c.args.places.now c.loop-k.k past)
+    (every_last (FailsAt c.args.problem.now.netlist.circuit c.args.problem.now.liveness c.args.trace.now) c.args.places.now c.loop-k.k past)

@@ -6,5 +6,5 @@ use Rattle.gipmc_task.proofs.justice.witnesses.doubt_at_each.Given as goal
 
 abbrev pub invariant-loop-k : goal.invariant-loop-k
 invariant-loop-k l =
-    Every (FailsAt l.netlist.circuit l.liveness l.trace) (drop l.k l.places)
-    → Every (FailsAt l.netlist.circuit l.liveness l.trace) l.places
+    Every (FailsAt l.problem.netlist.circuit l.problem.liveness l.trace) (drop l.k l.places)
+    → Every (FailsAt l.problem.netlist.circuit l.problem.liveness l.trace) l.places

@@ -7,10 +7,10 @@ use Rattle.gipmc_task.proofs.justice.witnesses.fails_at.Goals as goal
 
 pub returns-in-Some : goal.returns-in-Some
 returns-in-Some c fails =
-    let properties = c.args.liveness.now.justice.items in
+    let properties = c.args.problem.now.liveness.justice.items in
     let here = slice_get_read properties (length properties) c.args.place c.index-justice.result.now refl c.requires c.index-justice.ensures in
-    let circuit = c.args.netlist.now.circuit in
-    let fairness = c.args.liveness.now.fairness.items in
+    let circuit = c.args.problem.now.netlist.circuit in
+    let fairness = c.args.problem.now.liveness.fairness.items in
     let justice = c.index-justice.result.now.items in
     let lasso : IsLasso circuit fairness justice (from c.args.trace.now c.in-Some.field-0) =
     rw (c.in-Some.is, c.deref.ensures.value, c.deref-2.ensures.value) at c.in_ok-closed.ensures in

@@ -1,4 +1,4 @@
--- The circuit, its properties and the witnesses are those that the texts write.
+-- The witnesses are those that the text writes.
 use Rattle.std.proofs.Common.{◌≡◌, ◌∙◌, map, sym, true}
 use Rattle.std.specs.List.{list_any}
 use Rattle.std.proofs.lemmas.Result.{IfOk-weaker}
@@ -15,13 +15,10 @@ returns c =
     sym (rw (c.deref.ensures.value) at c.name_asked.ensures) ∙ c.if-not-name_asked.false in
     IfOk-weaker c.first_doubt.result _ _
     (λ doubt. IfNone-more doubt (λ right. (
-      c.in_ok-read.read.0.circuit,
-      c.in_ok-read.read.1,
-      c.in_ok-read.ensures,
       map witness_by c.in_ok-claims.claims.items,
       c.in_ok-claims.ensures,
       rw (asked_of_lassos c.args.asked c.in_ok-claims.claims.items) named,
-      every_view (IsRight c.in_ok-read.read.0.circuit c.in_ok-read.read.1 c.args.asked) witness_by
+      every_view (IsRight c.args.problem.now.netlist.circuit c.args.problem.now.liveness c.args.asked) witness_by
           c.in_ok-claims.claims.items right,
     )))
     (rw (c.deref-2.ensures.value) at c.first_doubt.ensures)
