@@ -5,23 +5,26 @@ use Rattle.gip_cli.specs.Asked.{has, number, said_by, word}
 use Rattle.gip_cli.specs.Items.{NoChoice, NoNumber, NoOutput, NoValue, Said, UnknownOption}
 use Rattle.gip_cli.specs.declared.items.Info.TheVariants as info
 use Rattle.gipmc_command.specs.Misuses.{Words, ExtraFile, TwoTasks, NoSearch, NoLimit, InputTwice}
-use Rattle.gipmc_command.specs.Options.{Request, is_about, table}
+use Rattle.gipmc_aiger.specs.declared.problem.Property.TheVariants.{Bad, Justice}
+use Rattle.gipmc_aiger.specs.declared.problem.Subject.{Subject}
+use Rattle.gipmc_aiger.specs.declared.problem.Subject.TheVariants.{All, Any, One}
+use Rattle.gipmc_command.specs.Options.{Request, table}
 use Rattle.gipmc_command.specs.Words.{work_asked, Tell, Answer, Replay, Certify}
 
 abbrev said : List (List ℕ) → List Said
 said words = said_by table words
 
--- what some words ask for, about this file and these places
-abbrev asked : List (List ℕ) → Option (List ℕ) → Option ℕ → Option ℕ → Request
-asked words file bad justice = record { said = said words; file = file; bad = bad; justice = justice }
+-- what some words ask for, about these properties of this file
+abbrev asked : List (List ℕ) → Option (List ℕ) → Subject → Request
+asked words file subject = record { said = said words; file = file; subject = subject }
 
-nothing : work_asked [] ≡ Ok (Answer (asked [] None None None))
+nothing : work_asked [] ≡ Ok (Answer (asked [] None All))
 nothing = refl
 
 abbrev settings : List (List ℕ)
 settings = codes "--bad" ∷ codes "1" ∷ codes "--depth" ∷ codes "9" ∷ codes "a" ∷ codes "--engine=bmc" ∷ codes "-q" ∷ []
 
-settings-asked : work_asked settings ≡ Ok (Answer (asked settings (Some (codes "a")) (Some 1) None))
+settings-asked : work_asked settings ≡ Ok (Answer (asked settings (Some (codes "a")) (One (Bad 1))))
 settings-asked = refl
 
 settings-depth : number (codes "--depth") (said settings) ≡ Some 9
@@ -40,37 +43,32 @@ settings-stats = refl
 abbrev properties : List (List ℕ)
 properties = codes "--bad" ∷ codes "1" ∷ codes "--justice" ∷ codes "2" ∷ []
 
-properties-last : work_asked properties ≡ Ok (Answer (asked properties None None (Some 2)))
+properties-last : work_asked properties ≡ Ok (Answer (asked properties None (One (Justice 2))))
 properties-last = refl
 
 -- a switch may be the last one
 abbrev any : List (List ℕ)
 any = codes "--justice=2" ∷ codes "--any" ∷ []
 
-any-asked : work_asked any ≡ Ok (Answer (asked any None None None))
+any-asked : work_asked any ≡ Ok (Answer (asked any None Any))
 any-asked = refl
 
-any-counts : is_about (codes "--any") (said any) ≡ true
-any-counts = refl
-
-any-before_another : is_about (codes "--any") (said (codes "--any" ∷ properties)) ≡ false
+any-before_another : work_asked (codes "--any" ∷ properties)
+    ≡ Ok (Answer (asked (codes "--any" ∷ properties) None (One (Justice 2))))
 any-before_another = refl
 
-any-not_given : is_about (codes "--any") (said settings) ≡ false
-any-not_given = refl
-
--- beside an answer that is checked it asks for no property
+-- beside an answer that is checked too
 abbrev any_checked : List (List ℕ)
 any_checked = codes "--certify=c" ∷ codes "--bad=1" ∷ codes "--any" ∷ []
 
-any_checked-asked : work_asked any_checked ≡ Ok (Certify (asked any_checked None None None) (Some (codes "c")))
+any_checked-asked : work_asked any_checked ≡ Ok (Certify (asked any_checked None Any) (Some (codes "c")))
 any_checked-asked = refl
 
 -- a limit may be 0
 abbrev no_memory : List (List ℕ)
 no_memory = codes "--memory=0" ∷ []
 
-no_memory-asked : work_asked no_memory ≡ Ok (Answer (asked no_memory None None None))
+no_memory-asked : work_asked no_memory ≡ Ok (Answer (asked no_memory None All))
 no_memory-asked = refl
 
 no_memory-counted : number (codes "--memory") (said no_memory) ≡ Some 0
@@ -80,27 +78,27 @@ no_memory-counted = refl
 abbrev minus : List (List ℕ)
 minus = codes "-" ∷ []
 
-minus-asked : work_asked minus ≡ Ok (Answer (asked minus None None None))
+minus-asked : work_asked minus ≡ Ok (Answer (asked minus None All))
 minus-asked = refl
 
 abbrev replay : List (List ℕ)
 replay = codes "a" ∷ codes "--replay" ∷ codes "w" ∷ []
 
-replay-asked : work_asked replay ≡ Ok (Replay (asked replay (Some (codes "a")) None None) (Some (codes "w")))
+replay-asked : work_asked replay ≡ Ok (Replay (asked replay (Some (codes "a")) All) (Some (codes "w")))
 replay-asked = refl
 
 -- the answer comes from standard input
 abbrev replay_stdin : List (List ℕ)
 replay_stdin = codes "--replay=-" ∷ codes "a" ∷ []
 
-replay_stdin-asked : work_asked replay_stdin ≡ Ok (Replay (asked replay_stdin (Some (codes "a")) None None) None)
+replay_stdin-asked : work_asked replay_stdin ≡ Ok (Replay (asked replay_stdin (Some (codes "a")) All) None)
 replay_stdin-asked = refl
 
 -- the circuit comes from standard input; a certificate may be left open, and a witness not
 abbrev certify : List (List ℕ)
 certify = codes "--limit" ∷ codes "5" ∷ codes "--certify" ∷ codes "c" ∷ codes "--bad" ∷ codes "0" ∷ []
 
-certify-asked : work_asked certify ≡ Ok (Certify (asked certify None (Some 0) None) (Some (codes "c")))
+certify-asked : work_asked certify ≡ Ok (Certify (asked certify None (One (Bad 0))) (Some (codes "c")))
 certify-asked = refl
 
 refused-limit_of_a_witness : work_asked (codes "--limit" ∷ codes "5" ∷ codes "--replay" ∷ codes "w" ∷ [])
@@ -120,7 +118,8 @@ refused-no_value = refl
 refused-number : work_asked (codes "--depth" ∷ codes "7x" ∷ []) ≡ Err (Words (NoNumber (codes "--depth") (codes "7x")))
 refused-number = refl
 
-refused-engine : work_asked (codes "--engine" ∷ codes "ic4" ∷ []) ≡ Err (Words (NoChoice (codes "--engine") (codes "ic4")))
+refused-engine : work_asked (codes "--engine" ∷ codes "ic4" ∷ [])
+    ≡ Err (Words (NoChoice (codes "--engine") (codes "ic4")))
 refused-engine = refl
 
 refused-stdout : work_asked (codes "--certificate=-" ∷ []) ≡ Err (Words NoOutput)

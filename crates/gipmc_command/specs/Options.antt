@@ -1,11 +1,14 @@
 -- What the options ask for.
-use Rattle.std.specs.Prelude.{ℕ, Bool, false, List, [], ◌∷◌, if◌then◌else◌, codes, Option, None}
-use Rattle.std.specs.Option.{option_and_then, option_map, option_map_or}
+use Rattle.std.specs.Prelude.{ℕ, List, [], ◌∷◌, if◌then◌else◌, codes, Option, Some, None}
+use Rattle.std.specs.Option.{option_map, option_map_or}
 use Rattle.std.specs.Str.{bytes_eq}
-use Rattle.gip_cli.specs.Asked.{asked_said, has_name, input_at, is_given, last_in, number_in}
+use Rattle.gip_cli.specs.Asked.{asked_said, input_at, last_in, number_in}
 use Rattle.gip_cli.specs.Items.{File, Given, Misused, Said, Told}
 use Rattle.gip_cli.specs.Options.{Entry}
 use Rattle.gip_cli.specs.Options as option
+use Rattle.gipmc_aiger.specs.declared.problem.Property.TheVariants.{Bad, Justice}
+use Rattle.gipmc_aiger.specs.declared.problem.Subject.{Subject}
+use Rattle.gipmc_aiger.specs.declared.problem.Subject.TheVariants.{All, Any, One}
 use Rattle.gipmc_command.specs.declared.options.Options.{Options}
 
 -- the options: the names of each, what stands behind it, and its scope
@@ -14,7 +17,8 @@ table =
     option.number (codes "--bad") [] (codes "property") ∷
     option.number (codes "--justice") [] (codes "property") ∷
     option.switch (codes "--any") [] (codes "property") ∷
-    option.choice (codes "--engine") (codes "sim" ∷ codes "bmc" ∷ codes "ic3" ∷ codes "induction" ∷ []) (codes "search") ∷
+    option.choice (codes "--engine") (codes "sim" ∷ codes "bmc" ∷ codes "ic3" ∷ codes "induction" ∷ [])
+    (codes "search") ∷
     option.number (codes "--depth") [] (codes "search") ∷
     option.number (codes "--limit") [] (codes "limit") ∷
     option.number (codes "--time") (codes "-t") (codes "search") ∷
@@ -33,35 +37,33 @@ table =
     option.switch (codes "--stats") [] (codes "search") ∷
     []
 
--- what the words say, the file of the circuit, if not standard input, and the place of the bad literal or of the justice
--- property that is asked for, if not all
+-- what the words say, the file of the circuit, if not standard input, and the properties that are asked about
 pub record Request : Type 0 where
   pub said : List Said
   pub file : Option (List ℕ)
-  pub bad : Option ℕ
-  pub justice : Option ℕ
+  pub subject : Subject
 
--- the number behind an option, if it has this long name
-abbrev pub number_of_name : List ℕ → Said → Option ℕ
-number_of_name name (Given o value word) = if bytes_eq o.long name then number_in (Given o value word) else None
-number_of_name name (File file) = None
-number_of_name name (Told info) = None
-number_of_name name (Misused misuse) = None
+-- what an option of this name asks about, with the number behind it: the property there, or by `--any` all bad literals
+abbrev pub subject_named : List ℕ → Option ℕ → Subject
+subject_named name (Some place) = if bytes_eq name (codes "--bad") then One (Bad place) else One (Justice place)
+subject_named name None = Any
 
-abbrev pub number_if : List ℕ → Option Said → Option ℕ
-number_if name given = option_and_then (number_of_name name) given
+abbrev pub subject_said : Said → Subject
+subject_said (Given o value word) = subject_named o.long (number_in (Given o value word))
+subject_said (File file) = All
+subject_said (Told info) = All
+subject_said (Misused misuse) = All
 
--- whether the option of this long name says what is asked about: the last one of those that do so counts
-abbrev pub is_about : List ℕ → List Said → Bool
-is_about name said = option_map_or (is_given (has_name name)) (last_in (codes "property") said) false
+-- what is asked about by an option, if one is given; else all
+abbrev pub subject_of : Option Said → Subject
+subject_of given = option_map_or subject_said given All
 
--- what some words ask for: of the options about a property the last one counts
+-- what some words ask for: of the options about properties, `--bad`, `--justice` and `--any`, the last one counts
 abbrev pub request : List Said → Request
 request said = record {
   said = said;
   file = input_at 0 said;
-  bad = number_if (codes "--bad") (last_in (codes "property") said);
-  justice = number_if (codes "--justice") (last_in (codes "property") said);
+  subject = subject_of (last_in (codes "property") said);
 }
 
 -- what options ask for
@@ -69,6 +71,5 @@ abbrev pub request_of : Options → Request
 request_of o = record {
   said = asked_said o.asked;
   file = option_map (λ name. name.now) o.file;
-  bad = o.bad;
-  justice = o.justice;
+  subject = o.subject;
 }

@@ -1,5 +1,6 @@
 -- What the words of a command line ask for.
-use Rattle.std.specs.Prelude.{ℕ, ◌&&◌, Bool, true, false, List, if◌then◌else◌, codes, Option, Some, None, Result, Ok, Err, is_none}
+use Rattle.std.specs.Prelude.{ℕ, ◌&&◌, Bool, true, false, List, if◌then◌else◌, codes, is_none}
+use Rattle.std.specs.Prelude.{Option, Some, None, Result, Ok, Err}
 use Rattle.std.specs.Option.{option_map}
 use Rattle.std.specs.Result.{result_and, result_map_both}
 use Rattle.gip_cli.specs.Asked.{ended, file_at, input_of, last_in, said_by, word, word_said}

@@ -19,20 +19,22 @@ pub const ABOUT: About = About {
     usage: &["gipmc [OPTION]... [FILE]"],
     summary: &[
         "Reads a circuit in the ascii or the binary form of AIGER 1.9 from FILE, or from standard input where none is \
-         named or its name is -, and finds out whether its bad states can be reached. One search is about all bad literals; \
-         each answer is written once it and those before it are known, since lines `u N` are about the next one.",
-        "An answer is some lines: `1` where a bad state is reachable, `0` where none is, or `2` where that is open; `b` with \
-         the literal's place (from 0 on); behind a `1` a witness, the values of the latches at first, and those of the \
-         inputs at each moment; and `.`. A line `u N` before a `2` says that no counterexample has N transitions or fewer. \
-         Where standard output is no terminal, such lines also tell before an answer how far the search has come.",
-        "Justice properties follow, with `j` in place of `b`: a witness is a lasso, and `0` says that on no run each literal \
-         of the property and each fairness constraint is true again and again. Where the circuit has neither bad literals \
-         nor justice properties, its outputs are taken for bad literals; where it has no output either, no answer is \
-         written.",
+         named or its name is -, and finds out whether its bad states can be reached. One search is about all bad \
+         literals; each answer is written once it and those before it are known, since lines `u N` are about the next \
+         one.",
+        "An answer is some lines: `1` where a bad state is reachable, `0` where none is, or `2` where that is open; \
+         `b` with the literal's place (from 0 on); behind a `1` a witness, the values of the latches at first, and \
+         those of the inputs at each moment; and `.`. A line `u N` before a `2` says that no counterexample has N \
+         transitions or fewer. Where standard output is no terminal, such lines also tell before an answer how far the \
+         search has come.",
+        "Justice properties follow, with `j` in place of `b`: a witness is a lasso, and `0` says that on no run each \
+         literal of the property and each fairness constraint is true again and again. Where the circuit has neither \
+         bad literals nor justice properties, its outputs are taken for bad literals; where it has no output either, \
+         no answer is written.",
     ],
     options: OPTIONS,
-    note: "The options --engine, --depth, --seed and --shortest, and --limit in a search, are about bad literals alone. The \
-           value of a long option may also stand behind `=`, and that of a short one right behind it: --depth=20, -t9.",
+    note: "The option --shortest is about bad literals alone. The value of a long option may also stand behind `=`, \
+           and that of a short one right behind it: --depth=20, -t9.",
     statuses: "Exit status: 10 unsafe, a bad state is reachable or a justice property fails; 20 safe, neither; 0 open, \
                verified, or help; 1 an error, or not verified; 2 arguments that have no meaning.",
 };
@@ -53,9 +55,9 @@ pub const OPTIONS: &[Opt] = &[
         kind: Kind::Number("I"),
         scope: PROPERTY,
         section: "Input",
-        help: "only the justice property at place I. Then the clauses of --certificate and --certify are over the latches \
-               and further ones behind these: they count how often its literals and the fairness constraints were met in \
-               turn or, where a first line is `c no lasso`, save a state and tell what was met since",
+        help: "only the justice property at place I. Then the clauses of --certificate and --certify are over the \
+               latches and further ones behind these: they count how often its literals and the fairness constraints \
+               were met in turn or, where a first line is `c no lasso`, save a state and tell what was met since",
     },
     Opt {
         long: "--any",
@@ -63,10 +65,10 @@ pub const OPTIONS: &[Opt] = &[
         kind: Kind::Switch,
         scope: PROPERTY,
         section: "Input",
-        help: "one answer for all bad literals, and none for justice properties: `1` with the first trace that is found, which \
-               ends the search, and `b` with the place of its literal; `0` with `b0` if all are safe; or `2` with the first \
-               literal of which least is known. Of --bad, --justice and --any the last one counts; for --replay and \
-               --certify, --any is as if none were given",
+        help: "one answer for all bad literals, and none for justice properties: `1` with the first trace that is \
+               found, which ends the search, and `b` with the place of its literal; `0` with `b0` if all are safe; or \
+               `2` with the first literal of which least is known. Of --bad, --justice and --any the last one counts; \
+               for --replay and --certify, --any is as if none were given",
     },
     Opt {
         long: "--engine",
@@ -74,8 +76,8 @@ pub const OPTIONS: &[Opt] = &[
         kind: Kind::Choice("ENGINE", &["sim", "bmc", "ic3", "induction"]),
         scope: SEARCH,
         section: "Search",
-        help: "only this one: sim (random simulation), bmc (bounded model checking), ic3, or induction (k-induction, and bmc \
-               for its base); without this, simulation for a moment, and then bmc, induction and ic3 by turns",
+        help: "only this one: sim (random simulation), bmc (bounded model checking), ic3, or induction (k-induction, \
+               and bmc for its base); without this, simulation for a moment, and then bmc, induction and ic3 by turns",
     },
     Opt {
         long: "--depth",
@@ -91,8 +93,8 @@ pub const OPTIONS: &[Opt] = &[
         kind: Kind::Number("N"),
         scope: LIMIT,
         section: "Search",
-        help: "leave a question to a solver open after N conflicts, of bmc, induction, --shortest and --certify (--conflicts \
-               of gipsat is about a whole search); without this there is no bound",
+        help: "leave a question to a solver open after N conflicts, of bmc, induction, --shortest and --certify \
+               (--conflicts of gipsat is about a whole search); without this there is no bound",
     },
     Opt {
         long: "--time",
@@ -100,7 +102,8 @@ pub const OPTIONS: &[Opt] = &[
         kind: Kind::Number("SECONDS"),
         scope: SEARCH,
         section: "Search",
-        help: "give up so many seconds after the start: what is not known then is open. Each engine may do one step more",
+        help: "give up so many seconds after the start: what is not known then is open. Each engine may do one step \
+               more",
     },
     Opt {
         long: "--memory",
@@ -108,8 +111,8 @@ pub const OPTIONS: &[Opt] = &[
         kind: Kind::Number("MB"),
         scope: SEARCH,
         section: "Search",
-        help: "give up once the program has taken MB megabytes, of 2^20 bytes: what is not known then is open. It is looked \
-               at where the time is, so one step may take more",
+        help: "give up once the program has taken MB megabytes, of 2^20 bytes: what is not known then is open. It is \
+               looked at where the time is, so one step may take more",
     },
     Opt {
         long: "--seed",
@@ -125,8 +128,8 @@ pub const OPTIONS: &[Opt] = &[
         kind: Kind::Switch,
         scope: SEARCH,
         section: "Search",
-        help: "where a trace was found, look by bmc for a shortest one, and answer with that; where --time or --limit end \
-               this, with the first one, and say so",
+        help: "where a trace was found, look by bmc for a shortest one, and answer with that; where --time or --limit \
+               end this, with the first one, and say so",
     },
     Opt {
         long: "--replay",
@@ -135,9 +138,9 @@ pub const OPTIONS: &[Opt] = &[
         scope: EACH,
         section: "Answers of other programs",
         help: "write `s VERIFIED` if each trace in the file WITNESS is a counterexample, or `s NOT VERIFIED`, and on \
-               standard error why. With --bad or --justice, only what WITNESS has of this property counts, and it has to \
-               have some. A trace by write_cex -a of abc, which names none, stands for the bad literal that is asked for, or \
-               for the first",
+               standard error why. With --bad or --justice, only what WITNESS has of this property counts, and it has \
+               to have some. A trace by write_cex -a of abc, which names none, stands for the bad literal that is \
+               asked for, or for the first",
     },
     Opt {
         long: "--certify",
@@ -145,12 +148,13 @@ pub const OPTIONS: &[Opt] = &[
         kind: Kind::Input("FILE"),
         scope: EACH,
         section: "Answers of other programs",
-        help: "write `s VERIFIED` if the certificate in FILE shows that no bad state is reachable, or `s NOT VERIFIED`, \
-               and on standard error why: it does not, or a question is left open by --limit. A certificate is clauses over \
-               latches in the DIMACS form; a line `k N`: each bad literal is false at the first N moments, and behind any N \
-               moments at which it is false; that line and clauses behind it, one of which shows each bad literal false; or a \
-               circuit in a form of AIGER whose bad literals are false, and constraints true, where an invariant holds. It \
-               may have further inputs and latches; symbols `= n` tell which literals of the circuit it shares",
+        help: "write `s VERIFIED` if the certificate in FILE shows that no bad state is reachable, or `s NOT \
+               VERIFIED`, and on standard error why: it does not, or a question is left open by --limit. A certificate \
+               is clauses over latches in the DIMACS form; a line `k N`: each bad literal is false at the first N \
+               moments, and behind any N moments at which it is false; that line and clauses behind it, one of which \
+               shows each bad literal false; or a circuit in a form of AIGER whose bad literals are false, and \
+               constraints true, where an invariant holds. It may have further inputs and latches; symbols `= n` tell \
+               which literals of the circuit it shares",
     },
     Opt {
         long: "--certificate",
@@ -158,9 +162,9 @@ pub const OPTIONS: &[Opt] = &[
         kind: Kind::Output("F"),
         scope: SEARCH,
         section: "Output",
-        help: "write a certificate to the file F, which must not be there, if no bad state is reachable, or the one justice \
-               property that is asked about holds: clauses, which `--certify F` checks. The search may take longer then. A \
-               minus is refused, since standard output has the answer",
+        help: "write a certificate to the file F, which must not be there, if no bad state is reachable, or the one \
+               justice property that is asked about holds: clauses, which `--certify F` checks. The search may take \
+               longer then. A minus is refused, since standard output has the answer",
     },
     Opt {
         long: "--aiger",
@@ -168,9 +172,10 @@ pub const OPTIONS: &[Opt] = &[
         kind: Kind::Switch,
         scope: SEARCH,
         section: "Output",
-        help: "write the certificate of --certificate as a circuit in the ascii form of AIGER: the same inputs and latches, \
-               and a bad literal that is true outside of the invariant too. No k-induction searches then, since a k has no \
-               circuit; beside --engine induction this is refused, and so it is for a justice property",
+        help: "write the certificate of --certificate as a circuit in the ascii form of AIGER: the same inputs and \
+               latches, and a bad literal that is true outside of the invariant too. No k-induction searches then, \
+               since a k has no circuit; beside --engine induction this is refused, and so it is for a justice \
+               property",
     },
     Opt {
         long: "--names",
@@ -178,9 +183,9 @@ pub const OPTIONS: &[Opt] = &[
         kind: Kind::Switch,
         scope: SEARCH,
         section: "Output",
-        help: "write behind the answers, for each property, lines that begin with c: its name in the circuit's file, and \
-               whether it is safe or open, if it has one; or, where it fails, what each input and latch is at first, and \
-               later where it changes; of a lasso, at the end, to which moment it leads back",
+        help: "write behind the answers, for each property, lines that begin with c: its name in the circuit's file, \
+               and whether it is safe or open, if it has one; or, where it fails, what each input and latch is at \
+               first, and later where it changes; of a lasso, at the end, to which moment it leads back",
     },
     Opt {
         long: "--vcd",
@@ -188,8 +193,8 @@ pub const OPTIONS: &[Opt] = &[
         kind: Kind::Output("F"),
         scope: SEARCH,
         section: "Output",
-        help: "write the trace of the first property that fails to the file F, which must not be there, as a value change \
-               dump for a viewer of waves; in the loop of a lasso its signal lasso.again is true",
+        help: "write the trace of the first property that fails to the file F, which must not be there, as a value \
+               change dump for a viewer of waves; in the loop of a lasso its signal lasso.again is true",
     },
     Opt {
         long: "--witness",
@@ -197,8 +202,8 @@ pub const OPTIONS: &[Opt] = &[
         kind: Kind::Text("PREFIX", "the front of file names"),
         scope: SEARCH,
         section: "Output",
-        help: "write the witness of each property that fails to a file of its own, which must not be there: PREFIX, then b \
-               or j and the property's place, then .aiw",
+        help: "write the witness of each property that fails to a file of its own, which must not be there: PREFIX, \
+               then b or j and the property's place, then .aiw",
     },
     Opt {
         long: "--quiet",
@@ -215,8 +220,8 @@ pub const OPTIONS: &[Opt] = &[
         kind: Kind::Switch,
         scope: EACH,
         section: "Output",
-        help: "write progress every five seconds, and lines `u N`, whatever standard error and standard output are, and also \
-               with -q",
+        help: "write progress every five seconds, and lines `u N`, whatever standard error and standard output are, \
+               and also with -q",
     },
     Opt {
         long: "--stats",
@@ -224,7 +229,8 @@ pub const OPTIONS: &[Opt] = &[
         kind: Kind::Switch,
         scope: SEARCH,
         section: "Output",
-        help: "write a summary on standard error, in lines that begin with c: of each property that was searched for how far \
-               each engine that ran came, what decided, and the time; and at the end the time and the most memory of all",
+        help: "write a summary on standard error, in lines that begin with c: of each property that was searched for \
+               how far each engine that ran came, what decided, and the time; and at the end the time and the most \
+               memory of all",
     },
 ];

@@ -6,12 +6,13 @@ ghost use Rattle.gip_cli.specs.Asked.{asked_said};
 ghost use Rattle.gip_cli.specs.Items.{given_said};
 ghost use Rattle.gip_cli.specs.Options.{entry_of};
 ghost use Rattle.gipmc_command.specs.Misuses.{misuse_of};
-ghost use Rattle.gipmc_command.specs.Options.{is_about, number_if, request, request_of, table};
+ghost use Rattle.gipmc_command.specs.Options.{request, request_of, subject_of, table};
 ghost use Rattle.gipmc_command.specs.Words.{answer_of, heeded, work, work_asked, work_of};
 
 use crate::about::{LIMIT, OPTIONS, PROPERTY, SEARCH};
 use crate::misuse::UsageError;
 use gip_cli::{Asked, Given, Info, Opt, input};
+use gipmc_aiger::{Property, Subject};
 
 /// What the arguments ask for.
 #[derive(Clone, Copy)]
@@ -59,10 +60,8 @@ pub struct Options<'a> {
     pub asked: Asked<'a>,
     /// The file of the circuit, if not standard input.
     pub file: Option<&'a str>,
-    /// The place of the bad literal, if one is asked for.
-    pub bad: Option<usize>,
-    /// The place of the justice property, if one is asked for; then no bad literal is.
-    pub justice: Option<usize>,
+    /// The properties that are asked about. Of the options that say so the last one counts.
+    pub subject: Subject,
 }
 
 impl<'a> Options<'a> {
@@ -70,33 +69,25 @@ impl<'a> Options<'a> {
     fn new(asked: Asked<'a>) -> Self
         ensures { request_of result ≡ request (asked_said asked.entry) }
     {
-        let property = asked.last_in(PROPERTY);
         Options {
             asked,
             file: asked.input(0),
-            bad: number_if(property, "--bad"),
-            justice: number_if(property, "--justice"),
-        }
-    }
-
-    /// Whether the option of this long name says what is asked about: the last one of those that do so counts.
-    pub fn is_about(&self, name: &str) -> bool
-        ensures { result ≡ is_about name.now (asked_said self.now.asked) }
-    {
-        match self.asked.last_in(PROPERTY) {
-            Some(given) => given.option.long == name,
-            None => false,
+            subject: subject_of(asked.last_in(PROPERTY)),
         }
     }
 }
 
-// The number behind an option, if it has this long name.
-fn number_if(given: Option<Given>, name: &str) -> Option<usize>
-    ensures { result ≡ number_if name.now (option_map given_said given.entry) }
+// What an option about properties asks about. Where none is given, all are asked about.
+fn subject_of(given: Option<Given>) -> Subject
+    ensures { result ≡ subject_of (option_map given_said given.entry) }
 {
-    match given {
-        Some(given) if given.option.long == name => given.number(),
-        _ => None,
+    let Some(given) = given else {
+        return Subject::All;
+    };
+    match given.number() {
+        Some(place) if given.option.long == "--bad" => Subject::One(Property::Bad(place)),
+        Some(place) => Subject::One(Property::Justice(place)),
+        None => Subject::Any,
     }
 }
 
