@@ -1065,6 +1065,10 @@ try "the bad literal alone" 20 "" "$safe" "$several" --bad 0
 try "one answer beside justice properties" 20 "c <stdin>: its bad literals alone are asked about" "$safe" "$several" \
     --justice 0 --any
 try "one answer beside a justice property alone" 1 "<stdin>: no bad literal" "" "$fair" --any
+for engine in sim bmc; do
+    try "a live property is open to $engine alone" 0 "" "$(printf '2\nj0\n.')" "$fair" --engine "$engine"
+    try "a lasso by $engine alone" 10 "" "$(printf '1\nj0\n01\n\n.')" "$starves" --engine "$engine"
+done
 try "a justice property alone" 20 "" "$(printf '0\nj1\n.')" "$several" --justice 1
 try "a justice property, which is asked for last" 10 "" "$(printf '1\nj0\n0\n\n.')" "$several" --bad 0 --justice 0
 try "the witnesses of all answers" 0 "" "s VERIFIED" "$several" --replay all
@@ -1110,9 +1114,11 @@ told "it certifies no other circuit" $?
 printf 'p cnf 2 0\n' > counts
 try "a count that is too small" 1 "counts: j0: the clauses allow one literal more to be met" "s NOT VERIFIED" \
     "$fair" --certify counts --justice 0
-# A counter of three bits, which stays at 7. It counts on no run again and again.
-counter='aag 16 1 3 0 12 0 0 1\n2\n4 20\n6 26\n8 32\n1\n14\n10 4 6\n12 10 8\n14 2 13\n16 14 4\n18 15 5\n20 17 19\n22 16 6\n'
-counter+='24 17 7\n26 23 25\n28 22 8\n30 23 9\n32 29 31\n'
+# A counter of six bits, which stays at 63. It counts on no run again and again.
+counter='aag 31 1 6 0 24 0 0 1\n2\n4 32\n6 38\n8 44\n10 50\n12 56\n14 62\n1\n26\n16 4 6\n18 16 8\n20 18 10\n'
+counter+='22 20 12\n24 22 14\n26 2 25\n28 4 26\n30 5 27\n32 29 31\n34 6 28\n36 7 29\n38 35 37\n40 8 34\n'
+counter+='42 9 35\n44 41 43\n46 10 40\n48 11 41\n50 47 49\n52 12 46\n54 13 47\n56 53 55\n58 14 52\n60 15 53\n'
+counter+='62 59 61\n'
 rm -f counts
 make "a certificate of an invariant that excludes lassos" 20 "" "$is_live" "$counter" --certificate counts
 [ "$(head -n 1 counts)" = "c no lasso" ]
@@ -1194,11 +1200,13 @@ try "a certificate of one bad literal beside justice properties" 0 "" "s VERIFIE
 printf '%b' 'aag 1 0 1 0 0 1 0 1\n2 2 1\n2\n1\n3\nl0 held\nj0 live\nb0 bad\n' > live.aag
 "$gipmc" --engine bmc --names live.aag > out 2> err
 status=$?
-[ "$status" = 10 ] && [ "$(grep '^c' out)" = "$(printf 'c b0 bad\nc #0 held = 1\nc j0 live: safe')" ]
+[ "$status" = 10 ] && [ "$(grep '^c' out)" = "$(printf 'c b0 bad\nc #0 held = 1\nc j0 live: open')" ]
 told "names of a bad literal and of a justice property" $?
 try "a latch that is not there" 1 "<stdin>:2: not a number" "" 'aag 1 0 1 0 0\n'
 try "a literal that is too great" 1 "<stdin>:3: a number that is too great" "" 'aag 1 0 1 0 0 1\n2 2\n4\n'
 try "a variable that is not defined" 1 "<stdin>:2: variable 1 is not defined" "" 'aag 1 0 0 0 0 1\n2\n'
+try "a variable of a justice property that is not defined, beside a bad literal that is asked for" 1 \
+    "<stdin>:5: variable 2 is not defined" "" 'aag 2 1 0 0 0 1 0 1\n2\n3\n1\n4\n' --bad 0
 try "a variable that is defined twice" 1 "<stdin>:3: variable 1 is defined twice" "" 'aag 2 1 1 0 0 1\n2\n2 2\n2\n'
 try "a gate that depends on itself" 1 \
     "<stdin>:3: the gate of variable 1 depends on itself" "" 'aag 1 0 0 0 1 1\n2\n2 2 2\n'

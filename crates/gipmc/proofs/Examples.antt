@@ -1,54 +1,45 @@
 -- Worked examples of the definitions.
 use Rattle.std.proofs.Common.{◌≡◌, ℕ, true, false, List, [], ◌∷◌, ◌++◌, None, Some, refl}
 use Rattle.std.specs.Prelude.{codes}
-use Rattle.gipmc_aiger.specs.declared.header.Form.TheVariants.{Ascii}
-use Rattle.gipmc_aiger.specs.declared.header.Header.{Header}
-use Rattle.gipmc_task.specs.declared.answers.Which.TheVariants as which
+use Rattle.std.proofs.lemmas.Option.{none-some}
+use Rattle.gipmc_aiger.specs.declared.problem.Problem.{Problem}
+use Rattle.gipmc_aiger.specs.declared.problem.Property.{Property}
+use Rattle.gipmc_aiger.specs.declared.problem.Property.TheVariants.{Bad, Justice}
+use Rattle.gipmc_aiger.specs.declared.problem.Subject.{Subject}
+use Rattle.gipmc_aiger.specs.declared.problem.Subject.TheVariants as subject
 use Rattle.gipmc_engines.specs.declared.engines.Engine.TheVariants.{All, Bounded, Induction, Invariants}
-use Rattle.gipmc.specs.Asked.{asks_of_bads, asks_of_justice}
+use Rattle.gipmc_task.specs.declared.outcome.Outcome.TheVariants.{Open, Safe}
+use Rattle.gipmc.specs.Asked.{Holds, IsAbout, IsRightOutcome, bad_asked, justice_asked}
 use Rattle.gipmc.specs.Plans.{depth_by, engine_by}
 use Rattle.gipmc.specs.Texts.{text_read}
 
--- a circuit that has so many bad literals and justice properties, and nothing else
-abbrev having : ℕ → ℕ → Header
-having bads justice = record {
-  form = Ascii;
-  sizes = record { maximum = 0; inputs = 0; latches = 0; outputs = 0; gates = 0 };
-  bads = bads;
-  constraints = 0;
-  justice = justice;
-  fairness = 0;
-}
+none-holds : (p : Problem) → p.netlist.circuit.bads.items ≡ [] → p.liveness.justice.items ≡ []
+    → (property : Property) → IsAbout subject.All property → Holds p property
+none-holds p bads justice (Bad place) about = λ literal here. absurd (none-some literal (rw bads at here))
+none-holds p bads justice (Justice place) about = λ literals here. absurd (none-some literals (rw justice at here))
 
--- a search is about both kinds
-bads_of_both : asks_of_bads (having 1 2) which.All None ≡ true
-bads_of_both = refl
+-- of a problem without a property all is safe
+none-right : (p : Problem) → p.netlist.circuit.bads.items ≡ [] → p.liveness.justice.items ≡ []
+    → IsRightOutcome p subject.All Safe
+none-right p bads justice = (tt, none-holds p bads justice)
 
-justice_of_both : asks_of_justice (having 1 2) which.All None ≡ true
-justice_of_both = refl
+-- where nothing is known, nothing is said
+open-right : (p : Problem) (asked : Subject) → IsRightOutcome p asked Open
+open-right p asked = tt
 
--- or about the one that there is; where there is neither, it is about bad literals
-bads_of_justice : asks_of_bads (having 0 2) which.All None ≡ false
-bads_of_justice = refl
+-- a bad literal may be asked about, and a justice property is none
+bad_is_asked : bad_asked (subject.One (Bad 2)) ≡ Some 2
+bad_is_asked = refl
 
-justice_of_bads : asks_of_justice (having 1 0) which.All None ≡ false
-justice_of_bads = refl
+justice_is_no_bad : bad_asked (subject.One (Justice 2)) ≡ None
+justice_is_no_bad = refl
 
-bads_of_none : asks_of_bads (having 0 0) which.All None ≡ true
-bads_of_none = refl
+-- the property that is asked about stands for another one
+justice_is_asked : justice_asked (subject.One (Justice 2)) 5 ≡ 2
+justice_is_asked = refl
 
--- or about what is asked for
-bads_asked : asks_of_justice (having 1 2) (which.One 0) None ≡ false
-bads_asked = refl
-
-justice_beside_any : asks_of_justice (having 1 2) which.Any None ≡ false
-justice_beside_any = refl
-
-bads_of_any : asks_of_bads (having 0 2) which.Any None ≡ true
-bads_of_any = refl
-
-justice_asked : asks_of_bads (having 1 2) which.All (Some 1) ≡ false
-justice_asked = refl
+other_is_asked : justice_asked subject.All 5 ≡ 5
+other_is_asked = refl
 
 -- two lines that end in two bytes, the second of them without its line feed
 abbrev two_lines : List ℕ

@@ -1,7 +1,5 @@
-mod Asked
+mod Answered
 mod Ended
 mod Examples
-mod Findings
 mod Plans
-mod Replayed
 mod Texts

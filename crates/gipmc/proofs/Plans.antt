@@ -1,7 +1,8 @@
 -- An engine that is asked for searches, and others than bounded model checking alone have no bound.
 use Rattle.std.proofs.Common.{◌≡◌, ◌-◌, ◌^◌, Bool, refl}
 use Rattle.gipmc_engines.specs.declared.engines.Engine.{Engine}
-use Rattle.gipmc_engines.specs.declared.engines.Engine.TheVariants.{All, Bounded, Ic3, Induction, Invariants, Simulation}
+use Rattle.gipmc_engines.specs.declared.engines.Engine.TheVariants.{All, Bounded, Ic3, Induction, Invariants}
+use Rattle.gipmc_engines.specs.declared.engines.Engine.TheVariants.{Simulation}
 use Rattle.gipmc.specs.Plans.{depth_alone, engine_by}
 
 pub other_engine : (wants : Bool) (engine : Engine) → (engine ≡ All → ⊥) → engine ≡ engine_by wants engine

@@ -1,121 +1,98 @@
--- What is answered, replayed and certified of what a command line asks for: bad literals, justice properties, or both.
-use Rattle.std.specs.Prelude.{◌≡◌, ◌==◌, ◌⊎◌, ℕ, ◌+◌, ◌<◌, Bool, true, false, List, [], if◌then◌else◌, codes, Option, Some, None}
-use Rattle.gipmc_aiger.specs.Circuits.{IsHeaderOf}
-use Rattle.gipmc_aiger.specs.Claims.{claims_of, lassos_of}
-use Rattle.gipmc_aiger.specs.declared.header.Header.{Header}
-use Rattle.gipmc_task.specs.Answers as bads
+-- What is answered, replayed and certified of the problem that some bytes write.
+use Rattle.std.specs.Prelude.{◌≡◌, ℕ, ◌+◌, ◌<◌, List, Option, Some, None, Vec, length, slice_get, ⊤}
+use Rattle.std.specs.declared.alloc.Global.{Global}
+use Rattle.gipsat_cnf.specs.Literals.{Lit}
+use Rattle.gipmc_aiger.specs.LiveCircuits.{IsProblemOf}
+use Rattle.gipmc_aiger.specs.declared.problem.Problem.{Problem}
+use Rattle.gipmc_aiger.specs.declared.problem.Property.{Property}
+use Rattle.gipmc_aiger.specs.declared.problem.Property.TheVariants.{Bad, Justice}
+use Rattle.gipmc_aiger.specs.declared.problem.Subject.{Subject}
+use Rattle.gipmc_aiger.specs.declared.problem.Subject.TheVariants.{All, Any, One}
+use Rattle.gipmc_circuits.specs.Circuit.{FailsAfter, IsSafe}
+use Rattle.gipmc_reduce.specs.Liveness.{FailsForever, IsLive}
 use Rattle.gipmc_task.specs.Certificates as bads_certified
 use Rattle.gipmc_task.specs.Witnesses as bads_replayed
-use Rattle.gipmc_task.specs.declared.answers.Answered.{Answered}
-use Rattle.gipmc_task.specs.declared.answers.Which.{Which}
-use Rattle.gipmc_task.specs.declared.answers.Which.TheVariants.{All, One, Any}
-use Rattle.gipmc_command.specs.Options.{Request, is_about}
-use Rattle.gipmc_task.specs.Outcomes.{both}
 use Rattle.gipmc_task.specs.declared.outcome.Outcome.{Outcome}
-use Rattle.gipmc_task.specs.declared.outcome.Outcome.TheVariants.{Safe}
-use Rattle.gipmc_task.specs.Justice.Answers as justice
+use Rattle.gipmc_task.specs.declared.outcome.Outcome.TheVariants.{Fails, Safe, Open}
 use Rattle.gipmc_task.specs.Justice.Certificates as justice_certified
 use Rattle.gipmc_task.specs.Justice.Witnesses as justice_replayed
-use Rattle.gipmc_task.specs.declared.justice.answers.Answered as properties
 
--- what is known of what was asked about; of nothing, that it is safe
-abbrev pub outcome_of_bads : Option Answered → Outcome
-outcome_of_bads None = Safe
-outcome_of_bads (Some answer) = answer.said.outcome
+-- the bytes write a problem of which this holds
+abbrev pub WriteOne : List ℕ → (Problem → Type 0) → Type 0
+WriteOne bytes P = (p : Problem) × IsProblemOf bytes p × P p
 
-abbrev pub outcome_of_justice : Option properties.Answered → Outcome
-outcome_of_justice None = Safe
-outcome_of_justice (Some answer) = answer.said.outcome
+-- the property holds: no trace ends where the bad literal is true; on no run do the fairness constraints and the
+-- literals of the justice property all recur
+abbrev pub Holds : Problem → Property → Type 0
+Holds p (Bad place) =
+    (bad : Lit) → slice_get p.netlist.circuit.bads.items place ≡ Some bad → IsSafe p.netlist.circuit bad
+Holds p (Justice place) =
+    (justice : Vec Lit Global) → slice_get p.liveness.justice.items place ≡ Some justice
+    → IsLive p.netlist.circuit p.liveness.fairness.items justice.items
 
--- the bytes write the circuit with its properties, and what was found shows that some of these hold: the one that is
--- asked for, if one is
-abbrev pub IsFoundFor : List ℕ → Option ℕ → properties.Answered → Type 0
-IsFoundFor bytes asked answer =
-    justice.IsPropertiesIn bytes answer.netlist.circuit answer.liveness
-    × justice.AreFoundFor answer.netlist.circuit answer.liveness asked answer.said.found.items
+-- the problem has the property, and it fails: such a trace there is, or such a run
+abbrev pub IsFailing : Problem → Property → Type 0
+IsFailing p (Bad place) =
+    (bad : Lit) × (slice_get p.netlist.circuit.bads.items place ≡ Some bad) × (n : ℕ)
+    × FailsAfter p.netlist.circuit bad n
+IsFailing p (Justice place) =
+    (justice : Vec Lit Global) × (slice_get p.liveness.justice.items place ≡ Some justice)
+    × FailsForever p.netlist.circuit p.liveness.fairness.items justice.items
 
--- which bad literals a search is about, where no justice property is asked for: the one at a place, by a switch whether
--- any fails, or else all
-abbrev pub bads_by : Option ℕ → Bool → Which
-bads_by (Some bad) any = One bad
-bads_by None true = Any
-bads_by None false = All
+-- the property is one of those that are asked about
+abbrev pub IsAbout : Subject → Property → Type 0
+IsAbout All property = ⊤
+IsAbout Any (Bad place) = ⊤
+IsAbout Any (Justice place) = ⊥
+IsAbout (One asked) property = property ≡ asked
 
-abbrev pub bads_asked : Request → Which
-bads_asked r = bads_by r.bad (is_about (codes "--any") r.said)
+-- the problem has what is asked about: some bad literal, or this property
+abbrev pub Has : Problem → Subject → Type 0
+Has p All = ⊤
+Has p Any = 0 < length p.netlist.circuit.bads.items
+Has p (One (Bad place)) = place < length p.netlist.circuit.bads.items
+Has p (One (Justice place)) = place < length p.liveness.justice.items
 
--- whether a search is about the bad literals of a circuit with this header: not where a justice property is asked for,
--- nor where nothing is and there are justice properties alone
-abbrev pub asks_of_bads : Header → Which → Option ℕ → Bool
-asks_of_bads h subject (Some asked) = false
-asks_of_bads h (One bad) None = true
-asks_of_bads h Any None = true
-asks_of_bads h All None = if h.bads == 0 then h.justice == 0 else true
+-- each property that is asked about holds, or one of them fails
+abbrev pub IsRightOutcome : Problem → Subject → Outcome → Type 0
+IsRightOutcome p asked Safe = Has p asked × ((property : Property) → IsAbout asked property → Holds p property)
+IsRightOutcome p asked Fails = (property : Property) × IsAbout asked property × IsFailing p property
+IsRightOutcome p asked Open = ⊤
 
--- whether it is about the justice properties: where one is asked for, or nothing is and there are some
-abbrev pub asks_of_justice : Header → Which → Option ℕ → Bool
-asks_of_justice h subject (Some asked) = true
-asks_of_justice h (One bad) None = false
-asks_of_justice h Any None = false
-asks_of_justice h All None = if h.justice == 0 then false else true
-
--- the bytes write a header by which the search is about no bad literal, or about no justice property
-abbrev pub AreBadsLeftOut : List ℕ → Which → Option ℕ → Type 0
-AreBadsLeftOut bytes subject asked = (h : Header) × IsHeaderOf bytes h × (asks_of_bads h subject asked ≡ false)
-
-abbrev pub IsJusticeLeftOut : List ℕ → Which → Option ℕ → Type 0
-IsJusticeLeftOut bytes subject asked = (h : Header) × IsHeaderOf bytes h × (asks_of_justice h subject asked ≡ false)
-
--- some text answers so about the bad literals that are asked for, or they are left out
-abbrev pub AreBadsAnswered : List ℕ → Which → Option ℕ → Outcome → Type 0
-AreBadsAnswered bytes subject asked outcome =
-    bads.IsAnswered bytes subject outcome ⊎ (AreBadsLeftOut bytes subject asked × (outcome ≡ Safe))
-
--- and about the justice property, or about all
-abbrev pub IsJusticeAnswered : List ℕ → Which → Option ℕ → Outcome → Type 0
-IsJusticeAnswered bytes subject asked outcome =
-    ((text : List ℕ) × justice.Answers bytes asked outcome text)
-    ⊎ (IsJusticeLeftOut bytes subject asked × (outcome ≡ Safe))
-
--- both are, and this is known of all of them together
-abbrev pub IsAnsweredAsked : List ℕ → Which → Option ℕ → Outcome → Type 0
-IsAnsweredAsked bytes subject asked outcome =
-    (one : Outcome) × (other : Outcome) × AreBadsAnswered bytes subject asked one
-    × IsJusticeAnswered bytes subject asked other × (outcome ≡ both one other)
-
--- the bytes write a header by which a search is about no bad literal, and the text no witness of one
-abbrev pub HasNoTrace : List ℕ → List ℕ → Type 0
-HasNoTrace bytes text =
-    (h : Header) × IsHeaderOf bytes h × (asks_of_bads h All None ≡ false)
-    × (claims_of h.sizes.latches h.sizes.inputs text ≡ Some [])
-
--- or one by which it is about no justice property, and the text no witness of one
-abbrev pub HasNoLasso : List ℕ → List ℕ → Type 0
-HasNoLasso bytes text =
-    (h : Header) × IsHeaderOf bytes h × (asks_of_justice h All None ≡ false)
-    × (lassos_of h.sizes.latches h.sizes.inputs text ≡ Some [])
-
--- the text writes m witnesses of bad literals, and all are right; where a search is about none, m is 0
-abbrev pub AreBadsReplayed : List ℕ → List ℕ → ℕ → Type 0
-AreBadsReplayed bytes text m = bads_replayed.ReplaysAll bytes text m ⊎ (HasNoTrace bytes text × (m ≡ 0))
-
--- and n of justice properties
-abbrev pub IsJusticeReplayed : List ℕ → List ℕ → ℕ → Type 0
-IsJusticeReplayed bytes text n = justice_replayed.ReplaysAll bytes text n ⊎ (HasNoLasso bytes text × (n ≡ 0))
+-- so it is of the problem that the bytes write
+abbrev pub IsAnswered : List ℕ → Subject → Outcome → Type 0
+IsAnswered bytes asked outcome = WriteOne bytes (λ p. IsRightOutcome p asked outcome)
 
 -- the text writes witnesses of bad literals, of justice properties, or of both, and all of them are right
-abbrev pub ReplaysEach : List ℕ → List ℕ → Type 0
-ReplaysEach bytes text =
-    (m : ℕ) × (n : ℕ) × AreBadsReplayed bytes text m × IsJusticeReplayed bytes text n × (0 < m + n)
+abbrev pub ReplaysEach : Problem → List ℕ → Type 0
+ReplaysEach p text =
+    (m : ℕ) × (n : ℕ) × bads_replayed.ReplaysAll p.netlist.circuit text m
+    × justice_replayed.ReplaysAll p.netlist.circuit p.liveness text n × (0 < m + n)
 
--- it writes witnesses of the bad literal or of the justice property that is asked for, or of each that it names
-abbrev pub ReplaysAsked : List ℕ → List ℕ → Option ℕ → Option ℕ → Type 0
-ReplaysAsked bytes text (Some bad) asked = bads_replayed.Replays bytes text (Some bad)
-ReplaysAsked bytes text None (Some asked) = justice_replayed.Replays bytes text (Some asked)
-ReplaysAsked bytes text None None = ReplaysEach bytes text
+-- it writes witnesses of the property that is asked about, or of each that it names
+abbrev pub ReplaysAsked : Problem → List ℕ → Subject → Type 0
+ReplaysAsked p text All = ReplaysEach p text
+ReplaysAsked p text Any = ReplaysEach p text
+ReplaysAsked p text (One (Bad place)) = bads_replayed.Replays p.netlist.circuit text (Some place)
+ReplaysAsked p text (One (Justice place)) = justice_replayed.Replays p.netlist.circuit p.liveness text (Some place)
 
--- the text is a certificate as to the justice property that is asked for, or else as to the bad literal that is, or to
--- all
-abbrev pub CertifiesAsked : List ℕ → List ℕ → Option ℕ → Option ℕ → Type 0
-CertifiesAsked bytes text bad None = bads_certified.Certifies bytes text bad
-CertifiesAsked bytes text bad (Some asked) = justice_certified.Certifies bytes text asked
+-- the text is a certificate as to the property that is asked about, or as to all bad literals
+abbrev pub CertifiesAsked : Problem → List ℕ → Subject → Type 0
+CertifiesAsked p text All = bads_certified.Certifies p.netlist.circuit text None
+CertifiesAsked p text Any = bads_certified.Certifies p.netlist.circuit text None
+CertifiesAsked p text (One (Bad place)) = bads_certified.Certifies p.netlist.circuit text (Some place)
+CertifiesAsked p text (One (Justice place)) = justice_certified.Certifies p.netlist.circuit p.liveness text place
+
+-- the place of the bad literal that is asked about, if one is
+abbrev pub bad_asked : Subject → Option ℕ
+bad_asked All = None
+bad_asked Any = None
+bad_asked (One (Bad place)) = Some place
+bad_asked (One (Justice place)) = None
+
+-- the place of the justice property that is asked about, or else this one
+abbrev pub justice_asked : Subject → ℕ → ℕ
+justice_asked All other = other
+justice_asked Any other = other
+justice_asked (One (Bad place)) other = other
+justice_asked (One (Justice place)) other = place

@@ -1,14 +1,17 @@
 -- What searches, and how far, by what the options ask for.
-use Rattle.std.specs.Prelude.{ℕ, ◌-◌, ◌^◌, ◌&&◌, Bool, List, Option, Some, None, codes, if◌then◌else◌, is_some, unwrap_or}
+use Rattle.std.specs.Prelude.{ℕ, ◌-◌, ◌^◌, ◌&&◌, Bool, List, Option, Some, None, codes, if◌then◌else◌}
+use Rattle.std.specs.Prelude.{is_some, unwrap_or}
 use Rattle.std.specs.Str.{bytes_eq}
 use Rattle.gip_cli.specs.Asked.{asked_said, has, number, word}
 use Rattle.gipmc_command.specs.declared.options.Options.{Options}
 use Rattle.gipmc_engines.specs.declared.engines.Engine.{Engine}
-use Rattle.gipmc_engines.specs.declared.engines.Engine.TheVariants.{All, Bounded, Ic3, Induction, Invariants, Simulation}
+use Rattle.gipmc_engines.specs.declared.engines.Engine.TheVariants.{All, Bounded, Ic3, Induction, Invariants}
+use Rattle.gipmc_engines.specs.declared.engines.Engine.TheVariants.{Simulation}
 
 -- a certificate as a circuit is wanted
 abbrev pub wants_circuit : Options → Bool
-wants_circuit o = is_some (word (codes "--certificate") (asked_said o.asked)) && has (codes "--aiger") (asked_said o.asked)
+wants_circuit o =
+    is_some (word (codes "--certificate") (asked_said o.asked)) && has (codes "--aiger") (asked_said o.asked)
 
 -- the engine of this name; all engines have none
 abbrev pub engine_named : Option (List ℕ) → Engine

@@ -3,7 +3,7 @@ use Rattle.std.specs.Prelude.{◌≡◌, ℕ, List, Option, Ok, IfSome, ⊤}
 use Rattle.gipmc_command.specs.Options.{Request}
 use Rattle.gipmc_command.specs.Words.{Answer, Certify, Replay, Tell, Work, work_asked}
 use Rattle.gipmc_task.specs.declared.outcome.Outcome.{Outcome}
-use Rattle.gipmc.specs.Asked.{CertifiesAsked, IsAnsweredAsked, ReplaysAsked, bads_asked}
+use Rattle.gipmc.specs.Asked.{CertifiesAsked, IsAnswered, ReplaysAsked, WriteOne}
 use Rattle.gipmc.specs.Texts.{text_read}
 
 -- the bytes of each file by its name, where they are known; standard input has no name
@@ -16,17 +16,19 @@ IfText files name P = IfSome (files name) (λ bytes. P (text_read bytes))
 
 -- the file of the circuit writes one of which this is known, as to what is asked for
 abbrev pub IsFound : Contents → Request → Outcome → Type 0
-IsFound files r outcome = IfText files r.file (λ bytes. IsAnsweredAsked bytes (bads_asked r) r.justice outcome)
+IsFound files r outcome = IfText files r.file (λ bytes. IsAnswered bytes r.subject outcome)
 
 -- it writes one, and the file of the witnesses has right ones of what is asked for
 abbrev pub IsReplayed : Contents → Request → Option (List ℕ) → Type 0
 IsReplayed files r witness =
-    IfText files r.file (λ bytes. IfText files witness (λ text. ReplaysAsked bytes text r.bad r.justice))
+    IfText files r.file
+    (λ bytes. IfText files witness (λ text. WriteOne bytes (λ p. ReplaysAsked p text r.subject)))
 
 -- it writes one, and the file of the certificate certifies what is asked for
 abbrev pub IsCertified : Contents → Request → Option (List ℕ) → Type 0
 IsCertified files r certificate =
-    IfText files r.file (λ bytes. IfText files certificate (λ text. CertifiesAsked bytes text r.bad r.justice))
+    IfText files r.file
+    (λ bytes. IfText files certificate (λ text. WriteOne bytes (λ p. CertifiesAsked p text r.subject)))
 
 -- the work is a search, and this was found of what it asks for
 abbrev pub Finds : Contents → Outcome → Work → Type 0

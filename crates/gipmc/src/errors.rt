@@ -2,7 +2,6 @@
 use gip_cli::{Cause, FinishError};
 use gipmc_aiger::{AigerError, Place, Reason};
 use gipmc_task::TaskError;
-use gipmc_task::justice::JusticeError;
 use std::alloc::AllocError;
 use std::fmt::{self, Display};
 use std::io;
@@ -34,10 +33,6 @@ pub enum Failure<'a> {
     Task(Option<&'a str>, TaskError),
     /// The task on the text in this input was not done, for what it has in this line, counted from 1.
     TaskAt(Option<&'a str>, usize, TaskError),
-    /// The task on justice properties was not done, for what this input has.
-    Justice(Option<&'a str>, JusticeError),
-    /// The task on justice properties was not done, for what this input has in this line.
-    JusticeAt(Option<&'a str>, usize, JusticeError),
     /// No certificate is written to this file, since that of a justice property is no circuit.
     NoCircuit(&'a str),
     /// No certificate is written to this file, since a k, which induction finds, has no circuit.
@@ -46,6 +41,20 @@ pub enum Failure<'a> {
     SeveralProperties(Option<&'a str>),
     /// Memory was refused.
     Memory,
+}
+
+impl<'a> Failure<'a> {
+    /// That of a task on the circuit in one input, and on an answer in another.
+    pub fn of_task(circuit: Option<&'a str>, beside: Option<&'a str>, error: TaskError) -> Self {
+        match error {
+            TaskError::Circuit(_)
+            | TaskError::NoBad(_, _)
+            | TaskError::NoBads
+            | TaskError::NoJustice(_, _)
+            | TaskError::NoJustices => Failure::Task(circuit, error),
+            _ => Failure::Task(beside, error),
+        }
+    }
 }
 
 impl Display for Failure<'_> {
@@ -101,11 +110,14 @@ impl Display for Failure<'_> {
                 "{}: no witness of bad literal {asked}, which '--bad' asks for",
                 name.unwrap_or("<stdin>")
             ),
+            Failure::Task(name, TaskError::NoLassoOf(asked)) => write!(
+                f,
+                "{}: no witness of justice property {asked}, which '--justice' asks for",
+                name.unwrap_or("<stdin>")
+            ),
             Failure::Task(name, error) => {
                 let name = name.unwrap_or("<stdin>");
                 match refusal(error) {
-                    // The circuit has justice properties alone.
-                    Some((_, Reason::Liveness)) => write!(f, "{name}: no bad literal"),
                     Some((line, reason)) => write!(f, "{name}:{line}: {reason}"),
                     None => write!(f, "{name}: {error}"),
                 }
@@ -113,15 +125,6 @@ impl Display for Failure<'_> {
             Failure::TaskAt(name, line, error) => {
                 write!(f, "{}:{line}: {error}", name.unwrap_or("<stdin>"))
             }
-            Failure::JusticeAt(name, line, error) => {
-                write!(f, "{}:{line}: {error}", name.unwrap_or("<stdin>"))
-            }
-            Failure::Justice(name, JusticeError::NoWitnessOf(asked)) => write!(
-                f,
-                "{}: no witness of justice property {asked}, which '--justice' asks for",
-                name.unwrap_or("<stdin>")
-            ),
-            Failure::Justice(name, error) => write!(f, "{}: {error}", name.unwrap_or("<stdin>")),
             Failure::NoCircuit(name) => write!(
                 f,
                 "{name}: not written, since the certificate of a justice property is clauses, without '--aiger'"

@@ -2,18 +2,14 @@
 use crate::errors::Failure;
 use gipmc_aiger::AigerError;
 use gipmc_task::TaskError;
-use gipmc_task::justice::JusticeError;
 use giputils_text::{number, split_line, split_once};
 
-/// A failure of a task on these texts, of a circuit and of an answer beside it: with its line, where one of them has it.
+/// A failure of a task on these texts, of a circuit and of an answer beside it: with its line, where one of them has
+/// it.
 pub fn located<'a>(failure: Failure<'a>, circuit: &[u8], beside: &[u8]) -> Failure<'a> {
     match failure {
         Failure::Task(name, error) => match task_line(error, circuit, beside) {
             Some(line) => Failure::TaskAt(name, line, error),
-            None => failure,
-        },
-        Failure::Justice(name, error) => match justice_line(error, beside) {
-            Some(line) => Failure::JusticeAt(name, line, error),
             None => failure,
         },
         _ => failure,
@@ -26,14 +22,7 @@ fn task_line(error: TaskError, circuit: &[u8], beside: &[u8]) -> Option<usize> {
         TaskError::Circuit(error) => defect_line(circuit, error),
         TaskError::Certificate(error) => defect_line(beside, error),
         TaskError::OtherBad(place, _) => naming_line(beside, b'b', place),
-        _ => None,
-    }
-}
-
-// The line of an error of a task on justice properties.
-fn justice_line(error: JusticeError, beside: &[u8]) -> Option<usize> {
-    match error {
-        JusticeError::OtherProperty(place, _) => naming_line(beside, b'j', place),
+        TaskError::OtherJustice(place, _) => naming_line(beside, b'j', place),
         _ => None,
     }
 }

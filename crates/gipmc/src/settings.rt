@@ -1,14 +1,12 @@
 //! What the options say of a search, and of where its answers are written.
 ghost use Rattle.std.specs.Prelude.{◌≡◌};
 ghost use Rattle.std.specs.Option.{option_map};
-ghost use Rattle.gipmc_command.specs.Options.{request_of};
-ghost use Rattle.gipmc.specs.Asked.{bads_asked};
 ghost use Rattle.gipmc.specs.Plans.{depth_alone, depth_asked, depth_by, engine_asked, engine_by, engine_named};
 ghost use Rattle.gipmc.specs.Plans.{limit_asked, seed_asked, wants_circuit};
 
 use gipmc_command::Options;
 use gipmc_engines::{Bounds, Engine, Plan, Tries};
-use gipmc_task::{Certifying, Lost, Output, Traces, Which};
+use gipmc_task::{Certifying, Lost, Output, Traces};
 use std::io::{IsTerminal, Stdout};
 
 // How often simulation begins anew, and how many moments it has then.
@@ -42,19 +40,9 @@ pub fn plan_of(options: &Options) -> Plan
         },
         // A search for one answer about all bad literals sets that.
         ends_at_trace: false,
+        explores: false,
         // Without a certificate equal latches and gates are merged. Behind that, gates in lemmas gain nothing.
         names_gates: wants_circuit(options),
-    }
-}
-
-/// Which bad literals are asked about, where no justice property is.
-pub fn bads_asked(options: &Options) -> Which
-    ensures { result ≡ bads_asked (request_of options.now) }
-{
-    match options.bad {
-        Some(place) => Which::One(place),
-        None if options.is_about("--any") => Which::Any,
-        None => Which::All,
     }
 }
 

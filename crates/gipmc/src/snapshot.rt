@@ -209,6 +209,7 @@ impl Display for Decided {
         match self.0 {
             Some(Technique::Simulation) => f.write_str("decided by sim; "),
             Some(Technique::Ternary) => f.write_str("decided by ternary simulation; "),
+            Some(Technique::Explicit) => f.write_str("decided by explicit states; "),
             Some(Technique::Bounded) => f.write_str("decided by bmc; "),
             Some(Technique::Induction) => f.write_str("decided by induction; "),
             Some(Technique::Ic3) => f.write_str("decided by ic3; "),

@@ -1,0 +1,15 @@
+-- The witness is verified.
+use Rattle.std.proofs.Common.{subst, sym, ◌∙◌}
+use Rattle.gip_cli.specs.Statuses.{IsEndedStatus}
+use Rattle.gipmc.specs.Asked.{ReplaysAsked, WriteOne}
+use Rattle.gipmc.proofs.Ended.{check_ended, verified_ended}
+use Rattle.gipmc.proofs.replay.replay_in.Goals as goal
+
+pub returns-clause-verified : goal.returns-clause-verified
+returns-clause-verified c is =
+    verified_ended (WriteOne c.args.bytes.now (λ p. ReplaysAsked p c.args.witness.now c.args.options.now.subject))
+    c.replay-ended.result c.replay-ended.ensures
+    (sym c.end_check.ensures ∙ is)
+
+pub returns-clause-ends : goal.returns-clause-ends
+returns-clause-ends c = subst IsEndedStatus (sym c.end_check.ensures) (check_ended c.replay-ended.result)

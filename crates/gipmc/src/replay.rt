@@ -1,0 +1,222 @@
+//! A replay of the witnesses of another program.
+ghost use Rattle.std.specs.Prelude.{◌≡◌, ◌+◌, ◌<◌, IfNone, IfOk, IsTrue, OnOk, Some};
+ghost use Rattle.std.specs.Option.{option_map};
+ghost use Rattle.std.specs.Process.{exit_status};
+ghost use Rattle.gip_cli.specs.Statuses.{IsEndedStatus};
+ghost use Rattle.gipmc_command.specs.Options.{request_of};
+ghost use Rattle.gipmc_task.specs.Justice.Witnesses as justice;
+ghost use Rattle.gipmc_task.specs.Witnesses.{Replays, ReplaysAll};
+ghost use Rattle.gipmc.specs.Asked.{ReplaysAsked, ReplaysEach, WriteOne};
+ghost use Rattle.gipmc.specs.Runs.{IsReplayed};
+
+use crate::checks::{doubted, end_check, texts_of, verified};
+use crate::errors::Failure;
+use crate::files::Texts;
+use crate::{is_empty, problem_in};
+use gip_cli::refuse;
+use gipmc_aiger::{Problem, Property, Subject};
+use gipmc_command::Options;
+use gipmc_task::justice::{self, LassoDoubt, lasso_doubt};
+use gipmc_task::{TaskError, WitnessDoubt, replay_all, witness_doubt};
+use std::process::ExitCode;
+
+/// The status of a replay of the witnesses in the file of this name, or in standard input.
+pub fn run<T: Texts>(rt: &HostRuntime, texts: &T, options: &Options, name: Option<&str>) -> ExitCode
+    ensures verified { exit_status result ≡ 0 →
+        IsReplayed (T.bytes texts.now) (request_of options.now) (option_map (λ n. n.now) name.entry) }
+    ensures ends { IsEndedStatus (exit_status result) }
+{
+    match texts_of(rt, texts, options, name) {
+        Ok((bytes, witness)) => replay_in(rt, options, name, &bytes, &witness),
+        Err(error) => refuse(rt, &error),
+    }
+}
+
+// The status of a replay of these witnesses on the circuit that the bytes write.
+fn replay_in(
+    rt: &HostRuntime,
+    options: &Options,
+    name: Option<&str>,
+    bytes: &[u8],
+    witness: &[u8],
+) -> ExitCode
+    ensures verified { exit_status result ≡ 0 →
+        WriteOne bytes.now (λ p. ReplaysAsked p witness.now options.now.subject) }
+    ensures ends { IsEndedStatus (exit_status result) }
+{
+    let ended = replay(rt, options, name, bytes, witness);
+    end_check(rt, bytes, witness, ended)
+}
+
+// Replays the witnesses of what is asked about, and writes whether they are right.
+fn replay<'a>(
+    rt: &HostRuntime,
+    options: &Options<'a>,
+    name: Option<&'a str>,
+    bytes: &[u8],
+    witness: &[u8],
+) -> Result<bool, Failure<'a>>
+    ensures { IfOk result (λ verified. IsTrue verified →
+        WriteOne bytes.now (λ p. ReplaysAsked p witness.now options.now.subject)) }
+{
+    let problem = problem_in(rt, options, bytes)?;
+    replay_asked(rt, options, name, &problem, witness)
+}
+
+// Replays the witnesses of what is asked about in this problem.
+fn replay_asked<'a>(
+    rt: &HostRuntime,
+    options: &Options<'a>,
+    name: Option<&'a str>,
+    problem: &Problem,
+    witness: &[u8],
+) -> Result<bool, Failure<'a>>
+    ensures { IfOk result (λ verified. IsTrue verified →
+        ReplaysAsked problem.now witness.now options.now.subject) }
+{
+    match options.subject {
+        Subject::All | Subject::Any => replay_each(rt, options, name, problem, witness),
+        Subject::One(Property::Bad(place)) => {
+            replay_bad(rt, options, name, problem, witness, place)
+        }
+        Subject::One(Property::Justice(place)) => {
+            replay_justice(rt, options, name, problem, witness, place)
+        }
+    }
+}
+
+// Replays the witnesses of all justice properties and of all bad literals. There may be none of one kind.
+fn replay_each<'a>(
+    rt: &HostRuntime,
+    options: &Options<'a>,
+    name: Option<&'a str>,
+    problem: &Problem,
+    witness: &[u8],
+) -> Result<bool, Failure<'a>>
+    ensures { IfOk result (λ verified. IsTrue verified → ReplaysEach problem.now witness.now) }
+{
+    let (lassos, doubt) = replay_lassos(rt, options, name, problem, witness)?;
+    match doubt {
+        Some(doubt) => doubted(rt, name, &doubt),
+        None => replay_beside(rt, options, name, problem, witness, lassos),
+    }
+}
+
+// Replays those of bad literals beside so many right ones of justice properties.
+fn replay_beside<'a>(
+    rt: &HostRuntime,
+    options: &Options<'a>,
+    name: Option<&'a str>,
+    problem: &Problem,
+    witness: &[u8],
+    lassos: usize,
+) -> Result<bool, Failure<'a>>
+    requires { justice.ReplaysAll problem.now.netlist.circuit problem.now.liveness witness.now lassos }
+    ensures { IfOk result (λ verified. IsTrue verified → ReplaysEach problem.now witness.now) }
+{
+    let (traces, doubt) = replay_traces(rt, options, name, problem, witness)?;
+    match doubt {
+        Some(doubt) => doubted(rt, name, &doubt),
+        None => {
+            has_witness(options, name, problem, traces, lassos)?;
+            verified(rt)
+        }
+    }
+}
+
+// Replays the witnesses of justice properties: how many there are, and what is wrong with one.
+fn replay_lassos<'a>(
+    rt: &HostRuntime,
+    options: &Options<'a>,
+    name: Option<&'a str>,
+    problem: &Problem,
+    witness: &[u8],
+) -> Result<(usize, Option<LassoDoubt>), Failure<'a>>
+    ensures { IfOk result (λ found. IfNone found.1
+        (justice.ReplaysAll problem.now.netlist.circuit problem.now.liveness witness.now found.0)) }
+{
+    match justice::replay_all(rt.alloc(), problem, witness) {
+        Ok(found) => Ok(found),
+        Err(error) => Err(Failure::of_task(options.file, name, error)),
+    }
+}
+
+// Replays those of bad literals in the same way.
+fn replay_traces<'a>(
+    rt: &HostRuntime,
+    options: &Options<'a>,
+    name: Option<&'a str>,
+    problem: &Problem,
+    witness: &[u8],
+) -> Result<(usize, Option<WitnessDoubt>), Failure<'a>>
+    ensures { IfOk result (λ found. IfNone found.1
+        (ReplaysAll problem.now.netlist.circuit witness.now found.0)) }
+{
+    if is_empty(problem) {
+        return Err(Failure::of_task(options.file, name, TaskError::NoBads));
+    }
+    match replay_all(rt.alloc(), &problem.netlist, witness) {
+        Ok(found) => Ok(found),
+        Err(error) => Err(Failure::of_task(options.file, name, error)),
+    }
+}
+
+// Tests that there is a witness among so many of bad literals and of justice properties.
+fn has_witness<'a>(
+    options: &Options<'a>,
+    name: Option<&'a str>,
+    problem: &Problem,
+    traces: usize,
+    lassos: usize,
+) -> Result<(), Failure<'a>>
+    ensures { OnOk result (0 < traces + lassos) }
+{
+    if traces > 0 {
+        return Ok(());
+    }
+    if lassos > 0 {
+        return Ok(());
+    }
+    if problem.is_live_alone() {
+        return Err(Failure::of_task(options.file, name, TaskError::NoLasso));
+    }
+    Err(Failure::of_task(options.file, name, TaskError::NoWitness))
+}
+
+// Replays the witnesses of the bad literal at a place.
+fn replay_bad<'a>(
+    rt: &HostRuntime,
+    options: &Options<'a>,
+    name: Option<&'a str>,
+    problem: &Problem,
+    witness: &[u8],
+    place: usize,
+) -> Result<bool, Failure<'a>>
+    ensures { IfOk result (λ verified. IsTrue verified →
+        Replays problem.now.netlist.circuit witness.now (Some place)) }
+{
+    match witness_doubt(rt.alloc(), &problem.netlist, witness, Some(place)) {
+        Ok(None) => verified(rt),
+        Ok(Some(doubt)) => doubted(rt, name, &doubt),
+        Err(error) => Err(Failure::of_task(options.file, name, error)),
+    }
+}
+
+// Replays the witnesses of the justice property at a place.
+fn replay_justice<'a>(
+    rt: &HostRuntime,
+    options: &Options<'a>,
+    name: Option<&'a str>,
+    problem: &Problem,
+    witness: &[u8],
+    place: usize,
+) -> Result<bool, Failure<'a>>
+    ensures { IfOk result (λ verified. IsTrue verified →
+        justice.Replays problem.now.netlist.circuit problem.now.liveness witness.now (Some place)) }
+{
+    match lasso_doubt(rt.alloc(), problem, witness, Some(place)) {
+        Ok(None) => verified(rt),
+        Ok(Some(doubt)) => doubted(rt, name, &doubt),
+        Err(error) => Err(Failure::of_task(options.file, name, error)),
+    }
+}
