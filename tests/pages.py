@@ -34,9 +34,9 @@ Each line of an example in Rust on a README that is not quoted stands in giputil
 under the names that `giputils` gives them. The page of `gip` has the script that `gip` is run on, with its replies.
 docs/DESIGN.md names each crate, and links to its README; the solver has the names that stand there beside MiniSat's,
 the imports of its modules make no cycle, and each module begins with a line `//!`. A type has a name that no type of
-another file has, but for those of tests/names.txt. Each file that a page names is there, and each part of a page that a
-link names; no line has more than 120 columns, but for imports that are quoted, and the README of the root has at most
-80 lines.
+another file has, but for those of tests/names.txt, which has a reason for each. Each file that a page names is there,
+and each part of a page that a link names; no line has more than 120 columns, but for imports that are quoted, and the
+README of the root has at most 80 lines.
 """
 
 import argparse
@@ -72,6 +72,7 @@ PARTS = {
     "giputils_text": (PROVED, TESTED, CHOICES),
     "giputils_refusing": (EXAMPLE, PROVED, TESTED, CHOICES),
     "gipsat_cnf": (EXAMPLE, PROVED, TESTED, CHOICES),
+    "gipsat_encodings": (EXAMPLE, PROVED, TESTED, CHOICES, COST),
     "gipsat_kernel": (EXAMPLE, PROVED, TESTED, CHOICES, COST),
     "gipsat_solver": (EXAMPLE, PEER + "MiniSat", PROVED, TESTED, CHOICES, COST),
     "gipsat_dimacs": (EXAMPLE, PEER + "CaDiCaL", PROVED, TESTED, CHOICES, COST),
@@ -91,7 +92,6 @@ PARTS = {
     "gipsat_uses": (PROVED, TESTED),
     "gipmc_uses": (PROVED, TESTED),
     "giputils_replay": (TESTED,),
-    "gipsat_replay": (TESTED,),
     "giputils_bench": ("## Workloads", "## How to measure"),
 }
 
@@ -611,6 +611,13 @@ def map_of_crates(page, text):
     return complaints + sound(page, text)
 
 
+def names_with_reasons():
+    """The names that several types may have: those of each group of tests/names.txt that begins with its reason."""
+    groups = NAMES.read_text(encoding="utf-8").split("\n\n")
+    lines = [group.splitlines() for group in groups if group.startswith("# ")]
+    return {name for group in lines for line in group if not line.startswith("#") for name in line.split()}
+
+
 def names_given_twice():
     """The names that types of several files have."""
     files = collections.defaultdict(set)
@@ -623,7 +630,7 @@ def names_given_twice():
 
 def decisions(page, text):
     """What is wrong with the page of decisions: a name that types of several files have, and no line of the list."""
-    listed, given = set(NAMES.read_text(encoding="utf-8").split()), names_given_twice()
+    listed, given = names_with_reasons(), names_given_twice()
     complaints = [f"several types are named {name}" for name in sorted(given - listed)]
     complaints += [f"{NAMES.name} lists {name}, which no two types have" for name in sorted(listed - given)]
     return complaints + sound(page, text)
