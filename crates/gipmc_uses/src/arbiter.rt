@@ -1,9 +1,9 @@
 //! An arbiter as a circuit, and that it never grants twice.
-ghost use Rattle.std.specs.Prelude.{◌≡◌, false, IfOk, IsTrue, OnOk};
+ghost use Rattle.std.specs.Prelude.{◌≡◌, false, IfOk, IfSome, IsTrue, OnOk};
 ghost use Rattle.gipsat_cnf.specs.Formulas.{Assignment, is_true};
-ghost use Rattle.gipmc_circuits.specs.Circuit.{is_initial, is_transition, is_valuation};
+ghost use Rattle.gipmc_circuits.specs.Circuit.{IsSafe, is_initial, is_transition, is_valuation};
 ghost use Rattle.gipmc_builder.specs.Build.{AddsLatches, Keeps};
-ghost use Rattle.gipmc_builder.specs.Machine.{IsMachine, NeverBad};
+ghost use Rattle.gipmc_builder.specs.Machine.{IsMachine};
 ghost use Rattle.gipmc_uses.specs.Arbiter.{granted, grants_of, have_both};
 
 use gipmc_builder::Builder;
@@ -67,15 +67,19 @@ fn hold(
     build.latch(has.1, Some(false), next.1)
 }
 
-/// Whether it is shown that the arbiter never grants both what they ask for: the clause that not both have it is an
-/// invariant.
+/// An arbiter of two that is shown never to grant both what they ask for, and the literal that both have it: the clause
+/// that not both have it is an invariant. None where it is not shown.
 ///
 /// Shows a machine of two latches and two inputs, from what its gates mean.
 ///
 /// # Errors
 /// `AllocError` where memory is refused.
-pub fn never_grants_twice<S: SatSolver + Drop>(alloc: Global) -> Result<bool, AllocError>
-    ensures { IfOk result (λ never. IsTrue never → NeverBad granted (false, false) have_both) }
+pub fn safe_arbiter<S: SatSolver + Drop>(
+    alloc: Global,
+) -> Result<Option<(Netlist, Literal)>, AllocError>
+    ensures machine { IfOk result (λ shown. IfSome shown (λ made.
+        IsMachine made.0.circuit made.1 granted (false, false) have_both)) }
+    ensures safe { IfOk result (λ shown. IfSome shown (λ made. IsSafe made.0.circuit made.1)) }
 {
     let (netlist, bad) = arbiter(alloc)?;
     let clause = Vec::from_array(alloc, [bad.negated()])?;
@@ -83,7 +87,7 @@ pub fn never_grants_twice<S: SatSolver + Drop>(alloc: Global) -> Result<bool, Al
     invariant.push_reserved(clause);
     let verdict = certify::<S>(alloc, &netlist, bad, &invariant, 1000)?;
     match verdict {
-        Verdict::Certified => Ok(true),
-        _ => Ok(false),
+        Verdict::Certified => Ok(Some((netlist, bad))),
+        _ => Ok(None),
     }
 }
