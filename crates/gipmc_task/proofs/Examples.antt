@@ -19,15 +19,19 @@ use Rattle.gipmc_circuits.specs.Circuit.{FailsAfter, IsSafe, has_value, is_momen
 use Rattle.gipmc_circuits.specs.Traces.{FailsBy}
 use Rattle.gipmc_circuits.specs.declared.circuit.Circuit.{Circuit}
 use Rattle.gipmc_circuits.specs.declared.trace.Trace.{Trace}
+use Rattle.gipmc_reduce.specs.Lassos.{IsLasso, from}
 use Rattle.gipmc_reduce.specs.declared.means.Means.{Means}
+use Rattle.gipmc_reduce.proofs.Looped.{FailsForever-lasso}
+use Rattle.gipmc_aiger.specs.declared.problem.Problem.{Problem}
 use Rattle.gipmc_aiger.specs.declared.problem.Property.TheVariants.{Bad, Justice}
 use Rattle.gipmc_task.specs.Outcomes.{both}
 use Rattle.gipmc_task.specs.declared.outcome.Outcome.TheVariants.{Fails, Safe, Open}
 use Rattle.gipmc_task.specs.Answers.{Tells, TellsAny, TellsFirst}
-use Rattle.gipmc_task.specs.Certificates.{BeginsWithK, Certifies, clauses_behind, k_in}
+use Rattle.gipmc_task.specs.Certificates.{BeginsWithK, CertifiesSafe, clauses_behind, k_in}
 use Rattle.gipmc_task.specs.Left.{StandsFor}
 use Rattle.gipmc_task.specs.Witnesses.{Replays, ReplaysAll, claimed, names_asked, names_place}
 use Rattle.gipmc_task.specs.declared.certificates.Certificate.TheVariants as certificate
+use Rattle.gipmc_task.specs.declared.kind.PropertyKind.TheVariants as kind
 use Rattle.gipmc_task.specs.Verdicts.{IsAnswerBy, depths_text, outcome_of, text_of}
 use Rattle.gipmc_task.specs.declared.answered.Answered.{Answered}
 use Rattle.gipmc_task.specs.declared.verdict.Evidence.TheVariants.{Invariant, Longer}
@@ -192,29 +196,53 @@ claims_no_other : claimed (2 ∷ 5 ∷ []) (Some 1) ≡ []
 claims_no_other = refl
 
 -- a text of one witness, of the bad input of a circuit without latches
-one_witness : (c : Circuit) (trace : Trace) (row : Vec Bool Global)
-    → c.inputs.items ≡ 1 ∷ [] → c.latches.items ≡ [] → c.bads.items ≡ yes_of 1 ∷ [] → trace.latches.items ≡ []
-    → trace.inputs.items ≡ row ∷ [] → row.items ≡ true ∷ [] → FailsBy c (yes_of 1) trace
-    → Replays c (codes "1\nb0\n\n1\n.\n") (Some 0)
+one_witness : (p : Problem) (trace : Trace) (row : Vec Bool Global)
+    → p.netlist.circuit.inputs.items ≡ 1 ∷ [] → p.netlist.circuit.latches.items ≡ []
+    → p.netlist.circuit.bads.items ≡ yes_of 1 ∷ [] → trace.latches.items ≡ [] → trace.inputs.items ≡ row ∷ []
+    → row.items ≡ true ∷ [] → FailsBy p.netlist.circuit (yes_of 1) trace
+    → Replays p kind.Bad (codes "1\nb0\n\n1\n.\n") (Some 0)
 unfolding claim_of
-one_witness c trace row inputs latches bads none rows is fails = (
+one_witness p trace row inputs latches bads none rows is fails = (
   (0 ∷ [], trace) ∷ [],
   rw (latches, inputs, none, rows, is) refl,
   refl,
   (((yes_of 1, rw bads refl, fails), tt), tt),
 )
 
--- a text of a lasso alone has no witness of a bad literal, and so it is no replay
-no_witness : (c : Circuit) → ReplaysAll c (codes "1\nj0\n0\n1\n.\n") 0
-no_witness c = ([], refl, refl, tt)
+-- a text of one lasso, of a circuit with a latch and an input
+one_lasso : (p : Problem) (justice : Vec Lit Global) (trace : Trace) (row : Vec Bool Global)
+    → length p.netlist.circuit.latches.items ≡ 1 → length p.netlist.circuit.inputs.items ≡ 1
+    → slice_get p.liveness.justice.items 0 ≡ Some justice → trace.latches.items ≡ true ∷ []
+    → trace.inputs.items ≡ row ∷ [] → row.items ≡ false ∷ []
+    → IsLasso p.netlist.circuit p.liveness.fairness.items justice.items (from trace 0)
+    → Replays p kind.Justice (codes "1\nj0\n1\n0\n.\n") (Some 0)
+unfolding claim_of
+one_lasso p justice trace row latches inputs here holds rows is lasso =
+    let runs = FailsForever-lasso p.netlist.circuit p.liveness.fairness.items justice.items (from trace 0) lasso in (
+      (0 ∷ [], trace) ∷ [],
+      rw (latches, inputs, holds, rows, is) refl,
+      refl,
+      (((justice, here, (0, lasso), runs), tt), tt),
+    )
 
-refused-no_witness : (c : Circuit) (asked : Option ℕ) → ¬ (Replays c (codes "1\nj0\n0\n1\n.\n") asked)
-refused-no_witness c asked (witnesses, are, named, right) = none_named witnesses are named
-  where
-    none_named : (witnesses : List (List ℕ × Trace)) → Some [] ≡ Some (map (λ w. claim_by w.0 w.1) witnesses)
-        → ¬ (IsTrue (list_any (λ w. names_asked w.0 asked) witnesses))
-    none_named [] are named = false≢true named
-    none_named (w ∷ witnesses) are named = absurd cc
+-- a text of witnesses of one kind alone has none of the other, and so it is no replay
+no_witness : (p : Problem) → ReplaysAll p kind.Bad (codes "1\nj0\n0\n1\n.\n") 0
+no_witness p = ([], refl, refl, tt)
+
+no_lasso : (p : Problem) → ReplaysAll p kind.Justice (codes "1\nb0\n0\n1\n.\n") 0
+no_lasso p = ([], refl, refl, tt)
+
+none_named : (asked : Option ℕ) (witnesses : List (List ℕ × Trace))
+    → Some [] ≡ Some (map (λ w. claim_by w.0 w.1) witnesses)
+    → ¬ (IsTrue (list_any (λ w. names_asked w.0 asked) witnesses))
+none_named asked [] are named = false≢true named
+none_named asked (w ∷ witnesses) are named = absurd cc
+
+refused-no_witness : (p : Problem) (asked : Option ℕ) → ¬ (Replays p kind.Bad (codes "1\nj0\n0\n1\n.\n") asked)
+refused-no_witness p asked (witnesses, are, named, right) = none_named asked witnesses are named
+
+refused-no_lasso : (p : Problem) (asked : Option ℕ) → ¬ (Replays p kind.Justice (codes "1\nb0\n0\n1\n.\n") asked)
+refused-no_lasso p asked (witnesses, are, named, right) = none_named asked witnesses are named
 
 -- a first line with a k, and lines that are none
 k_is_three : k_in (codes "k 3") ≡ Some 3
@@ -235,7 +263,7 @@ k_before_clauses = (codes "k 2", refl, refl)
 
 -- no clauses show that the constant is never true; they show nothing where there is no bad literal
 no_clauses : (c : Circuit) (clauses : Vec (Vec Lit Global) Global) → c.latches.items ≡ []
-    → c.bads.items ≡ yes_of 0 ∷ [] → clauses.items ≡ [] → Certifies c (codes "p cnf 0 0\n") None
+    → c.bads.items ≡ yes_of 0 ∷ [] → clauses.items ≡ [] → CertifiesSafe c (codes "p cnf 0 0\n") None
 unfolding invariant_in
 no_clauses c clauses latches bads none = (
   certificate.Clauses clauses,
@@ -253,6 +281,6 @@ no_clauses c clauses latches bads none = (
   ),
 )
 
-refused-no_bad_literal : (c : Circuit) (text : List ℕ) → c.bads.items ≡ [] → ¬ (Certifies c text None)
+refused-no_bad_literal : (c : Circuit) (text : List ℕ) → c.bads.items ≡ [] → ¬ (CertifiesSafe c text None)
 refused-no_bad_literal c text bads (shown, is, (some, each)) =
     let none : length c.bads.items ≡ 0 = rw bads refl in absurd (omega (arith, some, none))

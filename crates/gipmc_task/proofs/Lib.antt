@@ -5,10 +5,8 @@ mod Depths
 pub mod Each
 mod Examples
 mod ForAll
-mod JusticeClaimed
 mod JusticeExamples
 mod JusticeTold
-pub mod JusticeWitnessed
 mod OnWhole
 pub mod Outcomes
 mod Shown

@@ -1,16 +1,25 @@
--- Certificates that a circuit is safe, as texts.
-use Rattle.std.specs.Prelude.{◌≡◌, ◌<◌, ◌==◌, ◌-◌, ◌^◌, ◌⊎◌, ℕ, List, [], ◌∷◌, length, codes, slice_get, if◌then◌else◌, Option, Some, None}
+-- Certificates that properties hold, as texts.
+use Rattle.std.specs.Prelude.{◌≡◌, ◌<◌, ◌==◌, ◌-◌, ◌^◌, ◌⊎◌, ◌++◌, ℕ, List, [], ◌∷◌, Vec, length, codes, slice_get, if◌then◌else◌, Option, Some, None}
 use Rattle.std.specs.Str.{bytes_eq}
+use Rattle.std.specs.declared.alloc.Global.{Global}
 use Rattle.gipsat_cnf.specs.Formulas.{Formula}
 use Rattle.gipsat_cnf.specs.Literals.{Lit}
 use Rattle.gipmc_aiger.specs.Invariants.{clauses_view, invariant_for}
 use Rattle.gipmc_aiger.specs.WitnessCircuits.{WritesWitness}
+use Rattle.gipmc_aiger.specs.declared.liveness.Liveness.{Liveness}
+use Rattle.gipmc_aiger.specs.declared.problem.Problem.{Problem}
+use Rattle.gipmc_aiger.specs.declared.problem.Property.TheVariants.{Bad, Justice}
+use Rattle.gipmc_aiger.specs.declared.problem.Subject.{Subject}
+use Rattle.gipmc_aiger.specs.declared.problem.Subject.TheVariants.{All, Any, One}
 use Rattle.gipmc_circuits.specs.Certificate.{IsSafeByClauses}
 use Rattle.gipmc_circuits.specs.Circuit.{IsSafe}
 use Rattle.gipmc_circuits.specs.WitnessCircuits.{IsCertifiedBy}
 use Rattle.gipmc_circuits.specs.declared.circuit.Circuit.{Circuit}
 use Rattle.gipmc_circuits.specs.declared.witness_circuit.WitnessCircuit.{WitnessCircuit}
 use Rattle.gipmc_engines.specs.Verdicts.{IsSafeByInduction}
+use Rattle.gipmc_reduce.specs.Liveness.{IsLive}
+use Rattle.gipmc_reduce.specs.Longer.{IsMadeBy}
+use Rattle.gipmc_reduce.specs.declared.means.Means.{Means}
 use Rattle.giputils_text.specs.Lines.{pieces, space, text_lines}
 use Rattle.giputils_text.specs.Numbers.{number_up_to}
 use Rattle.gipmc_task.specs.declared.certificates.Certificate.{Certificate}
@@ -69,5 +78,29 @@ ShowsSafeAsked c shown None = ShowsSafeAll c shown
 ShowsSafeAsked c shown (Some place) = ShowsSafeAt c shown place
 
 -- the text writes a certificate by which the circuit is safe so
-abbrev pub Certifies : Circuit → List ℕ → Option ℕ → Type 0
-Certifies c text asked = (shown : Certificate) × IsCertificateIn c text shown × ShowsSafeAsked c shown asked
+abbrev pub CertifiesSafe : Circuit → List ℕ → Option ℕ → Type 0
+CertifiesSafe c text asked = (shown : Certificate) × IsCertificateIn c text shown × ShowsSafeAsked c shown asked
+
+-- the text writes clauses over the latches of the longer circuit, by which that is safe
+abbrev pub IsSafelyMadeBy : Circuit → List Lit → Means → List ℕ → Type 0
+IsSafelyMadeBy c literals means text =
+    (e : Circuit) × (bad : Lit) × IsMadeBy c literals means e bad × (clauses : List (Vec Lit Global))
+    × (invariant_for e text ≡ Some (clauses_view clauses)) × IsSafeByClauses e clauses bad
+
+-- so of one that counts, or of the one that saves; and the circuit is live
+abbrev pub IsLiveByText : Circuit → List Lit → List Lit → List ℕ → Type 0
+IsLiveByText c fairness justice text =
+    ((means : Means) × IsSafelyMadeBy c (fairness ++ justice) means text) × IsLive c fairness justice
+
+-- by the text the circuit is live as to the justice property at a place, which it has
+abbrev pub CertifiesLive : Circuit → Liveness → List ℕ → ℕ → Type 0
+CertifiesLive c l text place =
+    (justice : Vec Lit Global) × (slice_get l.justice.items place ≡ Some justice)
+    × IsLiveByText c l.fairness.items justice.items text
+
+-- the text is a certificate of the property that is asked about, or of all bad literals
+abbrev pub Certifies : Problem → List ℕ → Subject → Type 0
+Certifies p text All = CertifiesSafe p.netlist.circuit text None
+Certifies p text Any = CertifiesSafe p.netlist.circuit text None
+Certifies p text (One (Bad place)) = CertifiesSafe p.netlist.circuit text (Some place)
+Certifies p text (One (Justice place)) = CertifiesLive p.netlist.circuit p.liveness text place

@@ -1,4 +1,2 @@
 -- Justice properties.
 pub mod Answers
-pub mod Certificates
-pub mod Witnesses

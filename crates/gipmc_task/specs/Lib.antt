@@ -2,6 +2,7 @@
 pub mod Answers
 pub mod Certificates
 pub mod Justice
+pub mod Kinds
 pub mod Left
 pub mod Outcomes
 pub mod Output

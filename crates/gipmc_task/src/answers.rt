@@ -1,6 +1,7 @@
 //! Answers about the bad literals of a circuit, as texts.
 ghost use Rattle.std.specs.Prelude.{◌≡◌, ℕ, ◌<◌, ◌++◌, ◌∷◌, [], length, slice_get, Some, None, IfOk};
 ghost use Rattle.gipmc_aiger.specs.Lists.{Every};
+ghost use Rattle.gipmc_aiger.specs.declared.problem.Problem.{Problem};
 ghost use Rattle.gipmc_aiger.specs.declared.problem.Property.TheVariants.{Bad};
 ghost use Rattle.gipmc_aiger.specs.declared.problem.Subject.TheVariants.{Any, One};
 ghost use Rattle.gipmc_task.specs.Answers.{AreAsked, AreClear, Tells, TellsAny, TellsAsked, TellsFirst, TellsOne};
@@ -8,11 +9,13 @@ ghost use Rattle.gipmc_task.specs.Left.{StandFor};
 ghost use Rattle.gipmc_task.specs.Output.{IsWritten};
 ghost use Rattle.gipmc_task.specs.Verdicts.{answer_text, depth_text, depths_text, texts_of, together};
 ghost use Rattle.gipmc_task.specs.Witnesses.{Replays};
+ghost use Rattle.gipmc_task.specs.declared.kind.PropertyKind.TheVariants as kind;
 ghost use Rattle.gipmc_task.specs.declared.outcome.Outcome.TheVariants.{Fails};
 
 use crate::answered::{Answered, depth_text, one, tell, tell_behind};
 use crate::any::find_any;
 use crate::error::TaskError;
+use crate::kind::PropertyKind;
 use crate::output::{Certifying, Output, Wanted};
 use crate::parted::{Parted, part_of};
 use crate::query::Query;
@@ -54,8 +57,8 @@ impl Drop for Said {
 /// the first of those of which least is known. So it is safe where all are.
 ///
 /// # Errors
-/// - [`TaskError::NoBad`] where there is no bad literal at the place, and [`TaskError::NoBads`] where one is asked
-///   about, or any, and there is none at all.
+/// - [`TaskError::NoProperty`] where there is no bad literal at the place, and [`TaskError::NoProperties`] where one is
+///   asked about, or any, and there is none at all.
 /// - [`TaskError::Memory`] where memory is refused for a text. A search that is refused memory leaves the literals open
 ///   that are not decided.
 pub fn answer<S: SatSolver + Drop, O: Observer, W: Write>(
@@ -67,12 +70,12 @@ pub fn answer<S: SatSolver + Drop, O: Observer, W: Write>(
     output: &mut Output<W>,
 ) -> Result<Said, TaskError>
     ensures tells { IfOk result (λ said. TellsAsked netlist.now.circuit asked said.answers.items) }
-    ensures witness { (place : ℕ) → asked ≡ One (Bad place) →
+    ensures witness { (p : Problem) (place : ℕ) → p.netlist ≡ netlist.now → asked ≡ One (Bad place) →
         IfOk result (λ said. together said.answers.items ≡ Fails →
-        Replays netlist.now.circuit (texts_of said.answers.items) (Some place)) }
-    ensures any { asked ≡ Any →
+        Replays p kind.Bad (texts_of said.answers.items) (Some place)) }
+    ensures any { (p : Problem) → p.netlist ≡ netlist.now → asked ≡ Any →
         IfOk result (λ said. together said.answers.items ≡ Fails →
-        Replays netlist.now.circuit (texts_of said.answers.items) None) }
+        Replays p kind.Bad (texts_of said.answers.items) None) }
     ensures written { IfOk result (λ said. IsWritten output.old.failure output.new.failure
         (W.contents output.old.writer) (W.contents output.new.writer) (texts_of said.answers.items)) }
 {
@@ -97,7 +100,7 @@ fn answer_asked<S: SatSolver + Drop, O: Observer, W: Write>(
         Subject::All => {
             Ok(answer_about::<S, _, _>(alloc, netlist, bads, asked, plan, observer, output)?)
         }
-        Subject::Any if bads.is_empty() => Err(TaskError::NoBads),
+        Subject::Any if bads.is_empty() => Err(TaskError::NoProperties(PropertyKind::Bad)),
         Subject::Any => {
             let plan = to_first_trace(plan);
             Ok(answer_about::<S, _, _>(alloc, netlist, bads, asked, &plan, observer, output)?)
@@ -106,7 +109,9 @@ fn answer_asked<S: SatSolver + Drop, O: Observer, W: Write>(
             let bads = [bads[place]];
             Ok(answer_about::<S, _, _>(alloc, netlist, &bads, asked, plan, observer, output)?)
         }
-        Subject::One(Property::Bad(place)) => Err(TaskError::no_bad(place, bads.len())),
+        Subject::One(Property::Bad(place)) => {
+            Err(TaskError::lacking(PropertyKind::Bad, Some(place), bads.len()))
+        }
         Subject::One(Property::Justice(_)) => Ok(said_by(alloc, Vec::new(alloc))),
     }
 }

@@ -1,20 +1,25 @@
-//! Certificates that a circuit is safe, as texts.
+//! Certificates that properties hold, as texts.
 ghost use Rattle.std.specs.Prelude.{◌≡◌, ℕ, ◌<◌, length, slice_get, Some, IfNone, IfOk, IsTrue};
 ghost use Rattle.gipmc_circuits.specs.declared.certificate.Verdict.TheVariants.{Certified};
 ghost use Rattle.gipmc_aiger.specs.Invariants.{clauses_view, invariant_for};
-ghost use Rattle.gipmc_task.specs.Certificates.{AreShownSafe, Certifies, IsCertificateIn, clauses_behind};
+ghost use Rattle.gipmc_task.specs.Certificates.{AreShownSafe, Certifies, CertifiesSafe, IsCertificateIn, clauses_behind};
 ghost use Rattle.gipmc_task.specs.Certificates.{ShowsSafeAll, ShowsSafeAsked, ShowsSafeAt};
+ghost use Rattle.gipmc_task.specs.Kinds.{IsAmong};
 ghost use Rattle.gipmc_task.specs.declared.certificates.Certificate.TheVariants as certificate;
 
 use crate::error::TaskError;
 use crate::induction::{InductionDoubt, behind_k, unless_certified};
+use crate::justice::certificates::{live_doubt, longer_text};
+use crate::kind::{PropertyKind, PropertyName};
+use crate::latches::invariant_text;
 use crate::strengthened::strengthened;
 use gipmc_aiger::{
-    AigerError, Place, read_invariant_for, read_witness_circuit, write_aag, write_invariant,
+    AigerError, Place, Problem, Property, Subject, read_invariant_for, read_witness_circuit,
+    write_aag,
 };
 use gipmc_circuits::certificate::Verdict;
 use gipmc_circuits::{Circuit, Netlist, WitnessCircuit, certify_by};
-use gipmc_reduce::{certify_all, certify_all_by};
+use gipmc_reduce::{Means, certify_all, certify_all_by};
 use gipsat_cnf::{Literal, SatSolver};
 use std::alloc::{AllocError, Global};
 use std::fmt::{self, Display};
@@ -31,155 +36,190 @@ pub enum Certificate {
     Circuit(WitnessCircuit),
 }
 
-/// Why a certificate is not known to show that a circuit is safe.
-#[derive(Clone, Copy, Debug, PartialEq, Eq)]
+/// Why a certificate is not known to show that what is asked about holds.
+#[derive(Clone, Copy, PartialEq, Eq)]
 pub struct Doubt {
-    /// The place of the bad literal that is asked about.
-    pub bad: usize,
-    /// What was found out of the clauses of the certificate; of a circuit, its clauses are what it claims of its bad
-    /// literals and then of its constraints. None where the certificate is a number k alone.
-    pub verdict: Option<Verdict>,
-    /// What was found out of its number k, if it has one.
-    pub induction: Option<InductionDoubt>,
+    /// The property of which it is not known.
+    pub property: Property,
+    /// What was found out of the certificate.
+    pub reason: DoubtReason,
 }
 
-/// A line that says which clause, counted from 1, and which question.
+/// What was found out of a certificate that is not known to show a property.
+#[derive(Clone, Copy, Debug, PartialEq, Eq)]
+pub enum DoubtReason {
+    /// Of its clauses. Those of a circuit are what it claims of its bad literals and then of its constraints.
+    Clauses(Verdict),
+    /// Of its clauses, if it has some, and of its number k.
+    Induction(Option<Verdict>, InductionDoubt),
+    /// Of its clauses, which are about this longer circuit.
+    Longer(Means, Verdict),
+}
+
+/// A line that says which property, which clause, counted from 1, and which question.
 impl Display for Doubt {
     fn fmt<W: fmt::Write>(&self, f: &mut fmt::Formatter<W>) -> fmt::Result {
-        write!(f, "b{}: ", self.bad)?;
-        if let Some(verdict) = self.verdict {
-            write_verdict(f, verdict)?;
-        }
-        let Some(doubt) = self.induction else {
-            return Ok(());
-        };
-        if self.verdict.is_some() {
-            f.write_str("; ")?;
-        }
-        write!(f, "{doubt}")
+        let (name, reason) = (PropertyName(self.property), self.reason);
+        write!(f, "{name}: {reason}")
     }
 }
 
-// Writes what was found out of clauses.
-fn write_verdict<W: fmt::Write>(f: &mut fmt::Formatter<W>, verdict: Verdict) -> fmt::Result {
+/// The same without the property.
+impl Display for DoubtReason {
+    fn fmt<W: fmt::Write>(&self, f: &mut fmt::Formatter<W>) -> fmt::Result {
+        match *self {
+            DoubtReason::Clauses(verdict) => write_verdict(f, verdict, "a bad moment"),
+            DoubtReason::Induction(None, doubt) => write!(f, "{doubt}"),
+            DoubtReason::Induction(Some(verdict), doubt) => {
+                write_verdict(f, verdict, "a bad moment")?;
+                write!(f, "; {doubt}")
+            }
+            DoubtReason::Longer(Means::Counting(_), verdict) => {
+                write_verdict(f, verdict, "one literal more to be met")
+            }
+            DoubtReason::Longer(Means::Saving, verdict) => write_verdict(f, verdict, "a lasso"),
+        }
+    }
+}
+
+// Writes what was found out of clauses that are to exclude this.
+fn write_verdict<W: fmt::Write>(
+    f: &mut fmt::Formatter<W>,
+    verdict: Verdict,
+    excluded: &str,
+) -> fmt::Result {
     match verdict {
-        Verdict::Certified => write!(f, "it is certified"),
+        Verdict::Certified => f.write_str("it is certified"),
         Verdict::NotInitial(place) => {
-            write!(
-                f,
-                "clause {} is false at an initial moment",
-                place.saturating_add(1)
-            )
+            let clause = place.saturating_add(1);
+            write!(f, "clause {clause} is false at an initial moment")
         }
         Verdict::NotInductive(place) => {
-            write!(
-                f,
-                "clause {} is not kept by a transition",
-                place.saturating_add(1)
-            )
+            let clause = place.saturating_add(1);
+            write!(f, "clause {clause} is not kept by a transition")
         }
-        Verdict::NotSafe => write!(f, "the clauses allow a bad moment"),
-        Verdict::Unknown => write!(f, "a question was left open at the limit"),
+        Verdict::NotSafe => write!(f, "the clauses allow {excluded}"),
+        Verdict::Unknown => f.write_str("a question was left open at the limit"),
     }
 }
 
-/// Whether the certificate that a text writes shows that the circuit is safe, as [`doubt_of`] finds out.
+/// What a certificate is made of. The clauses of an invariant are over the variables of the circuit, if nothing else is
+/// said.
+#[derive(Clone, Copy)]
+pub enum Grounds<'a> {
+    /// The clauses of an invariant, and a number k, if there is one.
+    Clauses(&'a [Vec<Literal>], Option<usize>),
+    /// The clauses of an invariant, which strengthen the property of a circuit with the same inputs and latches: its bad
+    /// literal is true where the one that is asked about is, or one of all, and where a clause is false. It is written
+    /// in the ascii form of AIGER.
+    Strengthened(&'a [Vec<Literal>]),
+    /// The clauses of an invariant of this longer circuit, over its variables.
+    Longer(Means, &'a [Vec<Literal>]),
+}
+
+/// Whether the certificate that a text writes shows what is asked about, as [`doubt_of`] finds out.
 ///
 /// # Errors
 /// Those of [`doubt_of`].
 pub fn certifies<S: SatSolver + Drop>(
     alloc: Global,
-    netlist: &Netlist,
+    problem: &Problem,
     text: &[u8],
-    asked: Option<usize>,
+    asked: Subject,
     limit: usize,
 ) -> Result<bool, TaskError>
-    ensures { IfOk result (λ safe. IsTrue safe → Certifies netlist.now.circuit text.now asked) }
+    ensures { IfOk result (λ holds. IsTrue holds → Certifies problem.now text.now asked) }
 {
-    match doubt_of::<S>(alloc, netlist, text, asked, limit)? {
+    match doubt_of::<S>(alloc, problem, text, asked, limit)? {
         None => Ok(true),
         Some(_) => Ok(false),
     }
 }
 
-/// Why the certificate that a text writes is not known to show that the circuit is safe: as to the bad literal at the
-/// place that is asked for, or as to all. None if it shows it. Each question to the solver may learn `limit` clauses.
+/// Why the certificate that a text writes is not known to show that a property holds: the one that is asked about, or
+/// one of all bad literals. None if it shows it. Each question to the solver may learn `limit` clauses.
+///
+/// A certificate of a justice property is clauses over the latches of the circuit and, behind these, over those of a
+/// longer circuit. That is the one that saves what the latches hold, if the text has the line `c no lasso` before its
+/// header, and else one that counts: so the text tells by its number of latches how far.
 ///
 /// # Errors
-/// - [`TaskError::Certificate`] where the text has another form.
+/// - [`TaskError::Certificate`] where the text has another form, or the clauses are over fewer latches than the circuit
+///   has.
 /// - [`TaskError::NoSimulation`] where the certificate is a circuit that cannot go along with the other one.
-/// - [`TaskError::NoBad`] where there is no bad literal at the place.
-/// - [`TaskError::NoBads`] where there is none at all.
+/// - [`TaskError::NoProperty`] where there is no property at the place, and [`TaskError::NoProperties`] where there is
+///   none of its kind at all.
 /// - [`TaskError::Memory`] where memory is refused.
 pub fn doubt_of<S: SatSolver + Drop>(
     alloc: Global,
-    netlist: &Netlist,
+    problem: &Problem,
     text: &[u8],
-    asked: Option<usize>,
+    asked: Subject,
     limit: usize,
 ) -> Result<Option<Doubt>, TaskError>
-    ensures { IfOk result (λ doubt. IfNone doubt (Certifies netlist.now.circuit text.now asked)) }
+    ensures { IfOk result (λ doubt. IfNone doubt (Certifies problem.now text.now asked)) }
 {
-    let certificate = certificate_in(alloc, &netlist.circuit, text)?;
-    certifies_asked::<S>(alloc, netlist, &certificate, asked, limit)
+    match asked {
+        Subject::All | Subject::Any => safe_doubt::<S>(alloc, problem, text, None, limit),
+        Subject::One(Property::Bad(place)) => {
+            safe_doubt::<S>(alloc, problem, text, Some(place), limit)
+        }
+        Subject::One(Property::Justice(place)) => {
+            live_doubt::<S>(alloc, problem, text, place, limit)
+        }
+    }
 }
 
-/// The text of a certificate that the circuit is safe: as to the bad literal at the place that is asked for, or as to
-/// all. It writes this k, if there is one, and the clauses of this invariant, which are over the circuit's variables. They
-/// are read back, and certify the circuit again. Each question to the solver may learn `limit` clauses.
+/// The text of a certificate that the property holds that is asked about, or that all bad literals do. It is read back,
+/// and certifies this again. Each question to the solver may learn `limit` clauses.
 ///
 /// # Errors
-/// - [`TaskError::Uncertified`] where they do not show it.
-/// - Those of [`certifies`].
+/// - [`TaskError::Uncertified`] where these grounds do not show it.
+/// - Those of [`doubt_of`].
 pub fn certificate_of<S: SatSolver + Drop>(
     alloc: Global,
-    netlist: &Netlist,
-    invariant: &[Vec<Literal>],
-    k: Option<usize>,
-    asked: Option<usize>,
+    problem: &Problem,
+    asked: Subject,
+    grounds: Grounds,
     limit: usize,
 ) -> Result<Vec<u8>, TaskError>
-    ensures { IfOk result (λ text. Certifies netlist.now.circuit text.items asked) }
+    ensures { IfOk result (λ text. Certifies problem.now text.items asked) }
 {
-    let text = claims_text(alloc, netlist, invariant, k)?;
-    if let Some(_) = doubt_of::<S>(alloc, netlist, &text, asked, limit)? {
+    let text = text_of(alloc, problem, asked, grounds)?;
+    if let Some(_) = doubt_of::<S>(alloc, problem, &text, asked, limit)? {
         return Err(TaskError::Uncertified);
     }
     Ok(text)
 }
 
-/// The same as a circuit in the ascii form of AIGER, with the same inputs and latches: its bad literal is true where the
-/// bad literal that is asked for is, or one of all, and where a clause of the invariant is false. It is read back, and
-/// certifies the circuit.
-///
-/// # Errors
-/// - [`TaskError::Uncertified`] where the clauses do not show it.
-/// - Those of [`certifies`].
-pub fn witness_circuit_of<S: SatSolver + Drop>(
+// The text of the grounds of what is asked about.
+fn text_of(
     alloc: Global,
-    netlist: &Netlist,
-    invariant: &[Vec<Literal>],
-    asked: Option<usize>,
-    limit: usize,
-) -> Result<Vec<u8>, TaskError>
-    ensures { IfOk result (λ text. Certifies netlist.now.circuit text.items asked) }
-{
-    let text = strengthened_text(alloc, netlist, invariant, asked)?;
-    if let Some(_) = doubt_of::<S>(alloc, netlist, &text, asked, limit)? {
-        return Err(TaskError::Uncertified);
+    problem: &Problem,
+    asked: Subject,
+    grounds: Grounds,
+) -> Result<Vec<u8>, TaskError> {
+    match grounds {
+        Grounds::Clauses(invariant, k) => claims_text(alloc, &problem.netlist, invariant, k),
+        Grounds::Strengthened(invariant) => {
+            let circuit = strengthened(alloc, &problem.netlist, invariant, bad_asked(asked))?;
+            Ok(write_aag(alloc, &circuit)?)
+        }
+        Grounds::Longer(means, invariant) => match asked {
+            Subject::One(Property::Justice(place)) => {
+                longer_text(alloc, problem, place, means, invariant)
+            }
+            _ => Err(TaskError::Uncertified),
+        },
     }
-    Ok(text)
 }
 
-// The text of the circuit whose property is strengthened by the clauses.
-fn strengthened_text(
-    alloc: Global,
-    netlist: &Netlist,
-    invariant: &[Vec<Literal>],
-    asked: Option<usize>,
-) -> Result<Vec<u8>, AllocError> {
-    let circuit = strengthened(alloc, netlist, invariant, asked)?;
-    write_aag(alloc, &circuit)
+// The place of the bad literal that is asked about, if one is.
+fn bad_asked(asked: Subject) -> Option<usize> {
+    match asked {
+        Subject::One(Property::Bad(place)) => Some(place),
+        _ => None,
+    }
 }
 
 // The text of a k, if there is one, and of some clauses over the latches of the circuit.
@@ -200,68 +240,24 @@ fn claims_text(
     Ok(text)
 }
 
-/// The text of some clauses over the latches of the circuit.
-pub(crate) fn invariant_text(
+// Why the certificate that a text writes is not known to show that the circuit is safe: as to the bad literal at the
+// place that is asked for, or as to all. None if it shows it, here and below.
+fn safe_doubt<S: SatSolver + Drop>(
     alloc: Global,
-    netlist: &Netlist,
-    invariant: &[Vec<Literal>],
-) -> Result<Vec<u8>, TaskError> {
-    let places = places_of(alloc, &netlist.circuit)?;
-    let mut clauses = Vec::new(alloc);
-    for clause in invariant {
-        let clause = over_places(alloc, &places, clause)?;
-        clauses.reserve(1)?;
-        clauses.push_reserved(clause);
-    }
-    Ok(write_invariant(alloc, netlist.circuit.latches.len(), &clauses)?)
+    problem: &Problem,
+    text: &[u8],
+    asked: Option<usize>,
+    limit: usize,
+) -> Result<Option<Doubt>, TaskError>
+    ensures { IfOk result
+        (λ doubt. IfNone doubt (CertifiesSafe problem.now.netlist.circuit text.now asked)) }
+{
+    PropertyKind::Bad.has(problem, asked)?;
+    let certificate = certificate_in(alloc, &problem.netlist.circuit, text)?;
+    certifies_asked::<S>(alloc, &problem.netlist, &certificate, asked, limit)
 }
 
-// The variables of the latches, rising, each with the place of its latch.
-fn places_of(alloc: Global, circuit: &Circuit) -> Result<Vec<(u32, u32)>, AllocError> {
-    let mut places = Vec::with_capacity(alloc, circuit.latches.len())?;
-    for (place, latch) in circuit.latches.iter().enumerate() {
-        let place = u32::try_from(place).map_err(|_| AllocError)?;
-        places.push((latch.variable, place))?;
-    }
-    places.sort_unstable();
-    Ok(places)
-}
-
-// The place of the latch of a variable, if it is a latch's.
-fn place_of(places: &[(u32, u32)], variable: u32) -> Option<u32> {
-    let at = match places.binary_search(&(variable, 0)) {
-        Ok(at) => at,
-        Err(at) => at,
-    };
-    match places.get(at) {
-        Some((latch, place)) if *latch == variable => Some(*place),
-        _ => None,
-    }
-}
-
-// A clause over variables of latches, over their places.
-fn over_places(
-    alloc: Global,
-    places: &[(u32, u32)],
-    clause: &[Literal],
-) -> Result<Vec<Literal>, TaskError> {
-    let mut moved = Vec::new(alloc);
-    for l in clause {
-        match place_of(places, l.variable()) {
-            Some(place) if place < LATCHES => {
-                moved.reserve(1)?;
-                moved.push_reserved(Literal::new(place, l.is_positive()));
-            }
-            _ => return Err(TaskError::Uncertified),
-        }
-    }
-    Ok(moved)
-}
-
-// The most latches that the text of an invariant may name.
-const LATCHES: u32 = 2_147_483_647;
-
-// Why the circuit is not known to be safe by a certificate. None if it is, here and below.
+// Why the circuit is not known to be safe by a certificate.
 fn certifies_asked<S: SatSolver + Drop>(
     alloc: Global,
     netlist: &Netlist,
@@ -269,29 +265,25 @@ fn certifies_asked<S: SatSolver + Drop>(
     asked: Option<usize>,
     limit: usize,
 ) -> Result<Option<Doubt>, TaskError>
+    requires { IsAmong (length netlist.now.circuit.bads.items) asked }
     ensures { IfOk result (λ doubt. IfNone doubt (ShowsSafeAsked netlist.now.circuit certificate.now asked)) }
 {
     match asked {
         None => certifies_all::<S>(alloc, netlist, certificate, limit),
-        Some(place) if place < netlist.circuit.bads.len() => {
-            certifies_at::<S>(alloc, netlist, certificate, place, limit)
-        }
-        Some(place) => Err(TaskError::no_bad(place, netlist.circuit.bads.len())),
+        Some(place) => certifies_at::<S>(alloc, netlist, certificate, place, limit),
     }
 }
 
-// Why the circuit is not known to be safe as to all its bad literals, of which it has to have one.
+// Why the circuit is not known to be safe as to all its bad literals.
 fn certifies_all<S: SatSolver + Drop>(
     alloc: Global,
     netlist: &Netlist,
     certificate: &Certificate,
     limit: usize,
 ) -> Result<Option<Doubt>, TaskError>
+    requires { 0 < length netlist.now.circuit.bads.items }
     ensures { IfOk result (λ doubt. IfNone doubt (ShowsSafeAll netlist.now.circuit certificate.now)) }
 {
-    if netlist.circuit.bads.is_empty() {
-        return Err(TaskError::NoBads);
-    }
     match certificate {
         Certificate::Clauses(clauses) => {
             by_clauses::<S>(alloc, netlist, clauses, &netlist.circuit.bads, 0, limit)
@@ -351,17 +343,18 @@ fn first_doubt(verdicts: &[Verdict], place: usize) -> Option<Doubt>
     for further in 0..verdicts.len() {
         match verdicts[further] {
             Verdict::Certified => {}
-            verdict => {
-                let bad = place.saturating_add(further);
-                return Some(Doubt {
-                    bad,
-                    verdict: Some(verdict),
-                    induction: None,
-                });
-            }
+            verdict => return Some(of_clauses(place.saturating_add(further), verdict)),
         }
     }
     None
+}
+
+// The doubt that a verdict on clauses is, as to the bad literal at a place.
+fn of_clauses(place: usize, verdict: Verdict) -> Doubt {
+    Doubt {
+        property: Property::Bad(place),
+        reason: DoubtReason::Clauses(verdict),
+    }
 }
 
 // Why the circuit is not known to be safe by a k, or by the clauses of an invariant, as to these literals: the bad
@@ -381,12 +374,12 @@ fn by_induction<S: SatSolver + Drop>(
     let verdicts = certify_all::<S>(alloc, netlist, bads, clauses, limit)?;
     for further in 0..bads.len() {
         let verdict = verdicts[further];
-        let doubt = unless_certified::<S>(alloc, netlist, bads[further], verdict, k, limit)?;
-        if doubt.is_some() {
+        let said = unless_certified::<S>(alloc, netlist, bads[further], verdict, k, limit)?;
+        if let Some(doubt) = said {
+            let verdict = (!clauses.is_empty()).then_some(verdict);
             return Ok(Some(Doubt {
-                bad: place.saturating_add(further),
-                verdict: (!clauses.is_empty()).then_some(verdict),
-                induction: doubt,
+                property: Property::Bad(place.saturating_add(further)),
+                reason: DoubtReason::Induction(verdict, doubt),
             }));
         }
     }
@@ -428,11 +421,7 @@ fn by_circuit<S: SatSolver + Drop>(
     };
     match verdict {
         Verdict::Certified => Ok(None),
-        verdict => Ok(Some(Doubt {
-            bad: place,
-            verdict: Some(verdict),
-            induction: None,
-        })),
+        verdict => Ok(Some(of_clauses(place, verdict))),
     }
 }
 

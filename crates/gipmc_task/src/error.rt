@@ -1,4 +1,5 @@
 //! Why a task is not done.
+use crate::kind::PropertyKind;
 use gipmc_aiger::AigerError;
 use std::alloc::AllocError;
 use thiserror::Error;
@@ -19,36 +20,21 @@ pub enum TaskError {
     /// of no literal, or of what another name is of.
     #[error("a reset that depends on itself, or a name `= n` that does not fit")]
     NoSimulation,
-    /// The circuit has no bad literal at this place; it has so many.
-    #[error("no bad literal {0}, of {1}")]
-    NoBad(usize, usize),
-    /// The circuit has no bad literal at all.
-    #[error("no bad literal")]
-    NoBads,
-    /// There is no justice property at this place; there are so many.
-    #[error("no justice property {0}, of {1}")]
-    NoJustice(usize, usize),
-    /// There is no justice property at all.
-    #[error("no justice property")]
-    NoJustices,
-    /// A witness names the bad literal at this place; the circuit has so many.
-    #[error("it names bad literal {0}, and the circuit has {1}")]
-    OtherBad(usize, usize),
-    /// A witness names the justice property at this place; there are so many.
-    #[error("it names justice property {0}, and the circuit has {1}")]
-    OtherJustice(usize, usize),
-    /// The text has no witness of the bad literal at this place, which is asked for.
-    #[error("no witness of bad literal {0}")]
-    NoWitnessOf(usize),
-    /// The text has no witness at all.
+    /// The circuit has no property of this kind at this place; it has so many.
+    #[error("no {0} {1}, of {2}")]
+    NoProperty(PropertyKind, usize, usize),
+    /// The circuit has no property of this kind at all.
+    #[error("no {0}")]
+    NoProperties(PropertyKind),
+    /// A witness names the property of this kind at this place; the circuit has so many.
+    #[error("it names {0} {1}, and the circuit has {2}")]
+    OtherProperty(PropertyKind, usize, usize),
+    /// The text has no witness of the property of this kind at this place, which is asked for.
+    #[error("no witness of {0} {1}")]
+    NoWitnessOf(PropertyKind, usize),
+    /// The text has no witness of what is asked for.
     #[error("no witness")]
     NoWitness,
-    /// The text has no witness of the justice property at this place, which is asked for.
-    #[error("no witness of justice property {0}")]
-    NoLassoOf(usize),
-    /// The text has no witness of a justice property.
-    #[error("no witness of a justice property")]
-    NoLasso,
     /// The clauses that were found do not certify the circuit.
     #[error("what was found does not certify the circuit")]
     Uncertified,
@@ -58,12 +44,11 @@ pub enum TaskError {
 }
 
 impl TaskError {
-    // Why there is no bad literal at this place, of so many.
-    pub(crate) fn no_bad(place: usize, count: usize) -> Self {
-        if count == 0 {
-            TaskError::NoBads
-        } else {
-            TaskError::NoBad(place, count)
+    // Why there is no property of this kind at the place that is asked for, or none at all, of so many.
+    pub(crate) fn lacking(kind: PropertyKind, asked: Option<usize>, count: usize) -> Self {
+        match asked {
+            Some(place) if count > 0 => TaskError::NoProperty(kind, place, count),
+            _ => TaskError::NoProperties(kind),
         }
     }
 

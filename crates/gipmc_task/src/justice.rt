@@ -1,8 +1,5 @@
-//! Justice properties: what is found out about them, and what lassos and certificates of other programs show of them.
+//! Justice properties: what is found out about them, and what certificates of other programs show of them.
 pub mod answers;
-pub mod certificates;
-pub mod witnesses;
+pub(crate) mod certificates;
 
 pub use answers::answer;
-pub use certificates::{JusticeDoubt, certificate_of, certifies, doubt_of};
-pub use witnesses::{LassoDoubt, LassoReason, lasso_doubt, replay_all, replays};

@@ -9,6 +9,8 @@ pub mod certificates;
 pub mod error;
 pub mod induction;
 pub mod justice;
+pub mod kind;
+mod latches;
 mod left;
 mod meter;
 pub mod outcome;
@@ -22,11 +24,12 @@ pub mod witnesses;
 pub use answered::{Answered, together};
 pub use answers::{Said, answer};
 pub use certificates::{
-    Certificate, Doubt, certificate_of, certifies, doubt_of, witness_circuit_of,
+    Certificate, Doubt, DoubtReason, Grounds, certificate_of, certifies, doubt_of,
 };
 pub use error::TaskError;
 pub use induction::InductionDoubt;
+pub use kind::PropertyKind;
 pub use outcome::Outcome;
 pub use output::{Certifying, Lost, Output, Traces, Wanted};
 pub use verdict::{Evidence, Verdict};
-pub use witnesses::{WitnessDoubt, replay_all, replays, witness_doubt};
+pub use witnesses::{WitnessDoubt, WitnessReason, replay_all, replays, witness_doubt};

@@ -2,8 +2,7 @@
 
 use crate::justice::problem_of;
 use gipmc_aiger::{AigerError, Place, Reason, read_circuit, read_problem, read_witness};
-use gipmc_task::TaskError;
-use gipmc_task::justice::replays;
+use gipmc_task::{PropertyKind, TaskError, replays};
 use std::alloc::Global;
 
 // How a text of a circuit is refused; None where it is read.
@@ -78,7 +77,8 @@ fn a_fairness_constraint_beside_no_property_is_of_a_variable(rt: HostRuntime) {
 #[test]
 fn no_property_has_a_witness(rt: HostRuntime) -> Result<(), TaskError> {
     let problem = problem_of(rt.alloc(), b"aag 1 0 1 0 0 1\n2 2\n2\n")?;
-    let said = replays(rt.alloc(), &problem, b"1\nj0\n0\n\n.\n", None);
-    assert!(rt; said == Err(TaskError::NoJustices));
+    let kind = PropertyKind::Justice;
+    let said = replays(rt.alloc(), &problem, kind, b"1\nj0\n0\n\n.\n", None);
+    assert!(rt; said == Err(TaskError::NoProperties(kind)));
     Ok(())
 }

@@ -1,28 +1,16 @@
 //! The numbers k that are written as certificates.
 
-use gipmc_aiger::read_circuit;
-use gipmc_circuits::Netlist;
-use gipmc_task::{TaskError, certificate_of};
+use crate::justice::problem_of;
+use gipmc_aiger::{Property, Subject};
+use gipmc_task::{Grounds, TaskError, certificate_of};
 use gipsat_plain::Plain;
 use std::alloc::Global;
 
-// The circuit that a text writes.
-fn netlist_of(alloc: Global, text: &[u8]) -> Result<Netlist, TaskError> {
-    match read_circuit(alloc, text) {
-        Ok(netlist) => Ok(netlist),
-        Err(error) => Err(TaskError::Circuit(error)),
-    }
-}
-
 // The certificate of a circuit that is this number.
-fn written(
-    alloc: Global,
-    circuit: &[u8],
-    k: usize,
-    asked: Option<usize>,
-) -> Result<Vec<u8>, TaskError> {
-    let netlist = netlist_of(alloc, circuit)?;
-    certificate_of::<Plain>(alloc, &netlist, &[], Some(k), asked, usize::MAX)
+fn written(alloc: Global, circuit: &[u8], k: usize, asked: Subject) -> Result<Vec<u8>, TaskError> {
+    let problem = problem_of(alloc, circuit)?;
+    let grounds = Grounds::Clauses(&[], Some(k));
+    certificate_of::<Plain>(alloc, &problem, asked, grounds, usize::MAX)
 }
 
 // Whether this is what is written. Where it is nothing, the number has to be refused since it does not certify.
@@ -52,14 +40,16 @@ const ONE: &[u8] = b"k 1\n";
 
 const SECOND: &[u8] = b"k 2\n";
 
-// A circuit, a number, the bad literal that is asked about, and the text that certifies it by this number, or none.
-const WRITTEN: &[(&[u8], usize, Option<usize>, Option<&[u8]>)] = &[
-    (KEPT, 1, None, Some(ONE)),
-    (CHAIN, 2, Some(0), Some(SECOND)),
-    (CHAIN, 1, None, None),
-    (HELD, 1, None, None),
-    (TWO, 1, Some(0), Some(ONE)),
-    (TWO, 1, None, None),
+const FIRST: Subject = Subject::One(Property::Bad(0));
+
+// A circuit, a number, what is asked about, and the text that certifies it by this number, or none.
+const WRITTEN: &[(&[u8], usize, Subject, Option<&[u8]>)] = &[
+    (KEPT, 1, Subject::All, Some(ONE)),
+    (CHAIN, 2, FIRST, Some(SECOND)),
+    (CHAIN, 1, Subject::All, None),
+    (HELD, 1, Subject::All, None),
+    (TWO, 1, FIRST, Some(ONE)),
+    (TWO, 1, Subject::All, None),
 ];
 
 #[test]

@@ -13,7 +13,7 @@ use Rattle.gipmc_engines.specs.declared.liveness.verdict.Verdict.TheVariants as 
 use Rattle.gipmc_reduce.specs.Liveness.{FailsForever, IsLive}
 use Rattle.gipmc_reduce.specs.Longer.{IsLiveByClauses}
 use Rattle.gipmc_task.specs.Answers.{TellsFirst, TellsOne}
-use Rattle.gipmc_task.specs.Justice.Witnesses.{IsLassoBy}
+use Rattle.gipmc_task.specs.Witnesses.{IsLassoBy}
 use Rattle.gipmc_task.specs.declared.answered.Answered.{Answered}
 use Rattle.gipmc_task.specs.declared.verdict.Evidence.TheVariants.{Invariant, Induction, Longer}
 use Rattle.gipmc_task.specs.declared.verdict.Verdict.{Verdict}

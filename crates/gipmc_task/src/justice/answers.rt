@@ -4,13 +4,15 @@ ghost use Rattle.gipmc_aiger.specs.declared.problem.Property.TheVariants.{Justic
 ghost use Rattle.gipmc_aiger.specs.declared.problem.Subject.TheVariants.{One};
 ghost use Rattle.gipmc_task.specs.Answers.{TellsFirst, TellsOne};
 ghost use Rattle.gipmc_task.specs.Justice.Answers.{AreShown, IsKnown, IsShown, IsShownAt, Tells, TellsAsked, verdict_by};
-ghost use Rattle.gipmc_task.specs.Justice.Witnesses.{Replays};
 ghost use Rattle.gipmc_task.specs.Output.{IsWritten};
 ghost use Rattle.gipmc_task.specs.Verdicts.{answer_text, texts_of, together};
+ghost use Rattle.gipmc_task.specs.Witnesses.{Replays};
+ghost use Rattle.gipmc_task.specs.declared.kind.PropertyKind.TheVariants as kind;
 ghost use Rattle.gipmc_task.specs.declared.outcome.Outcome.TheVariants.{Fails};
 
 use crate::answered::{Answered, one, tell};
 use crate::error::TaskError;
+use crate::kind::PropertyKind;
 use crate::output::Output;
 use crate::verdict::{Evidence, Verdict};
 use gipmc_aiger::{Problem, Property, Subject};
@@ -25,7 +27,8 @@ use std::io::Write;
 /// written; the search stops then, and leaves the other properties open, or goes on, as the output says.
 ///
 /// # Errors
-/// - [`TaskError::NoJustice`] where there is no justice property at the place.
+/// - [`TaskError::NoProperty`] where there is no justice property at the place, and [`TaskError::NoProperties`] where
+///   one is asked about and there is none at all.
 /// - [`TaskError::Memory`] where memory is refused for a text. A search that is refused memory leaves its property open.
 pub fn answer<S: SatSolver + Drop, O: Observer, W: Write>(
     alloc: Global,
@@ -39,7 +42,7 @@ pub fn answer<S: SatSolver + Drop, O: Observer, W: Write>(
         TellsAsked problem.now.netlist.circuit problem.now.liveness asked answers.items) }
     ensures witness { (place : ℕ) → asked ≡ One (Justice place) →
         IfOk result (λ answers. together answers.items ≡ Fails →
-        Replays problem.now.netlist.circuit problem.now.liveness (texts_of answers.items) (Some place)) }
+        Replays problem.now kind.Justice (texts_of answers.items) (Some place)) }
     ensures shown { IfOk result (λ answers.
         AreShown problem.now.netlist.circuit problem.now.liveness answers.items) }
     ensures written { IfOk result (λ answers. IsWritten output.old.failure output.new.failure
@@ -70,7 +73,9 @@ fn answer_asked<S: SatSolver + Drop, O: Observer, W: Write>(
         Subject::One(Property::Justice(place)) if place < count => {
             Ok(answer_one::<S, _, _>(alloc, problem, place, plan, observer, output)?)
         }
-        Subject::One(Property::Justice(place)) => Err(TaskError::NoJustice(place, count)),
+        Subject::One(Property::Justice(place)) => {
+            Err(TaskError::lacking(PropertyKind::Justice, Some(place), count))
+        }
         Subject::One(Property::Bad(_)) | Subject::Any => Ok(Vec::new(alloc)),
     }
 }

@@ -6,7 +6,7 @@ use Rattle.gipmc_task.proofs.witnesses.claims_in.Goals as goal
 
 pub returns-in-Ok : goal.returns-in-Ok
 returns-in-Ok c =
-    let latches : c.len.result ≡ length c.args.netlist.now.circuit.latches.items = grind (arith, common_steps) in
-    let inputs : c.len-2.result ≡ length c.args.netlist.now.circuit.inputs.items = grind (arith, common_steps) in
-    are_witnesses c.args.netlist.now.circuit c.len.result c.len-2.result c.args.text.now c.in-Ok.claims.items latches inputs
-    c.in-Ok.ensures.ok
+    let latches : c.len-latches.result ≡ length c.args.circuit.now.latches.items = grind (arith, common_steps) in
+    let inputs : c.len-inputs.result ≡ length c.args.circuit.now.inputs.items = grind (arith, common_steps) in
+    are_witnesses c.args.circuit.now c.args.kind c.len-latches.result c.len-inputs.result c.args.text.now c.in-Ok.claims.items latches inputs
+    c.in-Ok.ensures

@@ -6,4 +6,4 @@ use Rattle.gipmc_task.proofs.witnesses.doubt_at_each.Given as goal
 
 abbrev pub invariant-loop-k : goal.invariant-loop-k
 invariant-loop-k l =
-    Every (FailsAt l.netlist.circuit l.trace) (drop l.k l.places) → Every (FailsAt l.netlist.circuit l.trace) l.places
+    Every (FailsAt l.problem l.kind l.trace) (drop l.k l.places) → Every (FailsAt l.problem l.kind l.trace) l.places

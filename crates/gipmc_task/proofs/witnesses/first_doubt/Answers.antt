@@ -10,14 +10,14 @@ loop-place-preserved c =
     let less : c.loop-place.place < length c.args.claims.now = grind (arith, common_steps) in
     let here = rw (c.in_default.is) at c.in_ok-doubt.ensures in
     λ rest. c.loop-place.invariant
-    (every_next (λ x. IsRight c.args.netlist.now.circuit c.args.asked (x.properties.items, x.trace)) c.args.claims.now
+    (every_next (λ x. IsRight c.args.problem.now c.args.kind c.args.asked (x.properties.items, x.trace)) c.args.claims.now
     c.loop-place.place c.index-claims-place.result less
-    (subst (λ x. IsRight c.args.netlist.now.circuit c.args.asked (x.properties.items, x.trace)) c.index-claims-place.is here)
+    (subst (λ x. IsRight c.args.problem.now c.args.kind c.args.asked (x.properties.items, x.trace)) c.index-claims-place.is here)
     rest)
 
 pub returns : goal.returns
 returns c =
     let past : length c.args.claims.now ≤ c.loop-place.place = grind (arith, common_steps) in
     c.loop-place.invariant
-    (every_last (λ x. IsRight c.args.netlist.now.circuit c.args.asked (x.properties.items, x.trace)) c.args.claims.now
+    (every_last (λ x. IsRight c.args.problem.now c.args.kind c.args.asked (x.properties.items, x.trace)) c.args.claims.now
     c.loop-place.place past)

@@ -17,6 +17,6 @@ returns c =
       map witness_by claims,
       c.in_ok-claims.ensures,
       length-map claims witness_by ∙ count,
-      every_view (IsRight c.args.netlist.now.circuit None) witness_by claims right,
+      every_view (IsRight c.args.problem.now c.args.kind None) witness_by claims right,
     ))
     (rw (c.deref-2.ensures.value) at c.in_ok-doubt.ensures)

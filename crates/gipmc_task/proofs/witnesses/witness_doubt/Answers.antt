@@ -18,6 +18,6 @@ returns c =
       map witness_by c.in_ok-claims.claims.items,
       c.in_ok-claims.ensures,
       rw (asked_of_witnesses c.args.asked c.in_ok-claims.claims.items) named,
-      every_view (IsRight c.args.netlist.now.circuit c.args.asked) witness_by c.in_ok-claims.claims.items right,
+      every_view (IsRight c.args.problem.now c.args.kind c.args.asked) witness_by c.in_ok-claims.claims.items right,
     )))
     (rw (c.deref-2.ensures.value) at c.first_doubt.ensures)

@@ -2,20 +2,20 @@
 use Rattle.std.proofs.Common.{◌≡◌, Some}
 use Rattle.std.proofs.lemmas.Result.{IfOk-weaker}
 use Rattle.gipmc_task.specs.Justice.Answers.{Tells, TellsAsked}
-use Rattle.gipmc_task.specs.Justice.Witnesses.{Replays}
 use Rattle.gipmc_task.specs.Verdicts.{texts_of, together}
+use Rattle.gipmc_task.specs.Witnesses.{Replays}
+use Rattle.gipmc_task.specs.declared.kind.PropertyKind.TheVariants.{Justice}
 use Rattle.gipmc_task.specs.declared.outcome.Outcome.TheVariants.{Fails}
 use Rattle.gipmc_task.proofs.Outcomes.{fails-one}
-use Rattle.gipmc_task.proofs.JusticeWitnessed.{Replays-told}
+use Rattle.gipmc_task.proofs.Witnessed.{Replays-lasso}
 use Rattle.gipmc_task.proofs.justice.answers.answer.Goals as goal
 
 pub returns-clause-witness : goal.returns-clause-witness
 returns-clause-witness g c place is =
-    let circuit = c.args.problem.now.netlist.circuit in
-    let liveness = c.args.problem.now.liveness in
+    let p = c.args.problem.now in
     IfOk-weaker c.answer_asked.result
-    (λ answers. TellsAsked circuit liveness c.args.asked answers.items)
-    (λ answers. together answers.items ≡ Fails → Replays circuit liveness (texts_of answers.items) (Some place))
-    (λ answers told. fails-one (Tells circuit liveness place) (λ t. Replays circuit liveness t (Some place)) answers.items
-    (Replays-told circuit liveness place) (rw is at told))
+    (λ answers. TellsAsked p.netlist.circuit p.liveness c.args.asked answers.items)
+    (λ answers. together answers.items ≡ Fails → Replays p Justice (texts_of answers.items) (Some place))
+    (λ answers told. fails-one (Tells p.netlist.circuit p.liveness place) (λ t. Replays p Justice t (Some place)) answers.items
+    (Replays-lasso p place) (rw is at told))
     c.answer_asked.ensures.tells

@@ -1,7 +1,7 @@
 -- What is said by the certificate is said by the one that the text writes.
 use Rattle.std.proofs.lemmas.Result.{IfOk-weaker}
 use Rattle.gipsat_cnf.proofs.Places.{IfNone-more}
-use Rattle.gipmc_task.proofs.certificates.doubt_of.Goals as goal
+use Rattle.gipmc_task.proofs.certificates.safe_doubt.Goals as goal
 
 pub returns : goal.returns
 returns g c =

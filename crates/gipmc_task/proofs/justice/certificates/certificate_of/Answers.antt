@@ -1,5 +1,0 @@
--- The text that was read back is the one that is written.
-use Rattle.gipmc_task.proofs.justice.certificates.certificate_of.Goals as goal
-
-pub returns : goal.returns
-returns g c = rw (c.deref.ensures.value) at (rw (c.in_default.is) at c.in_ok-certifies_at.ensures)
