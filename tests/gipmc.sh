@@ -1089,7 +1089,7 @@ try "a wrong lasso behind a right trace" 1 \
     "$rising" --replay wit
 witness '0\nb0\n.\n0\nj0\n.\n'
 try "no witness of either kind" 1 "wit: no witness" "" "$rising" --replay wit
-try "no witness of either kind, beside no bad literal" 1 "wit: no witness of a justice property" "" "$fair" --replay wit
+try "no witness of either kind, beside no bad literal" 1 "wit: no witness" "" "$fair" --replay wit
 # A witness of a kind of which the circuit has none is refused, beside a right one of the other kind too.
 recurring='aag 1 0 1 0 0 0 0 1\n2 1\n1\n2\n'
 witness '1\nj0\n0\n\n\n.\n'
@@ -1348,7 +1348,7 @@ the stem of it alone|changes|1\nj0\n0\n\n.\n|--justice 0|text: witness 1, j0: be
 a property that is not there|starves|1\nj2\n01\n\n.\n||!text:2: it names justice property 2, and the circuit has 1
 the other of two properties|granted|1\nj0\n1\n1\n1\n.\n|--justice 1|!text: no witness of justice property 1, which '--justice' asks for
 no lasso|starves|0\nj0\n.\n|--justice 0|!text: no witness of justice property 0, which '--justice' asks for
-a lasso beside no property|none|1\nj0\n01\n\n.\n|--justice 0|!<stdin>: no justice property 0, of 0
+a lasso beside no property|none|1\nj0\n01\n\n.\n|--justice 0|!<stdin>: no justice property
 END
 judge "a certificate of a justice property" --certify << 'END'
 a count of fewer latches|fair|p cnf 1 0\n|--justice 0|!text:1: no header `p cnf LATCHES CLAUSES` that says what follows

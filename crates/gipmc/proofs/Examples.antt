@@ -9,7 +9,7 @@ use Rattle.gipmc_aiger.specs.declared.problem.Subject.{Subject}
 use Rattle.gipmc_aiger.specs.declared.problem.Subject.TheVariants as subject
 use Rattle.gipmc_engines.specs.declared.engines.Engine.TheVariants.{All, Bounded, Induction, Invariants}
 use Rattle.gipmc_task.specs.declared.outcome.Outcome.TheVariants.{Open, Safe}
-use Rattle.gipmc.specs.Asked.{Holds, IsAbout, IsRightOutcome, bad_asked, justice_asked}
+use Rattle.gipmc.specs.Asked.{Holds, IsAbout, IsRightOutcome, asked_or}
 use Rattle.gipmc.specs.Plans.{depth_by, engine_by}
 use Rattle.gipmc.specs.Texts.{text_read}
 
@@ -27,18 +27,11 @@ none-right p bads justice = (tt, none-holds p bads justice)
 open-right : (p : Problem) (asked : Subject) → IsRightOutcome p asked Open
 open-right p asked = tt
 
--- a bad literal may be asked about, and a justice property is none
-bad_is_asked : bad_asked (subject.One (Bad 2)) ≡ Some 2
-bad_is_asked = refl
-
-justice_is_no_bad : bad_asked (subject.One (Justice 2)) ≡ None
-justice_is_no_bad = refl
-
 -- the property that is asked about stands for another one
-justice_is_asked : justice_asked (subject.One (Justice 2)) 5 ≡ 2
-justice_is_asked = refl
+one_is_asked : asked_or (subject.One (Justice 2)) (subject.One (Justice 5)) ≡ subject.One (Justice 2)
+one_is_asked = refl
 
-other_is_asked : justice_asked subject.All 5 ≡ 5
+other_is_asked : asked_or subject.All (subject.One (Justice 5)) ≡ subject.One (Justice 5)
 other_is_asked = refl
 
 -- two lines that end in two bytes, the second of them without its line feed

@@ -1,5 +1,5 @@
 -- What is answered, replayed and certified of the problem that some bytes write.
-use Rattle.std.specs.Prelude.{◌≡◌, ℕ, ◌+◌, ◌<◌, List, Option, Some, None, Vec, length, slice_get, ⊤}
+use Rattle.std.specs.Prelude.{◌≡◌, ℕ, ◌+◌, ◌<◌, List, Some, Vec, length, slice_get, ⊤}
 use Rattle.std.specs.declared.alloc.Global.{Global}
 use Rattle.gipsat_cnf.specs.Literals.{Lit}
 use Rattle.gipmc_aiger.specs.LiveCircuits.{IsProblemOf}
@@ -10,12 +10,10 @@ use Rattle.gipmc_aiger.specs.declared.problem.Subject.{Subject}
 use Rattle.gipmc_aiger.specs.declared.problem.Subject.TheVariants.{All, Any, One}
 use Rattle.gipmc_circuits.specs.Circuit.{FailsAfter, IsSafe}
 use Rattle.gipmc_reduce.specs.Liveness.{FailsForever, IsLive}
-use Rattle.gipmc_task.specs.Certificates as bads_certified
-use Rattle.gipmc_task.specs.Witnesses as bads_replayed
+use Rattle.gipmc_task.specs.Witnesses.{Replays, ReplaysAll}
+use Rattle.gipmc_task.specs.declared.kind.PropertyKind.TheVariants as kind
 use Rattle.gipmc_task.specs.declared.outcome.Outcome.{Outcome}
 use Rattle.gipmc_task.specs.declared.outcome.Outcome.TheVariants.{Fails, Safe, Open}
-use Rattle.gipmc_task.specs.Justice.Certificates as justice_certified
-use Rattle.gipmc_task.specs.Justice.Witnesses as justice_replayed
 
 -- the bytes write a problem of which this holds
 abbrev pub WriteOne : List ℕ → (Problem → Type 0) → Type 0
@@ -66,33 +64,17 @@ IsAnswered bytes asked outcome = WriteOne bytes (λ p. IsRightOutcome p asked ou
 -- the text writes witnesses of bad literals, of justice properties, or of both, and all of them are right
 abbrev pub ReplaysEach : Problem → List ℕ → Type 0
 ReplaysEach p text =
-    (m : ℕ) × (n : ℕ) × bads_replayed.ReplaysAll p.netlist.circuit text m
-    × justice_replayed.ReplaysAll p.netlist.circuit p.liveness text n × (0 < m + n)
+    (m : ℕ) × (n : ℕ) × ReplaysAll p kind.Bad text m × ReplaysAll p kind.Justice text n × (0 < m + n)
 
 -- it writes witnesses of the property that is asked about, or of each that it names
 abbrev pub ReplaysAsked : Problem → List ℕ → Subject → Type 0
 ReplaysAsked p text All = ReplaysEach p text
 ReplaysAsked p text Any = ReplaysEach p text
-ReplaysAsked p text (One (Bad place)) = bads_replayed.Replays p.netlist.circuit text (Some place)
-ReplaysAsked p text (One (Justice place)) = justice_replayed.Replays p.netlist.circuit p.liveness text (Some place)
+ReplaysAsked p text (One (Bad place)) = Replays p kind.Bad text (Some place)
+ReplaysAsked p text (One (Justice place)) = Replays p kind.Justice text (Some place)
 
--- the text is a certificate as to the property that is asked about, or as to all bad literals
-abbrev pub CertifiesAsked : Problem → List ℕ → Subject → Type 0
-CertifiesAsked p text All = bads_certified.Certifies p.netlist.circuit text None
-CertifiesAsked p text Any = bads_certified.Certifies p.netlist.circuit text None
-CertifiesAsked p text (One (Bad place)) = bads_certified.Certifies p.netlist.circuit text (Some place)
-CertifiesAsked p text (One (Justice place)) = justice_certified.Certifies p.netlist.circuit p.liveness text place
-
--- the place of the bad literal that is asked about, if one is
-abbrev pub bad_asked : Subject → Option ℕ
-bad_asked All = None
-bad_asked Any = None
-bad_asked (One (Bad place)) = Some place
-bad_asked (One (Justice place)) = None
-
--- the place of the justice property that is asked about, or else this one
-abbrev pub justice_asked : Subject → ℕ → ℕ
-justice_asked All other = other
-justice_asked Any other = other
-justice_asked (One (Bad place)) other = other
-justice_asked (One (Justice place)) other = place
+-- what is asked about, if that is one property, and else the other
+abbrev pub asked_or : Subject → Subject → Subject
+asked_or All other = other
+asked_or Any other = other
+asked_or (One property) other = One property

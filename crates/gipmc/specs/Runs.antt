@@ -2,8 +2,9 @@
 use Rattle.std.specs.Prelude.{◌≡◌, ℕ, List, Option, Ok, IfSome, ⊤}
 use Rattle.gipmc_command.specs.Options.{Request}
 use Rattle.gipmc_command.specs.Words.{Answer, Certify, Replay, Tell, Work, work_asked}
+use Rattle.gipmc_task.specs.Certificates.{Certifies}
 use Rattle.gipmc_task.specs.declared.outcome.Outcome.{Outcome}
-use Rattle.gipmc.specs.Asked.{CertifiesAsked, IsAnswered, ReplaysAsked, WriteOne}
+use Rattle.gipmc.specs.Asked.{IsAnswered, ReplaysAsked, WriteOne}
 use Rattle.gipmc.specs.Texts.{text_read}
 
 -- the bytes of each file by its name, where they are known; standard input has no name
@@ -28,7 +29,7 @@ IsReplayed files r witness =
 abbrev pub IsCertified : Contents → Request → Option (List ℕ) → Type 0
 IsCertified files r certificate =
     IfText files r.file
-    (λ bytes. IfText files certificate (λ text. WriteOne bytes (λ p. CertifiesAsked p text r.subject)))
+    (λ bytes. IfText files certificate (λ text. WriteOne bytes (λ p. Certifies p text r.subject)))
 
 -- the work is a search, and this was found of what it asks for
 abbrev pub Finds : Contents → Outcome → Work → Type 0

@@ -1,8 +1,7 @@
 //! The files of certificates of what was found safe.
 ghost use Rattle.std.specs.Prelude.{◌≡◌, IfOk};
 ghost use Rattle.gipmc_task.specs.Certificates.{Certifies};
-ghost use Rattle.gipmc_task.specs.Justice.Certificates as justice;
-ghost use Rattle.gipmc.specs.Asked.{bad_asked, justice_asked};
+ghost use Rattle.gipmc.specs.Asked.{asked_or};
 
 use crate::errors::Failure;
 use crate::files::{new_file, write_whole};
@@ -10,12 +9,9 @@ use crate::search::Found;
 use gip_cli::{NewFile, Printable};
 use gipmc_aiger::{Problem, Property, Subject};
 use gipmc_command::Options;
-use gipmc_reduce::Means;
 use gipmc_task::{
-    Answered, Evidence, Outcome, Said, TaskError, Verdict, certificate_of, justice, together,
-    witness_circuit_of,
+    Answered, Evidence, Grounds, Outcome, Said, TaskError, Verdict, certificate_of, together,
 };
-use gipsat_cnf::Literal;
 use gipsat_solver::Solver;
 
 /// The file of a certificate, if one is wanted. None is begun where there can be no certificate of the form that is
@@ -76,42 +72,14 @@ fn keep_of_bads<'a>(
     if together(&said.answers) != Outcome::Safe {
         return Ok(());
     }
-    match certificate_of_bads(rt, options, problem, said) {
-        Ok(text) => {
-            write_whole(file, &text)?;
-            tell_left_out(rt, options, problem, "certified");
-            Ok(())
-        }
-        Err(error) => Err(Failure::NoCertificate(Some(file.name()), error)),
-    }
-}
-
-// The text of the certificate that was found of the bad literal that is asked about, or of all.
-fn certificate_of_bads(
-    rt: &HostRuntime,
-    options: &Options,
-    problem: &Problem,
-    said: &Said,
-) -> Result<Vec<u8>, TaskError>
-    ensures { IfOk result
-        (λ text. Certifies problem.now.netlist.circuit text.items (bad_asked options.now.subject)) }
-{
-    let (alloc, netlist, invariant) = (rt.alloc(), &problem.netlist, &said.invariant);
-    let (asked, limit) = (bad_asked(options.subject), usize::MAX);
-    if options.asked.has("--aiger") {
-        return witness_circuit_of::<Solver>(alloc, netlist, invariant, asked, limit);
-    }
-    certificate_of::<Solver>(alloc, netlist, invariant, said.k, asked, limit)
-}
-
-// The place of the bad literal that is asked about, if one is.
-fn bad_asked(subject: Subject) -> Option<usize>
-    ensures { result ≡ bad_asked subject }
-{
-    match subject {
-        Subject::One(Property::Bad(place)) => Some(place),
-        Subject::One(Property::Justice(_)) | Subject::All | Subject::Any => None,
-    }
+    let grounds = if options.asked.has("--aiger") {
+        Grounds::Strengthened(&said.invariant)
+    } else {
+        Grounds::Clauses(&said.invariant, said.k)
+    };
+    write_certificate(rt, options, problem, Subject::All, grounds, file)?;
+    tell_left_out(rt, options, problem, "certified");
+    Ok(())
 }
 
 // Writes the certificate of a justice property that holds, if it is the only one that was asked about.
@@ -128,56 +96,55 @@ fn keep_of_justice<'a>(
     if options.asked.has("--aiger") {
         return Err(Failure::NoCircuit(file.name()));
     }
-    match answers {
-        [answer] => write_of_justice(rt, options, problem, answer, file),
-        _ => Err(Failure::SeveralProperties(Some(file.name()))),
-    }
-}
-
-// Writes the certificate of what is answered about a justice property to the file, if there is one.
-fn write_of_justice<'a>(
-    rt: &HostRuntime,
-    options: &Options<'a>,
-    problem: &Problem,
-    answer: &Answered,
-    file: NewFile<'a>,
-) -> Result<(), Failure<'a>> {
-    let Property::Justice(place) = answer.property else {
-        return Ok(());
+    let [answer] = answers else {
+        return Err(Failure::SeveralProperties(Some(file.name())));
     };
     let Verdict::Holds(Evidence::Longer(means, invariant)) = &answer.verdict else {
         return Ok(());
     };
-    match certificate_of_justice(rt, options, problem, place, *means, invariant) {
+    let (other, grounds) = (
+        Subject::One(answer.property),
+        Grounds::Longer(*means, invariant),
+    );
+    write_certificate(rt, options, problem, other, grounds, file)
+}
+
+// Writes the certificate that is made of this to the file: of the property that is asked about, or else of the other.
+fn write_certificate<'a>(
+    rt: &HostRuntime,
+    options: &Options<'a>,
+    problem: &Problem,
+    other: Subject,
+    grounds: Grounds,
+    file: NewFile<'a>,
+) -> Result<(), Failure<'a>> {
+    match certificate_text(rt, options, problem, other, grounds) {
         Ok(text) => write_whole(file, &text),
-        Err(error) => Err(Failure::of_task(Some(file.name()), Some(file.name()), error)),
+        Err(error) => Err(Failure::NoCertificate(Some(file.name()), error)),
     }
 }
 
-// The text of the certificate of the justice property that is asked about, or else of the one at this place.
-fn certificate_of_justice(
+// The text of this certificate.
+fn certificate_text(
     rt: &HostRuntime,
     options: &Options,
     problem: &Problem,
-    place: usize,
-    means: Means,
-    invariant: &[Vec<Literal>],
+    other: Subject,
+    grounds: Grounds,
 ) -> Result<Vec<u8>, TaskError>
-    ensures { IfOk result (λ text. justice.Certifies problem.now.netlist.circuit problem.now.liveness text.items
-        (justice_asked options.now.subject place)) }
+    ensures { IfOk result (λ text. Certifies problem.now text.items (asked_or options.now.subject other)) }
 {
-    let (alloc, limit) = (rt.alloc(), usize::MAX);
-    let asked = justice_asked(options.subject, place);
-    justice::certificate_of::<Solver>(alloc, problem, asked, means, invariant, limit)
+    let asked = asked_or(options.subject, other);
+    certificate_of::<Solver>(rt.alloc(), problem, asked, grounds, usize::MAX)
 }
 
-// The place of the justice property that is asked about, or else this one.
-fn justice_asked(subject: Subject, place: usize) -> usize
-    ensures { result ≡ justice_asked subject place }
+// What is asked about, if that is one property, and else the other.
+fn asked_or(subject: Subject, other: Subject) -> Subject
+    ensures { result ≡ asked_or subject other }
 {
     match subject {
-        Subject::One(Property::Justice(asked)) => asked,
-        Subject::One(Property::Bad(_)) | Subject::All | Subject::Any => place,
+        Subject::One(_) => subject,
+        Subject::All | Subject::Any => other,
     }
 }
 

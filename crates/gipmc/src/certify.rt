@@ -5,8 +5,7 @@ ghost use Rattle.std.specs.Process.{exit_status};
 ghost use Rattle.gip_cli.specs.Statuses.{IsEndedStatus};
 ghost use Rattle.gipmc_command.specs.Options.{request_of};
 ghost use Rattle.gipmc_task.specs.Certificates.{Certifies};
-ghost use Rattle.gipmc_task.specs.Justice.Certificates as justice;
-ghost use Rattle.gipmc.specs.Asked.{CertifiesAsked, WriteOne};
+ghost use Rattle.gipmc.specs.Asked.{WriteOne};
 ghost use Rattle.gipmc.specs.Runs.{IsCertified};
 
 use crate::certificates::tell_left_out;
@@ -16,9 +15,9 @@ use crate::files::Texts;
 use crate::problem_in;
 use crate::settings::limit_asked;
 use gip_cli::refuse;
-use gipmc_aiger::{Problem, Property, Subject};
+use gipmc_aiger::Problem;
 use gipmc_command::Options;
-use gipmc_task::{TaskError, doubt_of, justice};
+use gipmc_task::doubt_of;
 use gipsat_solver::Solver;
 use std::process::ExitCode;
 
@@ -43,7 +42,7 @@ fn certify_in(
     text: &[u8],
 ) -> ExitCode
     ensures verified { exit_status result ≡ 0 →
-        WriteOne bytes.now (λ p. CertifiesAsked p text.now options.now.subject) }
+        WriteOne bytes.now (λ p. Certifies p text.now options.now.subject) }
     ensures ends { IsEndedStatus (exit_status result) }
 {
     let ended = certify(rt, options, name, bytes, text);
@@ -59,7 +58,7 @@ fn certify<'a>(
     text: &[u8],
 ) -> Result<bool, Failure<'a>>
     ensures { IfOk result (λ verified. IsTrue verified →
-        WriteOne bytes.now (λ p. CertifiesAsked p text.now options.now.subject)) }
+        WriteOne bytes.now (λ p. Certifies p text.now options.now.subject)) }
 {
     let problem = problem_in(rt, options, bytes)?;
     certify_asked(rt, options, name, &problem, text)
@@ -74,55 +73,10 @@ fn certify_asked<'a>(
     text: &[u8],
 ) -> Result<bool, Failure<'a>>
     ensures { IfOk result (λ verified. IsTrue verified →
-        CertifiesAsked problem.now text.now options.now.subject) }
+        Certifies problem.now text.now options.now.subject) }
 {
-    match options.subject {
-        Subject::All | Subject::Any => certify_bads(rt, options, name, problem, text, None),
-        Subject::One(Property::Bad(place)) => {
-            certify_bads(rt, options, name, problem, text, Some(place))
-        }
-        Subject::One(Property::Justice(place)) => {
-            certify_justice(rt, options, name, problem, text, place)
-        }
-    }
-}
-
-// Certifies that the justice property at a place holds.
-fn certify_justice<'a>(
-    rt: &HostRuntime,
-    options: &Options<'a>,
-    name: Option<&'a str>,
-    problem: &Problem,
-    text: &[u8],
-    place: usize,
-) -> Result<bool, Failure<'a>>
-    ensures { IfOk result (λ verified. IsTrue verified →
-        justice.Certifies problem.now.netlist.circuit problem.now.liveness text.now place) }
-{
-    match justice::doubt_of::<Solver>(rt.alloc(), problem, text, place, limit_asked(options)) {
-        Ok(None) => verified(rt),
-        Ok(Some(doubt)) => doubted(rt, name, &doubt),
-        Err(error) => Err(Failure::of_task(options.file, name, error)),
-    }
-}
-
-// Certifies that the circuit is safe as to the bad literal at a place, or as to all.
-fn certify_bads<'a>(
-    rt: &HostRuntime,
-    options: &Options<'a>,
-    name: Option<&'a str>,
-    problem: &Problem,
-    text: &[u8],
-    bad: Option<usize>,
-) -> Result<bool, Failure<'a>>
-    ensures { IfOk result (λ verified. IsTrue verified →
-        Certifies problem.now.netlist.circuit text.now bad) }
-{
-    if problem.is_live_alone() {
-        return Err(Failure::of_task(options.file, name, TaskError::NoBads));
-    }
     let (alloc, limit) = (rt.alloc(), limit_asked(options));
-    match doubt_of::<Solver>(alloc, &problem.netlist, text, bad, limit) {
+    match doubt_of::<Solver>(alloc, problem, text, options.subject, limit) {
         Ok(None) => {
             tell_left_out(rt, options, problem, "certified");
             verified(rt)

@@ -1,7 +1,7 @@
 //! Why nothing is answered, as it is told.
 use gip_cli::{Cause, FinishError};
 use gipmc_aiger::{AigerError, Place, Reason};
-use gipmc_task::TaskError;
+use gipmc_task::{PropertyKind, TaskError};
 use std::alloc::AllocError;
 use std::fmt::{self, Display};
 use std::io;
@@ -47,11 +47,9 @@ impl<'a> Failure<'a> {
     /// That of a task on the circuit in one input, and on an answer in another.
     pub fn of_task(circuit: Option<&'a str>, beside: Option<&'a str>, error: TaskError) -> Self {
         match error {
-            TaskError::Circuit(_)
-            | TaskError::NoBad(_, _)
-            | TaskError::NoBads
-            | TaskError::NoJustice(_, _)
-            | TaskError::NoJustices => Failure::Task(circuit, error),
+            TaskError::Circuit(_) | TaskError::NoProperty(_, _, _) | TaskError::NoProperties(_) => {
+                Failure::Task(circuit, error)
+            }
             _ => Failure::Task(beside, error),
         }
     }
@@ -94,9 +92,9 @@ impl Display for Failure<'_> {
                 "{}: cannot be written: memory refused",
                 name.unwrap_or("<stdout>")
             ),
-            Failure::NoCertificate(name, TaskError::NoBads) => write!(
+            Failure::NoCertificate(name, TaskError::NoProperties(kind)) => write!(
                 f,
-                "{}: not written, since the circuit has no bad literal",
+                "{}: not written, since the circuit has no {kind}",
                 name.unwrap_or("<stdout>")
             ),
             Failure::NoCertificate(name, _) => write!(
@@ -105,15 +103,11 @@ impl Display for Failure<'_> {
                 name.unwrap_or("<stdout>")
             ),
             Failure::Task(_, TaskError::Memory) => f.write_str("memory: refused"),
-            Failure::Task(name, TaskError::NoWitnessOf(asked)) => write!(
+            Failure::Task(name, TaskError::NoWitnessOf(kind, place)) => write!(
                 f,
-                "{}: no witness of bad literal {asked}, which '--bad' asks for",
-                name.unwrap_or("<stdin>")
-            ),
-            Failure::Task(name, TaskError::NoLassoOf(asked)) => write!(
-                f,
-                "{}: no witness of justice property {asked}, which '--justice' asks for",
-                name.unwrap_or("<stdin>")
+                "{}: no witness of {kind} {place}, which '{}' asks for",
+                name.unwrap_or("<stdin>"),
+                option_of(kind)
             ),
             Failure::Task(name, error) => {
                 let name = name.unwrap_or("<stdin>");
@@ -140,6 +134,14 @@ impl Display for Failure<'_> {
             ),
             Failure::Memory => f.write_str("memory: refused"),
         }
+    }
+}
+
+// The option that asks for one property of a kind.
+fn option_of(kind: PropertyKind) -> &'static str {
+    match kind {
+        PropertyKind::Bad => "--bad",
+        PropertyKind::Justice => "--justice",
     }
 }
 

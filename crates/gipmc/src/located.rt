@@ -1,7 +1,7 @@
 //! The lines of texts where their readers tell a flaw without its line.
 use crate::errors::Failure;
 use gipmc_aiger::AigerError;
-use gipmc_task::TaskError;
+use gipmc_task::{PropertyKind, TaskError};
 use giputils_text::{number, split_line, split_once};
 
 /// A failure of a task on these texts, of a circuit and of an answer beside it: with its line, where one of them has
@@ -21,8 +21,10 @@ fn task_line(error: TaskError, circuit: &[u8], beside: &[u8]) -> Option<usize> {
     match error {
         TaskError::Circuit(error) => defect_line(circuit, error),
         TaskError::Certificate(error) => defect_line(beside, error),
-        TaskError::OtherBad(place, _) => naming_line(beside, b'b', place),
-        TaskError::OtherJustice(place, _) => naming_line(beside, b'j', place),
+        TaskError::OtherProperty(PropertyKind::Bad, place, _) => naming_line(beside, b'b', place),
+        TaskError::OtherProperty(PropertyKind::Justice, place, _) => {
+            naming_line(beside, b'j', place)
+        }
         _ => None,
     }
 }

@@ -4,8 +4,8 @@ ghost use Rattle.std.specs.Option.{option_map};
 ghost use Rattle.std.specs.Process.{exit_status};
 ghost use Rattle.gip_cli.specs.Statuses.{IsEndedStatus};
 ghost use Rattle.gipmc_command.specs.Options.{request_of};
-ghost use Rattle.gipmc_task.specs.Justice.Witnesses as justice;
 ghost use Rattle.gipmc_task.specs.Witnesses.{Replays, ReplaysAll};
+ghost use Rattle.gipmc_task.specs.declared.kind.PropertyKind.TheVariants as kind;
 ghost use Rattle.gipmc.specs.Asked.{ReplaysAsked, ReplaysEach, WriteOne};
 ghost use Rattle.gipmc.specs.Runs.{IsReplayed};
 
@@ -16,8 +16,7 @@ use crate::{is_empty, problem_in};
 use gip_cli::refuse;
 use gipmc_aiger::{Problem, Property, Subject};
 use gipmc_command::Options;
-use gipmc_task::justice::{self, LassoDoubt, lasso_doubt};
-use gipmc_task::{TaskError, WitnessDoubt, replay_all, witness_doubt};
+use gipmc_task::{PropertyKind, TaskError, WitnessDoubt, replay_all, witness_doubt};
 use std::process::ExitCode;
 
 /// The status of a replay of the witnesses in the file of this name, or in standard input.
@@ -77,10 +76,12 @@ fn replay_asked<'a>(
     match options.subject {
         Subject::All | Subject::Any => replay_each(rt, options, name, problem, witness),
         Subject::One(Property::Bad(place)) => {
-            replay_bad(rt, options, name, problem, witness, place)
+            let kind = PropertyKind::Bad;
+            replay_one(rt, options, name, problem, kind, place, witness)
         }
         Subject::One(Property::Justice(place)) => {
-            replay_justice(rt, options, name, problem, witness, place)
+            let kind = PropertyKind::Justice;
+            replay_one(rt, options, name, problem, kind, place, witness)
         }
     }
 }
@@ -95,7 +96,12 @@ fn replay_each<'a>(
 ) -> Result<bool, Failure<'a>>
     ensures { IfOk result (λ verified. IsTrue verified → ReplaysEach problem.now witness.now) }
 {
-    let (lassos, doubt) = replay_lassos(rt, options, name, problem, witness)?;
+    if is_empty(problem) {
+        let none = TaskError::NoProperties(PropertyKind::Bad);
+        return Err(Failure::of_task(options.file, name, none));
+    }
+    let kind = PropertyKind::Justice;
+    let (lassos, doubt) = replay_kind(rt, options, name, problem, kind, witness)?;
     match doubt {
         Some(doubt) => doubted(rt, name, &doubt),
         None => replay_beside(rt, options, name, problem, witness, lassos),
@@ -111,64 +117,39 @@ fn replay_beside<'a>(
     witness: &[u8],
     lassos: usize,
 ) -> Result<bool, Failure<'a>>
-    requires { justice.ReplaysAll problem.now.netlist.circuit problem.now.liveness witness.now lassos }
+    requires { ReplaysAll problem.now kind.Justice witness.now lassos }
     ensures { IfOk result (λ verified. IsTrue verified → ReplaysEach problem.now witness.now) }
 {
-    let (traces, doubt) = replay_traces(rt, options, name, problem, witness)?;
+    let kind = PropertyKind::Bad;
+    let (traces, doubt) = replay_kind(rt, options, name, problem, kind, witness)?;
     match doubt {
         Some(doubt) => doubted(rt, name, &doubt),
         None => {
-            has_witness(options, name, problem, traces, lassos)?;
+            has_witness(name, traces, lassos)?;
             verified(rt)
         }
     }
 }
 
-// Replays the witnesses of justice properties: how many there are, and what is wrong with one.
-fn replay_lassos<'a>(
+// Replays the witnesses of properties of a kind: how many there are, and what is wrong with one.
+fn replay_kind<'a>(
     rt: &HostRuntime,
     options: &Options<'a>,
     name: Option<&'a str>,
     problem: &Problem,
-    witness: &[u8],
-) -> Result<(usize, Option<LassoDoubt>), Failure<'a>>
-    ensures { IfOk result (λ found. IfNone found.1
-        (justice.ReplaysAll problem.now.netlist.circuit problem.now.liveness witness.now found.0)) }
-{
-    match justice::replay_all(rt.alloc(), problem, witness) {
-        Ok(found) => Ok(found),
-        Err(error) => Err(Failure::of_task(options.file, name, error)),
-    }
-}
-
-// Replays those of bad literals in the same way.
-fn replay_traces<'a>(
-    rt: &HostRuntime,
-    options: &Options<'a>,
-    name: Option<&'a str>,
-    problem: &Problem,
+    kind: PropertyKind,
     witness: &[u8],
 ) -> Result<(usize, Option<WitnessDoubt>), Failure<'a>>
-    ensures { IfOk result (λ found. IfNone found.1
-        (ReplaysAll problem.now.netlist.circuit witness.now found.0)) }
+    ensures { IfOk result (λ found. IfNone found.1 (ReplaysAll problem.now kind witness.now found.0)) }
 {
-    if is_empty(problem) {
-        return Err(Failure::of_task(options.file, name, TaskError::NoBads));
-    }
-    match replay_all(rt.alloc(), &problem.netlist, witness) {
+    match replay_all(rt.alloc(), problem, kind, witness) {
         Ok(found) => Ok(found),
         Err(error) => Err(Failure::of_task(options.file, name, error)),
     }
 }
 
 // Tests that there is a witness among so many of bad literals and of justice properties.
-fn has_witness<'a>(
-    options: &Options<'a>,
-    name: Option<&'a str>,
-    problem: &Problem,
-    traces: usize,
-    lassos: usize,
-) -> Result<(), Failure<'a>>
+fn has_witness<'a>(name: Option<&'a str>, traces: usize, lassos: usize) -> Result<(), Failure<'a>>
     ensures { OnOk result (0 < traces + lassos) }
 {
     if traces > 0 {
@@ -177,44 +158,22 @@ fn has_witness<'a>(
     if lassos > 0 {
         return Ok(());
     }
-    if problem.is_live_alone() {
-        return Err(Failure::of_task(options.file, name, TaskError::NoLasso));
-    }
-    Err(Failure::of_task(options.file, name, TaskError::NoWitness))
+    Err(Failure::Task(name, TaskError::NoWitness))
 }
 
-// Replays the witnesses of the bad literal at a place.
-fn replay_bad<'a>(
+// Replays the witnesses of the property of a kind at a place.
+fn replay_one<'a>(
     rt: &HostRuntime,
     options: &Options<'a>,
     name: Option<&'a str>,
     problem: &Problem,
-    witness: &[u8],
+    kind: PropertyKind,
     place: usize,
-) -> Result<bool, Failure<'a>>
-    ensures { IfOk result (λ verified. IsTrue verified →
-        Replays problem.now.netlist.circuit witness.now (Some place)) }
-{
-    match witness_doubt(rt.alloc(), &problem.netlist, witness, Some(place)) {
-        Ok(None) => verified(rt),
-        Ok(Some(doubt)) => doubted(rt, name, &doubt),
-        Err(error) => Err(Failure::of_task(options.file, name, error)),
-    }
-}
-
-// Replays the witnesses of the justice property at a place.
-fn replay_justice<'a>(
-    rt: &HostRuntime,
-    options: &Options<'a>,
-    name: Option<&'a str>,
-    problem: &Problem,
     witness: &[u8],
-    place: usize,
 ) -> Result<bool, Failure<'a>>
-    ensures { IfOk result (λ verified. IsTrue verified →
-        justice.Replays problem.now.netlist.circuit problem.now.liveness witness.now (Some place)) }
+    ensures { IfOk result (λ verified. IsTrue verified → Replays problem.now kind witness.now (Some place)) }
 {
-    match lasso_doubt(rt.alloc(), problem, witness, Some(place)) {
+    match witness_doubt(rt.alloc(), problem, kind, witness, Some(place)) {
         Ok(None) => verified(rt),
         Ok(Some(doubt)) => doubted(rt, name, &doubt),
         Err(error) => Err(Failure::of_task(options.file, name, error)),

@@ -22,7 +22,8 @@ use gipmc_aiger::{Problem, Property, Subject};
 use gipmc_command::Options;
 use gipmc_reduce::Means;
 use gipmc_task::{
-    Answered, Evidence, Outcome, Output, Said, TaskError, Verdict, answer, justice, together,
+    Answered, Evidence, Outcome, Output, PropertyKind, Said, TaskError, Verdict, answer, justice,
+    together,
 };
 use gipsat_solver::Solver;
 use std::io::Stdout;
@@ -173,7 +174,7 @@ fn search_bads<'a>(
 fn tell_unasked(rt: &HostRuntime, options: &Options, problem: &Problem) {
     match options.subject {
         Subject::All if is_empty(problem) => {
-            let none = Failure::Task(options.file, TaskError::NoBads);
+            let none = Failure::Task(options.file, TaskError::NoProperties(PropertyKind::Bad));
             let _ = eprintln!(rt; "c {}", Printable(&none));
         }
         Subject::Any => tell_left_out(rt, options, problem, "asked about"),
