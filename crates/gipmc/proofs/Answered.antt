@@ -12,15 +12,19 @@ use Rattle.gipmc_aiger.specs.declared.problem.Subject.TheVariants.{All, Any, One
 use Rattle.gipmc_circuits.specs.Circuit.{FailsAfter, IsSafe}
 use Rattle.gipmc_circuits.specs.declared.circuit.Circuit.{Circuit}
 use Rattle.gipmc_reduce.specs.Liveness.{FailsForever, IsLive}
+use Rattle.gipmc_aiger.specs.Lists.{Every}
+use Rattle.gipmc_task.proofs.Once.{of_each}
 use Rattle.gipmc_task.proofs.Outcomes.{both-assoc, both-none, together-one}
 use Rattle.gipmc_task.specs.Answers as bads
-use Rattle.gipmc_task.specs.Answers.{TellsFirst, TellsOne}
+use Rattle.gipmc_task.specs.Answers.{TellsAll, TellsFirst, TellsOne}
 use Rattle.gipmc_task.specs.Justice.Answers as justice
 use Rattle.gipmc_task.specs.Outcomes.{both}
-use Rattle.gipmc_task.specs.Verdicts.{outcome_of, together}
+use Rattle.gipmc_task.specs.Verdicts.{outcome_of, place_of, places_of, together}
 use Rattle.gipmc_task.specs.declared.answered.Answered.{Answered}
 use Rattle.gipmc_task.specs.declared.outcome.Outcome.{Outcome}
 use Rattle.gipmc_task.specs.declared.outcome.Outcome.TheVariants.{Fails, Safe, Open}
+use Rattle.gipmc_task.specs.declared.output.AnswerOrder.{AnswerOrder}
+use Rattle.gipmc_task.specs.declared.output.AnswerOrder.TheVariants.{Known, Places}
 use Rattle.gipmc_task.specs.declared.verdict.Verdict.{Verdict}
 use Rattle.gipmc_task.specs.declared.verdict.Verdict.TheVariants as verdict
 use Rattle.gipmc.specs.Asked.{Has, Holds, IsAbout, IsFailing, IsRightOutcome}
@@ -138,6 +142,35 @@ module _ (p : Problem) where
       (Says-more kind n (together before) (outcome_of last.verdict) (first-said kind P said n before first)
       (said n last tells)))
 
+  -- what it says of the properties at some places: each holds, or one of them fails
+  abbrev SaysOn : (ℕ → Property) → List ℕ → Outcome → Type 0
+  SaysOn kind places outcome =
+      (outcome ≡ Safe → Every (λ k. Holds p (kind k)) places) × (outcome ≡ Fails → (k : ℕ) × IsFailing p (kind k))
+
+  -- so do right answers on the places that they name
+  named-said : (kind : ℕ → Property) (P : ℕ → Answered → Type 0)
+      → ((k : ℕ) (a : Answered) → P k a → SaysOf (kind k) (outcome_of a.verdict))
+      → (answers : List Answered) → Every (λ a. P (place_of a.property) a) answers
+      → SaysOn kind (places_of answers) (together answers)
+  named-said kind P said [] right = (λ safe. tt, λ fails. absurd cc)
+  named-said kind P said (a ∷ answers) (here, rest) =
+      let others = named-said kind P said answers rest in
+      let own = said (place_of a.property) a here in (
+        λ safe. let (first, last) = both-safe (outcome_of a.verdict) (together answers) safe in (own.0 first, others.0 last),
+        λ fails.
+            ⊎_elim (λ first. (place_of a.property, own.1 first)) (λ last. others.1 last)
+            (both-fails (outcome_of a.verdict) (together answers) fails),
+      )
+
+  -- in either order they do so of the first n of a kind
+  all-said : (order : AnswerOrder) (kind : ℕ → Property) (P : ℕ → Answered → Type 0)
+      → ((k : ℕ) (a : Answered) → P k a → SaysOf (kind k) (outcome_of a.verdict))
+      → (n : ℕ) (answers : List Answered) → TellsAll order P n answers → Says kind n (together answers)
+  all-said Places kind P said n answers first = first-said kind P said n answers first
+  all-said Known kind P said n answers each =
+      let named = named-said kind P said answers each.right in
+      (λ safe. of_each (λ k. Holds p (kind k)) n (places_of answers) each.once (named.0 safe), named.1)
+
   -- the outcome is right, where what is asked about holds if it is safe, and something fails if it says so
   right-by : (asked : Subject) (outcome : Outcome)
       → (outcome ≡ Safe → Has p asked × ((property : Property) → IsAbout asked property → Holds p property))
@@ -178,17 +211,17 @@ module _ (p : Problem) where
       (λ fails. (property, refl, said.1 fails))
 
   -- the outcome of right answers of both kinds is right
-  pub told-right : (asked : Subject) (first second : List Answered) (outcome : Outcome)
-      → bads.TellsAsked p.netlist.circuit asked first
+  pub told-right : (asked : Subject) (order : AnswerOrder) (first second : List Answered) (outcome : Outcome)
+      → bads.TellsAsked p.netlist.circuit asked order first
       → justice.TellsAsked p.netlist.circuit p.liveness asked second
       → outcome ≡ both (together first) (together second) → IsRightOutcome p asked outcome
-  told-right All first second outcome bad just is =
+  told-right All order first second outcome bad just is =
       subst (IsRightOutcome p All) (sym is)
       (right-all (together first) (together second)
-      (first-said Bad (bads.Tells p.netlist.circuit) bad-said (length p.netlist.circuit.bads.items) first bad)
+      (all-said order Bad (bads.Tells p.netlist.circuit) bad-said (length p.netlist.circuit.bads.items) first bad)
       (first-said Justice (justice.Tells p.netlist.circuit p.liveness) justice-said
       (length p.liveness.justice.items) second just))
-  told-right Any first second outcome (a, only, ((place, tells), all)) none is =
+  told-right Any order first second outcome (a, only, ((place, tells), all)) none is =
       let same : outcome ≡ outcome_of a.verdict =
       both-first (together first) (together second) outcome (ap together none) is ∙ together-one first a only in
       let (named, small, (literal, here, right, clear)) = tells in
@@ -198,14 +231,14 @@ module _ (p : Problem) where
       omega (arith, slice_get_within p.netlist.circuit.bads.items place literal here) in
       (some, any-hold (all (sym same ∙ holds))))
       (λ fails. (Bad place, tt, (bad-said place a tells).1 (sym same ∙ fails)))
-  told-right (One (Bad place)) first second outcome (a, only, tells) none is =
+  told-right (One (Bad place)) order first second outcome (a, only, tells) none is =
       let same : outcome ≡ outcome_of a.verdict =
       both-first (together first) (together second) outcome (ap together none) is ∙ together-one first a only in
       let (named, small, (literal, here, right, clear)) = tells in
       subst (IsRightOutcome p (One (Bad place))) (sym same)
       (right-one (Bad place) (outcome_of a.verdict)
       (slice_get_within p.netlist.circuit.bads.items place literal here) (bad-said place a tells))
-  told-right (One (Justice place)) first second outcome none (a, only, tells) is =
+  told-right (One (Justice place)) order first second outcome none (a, only, tells) is =
       let same : outcome ≡ outcome_of a.verdict =
       is ∙ ap (λ o. both o (together second)) (ap together none) ∙ together-one second a only in
       let (named, small, depths, (literals, here, right)) = tells in

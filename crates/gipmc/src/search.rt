@@ -157,8 +157,8 @@ fn search_bads<'a>(
     teller: &mut Teller<'_, '_>,
     output: &mut Output<Stdout>,
 ) -> Result<Said, Failure<'a>>
-    ensures { IfOk result (λ said.
-        TellsAsked problem.now.netlist.circuit options.now.subject said.answers.items) }
+    ensures { IfOk result (λ said. TellsAsked problem.now.netlist.circuit options.now.subject
+        output.old.order said.answers.items) }
 {
     let (alloc, netlist, plan) = (rt.alloc(), &problem.netlist, plan_of(options));
     match answer::<Solver, _, _>(alloc, netlist, options.subject, &plan, teller, output) {

@@ -1,5 +1,5 @@
 -- Worked examples: texts of answers, what witnesses name, certificates, and some that are refused.
-use Rattle.std.proofs.Common.{◌≡◌, ℕ, zero, suc, eqb, Bool, true, false, not, List, [], ◌∷◌, Vec, Option, Some, None, IsTrue, codes, arith, length, map, refl, subst}
+use Rattle.std.proofs.Common.{◌≡◌, ℕ, zero, suc, eqb, Bool, true, false, not, List, [], ◌∷◌, Vec, Option, Some, None, IsTrue, codes, ap, arith, length, map, refl, subst, sym}
 use Rattle.std.specs.Prelude.{slice_get}
 use Rattle.std.specs.declared.alloc.Global.{Global}
 use Rattle.std.specs.Bool.{beq}
@@ -8,6 +8,7 @@ use Rattle.std.specs.List.{list_all, list_any}
 use Rattle.std.specs.Str.{bytes_eq}
 use Rattle.std.proofs.Math.Nat.{le_refl}
 use Rattle.std.proofs.lemmas.Bool.{and_parts, false≢true}
+use Rattle.std.proofs.lemmas.List.Sorted.{IsPermutation-append_comm}
 use Rattle.gipsat_cnf.specs.Assumptions.{makes_true}
 use Rattle.gipsat_cnf.specs.Formulas.{Assignment}
 use Rattle.gipsat_cnf.specs.Literals.{Lit}
@@ -26,17 +27,19 @@ use Rattle.gipmc_aiger.specs.declared.problem.Problem.{Problem}
 use Rattle.gipmc_aiger.specs.declared.problem.Property.TheVariants.{Bad, Justice}
 use Rattle.gipmc_task.specs.Outcomes.{both}
 use Rattle.gipmc_task.specs.declared.outcome.Outcome.TheVariants.{Fails, Safe, Open}
-use Rattle.gipmc_task.specs.Answers.{Tells, TellsAny, TellsFirst}
+use Rattle.gipmc_task.specs.Answers.{Tells, TellsAll, TellsAny, TellsFirst}
 use Rattle.gipmc_task.specs.Certificates.{BeginsWithK, CertifiesSafe, clauses_behind, k_in}
 use Rattle.gipmc_task.specs.Left.{StandsFor}
 use Rattle.gipmc_task.specs.Witnesses.{Replays, ReplaysAll, claimed, names_asked, names_place}
 use Rattle.gipmc_task.specs.declared.certificates.Certificate.TheVariants as certificate
 use Rattle.gipmc_task.specs.declared.kind.PropertyKind.TheVariants as kind
-use Rattle.gipmc_task.specs.Verdicts.{IsAnswerBy, depths_text, outcome_of, text_of}
+use Rattle.gipmc_task.specs.Verdicts.{IsAnswerBy, depths_text, outcome_of, place_of, places_of, text_of}
 use Rattle.gipmc_task.specs.declared.answered.Answered.{Answered}
+use Rattle.gipmc_task.specs.declared.output.AnswerOrder.TheVariants.{Known}
 use Rattle.gipmc_task.specs.declared.verdict.Evidence.TheVariants.{Invariant, Longer}
 use Rattle.gipmc_task.specs.declared.verdict.Verdict.TheVariants as verdict
 use Rattle.gipmc_task.proofs.ForAll.{known_safe, none_open}
+use Rattle.gipmc_task.proofs.Once.{of_each}
 use Rattle.gipmc_task.proofs.Told.{Tells-by}
 
 -- a variable
@@ -119,6 +122,30 @@ tells_of_both c a b bads is_safe is_open = (
   tells_of_input c b (rw bads refl) is_open,
   refl,
 )
+
+-- in whatever order they may come the other way round, and none twice
+tells_each_of_both : (c : Circuit) (a b : Answered) → c.bads.items ≡ yes_of 0 ∷ yes_of 1 ∷ []
+    → IsAnswerBy (Bad 0) [] (verdict.Holds Invariant) a → IsAnswerBy (Bad 1) [] verdict.Unknown b
+    → TellsAll Known (Tells c) 2 (b ∷ a ∷ [])
+tells_each_of_both c a b bads is_safe is_open =
+    let first = ap place_of is_safe.0 in
+    let second = ap place_of is_open.0 in
+    record {
+      once = rw (first, second) (IsPermutation-append_comm (0 ∷ []) (1 ∷ []));
+      right = (
+        subst (λ k. Tells c k b) (sym second) (tells_of_input c b (rw bads refl) is_open),
+        (subst (λ k. Tells c k a) (sym first) (tells_of_constant c a (rw bads refl) is_safe), tt),
+      );
+    }
+
+refused-twice : (c : Circuit) (a b : Answered) → a.property ≡ Bad 0 → b.property ≡ Bad 0
+    → ¬ (TellsAll Known (Tells c) 2 (a ∷ b ∷ []))
+refused-twice c a b first second each =
+    absurd (omega (
+      arith,
+      of_each (λ k. k ≡ 0) 2 (places_of (a ∷ b ∷ [])) each.once
+          (ap place_of first, (ap place_of second, tt)) 1 (omega arith),
+    ))
 
 -- in place of both there may be one on that which is open
 tells_any_open : (c : Circuit) (a : Answered) → c.bads.items ≡ yes_of 0 ∷ yes_of 1 ∷ []

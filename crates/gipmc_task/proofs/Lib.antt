@@ -7,6 +7,7 @@ mod Examples
 mod ForAll
 mod JusticeExamples
 mod JusticeTold
+pub mod Once
 mod OnWhole
 pub mod Outcomes
 mod Shown

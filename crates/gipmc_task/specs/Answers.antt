@@ -1,5 +1,6 @@
 -- Answers about bad literals, and when they are right.
-use Rattle.std.specs.Prelude.{◌≡◌, ℕ, zero, suc, ◌<◌, ◌^◌, List, [], ◌∷◌, ◌++◌, length, slice_get, Some, ⊤}
+use Rattle.std.specs.Prelude.{◌≡◌, ℕ, zero, suc, ◌<◌, ◌^◌, List, [], ◌∷◌, ◌++◌, length, slice_get, Some, ⊤, IsPermutation}
+use Rattle.std.specs.List.{range_with_len}
 use Rattle.gipsat_cnf.specs.Literals.{Lit}
 use Rattle.gipmc_aiger.specs.Lists.{Every}
 use Rattle.gipmc_aiger.specs.declared.problem.Property.TheVariants.{Bad, Justice}
@@ -9,9 +10,11 @@ use Rattle.gipmc_circuits.specs.Circuit.{IsSafe}
 use Rattle.gipmc_circuits.specs.Traces.{FailsBy}
 use Rattle.gipmc_circuits.specs.declared.circuit.Circuit.{Circuit}
 use Rattle.gipmc_engines.specs.Verdicts.{NeverFailsWithin}
-use Rattle.gipmc_task.specs.Verdicts.{outcome_of}
+use Rattle.gipmc_task.specs.Verdicts.{outcome_of, place_of, places_of}
 use Rattle.gipmc_task.specs.declared.answered.Answered.{Answered}
 use Rattle.gipmc_task.specs.declared.outcome.Outcome.TheVariants.{Safe}
+use Rattle.gipmc_task.specs.declared.output.AnswerOrder.{AnswerOrder}
+use Rattle.gipmc_task.specs.declared.output.AnswerOrder.TheVariants.{Known, Places}
 use Rattle.gipmc_task.specs.declared.verdict.Verdict.{Verdict}
 use Rattle.gipmc_task.specs.declared.verdict.Verdict.TheVariants as verdict
 
@@ -47,17 +50,27 @@ TellsFirst P zero answers = answers ≡ []
 TellsFirst P (suc n) answers =
     (before : List Answered) × (last : Answered) × TellsFirst P n before × P n last × (answers ≡ before ++ last ∷ [])
 
+-- the answers are those of the first n places, each place once, in whatever order, where this holds of each and its place
+pub record TellsEach (P : ℕ → Answered → Type 0) (n : ℕ) (answers : List Answered) : Type 0 where
+  pub once : IsPermutation (range_with_len 0 n) (places_of answers)
+  pub right : Every (λ a. P (place_of a.property) a) answers
+
+-- the answers are those of the first n places in this order
+abbrev pub TellsAll : AnswerOrder → (ℕ → Answered → Type 0) → ℕ → List Answered → Type 0
+TellsAll Places P n answers = TellsFirst P n answers
+TellsAll Known P n answers = TellsEach P n answers
+
 -- there is one answer, and this holds of it
 abbrev pub TellsOne : (Answered → Type 0) → List Answered → Type 0
 TellsOne P answers = (a : Answered) × (answers ≡ a ∷ []) × P a
 
--- the answers are right ones on each bad literal, on whether any fails, or on the one that is asked about; none where a
--- justice property is
-abbrev pub TellsAsked : Circuit → Subject → List Answered → Type 0
-TellsAsked c All answers = TellsFirst (Tells c) (length c.bads.items) answers
-TellsAsked c Any answers = TellsOne (TellsAny c) answers
-TellsAsked c (One (Bad place)) answers = TellsOne (Tells c place) answers
-TellsAsked c (One (Justice place)) answers = answers ≡ []
+-- the answers are right ones on each bad literal, in this order, on whether any fails, or on the one that is asked about;
+-- none where a justice property is
+abbrev pub TellsAsked : Circuit → Subject → AnswerOrder → List Answered → Type 0
+TellsAsked c All order answers = TellsAll order (Tells c) (length c.bads.items) answers
+TellsAsked c Any order answers = TellsOne (TellsAny c) answers
+TellsAsked c (One (Bad place)) order answers = TellsOne (Tells c place) answers
+TellsAsked c (One (Justice place)) order answers = answers ≡ []
 
 -- the literals are all bad ones of the circuit, of which there are some where any is asked about, or the first of them
 -- is the bad one that is asked about

@@ -1,5 +1,5 @@
 -- What is known of properties, in a word and as texts.
-use Rattle.std.specs.Prelude.{◌≡◌, ℕ, ◌<◌, ◌^◌, List, [], ◌∷◌, ◌++◌, codes, decimal}
+use Rattle.std.specs.Prelude.{◌≡◌, ℕ, ◌<◌, ◌^◌, List, [], ◌∷◌, ◌++◌, codes, decimal, map}
 use Rattle.std.specs.List.{flat_map}
 use Rattle.gipmc_aiger.specs.Traces.{lasso_text, witness_text}
 use Rattle.gipmc_aiger.specs.declared.problem.Property.{Property}
@@ -28,6 +28,10 @@ together (a ∷ answers) = both (outcome_of a.verdict) (together answers)
 abbrev pub place_of : Property → ℕ
 place_of (Bad place) = place
 place_of (Justice place) = place
+
+-- the places of the properties that are answered about
+abbrev pub places_of : List Answered → List ℕ
+places_of answers = map (λ a. place_of a.property) answers
 
 -- the lines that name a property and end an answer
 abbrev pub named : Property → List ℕ

@@ -4,7 +4,8 @@ ghost use Rattle.gipmc_aiger.specs.Lists.{Every};
 ghost use Rattle.gipmc_aiger.specs.declared.problem.Problem.{Problem};
 ghost use Rattle.gipmc_aiger.specs.declared.problem.Property.TheVariants.{Bad};
 ghost use Rattle.gipmc_aiger.specs.declared.problem.Subject.TheVariants.{Any, One};
-ghost use Rattle.gipmc_task.specs.Answers.{AreAsked, AreClear, Tells, TellsAny, TellsAsked, TellsFirst, TellsOne};
+ghost use Rattle.gipmc_task.specs.Answers.{AreAsked, AreClear, Tells, TellsAll, TellsAny, TellsAsked, TellsFirst};
+ghost use Rattle.gipmc_task.specs.Answers.{TellsOne};
 ghost use Rattle.gipmc_task.specs.Left.{StandFor};
 ghost use Rattle.gipmc_task.specs.Output.{IsWritten};
 ghost use Rattle.gipmc_task.specs.Verdicts.{answer_text, depth_text, depths_text, texts_of, together};
@@ -16,7 +17,8 @@ use crate::answered::{Answered, depth_text, one, tell, tell_behind};
 use crate::any::find_any;
 use crate::error::TaskError;
 use crate::kind::PropertyKind;
-use crate::output::{Certifying, Output, Wanted};
+use crate::known::tell_known;
+use crate::output::{AnswerOrder, Certifying, Output, Wanted};
 use crate::parted::{Parted, part_of};
 use crate::query::Query;
 use crate::verdict::Verdict;
@@ -30,7 +32,7 @@ use std::io::Write;
 
 /// What is found out about the bad literals of a circuit.
 pub struct Said {
-    /// The answers, in the order of the literals.
+    /// The answers, in the order in which they were written.
     pub answers: Vec<Answered>,
     /// The clauses of the invariant that was found, over the circuit's variables.
     pub invariant: Vec<Vec<Literal>>,
@@ -50,8 +52,9 @@ impl Drop for Said {
 }
 
 /// Answers about the bad literals of a circuit that are asked about: about none where a justice property is. One search
-/// is about all of them. Each answer is written as soon as it is found, and all before it are. Where a write fails no
-/// more is written; the search stops then, and leaves the other literals open, or goes on, as the output says.
+/// is about all of them. Each answer is written as soon as it is found, and all before it are, or in whatever order, as
+/// the output says. Where a write fails no more is written; the search stops then, and leaves the other literals open,
+/// or goes on, as the output says too.
 ///
 /// Where any is asked about, the one answer is about the literal whose trace is found first; where none is found, about
 /// the first of those of which least is known. So it is safe where all are.
@@ -69,7 +72,7 @@ pub fn answer<S: SatSolver + Drop, O: Observer, W: Write>(
     observer: &mut O,
     output: &mut Output<W>,
 ) -> Result<Said, TaskError>
-    ensures tells { IfOk result (λ said. TellsAsked netlist.now.circuit asked said.answers.items) }
+    ensures tells { IfOk result (λ said. TellsAsked netlist.now.circuit asked output.old.order said.answers.items) }
     ensures witness { (p : Problem) (place : ℕ) → p.netlist ≡ netlist.now → asked ≡ One (Bad place) →
         IfOk result (λ said. together said.answers.items ≡ Fails →
         Replays p kind.Bad (texts_of said.answers.items) (Some place)) }
@@ -91,7 +94,7 @@ fn answer_asked<S: SatSolver + Drop, O: Observer, W: Write>(
     observer: &mut O,
     output: &mut Output<W>,
 ) -> Result<Said, TaskError>
-    ensures tells { IfOk result (λ said. TellsAsked netlist.now.circuit asked said.answers.items) }
+    ensures tells { IfOk result (λ said. TellsAsked netlist.now.circuit asked output.old.order said.answers.items) }
     ensures written { IfOk result (λ said. IsWritten output.old.failure output.new.failure
         (W.contents output.old.writer) (W.contents output.new.writer) (texts_of said.answers.items)) }
 {
@@ -146,7 +149,7 @@ fn answer_about<S: SatSolver + Drop, O: Observer, W: Write>(
     output: &mut Output<W>,
 ) -> Result<Said, AllocError>
     requires { AreAsked netlist.now.circuit asked bads.now }
-    ensures tells { IfOk result (λ said. TellsAsked netlist.now.circuit asked said.answers.items) }
+    ensures tells { IfOk result (λ said. TellsAsked netlist.now.circuit asked output.old.order said.answers.items) }
     ensures written { IfOk result (λ said. IsWritten output.old.failure output.new.failure
         (W.contents output.old.writer) (W.contents output.new.writer) (texts_of said.answers.items)) }
 {
@@ -172,7 +175,7 @@ fn answer_by<S: SatSolver + Drop, O: Observer, W: Write>(
     requires asked { AreAsked netlist.now.circuit asked bads.now }
     requires part { StandFor part.now.netlist.circuit part.now.netlist.circuit.bads.items
         netlist.now.circuit bads.now }
-    ensures tells { IfOk result (λ said. TellsAsked netlist.now.circuit asked said.answers.items) }
+    ensures tells { IfOk result (λ said. TellsAsked netlist.now.circuit asked output.old.order said.answers.items) }
     ensures written { IfOk result (λ said. IsWritten output.old.failure output.new.failure
         (W.contents output.old.writer) (W.contents output.new.writer) (texts_of said.answers.items)) }
 {
@@ -194,12 +197,12 @@ fn answer_with<S: SatSolver + Drop, O: Observer, W: Write>(
 ) -> Result<Said, AllocError>
     requires { AreAsked parted.whole.now.circuit asked parted.bads.now }
     ensures tells { IfOk result
-        (λ said. TellsAsked parted.entry.whole.now.circuit asked said.answers.items) }
+        (λ said. TellsAsked parted.entry.whole.now.circuit asked output.old.order said.answers.items) }
     ensures written { IfOk result (λ said. IsWritten output.old.failure output.new.failure
         (W.contents output.old.writer) (W.contents output.new.writer) (texts_of said.answers.items)) }
 {
     let first = first_wanted(&parted, asked, output.wanted(), observer);
-    let merges = first != Wanted::Nothing && merges(plan.engine, output.certifying);
+    let merges = first != Wanted::Nothing && merges(plan.engine, asked, output);
     let left = parted.find_left(alloc, merges, observer);
     let mut query = Query::new(alloc, parted, &left, plan, first);
     say(alloc, &mut query, asked, observer, output)
@@ -226,10 +229,14 @@ fn first_place(asked: Subject) -> usize {
     }
 }
 
-// Whether equal variables are merged where these engines search, and this is certified.
-fn merges(engine: Engine, certifying: Certifying) -> bool {
+// Whether equal variables are merged where these engines search, and answers are written there. Where each is as soon as it
+// is known, none waits for that.
+fn merges<W: Write>(engine: Engine, asked: Subject, output: &Output<W>) -> bool {
+    if matches!(asked, Subject::All) && output.order == AnswerOrder::Known {
+        return false;
+    }
     match engine {
-        Engine::Invariants | Engine::All => certifying == Certifying::Nothing,
+        Engine::Invariants | Engine::All => output.certifying == Certifying::Nothing,
         Engine::Simulation | Engine::Bounded | Engine::Ic3 | Engine::Induction => false,
     }
 }
@@ -244,7 +251,7 @@ fn say<S: SatSolver + Drop, O: Observer, W: Write>(
 ) -> Result<Said, AllocError>
     requires { AreAsked query.old.whole.now.circuit asked query.old.bads.now }
     ensures tells { IfOk result
-        (λ said. TellsAsked query.old.whole.now.circuit asked said.answers.items) }
+        (λ said. TellsAsked query.old.whole.now.circuit asked output.old.order said.answers.items) }
     ensures written { IfOk result (λ said. IsWritten output.old.failure output.new.failure
         (W.contents output.old.writer) (W.contents output.new.writer) (texts_of said.answers.items)) }
 {
@@ -264,8 +271,8 @@ fn say_all<S: SatSolver + Drop, O: Observer, W: Write>(
     output: &mut Output<W>,
 ) -> Result<Said, AllocError>
     requires { query.old.bads.now ≡ query.old.whole.now.circuit.bads.items }
-    ensures tells { IfOk result (λ said.
-        TellsFirst (Tells query.old.whole.now.circuit) (length query.old.bads.now) said.answers.items) }
+    ensures tells { IfOk result (λ said. TellsAll output.old.order
+        (Tells query.old.whole.now.circuit) (length query.old.bads.now) said.answers.items) }
     ensures written { IfOk result (λ said. IsWritten output.old.failure output.new.failure
         (W.contents output.old.writer) (W.contents output.new.writer) (texts_of said.answers.items)) }
 {
@@ -340,8 +347,27 @@ fn tell_any<S: SatSolver + Drop, O: Observer, W: Write>(
     tell(alloc, property, found.known, observer, output)
 }
 
-// Tells of all literals that a search is about, those of its circuit.
+// Tells of all literals that a search is about, those of its circuit, in the order that the output says.
 fn tell_all<S: SatSolver + Drop, O: Observer, W: Write>(
+    alloc: Global,
+    query: &mut Query<'_, S>,
+    observer: &mut O,
+    output: &mut Output<W>,
+) -> Result<Vec<Answered>, AllocError>
+    requires { query.old.bads.now ≡ query.old.whole.now.circuit.bads.items }
+    ensures tells { IfOk result (λ answers. TellsAll output.old.order
+        (Tells query.old.whole.now.circuit) (length query.old.bads.now) answers.items) }
+    ensures written { IfOk result (λ answers. IsWritten output.old.failure output.new.failure
+        (W.contents output.old.writer) (W.contents output.new.writer) (texts_of answers.items)) }
+{
+    match output.order {
+        AnswerOrder::Places => tell_in_turn(alloc, query, observer, output),
+        AnswerOrder::Known => tell_known(alloc, query, observer, output),
+    }
+}
+
+// Tells of each of them in turn.
+fn tell_in_turn<S: SatSolver + Drop, O: Observer, W: Write>(
     alloc: Global,
     query: &mut Query<'_, S>,
     observer: &mut O,
@@ -362,8 +388,8 @@ fn tell_all<S: SatSolver + Drop, O: Observer, W: Write>(
     Ok(answers)
 }
 
-// Tells of the literal at one of a search's places, which is the bad one at a place of the circuit.
-fn tell_at<S: SatSolver + Drop, O: Observer, W: Write>(
+/// Tells of the literal at one of a search's places, which is the bad one at a place of the circuit.
+pub(crate) fn tell_at<S: SatSolver + Drop, O: Observer, W: Write>(
     alloc: Global,
     query: &mut Query<'_, S>,
     at: usize,
@@ -474,7 +500,7 @@ fn leave<O: Observer, W: Write>(
 ) -> Result<Said, AllocError>
     requires one { (place : ℕ) → asked ≡ One (Bad place) → place < length netlist.now.circuit.bads.items }
     requires any { asked ≡ Any → 0 < length netlist.now.circuit.bads.items }
-    ensures tells { IfOk result (λ said. TellsAsked netlist.now.circuit asked said.answers.items) }
+    ensures tells { IfOk result (λ said. TellsAsked netlist.now.circuit asked output.old.order said.answers.items) }
     ensures written { IfOk result (λ said. IsWritten output.old.failure output.new.failure
         (W.contents output.old.writer) (W.contents output.new.writer) (texts_of said.answers.items)) }
 {
@@ -493,8 +519,8 @@ fn leave_all<O: Observer, W: Write>(
     observer: &mut O,
     output: &mut Output<W>,
 ) -> Result<Said, AllocError>
-    ensures tells { IfOk result (λ said.
-        TellsFirst (Tells netlist.now.circuit) (length netlist.now.circuit.bads.items) said.answers.items) }
+    ensures tells { IfOk result (λ said. TellsAll output.old.order
+        (Tells netlist.now.circuit) (length netlist.now.circuit.bads.items) said.answers.items) }
     ensures written { IfOk result (λ said. IsWritten output.old.failure output.new.failure
         (W.contents output.old.writer) (W.contents output.new.writer) (texts_of said.answers.items)) }
 {

@@ -1,5 +1,7 @@
 //! Where answers are written as they are found.
+ghost use Rattle.std.specs.Prelude.{◌≡◌};
 ghost use Rattle.gipmc_task.specs.Output.{IsWritten};
+ghost use Rattle.gipmc_task.specs.declared.output.AnswerOrder.TheVariants.{Places};
 
 use std::io::{self, Write};
 
@@ -19,6 +21,16 @@ pub enum Traces {
     Found,
     /// A shortest one, if it is found.
     Shortest,
+}
+
+/// In which order answers about all bad literals of a circuit are written.
+#[derive(Clone, Copy, PartialEq, Eq)]
+pub enum AnswerOrder {
+    /// In that of the literals. So one that is not decided holds back the answers about those behind it.
+    Places,
+    /// Each once its literal is decided, as far as that is looked for: some times at each depth of bounded model checking,
+    /// and where the search ends. Then no progress is written.
+    Known,
 }
 
 /// What a certificate is made of that shows what is safe.
@@ -54,6 +66,8 @@ pub struct Output<W: Write> {
     pub lost: Lost,
     /// Which traces are written.
     pub traces: Traces,
+    /// In which order answers are written.
+    pub order: AnswerOrder,
     /// What a certificate is to be made of.
     pub certifying: Certifying,
     /// Whether a line `u N` is written before an answer each time that nothing is known to fail within more than twice as
@@ -69,6 +83,7 @@ impl<W: Write + Drop> Drop for Output<W> {
             failure,
             lost: _,
             traces: _,
+            order: _,
             certifying: _,
             progress: _,
         } = self;
@@ -76,14 +91,17 @@ impl<W: Write + Drop> Drop for Output<W> {
 }
 
 impl<W: Write> Output<W> {
-    /// Before the first text. The traces are those that are found, a certificate is made of clauses, and no progress is
-    /// written.
-    pub fn new(writer: W, lost: Lost) -> Self {
+    /// Before the first text. The traces are those that are found, answers are in the order of the places, a certificate is
+    /// made of clauses, and no progress is written.
+    pub fn new(writer: W, lost: Lost) -> Self
+        ensures { result.order ≡ Places }
+    {
         Output {
             writer,
             failure: None,
             lost,
             traces: Traces::Found,
+            order: AnswerOrder::Places,
             certifying: Certifying::Clauses,
             progress: false,
         }

@@ -125,6 +125,17 @@ impl<'a, S: SatSolver + Drop> Query<'a, S> {
         left.clear(alloc, at, depth, observer)
     }
 
+    /// Whether nothing is decided about the literal at a place.
+    pub(crate) fn is_open(&self, at: usize) -> bool {
+        if !self.parted.is_open(at) {
+            return false;
+        }
+        match &self.left {
+            Some(left) => left.is_open(at),
+            None => true,
+        }
+    }
+
     /// The clauses of the invariant that was found in the circuit itself; none where memory is refused.
     pub(crate) fn invariant(&self, alloc: Global) -> Vec<Vec<Literal>> {
         self.parted.invariant(alloc)

@@ -12,5 +12,5 @@ returns c =
     let same : c.and-outcome.result
     ≡ both (together bads.bads.answers.items) (together justice.justice.items) =
     cc in
-    told-right c.args.problem.now c.args.options.now.subject bads.bads.answers.items justice.justice.items
+    told-right c.args.problem.now c.args.options.now.subject c.args.output.now.order bads.bads.answers.items justice.justice.items
     c.and-outcome.result bads.ensures justice.ensures same

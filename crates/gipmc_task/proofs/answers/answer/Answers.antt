@@ -13,7 +13,7 @@ use Rattle.gipmc_task.proofs.answers.answer.Goals as goal
 pub returns-clause-witness : goal.returns-clause-witness
 returns-clause-witness g c p place same is =
     IfOk-weaker c.answer_asked.result
-    (λ said. TellsAsked c.args.netlist.now.circuit c.args.asked said.answers.items)
+    (λ said. TellsAsked c.args.netlist.now.circuit c.args.asked c.args.output.now.order said.answers.items)
     (λ said. together said.answers.items ≡ Fails → Replays p Bad (texts_of said.answers.items) (Some place))
     (λ said told. fails-one (Tells p.netlist.circuit place) (λ t. Replays p Bad t (Some place)) said.answers.items
     (Replays-told p place) (rw same (rw is at told)))
@@ -22,7 +22,7 @@ returns-clause-witness g c p place same is =
 pub returns-clause-any : goal.returns-clause-any
 returns-clause-any g c p same is =
     IfOk-weaker c.answer_asked.result
-    (λ said. TellsAsked c.args.netlist.now.circuit c.args.asked said.answers.items)
+    (λ said. TellsAsked c.args.netlist.now.circuit c.args.asked c.args.output.now.order said.answers.items)
     (λ said. together said.answers.items ≡ Fails → Replays p Bad (texts_of said.answers.items) None)
     (λ said told. fails-one (TellsAny p.netlist.circuit) (λ t. Replays p Bad t None) said.answers.items (Replays-any p)
     (rw same (rw is at told)))

@@ -18,5 +18,5 @@ new-query-requires g c =
 
 pub returns-clause-tells : goal.returns-clause-tells
 returns-clause-tells g c =
-    subst (λ n. IfOk c.say.result (λ said. TellsAsked n.circuit c.args.asked said.answers.items))
+    subst (λ n. IfOk c.say.result (λ said. TellsAsked n.circuit c.args.asked c.args.output.now.order said.answers.items))
     (c.new-query.ensures.whole ∙ ap (λ w. w.now) c.find_left-left.ensures.whole) c.say.ensures.tells

@@ -3,6 +3,7 @@ use Rattle.std.proofs.Common.{◌≡◌, length, arith}
 use Rattle.std.proofs.lemmas.Grind.{common_steps}
 use Rattle.gipmc_task.specs.Answers.{Tells}
 use Rattle.gipmc_task.specs.Verdicts.{answer_text}
+use Rattle.gipmc_task.proofs.Once.{TellsAll-first, names_own}
 use Rattle.gipmc_task.proofs.Told.{TellsFirst-more}
 use Rattle.gipmc_task.proofs.Written.{IsWritten-push}
 use Rattle.gipmc_task.proofs.answers.leave_all.Goals as goal
@@ -20,5 +21,8 @@ loop-place-preserved g c =
 
 pub returns-clause-tells : goal.returns-clause-tells
 returns-clause-tells g c =
-    let all : c.loop-place.place ≡ length c.args.netlist.now.circuit.bads.items = grind (arith, common_steps) in
-    rw (c.said_by.ensures) (rw all at c.loop-place.invariant.tells)
+    let circuit = c.args.netlist.now.circuit in
+    let all : c.loop-place.place ≡ length circuit.bads.items = grind (arith, common_steps) in
+    rw (c.said_by.ensures)
+    (TellsAll-first c.args.output.now.order (Tells circuit) (names_own circuit) (length circuit.bads.items)
+    c.loop-place.answers.items (rw all at c.loop-place.invariant.tells))

@@ -3,7 +3,7 @@ use Rattle.std.proofs.Common.{◌≡◌}
 use Rattle.gipmc_task.specs.Answers.{Tells, TellsFirst}
 use Rattle.gipmc_task.specs.Output.{IsWritten}
 use Rattle.gipmc_task.specs.Verdicts.{texts_of}
-use Rattle.gipmc_task.proofs.answers.tell_all.Given as goal
+use Rattle.gipmc_task.proofs.answers.tell_in_turn.Given as goal
 
 abbrev pub invariant-loop-place : goal.invariant-loop-place
 invariant-loop-place g l = record {

@@ -5,7 +5,7 @@ use Rattle.gipmc_task.specs.Answers.{Tells}
 use Rattle.gipmc_task.specs.Verdicts.{answer_text}
 use Rattle.gipmc_task.proofs.Told.{TellsFirst-more}
 use Rattle.gipmc_task.proofs.Written.{IsWritten-push}
-use Rattle.gipmc_task.proofs.answers.tell_all.Goals as goal
+use Rattle.gipmc_task.proofs.answers.tell_in_turn.Goals as goal
 
 pub loop-place-preserved : goal.loop-place-preserved
 loop-place-preserved g c =
