@@ -685,6 +685,50 @@ if is_wanted "an answer before the time is over"; then
         [ "$(answers out | sed 1,6d | tr '\n' '#' | sed 's/u[0-9]*/u/')" = 'u#2#b1#.#' ]
     told "an answer before the time is over" $?
 fi
+# In whatever order an answer does not wait for one before it.
+if is_wanted "unordered, an answer is written when it is found"; then
+    "$gipmc" "${endless[@]}" --unordered two.aag > out 2> err &
+    is_second() {
+        [ "$(cat out)" = "$rises" ]
+    }
+    await is_second
+    told "unordered, an answer is written when it is found" $?
+    kill -KILL $!
+    wait $! 2> /dev/null
+fi
+# A register of 20 latches whose last one comes first, each behind a latch that stays.
+{
+    printf 'aag 41 1 40 0 0 40\n2\n'
+    for n in $(seq 20); do printf '%s %s\n%s %s\n' $((4 * n)) $((n > 1 ? 4 * n - 4 : 2)) $((4 * n + 2)) $((4 * n + 2)); done
+    for n in $(seq 20 -1 1); do printf '%s\n%s\n' $((4 * n)) $((4 * n + 2)); done
+} > stages.aag
+if is_wanted "unordered, the latches of a register in the order in which they rise"; then
+    "$gipmc" --engine bmc --depth 30 --unordered stages.aag > out 2> err
+    status=$?
+    [ "$status" = 10 ] && [ ! -s err ] && [ "$(grep -A 1 '^1$' out | grep '^b' | tr '\n' ' ')" = \
+        "$(seq 38 -2 0 | sed 's/^/b/' | tr '\n' ' ')" ] && [ "$(grep -c '^u30$' out)" = 20 ]
+    told "unordered, the latches of a register in the order in which they rise" $?
+fi
+# [FILE]: its answers, a line for each, in the order of their bytes.
+lines_of() {
+    answers "$@" | awk '{ printf "%s#", $0 } $0 == "." { print "" }' | sort
+}
+# FILE [OPTION]..: whether the answers in whatever order are those in the order of the places, and the status is the same.
+are_same() {
+    local ordered
+    "$gipmc" "${@:2}" "$1" > ordered 2> err
+    ordered=$?
+    "$gipmc" "${@:2}" --unordered "$1" > out 2> err
+    status=$?
+    [ "$status" = "$ordered" ] && [ ! -s err ] && [ -s out ] && [ "$(lines_of out)" = "$(lines_of ordered)" ]
+}
+# FILE: notes where they are not.
+differing=
+compare_orders() {
+    [ -z "$is_listed" ] && is_wanted "unordered, the same answers" || return
+    are_same "$1" && are_same "$1" --engine bmc --depth 30 && are_same "$1" --engine ic3 || differing=1
+}
+for circuit in two swapped stages; do compare_orders "$circuit.aag"; done
 # The program has 2 MB at first, and a little more at each depth.
 if is_wanted "a memory limit"; then
     timeout -s KILL 300 "$gipmc" "${endless[@]}" --memory 4 swapped.aag > out 2> err
@@ -1755,6 +1799,7 @@ while read -r name said text; do
         continue
     fi
     ask bmc --engine bmc --depth 64
+    [[ $said != *,* ]] || compare_orders row.aag
     if [[ $name == *[0-9] ]]; then
         ask ic3 --engine ic3
         # Where no certificate is wanted, latches and gates that are equal are merged.
@@ -1793,6 +1838,8 @@ while read -r name said text; do
 done < "$rows"
 [ "$asked" -gt 0 ] && [ "$asked" = "$(wc -l < "$rows")" ]
 told "all rows of circuits" $?
+[ -z "$differing" ]
+told "unordered, the same answers" $?
 
 # Circuits with justice properties beside the stored ones: their runs are enumerated now.
 if is_wanted "justice properties of 500 more circuits"; then

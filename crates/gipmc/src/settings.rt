@@ -6,7 +6,7 @@ ghost use Rattle.gipmc.specs.Plans.{limit_asked, seed_asked, wants_circuit};
 
 use gipmc_command::Options;
 use gipmc_engines::{Bounds, Engine, Plan, Tries};
-use gipmc_task::{Certifying, Lost, Output, Traces};
+use gipmc_task::{AnswerOrder, Certifying, Lost, Output, Traces};
 use std::io::{IsTerminal, Stdout};
 
 // How often simulation begins anew, and how many moments it has then.
@@ -142,6 +142,7 @@ fn depth_alone(engine: Engine) -> usize
 pub fn output_of(rt: &HostRuntime, options: &Options) -> Output<Stdout> {
     let mut output = Output::new(rt.stdout(), lost(options));
     output.traces = traces_asked(options);
+    output.order = order_asked(options);
     output.progress = tells_depths(rt, options);
     output.certifying = certifying(options);
     output
@@ -172,6 +173,15 @@ fn traces_asked(options: &Options) -> Traces {
         Traces::Shortest
     } else {
         Traces::Found
+    }
+}
+
+// In which order answers are written.
+fn order_asked(options: &Options) -> AnswerOrder {
+    if options.asked.has("--unordered") {
+        AnswerOrder::Known
+    } else {
+        AnswerOrder::Places
     }
 }
 

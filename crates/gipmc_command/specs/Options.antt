@@ -32,6 +32,7 @@ table =
     option.switch (codes "--names") [] (codes "search") ∷
     option.output (codes "--vcd") (codes "search") ∷
     option.text (codes "--witness") (codes "search") ∷
+    option.switch (codes "--unordered") [] (codes "search") ∷
     option.switch (codes "--quiet") (codes "-q") (codes "each") ∷
     option.switch (codes "--verbose") (codes "-v") (codes "each") ∷
     option.switch (codes "--stats") [] (codes "search") ∷

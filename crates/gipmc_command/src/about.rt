@@ -206,6 +206,16 @@ pub const OPTIONS: &[Opt] = &[
                then b or j and the property's place, then .aiw",
     },
     Opt {
+        long: "--unordered",
+        short: "",
+        kind: Kind::Switch,
+        scope: SEARCH,
+        section: "Output",
+        help: "write each answer about a bad literal soon after it is known, in whatever order, so that a run which is \
+               stopped from outside keeps it. What is known is looked for some times at each depth of bmc. No lines \
+               `u N` tell how far the search has come, and what is equal is not merged",
+    },
+    Opt {
         long: "--quiet",
         short: "-q",
         kind: Kind::Switch,
