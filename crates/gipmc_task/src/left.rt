@@ -44,10 +44,13 @@ impl Left {
         }
     }
 
-    /// Whether a tenth of the latches of the circuit is gone, or more. Where only gates are, a search has as many states.
+    /// Whether a tenth of the latches of the circuit is gone, so that a search has fewer states, or half of its gates, so
+    /// that each question costs less.
     pub(crate) fn is_small(&self, whole: &Netlist) -> bool {
-        let left = self.part.netlist.circuit.latches.len();
-        left.saturating_mul(10) <= whole.circuit.latches.len().saturating_mul(9)
+        let (left, whole) = (&self.part.netlist.circuit, &whole.circuit);
+        let (latches, gates) = (left.latches.len(), left.gates.len());
+        latches.saturating_mul(10) <= whole.latches.len().saturating_mul(9)
+            || gates.saturating_mul(2) <= whole.gates.len()
     }
 
     /// The trace of the circuit that goes on as one of what is left does. A replay tells whether it is one.

@@ -18,17 +18,18 @@ use gipmc_reduce::Cone;
 use gipsat_cnf::{Literal, SatSolver};
 use std::alloc::{AllocError, Global};
 
-// How many literals IC3 propagates before what is left is looked for.
-const FIRST: u64 = 200_000;
+// Which part of what IC3 propagated a sweep may do. The other engines do about as much as IC3, so that is a quarter of the
+// time so far. No sweep begins before it is about what one takes.
+const SHARE: u64 = 2;
 
-// How many times as much it does until that is tried again.
+// About how much a sweep does for each gate: its runs 32, and its questions what they propagate.
+const SWEEP: u64 = 100;
+
+// How many times as much IC3 does until what is left is looked for again.
 const LATER: u64 = 8;
 
-// How often it is tried.
+// How often it is looked for.
 const SWEEPS: usize = 3;
-
-// Which part of what IC3 propagated a sweep may do.
-const SHARE: u64 = 2;
 
 /// The part of a circuit that some of its literals depend on. None where memory is refused, or where one of them is of no
 /// variable of the circuit.
@@ -143,7 +144,7 @@ impl<'a, S: SatSolver + Drop> Parted<'a, S> {
         if !merges {
             return None;
         }
-        let mut done = FIRST;
+        let mut done = self.sweep_work().saturating_mul(SHARE);
         for _ in 0..SWEEPS {
             done = self.go_on_to(done, observer)?;
             let left = self.sweep(alloc, done / SHARE);
@@ -153,6 +154,11 @@ impl<'a, S: SatSolver + Drop> Parted<'a, S> {
             done = done.saturating_mul(LATER);
         }
         None
+    }
+
+    // About how much it takes to find out what is left of the part.
+    fn sweep_work(&self) -> u64 {
+        (self.part.netlist.circuit.gates.len() as u64).saturating_mul(SWEEP)
     }
 
     // What is left of the part, if so much work suffices to find that out.
