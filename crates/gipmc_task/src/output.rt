@@ -29,7 +29,7 @@ pub enum AnswerOrder {
     /// In that of the literals. So one that is not decided holds back the answers about those behind it.
     Places,
     /// Each once its literal is decided, as far as that is looked for: some times at each depth of bounded model checking,
-    /// and where the search ends. Then no progress is written.
+    /// and where the search ends. Then no progress is written, and nothing is merged, since an answer would wait for it.
     Known,
 }
 
