@@ -7,18 +7,24 @@ use Rattle.gipmc_task.specs.declared.outcome.Outcome.{Outcome}
 use Rattle.gipmc_task.specs.declared.outcome.Outcome.TheVariants.{Fails, Safe, Open}
 
 -- a search ends with 20 only where the outcome is safe
-pub safe_ended : {E : Type 0} (P : Outcome → Type 0) (r : Result Outcome E) → IfOk r P → search_status r ≡ 20 → P Safe
-safe_ended P (Ok Safe) is status = is
-safe_ended P (Ok Fails) is status = absurd cc
-safe_ended P (Ok Open) is status = absurd cc
-safe_ended P (Err error) is status = absurd cc
+pub safe_ended : {E : Type 0} (P : Outcome → Type 0) (zero : Bool) (r : Result Outcome E) → IfOk r P
+    → search_status zero r ≡ 20 → P Safe
+safe_ended P true (Ok outcome) is status = absurd cc
+safe_ended P true (Err error) is status = absurd cc
+safe_ended P false (Ok Safe) is status = is
+safe_ended P false (Ok Fails) is status = absurd cc
+safe_ended P false (Ok Open) is status = absurd cc
+safe_ended P false (Err error) is status = absurd cc
 
 -- it ends with 10 only where the circuit fails
-pub fails_ended : {E : Type 0} (P : Outcome → Type 0) (r : Result Outcome E) → IfOk r P → search_status r ≡ 10 → P Fails
-fails_ended P (Ok Safe) is status = absurd cc
-fails_ended P (Ok Fails) is status = is
-fails_ended P (Ok Open) is status = absurd cc
-fails_ended P (Err error) is status = absurd cc
+pub fails_ended : {E : Type 0} (P : Outcome → Type 0) (zero : Bool) (r : Result Outcome E) → IfOk r P
+    → search_status zero r ≡ 10 → P Fails
+fails_ended P true (Ok outcome) is status = absurd cc
+fails_ended P true (Err error) is status = absurd cc
+fails_ended P false (Ok Safe) is status = absurd cc
+fails_ended P false (Ok Fails) is status = is
+fails_ended P false (Ok Open) is status = absurd cc
+fails_ended P false (Err error) is status = absurd cc
 
 -- a check ends with 0 only where the answer is verified
 pub verified_ended : {E : Type 0} (P : Type 0) (r : Result Bool E) → IfOk r (λ verified. IsTrue verified → P)

@@ -1,5 +1,6 @@
 mod Answered
 mod Ended
 mod Examples
+mod Listed
 mod Plans
 mod Texts

@@ -1,5 +1,5 @@
 -- What is answered, replayed and certified of the problem that some bytes write.
-use Rattle.std.specs.Prelude.{◌≡◌, ℕ, ◌+◌, ◌<◌, List, Some, Vec, length, slice_get, ⊤}
+use Rattle.std.specs.Prelude.{◌≡◌, ℕ, zero, suc, ◌+◌, ◌<◌, List, [], ◌∷◌, ◌++◌, Some, Vec, length, slice_get, ⊤}
 use Rattle.std.specs.declared.alloc.Global.{Global}
 use Rattle.gipsat_cnf.specs.Literals.{Lit}
 use Rattle.gipmc_aiger.specs.LiveCircuits.{IsProblemOf}
@@ -10,6 +10,7 @@ use Rattle.gipmc_aiger.specs.declared.problem.Subject.{Subject}
 use Rattle.gipmc_aiger.specs.declared.problem.Subject.TheVariants.{All, Any, One}
 use Rattle.gipmc_circuits.specs.Circuit.{FailsAfter, IsSafe}
 use Rattle.gipmc_reduce.specs.Liveness.{FailsForever, IsLive}
+use Rattle.gipmc_task.specs.Certificates.{Certifies}
 use Rattle.gipmc_task.specs.Witnesses.{Replays, ReplaysAll}
 use Rattle.gipmc_task.specs.declared.kind.PropertyKind.TheVariants as kind
 use Rattle.gipmc_task.specs.declared.outcome.Outcome.{Outcome}
@@ -72,6 +73,20 @@ ReplaysAsked p text All = ReplaysEach p text
 ReplaysAsked p text Any = ReplaysEach p text
 ReplaysAsked p text (One (Bad place)) = Replays p kind.Bad text (Some place)
 ReplaysAsked p text (One (Justice place)) = Replays p kind.Justice text (Some place)
+
+-- some text is a certificate of all its bad literals
+abbrev pub IsShownSafe : Problem → Type 0
+IsShownSafe p = (text : List ℕ) × Certifies p text All
+
+-- some properties, and behind them the first n of a kind
+abbrev pub followed : List Property → (ℕ → Property) → ℕ → List Property
+followed before kind zero = before
+followed before kind (suc n) = followed before kind n ++ kind n ∷ []
+
+-- the properties of a problem, in the order of their answers: bad literals, and then justice properties
+abbrev pub properties : Problem → List Property
+properties p =
+    followed (followed [] Bad (length p.netlist.circuit.bads.items)) Justice (length p.liveness.justice.items)
 
 -- what is asked about, if that is one property, and else the other
 abbrev pub asked_or : Subject → Subject → Subject

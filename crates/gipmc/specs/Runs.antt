@@ -1,10 +1,10 @@
 -- What the status of a run says, by what its words ask for, and by what the files have that they name.
 use Rattle.std.specs.Prelude.{◌≡◌, ℕ, List, Option, Ok, IfSome, ⊤}
 use Rattle.gipmc_command.specs.Options.{Request}
-use Rattle.gipmc_command.specs.Words.{Answer, Certify, Replay, Tell, Work, work_asked}
+use Rattle.gipmc_command.specs.Words.{Answer, Certify, Join, Properties, Replay, Tell, Work, work_asked}
 use Rattle.gipmc_task.specs.Certificates.{Certifies}
 use Rattle.gipmc_task.specs.declared.outcome.Outcome.{Outcome}
-use Rattle.gipmc.specs.Asked.{IsAnswered, ReplaysAsked, WriteOne}
+use Rattle.gipmc.specs.Asked.{IsAnswered, IsShownSafe, ReplaysAsked, WriteOne}
 use Rattle.gipmc.specs.Texts.{text_read}
 
 -- the bytes of each file by its name, where they are known; standard input has no name
@@ -31,19 +31,27 @@ IsCertified files r certificate =
     IfText files r.file
     (λ bytes. IfText files certificate (λ text. WriteOne bytes (λ p. Certifies p text r.subject)))
 
+-- it writes one that some certificate shows safe
+abbrev pub IsJoined : Contents → Request → Type 0
+IsJoined files r = IfText files r.file (λ bytes. WriteOne bytes IsShownSafe)
+
 -- the work is a search, and this was found of what it asks for
 abbrev pub Finds : Contents → Outcome → Work → Type 0
 Finds files outcome (Tell info) = ⊥
 Finds files outcome (Answer r) = IsFound files r outcome
 Finds files outcome (Replay r witness) = ⊥
 Finds files outcome (Certify r certificate) = ⊥
+Finds files outcome (Properties r) = ⊥
+Finds files outcome (Join r out) = ⊥
 
--- if the work is a check of an answer, that is right
+-- if the work is a check of an answer, that is right; if it joins certificates, what they show is
 abbrev pub Verifies : Contents → Work → Type 0
 Verifies files (Tell info) = ⊤
 Verifies files (Answer r) = ⊤
 Verifies files (Replay r witness) = IsReplayed files r witness
 Verifies files (Certify r certificate) = IsCertified files r certificate
+Verifies files (Properties r) = ⊤
+Verifies files (Join r out) = IsJoined files r
 
 -- the words ask for work of which this holds
 abbrev pub Ask : List (List ℕ) → (Work → Type 0) → Type 0

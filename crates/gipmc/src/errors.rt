@@ -39,6 +39,8 @@ pub enum Failure<'a> {
     NoCircuitOfK(&'a str),
     /// No certificate was written to this file, since it would be one of several properties.
     SeveralProperties(Option<&'a str>),
+    /// This file is a certificate that is not clauses alone.
+    NotClauses(&'a str),
     /// Memory was refused.
     Memory,
 }
@@ -131,6 +133,10 @@ impl Display for Failure<'_> {
                 f,
                 "{}: not written, since '--justice' asks for the property that it is to be of",
                 name.unwrap_or("<stdout>")
+            ),
+            Failure::NotClauses(name) => write!(
+                f,
+                "{name}: no part, since it has a k or is a circuit ('--engine ic3' finds clauses alone)"
             ),
             Failure::Memory => f.write_str("memory: refused"),
         }

@@ -16,6 +16,8 @@ mod certify;
 mod checks;
 mod errors;
 mod files;
+mod join;
+mod list;
 mod located;
 mod progress;
 mod replay;
@@ -54,6 +56,8 @@ fn run<T: Texts>(rt: &HostRuntime, texts: &T, words: &[String]) -> ExitCode
         Ok(Task::Search(options)) => search::run(rt, texts, &options),
         Ok(Task::Replay(options, witness)) => replay::run(rt, texts, &options, witness),
         Ok(Task::Certify(options, name)) => certify::run(rt, texts, &options, name),
+        Ok(Task::List(options)) => list::run(rt, texts, &options),
+        Ok(Task::Join(options, out)) => join::run(rt, texts, &options, out),
         Err(error) => explain(rt, "gipmc", &error),
     }
 }

@@ -7,7 +7,7 @@ ghost use Rattle.gipmc_task.specs.Justice.Answers as justice;
 ghost use Rattle.gipmc_task.specs.declared.outcome.Outcome.TheVariants.{Fails, Safe};
 ghost use Rattle.gipmc.specs.Asked.{IsAnswered, IsRightOutcome};
 ghost use Rattle.gipmc.specs.Runs.{IsFound};
-ghost use Rattle.gipmc.specs.Statuses.{outcome_status, search_status};
+ghost use Rattle.gipmc.specs.Statuses.{exits_zero, outcome_status, search_status};
 
 use crate::certificates::{certificate_file, keep_certificate, tell_left_out};
 use crate::errors::Failure;
@@ -46,17 +46,35 @@ fn search_in(rt: &HostRuntime, options: &Options, clock: Clock, bytes: &[u8]) ->
     ensures safe { exit_status result ≡ 20 → IsAnswered bytes.now options.now.subject Safe }
     ensures fails { exit_status result ≡ 10 → IsAnswered bytes.now options.now.subject Fails }
 {
-    end_search(rt, bytes, search_circuit(rt, options, clock, bytes))
+    end_search(
+        rt,
+        options,
+        bytes,
+        search_circuit(rt, options, clock, bytes),
+    )
 }
 
 // The status after a search in the circuit of a text. Writes why nothing is answered.
-fn end_search(rt: &HostRuntime, circuit: &[u8], ended: Result<Outcome, Failure>) -> ExitCode
-    ensures { exit_status result ≡ search_status ended.entry }
+fn end_search(
+    rt: &HostRuntime,
+    options: &Options,
+    circuit: &[u8],
+    ended: Result<Outcome, Failure>,
+) -> ExitCode
+    ensures { exit_status result ≡ search_status (exits_zero options.now) ended.entry }
 {
     match ended {
+        Ok(_) if exits_zero(options) => ExitCode::SUCCESS,
         Ok(outcome) => ExitCode::from(status_of(outcome)),
         Err(error) => refuse(rt, &located(error, circuit, &[])),
     }
+}
+
+// Whether the status is 0 whatever is found.
+fn exits_zero(options: &Options) -> bool
+    ensures { result ≡ exits_zero options.now }
+{
+    options.asked.has("--exit-zero")
 }
 
 // The status of an outcome.

@@ -4,12 +4,12 @@ use Rattle.std.specs.Prelude.{Option}
 use Rattle.gip_cli.specs.Asked.{has, number, said_by, word}
 use Rattle.gip_cli.specs.Items.{NoChoice, NoNumber, NoOutput, NoValue, Said, UnknownOption}
 use Rattle.gip_cli.specs.declared.items.Info.TheVariants as info
-use Rattle.gipmc_command.specs.Misuses.{Words, ExtraFile, TwoTasks, NoSearch, NoLimit, InputTwice}
+use Rattle.gipmc_command.specs.Misuses.{Words, ExtraFile, TwoTasks, NoSearch, NoLimit, NoProperty, InputTwice}
 use Rattle.gipmc_aiger.specs.declared.problem.Property.TheVariants.{Bad, Justice}
 use Rattle.gipmc_aiger.specs.declared.problem.Subject.{Subject}
 use Rattle.gipmc_aiger.specs.declared.problem.Subject.TheVariants.{All, Any, One}
 use Rattle.gipmc_command.specs.Options.{Request, table}
-use Rattle.gipmc_command.specs.Words.{work_asked, Tell, Answer, Replay, Certify}
+use Rattle.gipmc_command.specs.Words.{work_asked, Tell, Answer, Replay, Certify, Properties, Join}
 
 abbrev said : List (List ℕ) → List Said
 said words = said_by table words
@@ -104,6 +104,40 @@ certify-asked = refl
 refused-limit_of_a_witness : work_asked (codes "--limit" ∷ codes "5" ∷ codes "--replay" ∷ codes "w" ∷ [])
     ≡ Err (NoLimit (codes "--limit"))
 refused-limit_of_a_witness = refl
+
+-- the properties of a file
+abbrev listed : List (List ℕ)
+listed = codes "--list" ∷ codes "a" ∷ []
+
+listed-asked : work_asked listed ≡ Ok (Properties (asked listed (Some (codes "a")) All))
+listed-asked = refl
+
+refused-list_of_one : work_asked (codes "--list" ∷ codes "--bad=1" ∷ []) ≡ Err (NoProperty (codes "--bad=1"))
+refused-list_of_one = refl
+
+-- certificates stand behind the circuit
+abbrev joined : List (List ℕ)
+joined = codes "--join" ∷ codes "o" ∷ codes "--limit=5" ∷ codes "a" ∷ codes "p" ∷ codes "q" ∷ []
+
+joined-asked : work_asked joined ≡ Ok (Join (asked joined (Some (codes "a")) All) (codes "o"))
+joined-asked = refl
+
+refused-joined_list : work_asked (codes "--list" ∷ codes "--join=o" ∷ codes "a" ∷ []) ≡ Err TwoTasks
+refused-joined_list = refl
+
+refused-joined_of_one : work_asked (codes "--join=o" ∷ codes "--any" ∷ codes "a" ∷ []) ≡ Err (NoProperty (codes "--any"))
+refused-joined_of_one = refl
+
+-- the status of a search may be 0 whatever is found, and that of a check may not
+abbrev zero : List (List ℕ)
+zero = codes "--exit-zero" ∷ codes "a" ∷ []
+
+zero-asked : work_asked zero ≡ Ok (Answer (asked zero (Some (codes "a")) All))
+zero-asked = refl
+
+refused-zero_of_a_witness : work_asked (codes "--replay=w" ∷ codes "--exit-zero" ∷ codes "a" ∷ [])
+    ≡ Err (NoSearch (codes "--exit-zero"))
+refused-zero_of_a_witness = refl
 
 -- the help is told whatever stands behind it
 help : work_asked (codes "--stats" ∷ codes "-h" ∷ codes "--other" ∷ []) ≡ Ok (Tell info.Help)

@@ -27,6 +27,8 @@ table =
     option.switch (codes "--shortest") [] (codes "search") ∷
     option.text (codes "--replay") (codes "each") ∷
     option.text (codes "--certify") (codes "each") ∷
+    option.switch (codes "--list") [] (codes "each") ∷
+    option.output (codes "--join") (codes "each") ∷
     option.output (codes "--certificate") (codes "search") ∷
     option.switch (codes "--aiger") [] (codes "search") ∷
     option.switch (codes "--names") [] (codes "search") ∷
@@ -36,6 +38,7 @@ table =
     option.switch (codes "--quiet") (codes "-q") (codes "each") ∷
     option.switch (codes "--verbose") (codes "-v") (codes "each") ∷
     option.switch (codes "--stats") [] (codes "search") ∷
+    option.switch (codes "--exit-zero") [] (codes "search") ∷
     []
 
 -- what the words say, the file of the circuit, if not standard input, and the properties that are asked about

@@ -4,19 +4,23 @@ use gip_cli::{About, Kind, Opt};
 /// The scope of options that each task heeds.
 pub const EACH: &str = "each";
 
-/// The scope of options that say which property is asked about. The last one counts.
+/// The scope of options that say which property is asked about. The last one counts. A list and a joined certificate are
+/// of all, and heed none.
 pub const PROPERTY: &str = "property";
 
 /// The scope of options that a search alone heeds.
 pub const SEARCH: &str = "search";
 
-/// The scope of options that all but a replay heed.
+/// The scope of options that a replay and a list do not heed.
 pub const LIMIT: &str = "limit";
 
 /// What the program tells of itself.
 pub const ABOUT: About = About {
     version: "gipmc 0.1.0",
-    usage: &["gipmc [OPTION]... [FILE]"],
+    usage: &[
+        "gipmc [OPTION]... [FILE]",
+        "gipmc --join OUT [OPTION]... FILE PART...",
+    ],
     summary: &[
         "Reads a circuit in the ascii or the binary form of AIGER 1.9 from FILE, or from standard input where none is \
          named or its name is -, and finds out whether its bad states can be reached. One search is about all bad \
@@ -36,7 +40,8 @@ pub const ABOUT: About = About {
     note: "The option --shortest is about bad literals alone. The value of a long option may also stand behind `=`, \
            and that of a short one right behind it: --depth=20, -t9.",
     statuses: "Exit status: 10 unsafe, a bad state is reachable or a justice property fails; 20 safe, neither; 0 open, \
-               verified, or help; 1 an error, or not verified; 2 arguments that have no meaning.",
+               verified, listed, or help; 1 an error, or not verified; 2 arguments that have no meaning. By \
+               --exit-zero it is 0 in place of 10 and 20.",
 };
 
 /// The options.
@@ -157,6 +162,26 @@ pub const OPTIONS: &[Opt] = &[
                which literals of the circuit it shares",
     },
     Opt {
+        long: "--list",
+        short: "",
+        kind: Kind::Switch,
+        scope: EACH,
+        section: "Many properties",
+        help: "write a line for each property, in the order of the answers: `b` or `j` with its place, and how many \
+               latches, gates and inputs it and the constraints depend on. Nothing is searched",
+    },
+    Opt {
+        long: "--join",
+        short: "",
+        kind: Kind::Output("OUT"),
+        scope: EACH,
+        section: "Many properties",
+        help: "put the clauses of the certificates PART... together, as searches with --bad write them. If they show \
+               of all bad literals that no bad state is reachable, write them to the file OUT, which must not be \
+               there, and `s VERIFIED`; else `s NOT VERIFIED`, and on standard error why. A part is clauses alone, as \
+               --engine ic3 finds them: no line `k N`, and no circuit",
+    },
+    Opt {
         long: "--certificate",
         short: "",
         kind: Kind::Output("F"),
@@ -242,5 +267,13 @@ pub const OPTIONS: &[Opt] = &[
         help: "write a summary on standard error, in lines that begin with c: of each property that was searched for \
                how far each engine that ran came, what decided, and the time; and at the end the time and the most \
                memory of all",
+    },
+    Opt {
+        long: "--exit-zero",
+        short: "",
+        kind: Kind::Switch,
+        scope: SEARCH,
+        section: "Output",
+        help: "end with status 0 whatever the answers are, for programs that read them; an error ends as ever",
     },
 ];

@@ -9,12 +9,14 @@ pub enum UsageError<'a> {
     Words(Fault<'a>),
     /// More files are named than are read.
     ExtraFile(&'a str),
-    /// A witness and a certificate are given.
+    /// More than one of a witness, a certificate, a list and a joined certificate is asked for.
     TwoTasks,
-    /// This option of a search stands beside a witness or a certificate.
+    /// This option of a search stands beside one of these.
     NoSearch(&'a str),
-    /// This limit stands beside a witness.
+    /// This limit stands beside a witness or a list.
     NoLimit(&'a str),
+    /// This option about properties stands beside a list or a joined certificate.
+    NoProperty(&'a str),
     /// Standard input is named twice.
     InputTwice,
 }
@@ -24,11 +26,19 @@ impl Display for UsageError<'_> {
         match *self {
             UsageError::Words(fault) => Display::fmt(&fault, f),
             UsageError::ExtraFile(name) => write!(f, "one file too many, '{name}'"),
-            UsageError::TwoTasks => f.write_str("'--replay' and '--certify' exclude each other"),
-            UsageError::NoSearch(word) => {
-                write!(f, "'{word}' goes with neither '--replay' nor '--certify'")
+            UsageError::TwoTasks => {
+                f.write_str("one at most of '--replay', '--certify', '--list' and '--join' is done")
             }
-            UsageError::NoLimit(word) => write!(f, "'{word}' does not go with '--replay'"),
+            UsageError::NoSearch(word) => write!(
+                f,
+                "'{word}' goes with none of '--replay', '--certify', '--list' and '--join'"
+            ),
+            UsageError::NoLimit(word) => {
+                write!(f, "'{word}' goes with neither '--replay' nor '--list'")
+            }
+            UsageError::NoProperty(word) => {
+                write!(f, "'{word}' goes with neither '--list' nor '--join'")
+            }
             UsageError::InputTwice => f.write_str("one file at most is read from standard input"),
         }
     }

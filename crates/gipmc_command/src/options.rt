@@ -7,7 +7,8 @@ ghost use Rattle.gip_cli.specs.Items.{given_said};
 ghost use Rattle.gip_cli.specs.Options.{entry_of};
 ghost use Rattle.gipmc_command.specs.Misuses.{misuse_of};
 ghost use Rattle.gipmc_command.specs.Options.{request, request_of, subject_of, table};
-ghost use Rattle.gipmc_command.specs.Words.{answer_of, heeded, work, work_asked, work_of};
+ghost use Rattle.gipmc_command.specs.Words.{answer_of, checks, heeded, join, list, of_all, search};
+ghost use Rattle.gipmc_command.specs.Words.{work, work_asked, work_of};
 
 use crate::about::{LIMIT, OPTIONS, PROPERTY, SEARCH};
 use crate::misuse::UsageError;
@@ -25,6 +26,10 @@ pub enum Task<'a> {
     Replay(Options<'a>, Option<&'a str>),
     /// To certify by the certificate in this file. None is standard input.
     Certify(Options<'a>, Option<&'a str>),
+    /// To list the properties of a circuit.
+    List(Options<'a>),
+    /// To join certificates to one in this file. The options name them behind the circuit.
+    Join(Options<'a>, &'a str),
 }
 
 impl<'a> Task<'a> {
@@ -91,13 +96,67 @@ fn subject_of(given: Option<Given>) -> Subject
     }
 }
 
-// A search, or a check of one answer, of one file at most.
+// To join certificates, or what is done of one file at most.
 fn work<'a>(asked: Asked<'a>) -> Result<Task<'a>, UsageError<'a>>
     ensures { result_map_both work_of misuse_of result ≡ work (asked_said asked.entry) }
 {
+    if let Some(out) = asked.word("--join") {
+        return join(asked, out);
+    }
     if let Some(name) = asked.file(1) {
         return Err(UsageError::ExtraFile(name));
     }
+    if asked.has("--list") {
+        return list(asked);
+    }
+    search(asked)
+}
+
+// To join certificates of all bad literals to one in this file.
+fn join<'a>(asked: Asked<'a>, out: &'a str) -> Result<Task<'a>, UsageError<'a>>
+    ensures { result_map_both work_of misuse_of result ≡ join (asked_said asked.entry) out.now }
+{
+    if asked.has("--list") || checks(asked) {
+        return Err(UsageError::TwoTasks);
+    }
+    heeded(asked, false)?;
+    of_all(asked)?;
+    Ok(Task::Join(Options::new(asked), out))
+}
+
+// To list the properties.
+fn list<'a>(asked: Asked<'a>) -> Result<Task<'a>, UsageError<'a>>
+    ensures { result_map_both work_of misuse_of result ≡ list (asked_said asked.entry) }
+{
+    if checks(asked) {
+        return Err(UsageError::TwoTasks);
+    }
+    heeded(asked, true)?;
+    of_all(asked)?;
+    Ok(Task::List(Options::new(asked)))
+}
+
+// Whether an answer is to be checked.
+fn checks(asked: Asked) -> bool
+    ensures { result ≡ checks (asked_said asked.entry) }
+{
+    asked.has("--replay") || asked.has("--certify")
+}
+
+// Tests that no property is asked about.
+fn of_all<'a>(asked: Asked<'a>) -> Result<(), UsageError<'a>>
+    ensures { result_map_both (λ done. done) misuse_of result ≡ of_all (asked_said asked.entry) }
+{
+    match asked.last_in(PROPERTY) {
+        Some(given) => Err(UsageError::NoProperty(given.word)),
+        None => Ok(()),
+    }
+}
+
+// A search, or a check of one answer.
+fn search<'a>(asked: Asked<'a>) -> Result<Task<'a>, UsageError<'a>>
+    ensures { result_map_both work_of misuse_of result ≡ search (asked_said asked.entry) }
+{
     let options = Options::new(asked);
     match (asked.word("--replay"), asked.word("--certify")) {
         (None, None) => Ok(Task::Search(options)),
@@ -113,15 +172,15 @@ fn work<'a>(asked: Asked<'a>) -> Result<Task<'a>, UsageError<'a>>
     }
 }
 
-// Tests that a check of an answer heeds each option, or a replay alone.
-fn heeded<'a>(asked: Asked<'a>, replay: bool) -> Result<(), UsageError<'a>>
-    ensures { result_map_both (λ done. done) misuse_of result ≡ heeded replay (asked_said asked.entry) }
+// Tests that no option of a search is given, and no limit where none is heeded.
+fn heeded<'a>(asked: Asked<'a>, unlimited: bool) -> Result<(), UsageError<'a>>
+    ensures { result_map_both (λ done. done) misuse_of result ≡ heeded unlimited (asked_said asked.entry) }
 {
     if let Some(given) = asked.last_in(SEARCH) {
         return Err(UsageError::NoSearch(given.word));
     }
     match asked.last_in(LIMIT) {
-        Some(given) if replay => Err(UsageError::NoLimit(given.word)),
+        Some(given) if unlimited => Err(UsageError::NoLimit(given.word)),
         _ => Ok(()),
     }
 }

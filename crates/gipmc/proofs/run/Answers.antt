@@ -80,3 +80,30 @@ returns-in-Ok-Certify-clause-verified g c is = (
   sym (rw c.in-Ok-Certify.field-0-is at c.in-Ok-Certify.ensures),
   c.run-in-Ok-Certify.ensures.verified is,
 )
+
+pub returns-in-Ok-List-clause-safe : goal.returns-in-Ok-List-clause-safe
+returns-in-Ok-List-clause-safe g c is =
+    never-safe (map string_bytes c.args.words.now) (g.T.Texts.bytes c.args.texts.now) _ c.run-in-Ok-List.ensures is
+
+pub returns-in-Ok-List-clause-fails : goal.returns-in-Ok-List-clause-fails
+returns-in-Ok-List-clause-fails g c is =
+    never-fails (map string_bytes c.args.words.now) (g.T.Texts.bytes c.args.texts.now) _ c.run-in-Ok-List.ensures is
+
+pub returns-in-Ok-List-clause-verified : goal.returns-in-Ok-List-clause-verified
+returns-in-Ok-List-clause-verified g c is =
+    (work_of (task.List c.in-Ok-List.options), sym (rw c.in-Ok-List.field-0-is at c.in-Ok-List.ensures), tt)
+
+pub returns-in-Ok-Join-clause-safe : goal.returns-in-Ok-Join-clause-safe
+returns-in-Ok-Join-clause-safe g c is =
+    never-safe (map string_bytes c.args.words.now) (g.T.Texts.bytes c.args.texts.now) _ c.run-in-Ok-Join.ensures.ends is
+
+pub returns-in-Ok-Join-clause-fails : goal.returns-in-Ok-Join-clause-fails
+returns-in-Ok-Join-clause-fails g c is =
+    never-fails (map string_bytes c.args.words.now) (g.T.Texts.bytes c.args.texts.now) _ c.run-in-Ok-Join.ensures.ends is
+
+pub returns-in-Ok-Join-clause-verified : goal.returns-in-Ok-Join-clause-verified
+returns-in-Ok-Join-clause-verified g c is = (
+  work_of (task.Join c.in-Ok-Join.options c.in-Ok-Join.out),
+  sym (rw c.in-Ok-Join.field-0-is at c.in-Ok-Join.ensures),
+  c.run-in-Ok-Join.ensures.verified is,
+)
