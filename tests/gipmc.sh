@@ -100,6 +100,85 @@ try "a constraint that the last moment breaks" 0 "" "$(open 9)" \
 try "a constraint that the first moment breaks" 0 "" "$(open 9)" 'aag 1 0 1 0 0 1 1\n2 2\n2\n2\n' --engine bmc --depth 9
 try "a constraint that the inputs meet" 10 "" "$fails" 'aag 3 1 1 0 1 1 1\n2\n4 2\n4\n7\n6 4 2\n' --engine bmc
 
+# Status 0 whatever is answered, and that of errors as ever.
+try "a latch that may rise, with status 0" 0 "" "$fails" "$held" --engine bmc --exit-zero
+try "a latch that stays, with status 0" 0 "" "$safe" "$kept" --exit-zero
+try "an error beside status 0" 1 "<stdin>: no bad literal 2, of 2" "" "$two" --bad 2 --exit-zero
+
+# SymbiYosys takes an engine's word so: status 0, lines `uN`, then a line 0, 1 or 2, and behind a 1 the lines of a trace up
+# to a dot.
+# NAME VERDICT INPUT: tells PASS, FAIL or UNKNOWN so of this circuit; where it fails, the trace is a counterexample.
+play_symbiyosys() {
+    local name=$1 wanted=$2 said
+    is_wanted "$name" || return 0
+    printf '%b' "$3" > design.aig
+    "$gipmc" --any --exit-zero --depth 9 design.aig > out 2> err
+    status=$?
+    said=$(awk 'known { if (!ended) print > "trace.aiw"; if ($0 == ".") ended = 1; next }
+        /^u[0-9]+$/ { next }
+        /^[012]$/ { known = 1; verdict = substr("PUF", $0 == 0 ? 1 : $0 == 2 ? 2 : 3, 1); print > "trace.aiw"; next }
+        { exit }
+        END { print verdict }' out)
+    [ "$status" = 0 ] && [ "$said" = "${wanted:0:1}" ] &&
+        { [ "$wanted" != FAIL ] || [ "$("$gipmc" --replay trace.aiw design.aig)" = "s VERIFIED" ]; }
+    told "$name" $?
+}
+play_symbiyosys "an engine of SymbiYosys, where all assertions hold" PASS "$stay"
+play_symbiyosys "an engine of SymbiYosys, where the second of three fails" FAIL "$second"
+play_symbiyosys "an engine of SymbiYosys, where a latch may begin at 1" FAIL 'aag 1 0 1 0 0 1\n2 2 2\n2\n'
+
+# The properties of a circuit, each with what it and the constraints depend on.
+try "a list of two bad literals" 0 "" "$(printf 'b0 latches 1 gates 0 inputs 0\nb1 latches 1 gates 0 inputs 1')" "$two" \
+    --list
+try "a list of a justice property" 0 "" "j0 latches 2 gates 1 inputs 0" \
+    'aag 3 0 2 0 1 0 0 1\n2 3\n4 6 1\n1\n4\n6 4 3\n' --list
+try "a list of an output" 0 "" "b0 latches 1 gates 0 inputs 1" 'aag 2 1 1 1 0\n2\n4 2\n4\n' --list
+try "a list beside a constraint" 0 "" "b0 latches 1 gates 1 inputs 1" 'aag 3 1 1 0 1 1 1\n2\n4 4\n4\n7\n6 4 2\n' --list
+try "a list of nothing" 0 "" "" 'aag 1 1 0 0 0\n2\n' --list
+# shellcheck disable=SC2016
+try "a list of no circuit" 1 '<stdin>:1: no header `aag` or `aig`' "" 'xyz\n' --list
+
+# Certificates of the bad literals of a circuit, put together to one.
+printf '%b' "$stay" > staying.aag
+for place in 0 1; do
+    "$gipmc" --engine ic3 --bad $place --certificate joins$place staying.aag > out 2> err
+done
+# NAME STATUS ERROR OUTPUT PART..: joins these, and expects this; a file appears where all is verified alone.
+try_parts() {
+    local name=$1 wanted=$2 error=$3 output=$4
+    shift 4
+    is_wanted "$name" || return 0
+    rm -f joined
+    "$gipmc" --join joined staying.aag "$@" > out 2> err
+    status=$?
+    [ "$status" = "$wanted" ] && [ "$(cat err)" = "$error" ] && [ "$(cat out)" = "$output" ] &&
+        if [ "$wanted" = 0 ]; then [ "$("$gipmc" --certify joined staying.aag)" = "s VERIFIED" ]; else [ ! -e joined ]; fi
+    told "$name" $?
+}
+printf 'p cnf 2 1\n1 0\n' > rising
+printf 'p cnf 3 1\n-3 0\n' > wider
+printf 'k 1\n' > counted
+cp staying.aag drawn_part
+try_parts "certificates of both bad literals" 0 "" "s VERIFIED" joins0 joins1
+try_parts "certificates in another order, one of them twice" 0 "" "s VERIFIED" joins1 joins0 joins1
+try_parts "a certificate that is missing" 1 "joined: b1: the clauses allow a bad moment" "s NOT VERIFIED" joins0
+try_parts "no certificate" 1 "joined: b0: the clauses allow a bad moment" "s NOT VERIFIED"
+try_parts "a certificate of another circuit" 1 "rising: b0: clause 1 is false at an initial moment" "s NOT VERIFIED" \
+    joins0 joins1 rising
+# shellcheck disable=SC2016
+try_parts "a certificate over more latches" 1 'wider:1: no header `p cnf LATCHES CLAUSES` that says what follows' "" \
+    joins0 wider
+try_parts "a certificate with a k" 1 \
+    "counted: no part, since it has a k or is a circuit ('--engine ic3' finds clauses alone)" "" joins0 counted
+try_parts "a certificate that is a circuit" 1 \
+    "drawn_part: no part, since it has a k or is a circuit ('--engine ic3' finds clauses alone)" "" drawn_part
+try_parts "a certificate that is not there" 1 "none: no such file" "" joins0 none
+cp joins0 stands
+try "a joined certificate whose name is taken" 1 "stands: cannot be made: entity already exists" "" "" \
+    --join stands staying.aag joins0
+# shellcheck disable=SC2016
+try "no circuit to join for" 1 '<stdin>:1: no header `aag` or `aig`' "" "" --join joined
+
 # Simulation: what it finds is a trace.
 printf '%b' "$held" > held.aag
 "$gipmc" --engine sim --seed 3 held.aag > sim.wit 2> err
@@ -957,7 +1036,8 @@ if is_wanted "a file of a witness is there when its answer is"; then
 fi
 for option in --names --vcd=a --witness=a; do
     try "$option beside --replay" 2 \
-        "gipmc: '$option' goes with neither '--replay' nor '--certify' (try --help)" "" "" --replay a "$option"
+        "gipmc: '$option' goes with none of '--replay', '--certify', '--list' and '--join' (try --help)" "" "" \
+        --replay a "$option"
 done
 printf '%b' 'aag 2 1 1 0 0 1\r\n2\r\n4 2\r\n4\r\n' > returns.aag
 try "a circuit with carriage returns" 10 "" "$fails" "" --engine bmc returns.aag
@@ -1625,16 +1705,32 @@ printf '%b' "$two" > $'two\n.aag'
 printf '1\nb1\n00\n.\n' > $'wit\n'
 try "a witness of such a name" 1 "wit_: witness 1, b1: no moment" "s NOT VERIFIED" "" --replay $'wit\n' $'two\n.aag'
 try "a witness and a certificate" 2 \
-    "gipmc: '--replay' and '--certify' exclude each other (try --help)" "" "" --replay a --certify b
+    "gipmc: one at most of '--replay', '--certify', '--list' and '--join' is done (try --help)" "" "" --replay a --certify b
 try "a witness, and a file for a certificate" 2 \
-    "gipmc: '--certificate' goes with neither '--replay' nor '--certify' (try --help)" "" "" --replay a --certificate b
-for option in --engine=bmc --depth=9 --seed=1 --shortest --time=9 --memory=9 --stats; do
-    for task in --replay --certify; do
-        try "$option beside $task" 2 \
-            "gipmc: '$option' goes with neither '--replay' nor '--certify' (try --help)" "" "" "$task" a "$option"
+    "gipmc: '--certificate' goes with none of '--replay', '--certify', '--list' and '--join' (try --help)" "" "" \
+    --replay a --certificate b
+for option in --engine=bmc --depth=9 --seed=1 --shortest --time=9 --memory=9 --stats --exit-zero; do
+    for task in --replay=a --certify=a --list --join=a; do
+        try "$option beside ${task%=a}" 2 \
+            "gipmc: '$option' goes with none of '--replay', '--certify', '--list' and '--join' (try --help)" "" "" \
+            "$task" "$option"
     done
 done
-try "a limit beside a witness" 2 "gipmc: '--limit' does not go with '--replay' (try --help)" "" "" --replay a --limit 9
+for option in --bad=0 --justice=0 --any; do
+    for task in --list --join=a; do
+        try "$option beside ${task%=a}" 2 \
+            "gipmc: '$option' goes with neither '--list' nor '--join' (try --help)" "" "" "$task" "$option"
+    done
+done
+for task in --replay=a --list; do
+    try "a limit beside ${task%=a}" 2 "gipmc: '--limit' goes with neither '--replay' nor '--list' (try --help)" "" "" \
+        "$task" --limit 9
+done
+for task in --replay=a --certify=a --join=a; do
+    try "a list and ${task%=a}" 2 \
+        "gipmc: one at most of '--replay', '--certify', '--list' and '--join' is done (try --help)" "" "" --list "$task"
+done
+try "two files to list" 2 "gipmc: one file too many, 'b' (try --help)" "" "" --list a b
 try "standard output for a certificate" 2 \
     "gipmc: '-' names no file to write, since standard output has the answer (try --help)" "" "" --certificate -
 try "standard output for a certificate, joined" 2 \

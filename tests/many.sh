@@ -1,20 +1,24 @@
 #!/usr/bin/env bash
-# Splits formulas, solves the parts by the recipes of docs/MANY.md, of which one is killed, and joins the proofs; and gives
-# the program cubes and proofs that are not as they should be.
-# GIPSAT is the built program. It prints a line for each case. The last line is 'N passed, M failed', and the status is 1
-# where a case failed. --list tells the names of the cases, and --only runs those that it names.
+# Splits formulas and the properties of circuits, solves the parts by the recipes of docs/MANY.md, of which one is killed,
+# and joins the proofs and certificates; and gives gipsat cubes and proofs that are not as they should be.
+# GIPSAT and GIPMC are the built programs. It prints a line for each case. The last line is 'N passed, M failed', and the
+# status is 1 where a case failed. --list tells the names of the cases, and --only runs those that it names.
 set -u
 # shellcheck source=tests/usage.sh
 source "$(dirname "$0")/usage.sh"
-take_rows "tests/many.sh GIPSAT" "$@"
+take_rows "tests/many.sh GIPSAT GIPMC" "$@"
 gipsat=$1
-if [ ! -x "$gipsat" ]; then
-    echo "no program $gipsat"
-    echo "0 passed, 1 failed"
-    exit 1
-fi
+gipmc=$2
+for program in "$gipsat" "$gipmc"; do
+    if [ ! -x "$program" ]; then
+        echo "no program $program"
+        echo "0 passed, 1 failed"
+        exit 1
+    fi
+done
 page=$(cd "$(dirname "$0")/../docs" && pwd)/MANY.md || exit 2
 gipsat=$(realpath "$gipsat") || exit 2
+gipmc=$(realpath "$gipmc") || exit 2
 work=$(mktemp -d) || exit 2
 trap 'rm -rf "$work"' EXIT
 cd "$work" || exit 2
@@ -92,6 +96,64 @@ if command -v parallel > /dev/null; then
 else
     echo "GNU parallel is not installed: its recipe is not tried"
 fi
+
+# FOLDER FILE: a folder with a circuit, the script of the page, and a program before the built one in the path that is killed
+# when it first answers about bad literal 2.
+prepare_circuit() {
+    mkdir -p "$1/bin"
+    cp "$2" "$1/circuit.aig"
+    block sh 3 > "$1/property.sh"
+    cat > "$1/bin/gipmc" << END
+#!/bin/sh
+case " \$* " in
+    *" --bad 2 "*)
+        if [ ! -e "$work/$1/killed" ]; then
+            touch "$work/$1/killed" "$work/$1/part.2"
+            exit 137
+        fi ;;
+esac
+exec "$gipmc" "\$@"
+END
+    chmod +x "$1/bin/gipmc"
+}
+
+# NAME FOLDER COMMAND..: a command that fails where the run of bad literal 2 is killed, and certifies all when it is run again.
+try_properties() {
+    local name=$1 folder=$2
+    shift 2
+    is_wanted "$name" || return 0
+    prepare_circuit "$folder" safe.aag
+    (
+        cd "$folder" || exit 2
+        PATH=$PWD/bin:$PATH
+        ! "$@" && [ -e killed ] && [ ! -e says.2 ] && [ ! -e certificate ] && "$@" && [ "$(grep -c '^0$' answers)" = 6 ] \
+            && [ "$("$gipmc" --certify certificate circuit.aig)" = "s VERIFIED" ]
+    ) > "$work/out" 2> "$work/err"
+    told "$name" $?
+}
+
+# Six latches, of which each takes the value of the one before it and the first one keeps 0: none rises. In the other circuit
+# the first one takes that of an input.
+{ echo 'aag 6 0 6 0 0 6' && printf '2 2\n4 2\n6 4\n8 6\n10 8\n12 10\n' && seq 2 2 12; } > safe.aag
+{ echo 'aag 7 1 6 0 0 2' && printf '14\n2 14\n4 2\n6 4\n8 6\n10 8\n12 12\n10\n12\n'; } > fails.aag
+mkdir makes parallels fails
+block make 2 > makes/Makefile
+cp makes/Makefile fails
+try_properties "make goes on after the answer of a property was killed" makes make -j 2 certificate
+if command -v parallel > /dev/null; then
+    { echo 'set -e -o pipefail' && block sh 4; } > parallels/run.sh
+    try_properties "GNU parallel goes on after the answer of a property was killed" parallels bash run.sh
+fi
+is_wanted "make replays the traces of a circuit that fails" && {
+    prepare_circuit fails fails.aag
+    (
+        cd fails || exit 2
+        PATH=$PWD/bin:$PATH
+        make && grep -qx b0 answers && [ "$(gipmc --replay answers circuit.aig)" = "s VERIFIED" ] && ! make certificate \
+            && [ ! -e certificate ]
+    ) > out 2> err
+    told "make replays the traces of a circuit that fails" $?
+}
 
 # The parts of a formula, for the faults below.
 pigeons 4 > f.cnf

@@ -53,6 +53,7 @@ FAIR = b"aag 3 0 2 0 1 0 0 1\n2 3\n4 6 1\n1\n4\n6 4 3\n"
 STARVES = b"aag 3 0 2 0 1 0 0 1\n2 2\n4 6 1\n1\n4\n6 4 3\nj0 starves\n"
 WITNESS = b"1\nb1\n00\n1\n0\n.\n"
 INVARIANT = b"p cnf 2 1\n-1 0\n"
+STAYS = b"aag 2 0 2 0 0 2\n2 2\n4 4\n2\n4\n"
 AS_CIRCUIT = b"aag 2 0 2 0 0 1\n2 2\n4 4\n2\n"
 LASSO = b"1\nj0\n01\n\n.\n"
 
@@ -69,7 +70,7 @@ class Run:
 
     def is_check(self):
         """Whether status 0 says that a proof, a witness or a certificate is verified."""
-        return self.words[:1] in (["--check"], ["--replay"], ["--certify"])
+        return self.words[:1] in (["--check"], ["--replay"], ["--certify"], ["--join"])
 
 
 def solver(name, words, text=b"", files=(), written=None, verified=()):
@@ -123,6 +124,10 @@ def runs():
     yield checker("a certificate that is a circuit", ["--certify", "cert", "--bad", "0", c],
                   files={c: TWO, "cert": AS_CIRCUIT})
     yield checker("a certificate that is a number", ["--certify", "cert", c], files={c: COUNTER, "cert": b"k 1\n"})
+    yield checker("a list", ["--list", c], files={c: TWO})
+    parts = {"p": b"p cnf 2 1\n-1 0\n", "q": b"p cnf 2 1\n-2 0\n"}
+    yield checker("certificates that are joined", ["--join", "cert", c, "p", "q"], files={c: STAYS} | parts,
+                  written="cert", verified=["--certify", "cert", c])
     yield checker("a justice property that holds", [c], files={c: FAIR})
     yield checker("a justice property that fails", ["--names", c], files={c: STARVES})
     yield checker("a certificate of a justice property", ["--certificate", "cert", c], files={c: FAIR},

@@ -49,21 +49,23 @@ failed=0
 # USAGE [ARGUMENT..]: takes the arguments of a script whose rows have names: behind those of the usage --list, or --only with
 # names of rows.
 take_rows() {
-    local usage="$1 [--list | --only NAME..]" name
-    case ${3-} in
+    local usage="$1 [--list | --only NAME..]" name words behind
+    read -ra words <<< "$1"
+    behind=$((${#words[@]} + 1))
+    case ${!behind-} in
         --list)
             is_listed=yes
-            set -- "${@:1:2}" "${@:4}"
+            set -- "${@:1:behind-1}" "${@:behind+1}"
             ;;
         --only)
-            for name in "${@:4}"; do
+            for name in "${@:behind+1}"; do
                 [ -z "$name" ] || chosen[$name]=
             done
             if [ ${#chosen[@]} = 0 ]; then
                 echo "${usage%% *}: NAME is wanted behind '--only' (try --help)" >&2
                 exit 2
             fi
-            set -- "${@:1:2}"
+            set -- "${@:1:behind-1}"
             ;;
     esac
     take_arguments "$usage" "${@:2}"
