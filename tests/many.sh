@@ -206,6 +206,22 @@ is_wanted "a model under a cube" && {
     told "a model under a cube" $?
 }
 
+# What is outside of cubes, by the page: nothing, and what satisfies a formula.
+mkdir -p rest/bin
+ln -s "$gipsat" rest/bin/gipsat
+block bash 1 > rest/run.sh
+try_rest() {
+    is_wanted "$1" || return 0
+    cp "$2" rest/formula.cnf
+    cp "$3" rest/cubes
+    (cd rest && PATH=$PWD/bin:$PATH bash run.sh) > out 2> err
+    [ "$(cat out)" = "$4" ]
+    told "$1" $?
+}
+try_rest "nothing is outside of the cubes" f.cnf cubes "s UNSATISFIABLE"
+printf 'p inccnf\na 1 2 0\n' > one.cubes
+try_rest "a model outside of the cubes" sat.cnf one.cubes "s SATISFIABLE"
+
 # Cubes and proofs of formulas that nothing satisfies, changed here and there, about the formula without some clauses, which
 # something satisfies.
 is_wanted "500 changed cubes and proofs" && {
