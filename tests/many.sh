@@ -50,6 +50,22 @@ pigeons() {
     }'
 }
 
+# SIZE ONE OTHER: the clauses that give each number up to SIZE one of two colours, so that no ONE numbers of the first colour,
+# and no OTHER of the second, are in arithmetic progression.
+progressions() {
+    awk -v size="$1" -v one="$2" -v other="$3" '
+        function add(sign, many, apart, first, k, clause) {
+            for (apart = 1; (many - 1) * apart < size; apart++)
+                for (first = 1; first + (many - 1) * apart <= size; first++) {
+                    clause = ""
+                    for (k = 0; k < many; k++) clause = clause sign * (first + k * apart) " "
+                    clauses = clauses clause "0\n"
+                    count++
+                }
+        }
+        BEGIN { add(1, one); add(-1, other); printf "p cnf %d %d\n%s", size, count, clauses }'
+}
+
 # FOLDER: a folder with a formula of four parts, the script of the page, and a program before the built one in the path
 # that is killed when it first solves part 2.
 prepare() {
@@ -221,6 +237,16 @@ try_rest() {
 try_rest "nothing is outside of the cubes" f.cnf cubes "s UNSATISFIABLE"
 printf 'p inccnf\na 1 2 0\n' > one.cubes
 try_rest "a model outside of the cubes" sat.cnf one.cubes "s SATISFIABLE"
+
+# Many cubes, whose literals imply each other.
+is_wanted "128 parts" && {
+    progressions 55 4 5 > numbers.cnf
+    "$gipsat" --cubes 128 numbers.cnf > numbers.cubes
+    for i in $(seq 128); do "$gipsat" -q --cube "$i" --lrat --proof "n$i" numbers.cnf numbers.cubes > "says$i"; done
+    "$gipsat" --join numbers numbers.cnf numbers.cubes $(seq -f n%g 128) > out 2> err
+    [ $? = 0 ] && [ "$("$gipsat" --check numbers.cnf numbers)" = "s VERIFIED" ]
+    told "128 parts" $?
+}
 
 # Cubes and proofs of formulas that nothing satisfies, changed here and there, about the formula without some clauses, which
 # something satisfies.

@@ -23,7 +23,7 @@ pub fn cubes_text(alloc: Global, clauses: Cnf, most: usize) -> Result<Vec<u8>, A
     if !lookahead.has_conflict() {
         tree.grow(alloc, &mut lookahead, most)?;
     }
-    tree.text(alloc, &mut lookahead, &names)
+    tree.text(alloc, &names)
 }
 
 // A leaf of a tree.
@@ -146,28 +146,17 @@ impl CubeTree {
         Ok(())
     }
 
-    // The text of its leaves, whose variables have these names. A literal is left out where propagation of those behind
-    // it makes it true.
-    fn text(
-        &self,
-        alloc: Global,
-        lookahead: &mut Lookahead<'_>,
-        names: &[u32],
-    ) -> Result<Vec<u8>, AllocError> {
+    // The text of its leaves, whose variables have these names. Literals that others imply stay: by them propagation shows
+    // that the leaves cover.
+    fn text(&self, alloc: Global, names: &[u32]) -> Result<Vec<u8>, AllocError> {
         let mut text = Vec::new(alloc);
         let mut cube = Vec::new(alloc);
         text.extend_from_slice(b"p inccnf\n")?;
-        let root = lookahead.assigned();
         for leaf in self.leaves.iter() {
             cube.clear();
-            for l in self.literals(leaf.place).iter().rev() {
-                if !lookahead.is_true(*l) {
-                    lookahead.assume(*l)?;
-                    cube.push(name_of(names, *l))?;
-                }
+            for l in self.literals(leaf.place) {
+                cube.push(name_of(names, *l))?;
             }
-            lookahead.undo(root);
-            cube.reverse();
             text.extend_from_slice(b"a ")?;
             write_clause(&mut text, &cube)?;
         }
