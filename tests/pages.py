@@ -9,8 +9,8 @@ PARTS lists. A page for callers, crates/NAME/CALLING.md, quotes the sources. Pag
     <!-- quote file giputils_uses/src/activity.rt: bump pick -->
                                                     the same, with these functions and methods alone
     <!-- quote functions gipsat/src/main.rt: use solve -->
-                                                    these functions of a file alone, behind its imports where `use` is
-                                                    named
+                                                    these functions of a file alone, behind what they import where
+                                                    `use` is named
     <!-- quote bare gipsat/src/main.rt: solve -->   the same, without comments, and without links below it
     <!-- quote contracts -->                         the public contracts of the crate
     <!-- quote contracts: push HeapStep::new Gvec::Index<u32> -->
@@ -30,8 +30,8 @@ stands there, or in the README beside it, by name. Below a quote stand its words
 specs/. Each word of specs/ that a public contract uses has a comment there, and a link on a page that quotes contracts.
 The crate `giputils` hands out the files of specs/ that have these words, and all public lemmas.
 
-Each line of an example in Rust on a README that is not quoted stands in giputils_trials/src/examples.rt, its imports
-under the names that `giputils` gives them. The page of `gip` has the script that `gip` is run on, with its replies.
+Each line of a test in Rust on a README that is not quoted stands in giputils_trials/src/examples.rt, its imports under
+the names that `giputils` gives them. The page of `gip` has the script that `gip` is run on, with its replies.
 docs/DESIGN.md names each crate, and links to its README; the solver has the names that stand there beside MiniSat's,
 the imports of its modules make no cycle, and each module begins with a line `//!`. A type has a name that no type of
 another file has, but for those of tests/names.txt, which has a reason for each. Each file that a page names is there,
@@ -69,7 +69,7 @@ PARTS = {
     "giputils_bounded": ALL,
     "giputils_heap": ALL,
     "giputils_stat": ALL,
-    "giputils_text": (PROVED, TESTED, CHOICES),
+    "giputils_text": (EXAMPLE, PROVED, TESTED, CHOICES),
     "giputils_refusing": (EXAMPLE, PROVED, TESTED, CHOICES),
     "gipsat_cnf": (EXAMPLE, PROVED, TESTED, CHOICES),
     "gipsat_encodings": (EXAMPLE, PROVED, TESTED, CHOICES, COST),
@@ -85,8 +85,8 @@ PARTS = {
     "gipmc_engines": (EXAMPLE, PROVED, TESTED, CHOICES, COST),
     "gipmc_task": (EXAMPLE, PROVED, TESTED, CHOICES, COST),
     "gipmc": (PROVED, TESTED),
-    "gip_cli": (PROVED, TESTED, CHOICES),
-    "gip_lines": (PROVED, TESTED, CHOICES, COST),
+    "gip_cli": (EXAMPLE, PROVED, TESTED, CHOICES),
+    "gip_lines": (EXAMPLE, PROVED, TESTED, CHOICES, COST),
     "gip": (EXAMPLE,),
     "giputils_uses": (PROVED, TESTED, CHOICES),
     "gipsat_uses": (PROVED, TESTED),
@@ -213,19 +213,49 @@ def contracts(crate, text, chosen, named, met):
     return in_short(lines)
 
 
+def has_name(text, name):
+    """Whether a text has a name, or each part of an operator."""
+    parts = [re.escape(part) for part in name.split("◌") if part]
+    return all(re.search(rf"(?<![\w-]){part}(?![\w-])" if re.match(r"\w", part) else part, text) for part in parts)
+
+
+def with_imports_of(text, whole):
+    """A text without the names that it imports for functions of the whole text that it leaves out."""
+
+    def narrowed(match):
+        names = [name.strip() for name in match[3].split(",") if name.strip()]
+        names = [name for name in names if has_name(said, name.split(" as ")[-1]) or not has_name(all_said, name)]
+        alone = len(names) == 1 and not match[1]
+        listed = names[0] if alone else f"{{{', '.join(names)}}}"
+        return f"{match[1] or ''}use {match[2]}{listed};\n" if names else ""
+
+    def used(match):
+        name = match[2].rpartition("::")[2]
+        return match[0] if has_name(said, name) or not has_name(all_said, name) else ""
+
+    said, all_said = (re.sub(r"^(?:ghost )?use [^;]*;\n|//.*", "", each, flags=re.MULTILINE) for each in (text, whole))
+    text = re.sub(r"^(ghost )?use ([\w:.]+(?:::|\.))\{([^;]*)\};\n", narrowed, text, flags=re.MULTILINE)
+    return re.sub(r"^(ghost )?use ([\w:]+);\n", used, text, flags=re.MULTILINE)
+
+
 def with_functions(text, chosen):
-    """A text that has the functions and methods that are chosen alone."""
+    """A text that has the functions and methods that are chosen alone, and what these import."""
+    whole = text
     for function in (METHOD, re.compile(FREE.pattern + r"\n*", FREE.flags)):
         text = function.sub(lambda m: m[0] if m[1] in chosen else "", text)
+    text = with_imports_of(text, whole)
     return re.sub(r"\n\n(?=\})", "\n", re.sub(r"(?<=\{\n)\n", "", text))
 
 
 def functions_of(text, chosen):
-    """These functions of a text, its imports where `use` is chosen, and those that it has not."""
+    """These functions of a text, what they import where `use` is chosen, and those that it has not."""
     found = {match[1]: match[0].split("\n") for match in FREE.finditer(text)}
-    found["use"] = re.findall(r"^use .*;$", text, re.MULTILINE)
     lines = sum(([*found[name], ""] for name in chosen if name in found), [])
-    return lines[:-1], [name for name in chosen if name not in found]
+    if "use" in chosen:
+        groups = [re.findall(rf"^{kind}use [^;]*;\n", text, re.MULTILINE) for kind in ("ghost ", "")]
+        heads = "\n".join("".join(group) for group in groups if group)
+        lines = with_imports_of("\n".join([heads, *lines]), text).lstrip("\n").split("\n")
+    return lines[:-1], [name for name in chosen if name not in found and name != "use"]
 
 
 def laid_out(statement):
@@ -454,10 +484,10 @@ def imports(text):
 
 
 def examples(text):
-    """The lines of a page's examples in Rust that no test has, imports by the names that `giputils` gives them."""
+    """The lines of a page's tests in Rust that no test has, imports by the names that `giputils` gives them."""
     tests = (CRATES / "giputils_trials/src/examples.rt").read_text(encoding="utf-8")
     found = re.findall(r"^```rust\n(.*?)^```", QUOTE.sub("", text), re.DOTALL | re.MULTILINE)
-    lines = [line for example in found for line in example.split("\n") if packed(line)]
+    lines = [line for example in found if "#[test]" in example for line in example.split("\n") if packed(line)]
     complaints, told, imported = [], packed(tests), imports(tests)
     for line in lines:
         named = re.sub(r"giputils_(?:base|bits|hash|index|stat|vec)::(?:others::)?", "giputils::", line)
