@@ -114,11 +114,11 @@ def limited(words, limit, processor, folder):
 
 def of_abc(text, bads, trace):
     answers, traces = ["-"] * bads, {}
-    for place in map(int, re.findall(r"Output +(\d+) .*?was asserted in frame", text)):
-        answers[place] = "f"
+    for place, frame in re.findall(r"Output +(\d+) .*?was asserted in frame (\d+)", text):
+        answers[int(place)] = "f"
         if trace:
-            # Its latches are those that it kept, and one for the constraints.
-            traces[place] = ["", *trace[1:]]
+            # Its latches are those that it kept, and one for the constraints. Without inputs it has no line for a moment.
+            traces[int(place)] = ["", *(trace[1:] or [""] * (int(frame) + 1))]
     counts = re.search(r"All = \d+. Proved = (\d+). Disproved = (\d+). Undecided = 0", text)
     if "Property proved" in text or counts:
         answers = ["s" if answer == "-" else answer for answer in answers]

@@ -165,11 +165,12 @@ def timed(words, text=None):
     return done, after.ru_utime + after.ru_stime - before.ru_utime - before.ru_stime
 
 
-def beside(gipmc):
+def beside(gipmc, rows):
+    """Times the programs on circuits with their names, and answers how many answers differ."""
     ratios, ours, theirs, differ, count = [], 0, 0, 0, 0
     with tempfile.TemporaryDirectory() as folder:
         aig = os.path.join(folder, "c.aig")
-        for name, c in circuits():
+        for name, c in rows:
             count += 1
             with open(aig, "wb") as f:
                 f.write(assumed(c))
@@ -199,7 +200,7 @@ def main():
     if asked.beside:
         if not shutil.which(asked.beside):
             parser.error(f"there is no program '{asked.beside}'")
-        return 1 if beside(asked.beside) else 0
+        return 1 if beside(asked.beside, circuits()) else 0
     for name, c in circuits():
         if asked.list:
             print(name)
