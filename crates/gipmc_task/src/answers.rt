@@ -52,9 +52,9 @@ impl Drop for Said {
 }
 
 /// Answers about the bad literals of a circuit that are asked about: about none where a justice property is. One search
-/// is about all of them. Each answer is written as soon as it is found, and all before it are, or in whatever order, as
-/// the output says. Where a write fails no more is written; the search stops then, and leaves the other literals open,
-/// or goes on, as the output says too.
+/// is about all of them. Each answer is written as soon as it is found and, where the output's order is that of the
+/// places, all before it are. Where a write fails no more is written; whether the search then stops, and leaves the other
+/// literals open, the output says.
 ///
 /// Where any is asked about, the one answer is about the literal whose trace is found first; where none is found, about
 /// the first of those of which least is known. So it is safe where all are.
@@ -229,8 +229,8 @@ fn first_place(asked: Subject) -> usize {
     }
 }
 
-// Whether equal variables are merged where these engines search, and answers are written there. Where each is as soon as it
-// is known, none waits for that.
+// Whether equal variables are merged where these engines search, and answers are written there. They are not where each
+// answer is written as soon as it is known: it would wait for the merges.
 fn merges<W: Write>(engine: Engine, asked: Subject, output: &Output<W>) -> bool {
     if matches!(asked, Subject::All) && output.order == AnswerOrder::Known {
         return false;

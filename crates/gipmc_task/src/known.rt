@@ -14,7 +14,7 @@ use gipsat_cnf::SatSolver;
 use std::alloc::{AllocError, Global};
 use std::io::Write;
 
-// How often at each depth of bounded model checking it is looked for what is decided.
+// How many times at each depth of bounded model checking what is decided is looked for.
 const LOOKS: usize = 16;
 
 /// Tells of all literals that a search is about, those of its circuit: of each once it is seen to be decided, and of
@@ -38,7 +38,7 @@ pub(crate) fn tell_known<S: SatSolver + Drop, O: Observer, W: Write>(
         let _told = told;
         at = next_known(alloc, query, &left, at, output.wanted(), observer);
         let place = left.remove(at);
-        begin_again(place, observer);
+        begin_again(query, place, observer);
         let answer = tell_at(alloc, query, place, place, observer, output)?;
         answers.reserve(1)?;
         answers.push_reserved(answer);
@@ -58,8 +58,8 @@ fn places_down(alloc: Global, count: usize) -> Result<Vec<usize>, AllocError>
     Ok(places)
 }
 
-// Where the place of a literal that is decided stands in a list: the last one before an end, or else of all. If there is
-// none, the search goes on until there is. Where it ends before, the last one.
+// Where in a list a place stands whose literal is decided: the last such one before an end, or else of all. Where there is
+// none, the search goes on until there is; where it ends first, the last of the list.
 fn next_known<S: SatSolver + Drop, O: Observer>(
     alloc: Global,
     query: &mut Query<'_, S>,
@@ -110,15 +110,23 @@ fn is_known_at<S: SatSolver + Drop>(query: &Query<'_, S>, left: &[usize], at: us
     !query.is_open(left[at])
 }
 
-// Tells an observer that the search is about the literal at a place.
-fn begin<O: Observer>(place: usize, observer: &mut O) {
-    let _ = observer.note(Event::Begin(place));
+// Tells an observer that the search is about the literal at a place, and answers whether it is to go on.
+fn begin<O: Observer>(place: usize, observer: &mut O) -> bool {
+    !observer.note(Event::Begin(place)).is_break()
 }
 
-// The same of the first literal, if it is that: of each other one the observer is told once more before its answer.
-fn begin_again<O: Observer>(place: usize, observer: &mut O) {
-    if place == 0 {
-        begin(place, observer);
+// Tells it once more of the first literal, since `tell_at` does so of the others alone. Nothing more is wanted of that one
+// where the search is not to go on.
+fn begin_again<S: SatSolver + Drop, O: Observer>(
+    query: &mut Query<'_, S>,
+    place: usize,
+    observer: &mut O,
+)
+    ensures whole { query.new.whole ≡ query.old.whole }
+    ensures bads { query.new.bads ≡ query.old.bads }
+{
+    if place == 0 && !begin(place, observer) {
+        query.first = Wanted::Nothing;
     }
 }
 
@@ -136,10 +144,9 @@ fn go_on<S: SatSolver + Drop, O: Observer>(
     let Some(place) = before(left, left.len()) else {
         return;
     };
-    if wanted == Wanted::Nothing {
+    if wanted == Wanted::Nothing || !begin(place, observer) {
         return;
     }
-    begin(place, observer);
     let mut depth: usize = 0;
     for _ in 0..usize::MAX {
         let Some(reached) = go_on_to(alloc, query, left, depth, observer) else {
@@ -149,8 +156,8 @@ fn go_on<S: SatSolver + Drop, O: Observer>(
     }
 }
 
-// Goes on until no trace of at most so many transitions fails as to some of them, from the last one on, and answers up to
-// how many that is known of the one that is asked about last. None where one is decided, or the search ends.
+// Goes on, for up to LOOKS of these places from the last one on, until no trace of at most so many transitions fails there.
+// Answers the depth that is known of the one asked last; None where one is decided, or the search ends.
 fn go_on_to<S: SatSolver + Drop, O: Observer>(
     alloc: Global,
     query: &mut Query<'_, S>,

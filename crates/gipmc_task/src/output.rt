@@ -36,9 +36,9 @@ pub enum AnswerOrder {
 /// What a certificate is made of that shows what is safe.
 #[derive(Clone, Copy, PartialEq, Eq)]
 pub enum Certifying {
-    /// Clauses over latches, as `certificate_of` of gipmc_task takes them, or a k.
+    /// Clauses over latches, or a k: the `Grounds::Clauses` of `certificate_of`.
     Clauses,
-    /// A circuit, as its `witness_circuit_of` makes it.
+    /// A circuit: its `Grounds::Strengthened`.
     Circuit,
     /// No certificate is wanted. Equal latches and gates may be merged in a search that takes long, and what is shown of the
     /// rest makes no certificate of the circuit.
