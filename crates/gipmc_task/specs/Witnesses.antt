@@ -24,7 +24,8 @@ abbrev pub AreWitnessesIn : Circuit → PropertyKind → List ℕ → List (List
 AreWitnessesIn c kind text witnesses =
     claims_by kind (length c.latches.items) (length c.inputs.items) text ≡ Some (map (λ w. claim_by w.0 w.1) witnesses)
 
--- a witness of these names is one of the property at a place; without names, which bad literals alone may lack, of each
+-- a witness of these names is one of the property at a place; one without names, as there may be of bad literals alone,
+-- is one of each
 abbrev pub names_place : List ℕ → ℕ → Bool
 names_place names place = (length names == 0) || list_any (λ name. name == place) names
 

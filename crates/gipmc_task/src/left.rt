@@ -50,7 +50,7 @@ impl Left {
         let (left, whole) = (&self.part.netlist.circuit, &whole.circuit);
         let (latches, gates) = (left.latches.len(), left.gates.len());
         latches.saturating_mul(10) <= whole.latches.len().saturating_mul(9)
-            || gates.saturating_mul(2) <= whole.gates.len()
+            || (gates < whole.gates.len() && gates.saturating_mul(2) <= whole.gates.len())
     }
 
     /// The trace of the circuit that goes on as one of what is left does. A replay tells whether it is one.

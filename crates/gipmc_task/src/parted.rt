@@ -18,11 +18,11 @@ use gipmc_reduce::Cone;
 use gipsat_cnf::{Literal, SatSolver};
 use std::alloc::{AllocError, Global};
 
-// Which part of what IC3 propagated a sweep may do. The other engines do about as much as IC3, so that is a quarter of the
-// time so far. No sweep begins before it is about what one takes.
+// A sweep may do one part in so many of what IC3 has propagated. The other engines do about as much as IC3, so this is a
+// quarter of all work so far. The first sweep begins once this share is SWEEP for each gate.
 const SHARE: u64 = 2;
 
-// About how much a sweep does for each gate: its runs 32, and its questions what they propagate.
+// An estimate of the work of a sweep for each gate: 32 runs, and what its questions propagate.
 const SWEEP: u64 = 100;
 
 // How many times as much IC3 does until what is left is looked for again.
