@@ -31,7 +31,7 @@ IsCertified files r certificate =
     IfText files r.file
     (λ bytes. IfText files certificate (λ text. WriteOne bytes (λ p. Certifies p text r.subject)))
 
--- it writes one that some certificate shows safe
+-- the file of the circuit writes one that some certificate shows safe
 abbrev pub IsJoined : Contents → Request → Type 0
 IsJoined files r = IfText files r.file (λ bytes. WriteOne bytes IsShownSafe)
 
@@ -44,7 +44,7 @@ Finds files outcome (Certify r certificate) = ⊥
 Finds files outcome (Properties r) = ⊥
 Finds files outcome (Join r out) = ⊥
 
--- if the work is a check of an answer, that is right; if it joins certificates, what they show is
+-- if the work is a check of an answer, that is right; if it joins certificates, the circuit is shown safe
 abbrev pub Verifies : Contents → Work → Type 0
 Verifies files (Tell info) = ⊤
 Verifies files (Answer r) = ⊤

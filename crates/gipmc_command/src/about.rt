@@ -4,8 +4,8 @@ use gip_cli::{About, Kind, Opt};
 /// The scope of options that each task heeds.
 pub const EACH: &str = "each";
 
-/// The scope of options that say which property is asked about. The last one counts. A list and a joined certificate are
-/// of all, and heed none.
+/// The scope of options that say which property is asked about. The last one counts. A list is of all properties, and a
+/// joined certificate of all bad literals: beside these each such option is refused.
 pub const PROPERTY: &str = "property";
 
 /// The scope of options that a search alone heeds.
@@ -238,7 +238,8 @@ pub const OPTIONS: &[Opt] = &[
         section: "Output",
         help: "write each answer about a bad literal soon after it is known, in whatever order, so that a run which is \
                stopped from outside keeps it. What is known is looked for some times at each depth of bmc. No lines \
-               `u N` tell how far the search has come, and what is equal is not merged",
+               `u N` tell how far the search has come, and what is equal is not merged. It changes nothing where one answer is \
+               asked for (--bad, --justice, --any)",
     },
     Opt {
         long: "--quiet",
