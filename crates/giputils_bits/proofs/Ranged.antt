@@ -93,7 +93,8 @@ SetsRange-all start end b old new k all s = record {
   rest = s.behind;
 }
 
-module _ (n : ℕ) (old new : List ℕ) (bs : List Bool) (start end : ℕ) (b : Bool) (v : bits_of n old ≡ bs) (p : IsPacked n old) (ordered : start ≤ end) (inside : end ≤ n) (s : SetsRange start end b old new end) where
+module _ (n : ℕ) (old new : List ℕ) (bs : List Bool) (start end : ℕ) (b : Bool) (v : bits_of n old ≡ bs)
+    (p : IsPacked n old) (ordered : start ≤ end) (inside : end ≤ n) (s : SetsRange start end b old new end) where
   pub IsPacked-ranged : IsPacked n new
   IsPacked-ranged = record {
     count = s.count ∙ p.count;

@@ -7,8 +7,9 @@ use Rattle.giputils_heap.proofs.priority.PriorityQueue.hold.Goals as goal
 pub invariant_of-self : goal.invariant_of-self
 invariant_of-self g c =
     let inside : g.T.HeapKey.number c.args.key < length c.self.inside.priorities.items = rw (ap (λ q. q.priorities) c.self.view_is) c.requires in
+    let by = ap (λ by. by.0.now) c.new-cmp.ensures.comparer ∙ c.deref.ensures.value in
     IsPrioritized-pushed g.T.HeapKey.number g.met.T.HeapKey.one_value g.P.Ord.cmp g.met.P.Ord.total c.self.inside.heap c.push_counted.new.self
-    c.self.inside.priorities.items c.self.invariant c.push_counted.ensures.bound _ (ap (λ by. by.0.now) c.new-cmp.ensures.comparer ∙ c.deref.ensures.value) c.args.key inside c.push_counted.ensures.pushes
+    c.self.inside.priorities.items c.self.invariant c.push_counted.ensures.bound _ by c.args.key inside c.push_counted.ensures.pushes
 
 pub returns-clause-changes : goal.returns-clause-changes
 returns-clause-changes g c =
