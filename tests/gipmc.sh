@@ -107,12 +107,13 @@ try "an error beside status 0" 1 "<stdin>: no bad literal 2, of 2" "" "$two" --b
 
 # SymbiYosys takes an engine's word so: status 0, lines `uN`, then a line 0, 1 or 2, and behind a 1 the lines of a trace up
 # to a dot.
-# NAME VERDICT INPUT: tells PASS, FAIL or UNKNOWN so of this circuit; where it fails, the trace is a counterexample.
+# NAME VERDICT INPUT OPTION..: tells PASS, FAIL or UNKNOWN so of this circuit; where it fails, the trace is a counterexample,
+# and where nothing is known, a line tells a depth.
 play_symbiyosys() {
     local name=$1 wanted=$2 said
     is_wanted "$name" || return 0
     printf '%b' "$3" > design.aig
-    "$gipmc" --any --exit-zero --depth 9 design.aig > out 2> err
+    "$gipmc" --any --exit-zero --depth 9 "${@:4}" design.aig > out 2> err
     status=$?
     said=$(awk 'known { if (!ended) print > "trace.aiw"; if ($0 == ".") ended = 1; next }
         /^u[0-9]+$/ { next }
@@ -120,12 +121,14 @@ play_symbiyosys() {
         { exit }
         END { print verdict }' out)
     [ "$status" = 0 ] && [ "$said" = "${wanted:0:1}" ] &&
+        { [ "$wanted" != UNKNOWN ] || [ "$(head -n 1 out)" = u9 ]; } &&
         { [ "$wanted" != FAIL ] || [ "$("$gipmc" --replay trace.aiw design.aig)" = "s VERIFIED" ]; }
     told "$name" $?
 }
 play_symbiyosys "an engine of SymbiYosys, where all assertions hold" PASS "$stay"
 play_symbiyosys "an engine of SymbiYosys, where the second of three fails" FAIL "$second"
 play_symbiyosys "an engine of SymbiYosys, where a latch may begin at 1" FAIL 'aag 1 0 1 0 0 1\n2 2 2\n2\n'
+play_symbiyosys "an engine of SymbiYosys, within a depth" UNKNOWN "$stay" --engine bmc
 
 # The properties of a circuit, each with what it and the constraints depend on.
 try "a list of two bad literals" 0 "" "$(printf 'b0 latches 1 gates 0 inputs 0\nb1 latches 1 gates 0 inputs 1')" "$two" \
