@@ -1,4 +1,5 @@
 -- Places of words, and lists kept in words.
+use mir.Val.{bool_byte}
 use Rattle.std.proofs.Common.{◌≡◌, ◌≢◌, ℕ, suc, ◌+◌, ◌-◌, ◌*◌, ◌/◌, ◌%◌, ◌^◌, ◌<◌, ◌≤◌, Bool, true, false, eqb, List, [], ◌∷◌, ◌++◌, length, get_or, set, refl, sym, ap, ◌∙◌, arith, inl, inr, w64}
 use Rattle.std.specs.Prelude.{bit_and, bit_or}
 use Rattle.std.specs.Int.{bit_not}
@@ -6,9 +7,11 @@ use Rattle.std.proofs.lemmas.List.{same_lists, length-set, get_or-set_same, get_
 use Rattle.std.proofs.lemmas.List.FromFn.{length-map-range_with_len, get_or-map-range_with_len, map-range_with_len_more}
 use Rattle.std.proofs.lemmas.Nat.Bits.{bit_at_set_same, bit_at_set_other, bit_at_clear_same, bit_at_clear_other, shr_and_one}
 use Rattle.std.proofs.lemmas.Bool.{cases_eq, cases_lt}
+use Rattle.std.proofs.Math.Bool.{or-false}
+use Rattle.std.specs.Int.Bits.{or_zero_l}
 use Rattle.giputils_bits.specs.Bits.{has_digit, digits_of}
 use Rattle.giputils_bits.specs.Places.{place, places, bits_of, IsPacked, SetsDigit, HasRoom}
-use Rattle.giputils_bits.proofs.Digits.{has_digit-zero, has_digit-above, length-digits_of, get_or-digits_of}
+use Rattle.giputils_bits.proofs.Digits.{has_digit-zero, has_digit-or, has_digit-above, length-digits_of, get_or-digits_of}
 
 -- ---- one place
 pub place_is : (ws : List ℕ) (i : ℕ) → place ws i ≡ has_digit (get_or ws (i / 64) 0) (i % 64)
@@ -105,6 +108,21 @@ SetsDigit-and w k within = record {
   others = λ j l other. ap (λ b. eqb b 1) (bit_at_clear_other w64 w k within j l other);
 }
 
+-- a digit that is 0 so far, joined to the word
+pub SetsDigit-join : (w d k : ℕ) (b : Bool) → has_digit w k ≡ false → SetsDigit 0 d k b → SetsDigit w (bit_or w d) k b
+SetsDigit-join w d k b none s = record {
+  at = rw (has_digit-or w d k, none) s.at;
+  others = λ j l other. rw (has_digit-or w d j, s.others j l other, has_digit-zero j) (or-false (has_digit w j));
+}
+
+-- `u64::from(val) << k`
+pub SetsDigit-one : (k one : ℕ) (b : Bool) → one ≡ bool_byte b → k < 64 → SetsDigit 0 (one * 2 ^ k % 2 ^ 64) k b
+SetsDigit-one k one true e within = let is : one ≡ 1 = e in rw (is, ← or_zero_l (1 * 2 ^ k % 2 ^ 64)) (SetsDigit-or 0 k within)
+SetsDigit-one k one false e within =
+    let is : one ≡ 0 = e in
+    let none : 0 * 2 ^ k % 2 ^ 64 ≡ 0 = omega arith in
+    rw (is, none) (record { at = has_digit-zero k; others = λ j _ _. refl })
+
 -- place i of the words becomes b, and no other changes
 pub record SetsPlace (old new : List ℕ) (i : ℕ) (b : Bool) : Type 0 where
   pub count : length new ≡ length old
@@ -150,6 +168,13 @@ place-zeros_behind ws i = elim (cases_lt (i / 64) (length ws)) [
 
 pub HasRoom-push : (n : ℕ) (ws : List ℕ) → n % 64 ≡ 0 → 0 < n → IsPacked n ws → HasRoom n ws (ws ++ 0 ∷ [])
 HasRoom-push n ws full some p = record { count = omega (arith, length_push ws 0, p.count); same = place-zeros_behind ws }
+
+-- a digit joined to the word that place n stands in
+pub SetsPlace-join : (n : ℕ) (old room : List ℕ) (d : ℕ) (b : Bool) → n / 64 < length room → IsPacked n old → HasRoom n old room → SetsDigit 0 d (n % 64) b
+    → SetsPlace room (set room (n / 64) (bit_or (get_or room (n / 64) 0) d)) n b
+SetsPlace-join n old room d b within p r s =
+    let none : has_digit (get_or room (n / 64) 0) (n % 64) ≡ false = sym (place_is room n) ∙ r.same n ∙ p.padding n (omega arith) in
+    SetsPlace-set room n _ b within (SetsDigit-join _ d _ b none s)
 
 pub IsPacked-more : (n : ℕ) (old room new : List ℕ) (b : Bool) → IsPacked n old → HasRoom n old room → SetsPlace room new n b → IsPacked (n + 1) new
 IsPacked-more n old room new b p r s = record {

@@ -14,7 +14,7 @@ ghost use Rattle.giputils_bits.specs.Places.{bits_of, IsPacked, HasRoom, Appends
 use super::BitVec;
 use super::error::BitVecError;
 use super::storage::Storage;
-use super::words::{filled_word, low_mask, with_bit, word_count};
+use super::words::{digit, filled_word, low_mask, with_bit, word_count};
 use std::alloc::{AllocError, Allocator};
 
 impl<A: Allocator> BitVec<A> {
@@ -105,10 +105,8 @@ impl<A: Allocator> BitVec<A> {
             return Err(BitVecError::TooLong);
         }
         make_room(&mut self.words, self.len)?;
-        let k = self.len / BitVec::WORD_SIZE;
-        let word = self.words.as_slice()[k];
-        self.words
-            .put(k, with_bit(word, self.len % BitVec::WORD_SIZE, bit));
+        let digit = digit(self.len % BitVec::WORD_SIZE, bit);
+        self.words.join_at(self.len / BitVec::WORD_SIZE, digit);
         self.len += 1;
         Ok(())
     }

@@ -3,7 +3,7 @@
 // How it is proved: the value of a storage is the list of its words, so its functions close, and all code that uses it
 // is about lists of words. To show that a word is word k, compare digits (`word_of_is`, `proofs/Words`).
 
-ghost use Rattle.std.specs.Prelude.{◌≡◌, ◌+◌, ◌-◌, ◌*◌, ◌/◌, ◌<◌, ◌≤◌, [], ◌∷◌, ◌++◌, length, map, replicate, slice_index, slice_set, take, OnErr, OnOk, IfOk, IsOk};
+ghost use Rattle.std.specs.Prelude.{◌≡◌, ◌+◌, ◌-◌, ◌*◌, ◌/◌, ◌<◌, ◌≤◌, [], ◌∷◌, ◌++◌, bit_or, length, map, replicate, slice_index, slice_set, take, OnErr, OnOk, IfOk, IsOk};
 ghost use Rattle.std.specs.Int.{bit_not, w64};
 ghost use Rattle.giputils_bits.specs.Places.{common_digits, MovesDown, MovesUp, Overlays, Rewrites, SetsRange};
 
@@ -88,6 +88,19 @@ impl<A: Allocator> Storage<A> {
             self.inline = word;
         } else {
             self.heap[k] = word;
+        }
+    }
+
+    // Joins word `k` with another.
+    #[inline]
+    pub(crate) fn join_at(&mut self, k: usize, word: u64)
+        requires { k < length self.old }
+        ensures { self.new ≡ slice_set self.old k (bit_or (slice_index self.old k) word) }
+    {
+        if self.heap.is_empty() {
+            self.inline |= word;
+        } else {
+            self.heap[k] |= word;
         }
     }
 

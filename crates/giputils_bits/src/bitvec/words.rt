@@ -32,6 +32,15 @@ pub(crate) fn with_bit(word: u64, k: usize, val: bool) -> u64
     if val { word | 1 << k } else { word & !(1 << k) }
 }
 
+// The word that has digit `k` as told, and no other.
+#[inline]
+pub(crate) fn digit(k: usize, val: bool) -> u64
+    requires { k < 64 }
+    ensures { SetsDigit 0 result k val }
+{
+    u64::from(val) << k
+}
+
 // The word with digit `k` turned round.
 #[inline]
 pub(crate) fn flipped_bit(word: u64, k: usize) -> u64
