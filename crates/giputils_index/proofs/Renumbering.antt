@@ -50,7 +50,8 @@ module _ {T : Type 0} where
       ∙ ap (λ n. n + cond (is_unmarked (slice_index_or slots i slot)) 1 0) (sym (length-map (filter is_unmarked (take i slots)) (λ slot. slot.0)))
       ∙ ap (λ s. new_index slots i + cond (is_unmarked s) 1 0) (sym is)
 
-  new_index-suc : (slots : List (T × Bool)) (i : ℕ) (b : Bool) → mark_at slots i ≡ Some b → new_index slots (suc i) ≡ new_index slots i + cond b 0 1
+  -- the same of a slot whose mark is known
+  pub new_index-suc : (slots : List (T × Bool)) (i : ℕ) (b : Bool) → mark_at slots i ≡ Some b → new_index slots (suc i) ≡ new_index slots i + cond b 0 1
   new_index-suc [] i b at = cc
   new_index-suc ((v, true) ∷ slots) zero true at = refl
   new_index-suc ((v, false) ∷ slots) zero false at = refl
@@ -59,7 +60,6 @@ module _ {T : Type 0} where
   new_index-suc ((v, true) ∷ slots) (suc i) b at = new_index-suc slots i b at
   new_index-suc ((v, false) ∷ slots) (suc i) b at = ap (λ n. suc n) (new_index-suc slots i b at) ∙ omega arith
 
-  -- the same of a slot whose mark is known
   pub new_index-next : (slots : List (T × Bool)) (i : ℕ) (b : Bool) → mark_at slots i ≡ Some b
       → new_index slots (i + 1) ≡ new_index slots i + cond b 0 1
   new_index-next slots i b at = let same : i + 1 ≡ suc i = omega arith in rw same (new_index-suc slots i b at)

@@ -2,13 +2,18 @@
 --
 -- How it is proved: an edit of one item is `option_map_or (λ x. slice_set xs i (f x)) (slice_get xs i) xs`. Its lemmas
 -- are short with the option as a variable (`proofs/Slots`).
-use Rattle.std.specs.Prelude.{◌≡◌, ◌↔◌, ℕ, ◌+◌, ◌<◌, Bool, true, false, not, List, [], ◌∷◌, length, map, filter, take, slice_get, slice_set, Option, Some, None, IsSome, option_map, option_and_then, if◌then◌else◌, nat_eq}
+use Rattle.std.specs.Prelude.{◌≡◌, ◌↔◌, ℕ, ◌+◌, ◌<◌, ◌≤◌, Bool, true, false, not, List, [], ◌∷◌, length, map, filter, take, slice_get, slice_set, Option, Some, None, IsSome, option_map, option_and_then, if◌then◌else◌, nat_eq}
 use Rattle.std.specs.Option.{option_map_or}
 use Rattle.giputils_hash.specs.Hash.{get, HasUniqueKeys}
 
 -- what a table has at the index i, and nothing past its end
 abbrev pub table_at : List (Option ℕ) → ℕ → Option ℕ
 table_at table i = option_and_then (λ entry. entry) (slice_get table i)
+
+-- what a map that answers by f does once the keys were put into it, in turn, with the numbers from n on
+abbrev pub put_in_turn : (ℕ → Option ℕ) → List ℕ → ℕ → ℕ → Option ℕ
+put_in_turn f [] n q = f q
+put_in_turn f (k ∷ ks) n q = put_in_turn (λ p. if nat_eq k p then Some n else f p) ks (n + 1) q
 
 module _ {T : Type 0} where
   -- the slot is not marked
@@ -60,6 +65,16 @@ module _ {T : Type 0} where
   -- how many slots before i survive
   abbrev pub new_index : List (T × Bool) → ℕ → ℕ
   new_index slots i = length (survivors (take i slots))
+
+  -- each slot from `start` on, before `end`, is marked
+  abbrev pub AreMarked : List (T × Bool) → ℕ → ℕ → Type 0
+  AreMarked slots start end = (k : ℕ) → start ≤ k → k < end → mark_at slots k ≡ Some true
+
+  -- the indexes are those of the unmarked slots from `start` on, before `end`, in order
+  abbrev pub AreUnmarked : List (T × Bool) → ℕ → ℕ → List ℕ → Type 0
+  AreUnmarked slots start end [] = (start ≤ end) × AreMarked slots start end
+  AreUnmarked slots start end (k ∷ ks) =
+      (start ≤ k) × AreMarked slots start k × (mark_at slots k ≡ Some false) × AreUnmarked slots (k + 1) end ks
 
   -- the new index of an unmarked slot; a marked one, and one past the end, has none
   abbrev pub index_map : List (T × Bool) → ℕ → Option ℕ

@@ -1,9 +1,9 @@
 //! An allocator of indexes: removed values are marked, and a collection drops them and renumbers the others.
-ghost use Rattle.std.specs.Prelude.{◌≡◌, ◌≢◌, ◌↔◌, ℕ, ◌<◌, [], ◌∷◌, ◌++◌, true, false, Some, None, length, IsTrue, IfOk, IfErr, OnOk, OnErr, OnSome, IfNone, nat_eq};
+ghost use Rattle.std.specs.Prelude.{◌≡◌, ◌≢◌, ◌↔◌, ℕ, ◌+◌, ◌^◌, ◌<◌, ◌≤◌, [], ◌∷◌, ◌++◌, true, false, Some, None, length, take, IsTrue, IfOk, IfErr, OnOk, OnErr, OnSome, IfNone, nat_eq};
 ghost use Rattle.std.specs.Option.{option_copied, option_copied_mut};
 ghost use Rattle.std.specs.Borrow.{Lends, sem};
-ghost use Rattle.giputils_hash.specs.Hash.{get};
-ghost use Rattle.giputils_index.specs.Allocator.{value_at, mark_at, live_at, live_count, mark, write, survivors, unmarked_slots, table_at, IsIndexMap, IsIndexTable, Renumbers, TakesValue};
+ghost use Rattle.giputils_hash.specs.Hash.{get, HasUniqueKeys};
+ghost use Rattle.giputils_index.specs.Allocator.{value_at, mark_at, live_at, live_count, mark, put_in_turn, write, survivors, unmarked_slots, table_at, AreUnmarked, IsIndexMap, IsIndexTable, Renumbers, TakesValue};
 
 mod live;
 mod renaming;
@@ -19,6 +19,9 @@ pub use run::{GallocCall, GallocReply, galloc_run};
 use std::alloc::{AllocError, Allocator, Global};
 use std::marker::Model;
 use std::ops::{Deref, DerefMut, Index, IndexMut};
+
+// Of so many slots at once the unmarked ones are put into a map.
+const BLOCK: usize = 64;
 
 /// A value that may be marked as removed, seen as the pair of the two.
 #[derive(Debug, Drop)]
@@ -340,14 +343,66 @@ impl<T, A: Allocator> Gallocator<T, A> {
         let mut indexes = GHashMap::new(*self.slots.allocator());
         indexes.reserve(self.live)?;
         let mut next = 0usize;
-        for (old, slot) in self.slots.iter().enumerate() {
-            if !slot.is_removed() {
-                indexes.insert(old, next)?;
-                next += 1;
-            }
+        let mut start = 0usize;
+        while start < self.len() {
+            let end = start + (self.len() - start).min(BLOCK);
+            let (unmarked, count) = self.unmarked_between(start, end);
+            next = put_in_turn(&mut indexes, &unmarked[..count], next)?;
+            start = end;
         }
         Ok(indexes)
     }
+
+    // The unmarked slots from `start` on, before `end`, and how many they are. No branch depends on a mark, so none is
+    // guessed wrong.
+    fn unmarked_between(&self, start: usize, end: usize) -> ([usize; BLOCK], usize)
+        requires order { start ≤ end }
+        requires few { end ≤ start + 64 }
+        requires inside { end ≤ length self.now }
+        ensures count { result.1 ≤ 64 }
+        ensures unmarked { AreUnmarked self.now start end (take result.1 result.0) }
+    {
+        let mut unmarked = [0usize; BLOCK];
+        let mut count = 0usize;
+        for index in start..end {
+            unmarked[count] = index;
+            count += usize::from(!self.is_removed(index));
+        }
+        (unmarked, count)
+    }
+}
+
+// Puts the keys into the map, in turn, with the numbers from `first` on, and answers the number behind theirs.
+fn put_in_turn<A: Allocator + Clone>(
+    indexes: &mut GHashMap<usize, usize, A>,
+    keys: &[usize],
+    first: usize,
+) -> Result<usize, AllocError>
+    requires fits { first + length keys.now < 2 ^ 64 }
+    requires unique { HasUniqueKeys nat_eq indexes.old }
+    ensures next { IfOk result (λ next. next ≡ first + length keys.now) }
+    ensures values { OnOk result ((q : ℕ) →
+        get nat_eq indexes.new q ≡ put_in_turn (get nat_eq indexes.old) keys.now first q) }
+    ensures unique { OnOk result (HasUniqueKeys nat_eq indexes.new) }
+{
+    let count = lacking(indexes, keys);
+    indexes.reserve(count)?;
+    let mut next = first;
+    for key in keys {
+        indexes.insert(*key, next)?;
+        next += 1;
+    }
+    Ok(next)
+}
+
+// How many of the keys the map lacks. No look-up waits for the one before it, so what they read comes from memory at
+// once, and is near when the keys are put into the map.
+fn lacking<A: Allocator>(indexes: &GHashMap<usize, usize, A>, keys: &[usize]) -> usize {
+    let mut count = 0usize;
+    for key in keys {
+        count += usize::from(!indexes.contains_key(key));
+    }
+    count
 }
 
 /// The value of slot `index`, marked or not.
