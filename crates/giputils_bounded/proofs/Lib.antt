@@ -14,6 +14,7 @@ mod Entries
 mod InOrder
 mod Places
 mod Rearranged
+mod Retained
 mod Trees
 mod WayDown
 mod WayUp

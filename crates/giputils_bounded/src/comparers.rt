@@ -75,7 +75,7 @@ impl<T: HeapKey, R: Ord> BinaryHeapCmp<T> for ByOrd<'_, R> {
 /// A comparer that owns its ranks: compares keys as [`ByRank`] does by this table of `N` ranks.
 ///
 /// It lends nothing, so that each step of a run may have one of its own, whose ranks are others than those before.
-#[derive(Clone, Copy)]
+#[derive(Clone, Copy, PartialEq, Eq, Debug)]
 pub struct RankTable<const N: usize>(pub [u32; N]);
 
 impl<T: HeapKey, const N: usize> BinaryHeapCmp<T> for RankTable<N> {

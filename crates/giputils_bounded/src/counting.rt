@@ -4,7 +4,9 @@
 // the bound's member. A struct that lends a reference has a record with a `code_by`. A model with
 // `inverse` over numbers makes a type `Copy` (giputils_stat `src/statistic/average.rt`).
 
-ghost use Rattle.std.specs.Prelude.{◌≡◌, ◌+◌, ◌<◌};
+ghost use Rattle.std.specs.Prelude.{◌≡◌, ◌+◌, ◌<◌, nat_eq};
+ghost use Rattle.std.specs.Cmp.{and_equiv, and_per, nat_eq_equiv, on_equiv, on_per, partial_equiv_from_equiv};
+ghost use Rattle.std.specs.Ordering.{eq_of_both, on};
 
 use crate::key::BinaryHeapCmp;
 use std::marker::Model;
@@ -13,7 +15,7 @@ use std::marker::Model;
 ///
 /// The comparer can be asked through [`Counting::gte`] alone, which counts, and a counter can be neither cloned nor
 /// copied. So what a piece of code that is lent a counter has added to it is how often that code asked the comparer.
-#[derive(Drop)]
+#[derive(Debug, Drop)]
 pub struct Counting<'a, C> {
     comparer: &'a C,
     count: u64,
@@ -59,4 +61,20 @@ impl<'a, C> Counting<'a, C> {
         self.count += 1;
         self.comparer.gte(s, o)
     }
+}
+
+/// Equal where the comparers are equal, and were asked as often.
+impl<C: PartialEq> PartialEq for Counting<'_, C> {
+    ghost eq = { eq_of_both (on (λ c. c.comparer) C.eq) (on (λ c. c.count) nat_eq) };
+
+    ghost laws = { and_per (on_per (λ c. c.comparer) C.laws)
+        (on_per (λ c. c.count) (partial_equiv_from_equiv nat_eq_equiv)) };
+
+    fn eq(&self, other: &Self) -> bool {
+        *self.comparer == *other.comparer && self.count == other.count
+    }
+}
+
+impl<C: Eq> Eq for Counting<'_, C> {
+    ghost laws = { and_equiv (on_equiv (λ c. c.comparer) C.Eq.laws) (on_equiv (λ c. c.count) nat_eq_equiv) };
 }

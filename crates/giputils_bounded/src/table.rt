@@ -1,6 +1,6 @@
 //! The table of places: for the number of each held key the place where it stands in the array of keys.
-ghost use Rattle.std.specs.Prelude.{◌≡◌, ℕ, ◌<◌, length, slice_set, None};
-ghost use Rattle.giputils_bounded.specs.Keys.{key_limit};
+ghost use Rattle.std.specs.Prelude.{◌≡◌, ℕ, ◌<◌, ◌≤◌, length, slice_set, None};
+ghost use Rattle.giputils_bounded.specs.Keys.{key_limit, AreBelow, AreDistinct};
 ghost use Rattle.giputils_bounded.specs.Table.{place_in, IsTable, SaysAlso, SaysNothing};
 
 use crate::key::HeapKey;
@@ -50,6 +50,20 @@ pub(crate) fn forget<T: HeapKey>(places: &mut [OptionU32], key: T)
     ensures size { length places.new ≡ length places.old }
 {
     places[key.key() as usize] = OptionU32::NONE;
+}
+
+// Writes the places of all keys into the table, which has none.
+pub(crate) fn remember_all<T: HeapKey>(keys: &[T], places: &mut [OptionU32])
+    requires none { (n : ℕ) → place_in places.old n ≡ None }
+    requires distinct { AreDistinct T.number keys.now }
+    requires entries { AreBelow T.number (length places.old) keys.now }
+    requires limit { length keys.now ≤ key_limit }
+    ensures table { IsTable T.number keys.now (place_in places.new) }
+    ensures size { length places.new ≡ length places.old }
+{
+    for (place, key) in keys.iter().enumerate() {
+        remember(places, *key, place);
+    }
 }
 
 // Takes every key out of the table.
