@@ -80,10 +80,17 @@ fn repair_counted(heap: &mut BoundedHeap<u32, &Refusing>, key: u32) {
     heap.update_counted(key, &mut Counting::new(&ByNumber));
 }
 
+// Keeps the keys below 64, twice.
+fn keep_small(heap: &mut BoundedHeap<u32, &Refusing>) {
+    heap.retain(|key| *key < 64, &ByNumber);
+    heap.retain_counted(|key| *key < 64, &mut Counting::new(&ByNumber));
+}
+
 // Makes the others, and answers how many keys are left.
 fn call_without(heap: &mut BoundedHeap<u32, &Refusing>) -> usize {
     heap.rebuild(&ByNumber);
     heap.rebuild_counted(&mut Counting::new(&ByNumber));
+    keep_small(heap);
     let _ = heap.pop(&ByNumber);
     let _ = heap.pop_counted(&mut Counting::new(&ByNumber));
     heap.remove(0, &ByNumber);
@@ -112,7 +119,8 @@ fn a_bounded_heap_takes_no_memory_once_it_is_made(rt: HostRuntime) -> Result<(),
     let left = call_without(&mut heap);
     let built = build_of_two(&mut heap);
     heap.clear();
-    assert!(rt; (left, built, heap.len(), memory.requests()) == (60, 2, 0, 2));
+    let emptied = heap.into_vec().len();
+    assert!(rt; (left, built, emptied, memory.requests()) == (60, 2, 0, 2));
     Ok(())
 }
 
@@ -202,5 +210,35 @@ fn rebuilt(alloc: Global) -> Result<Vec<u8>, AllocError> {
 fn any_state_of_a_bounded_heap_can_be_rebuilt(rt: HostRuntime) -> Result<(), Fail> {
     let keys = rebuilt(rt.alloc())?;
     assert!(rt; keys.as_slice() == [0, 1, 2, 3].as_slice());
+    Ok(())
+}
+
+// What is left of the keys from 0 to 8 where multiples of 3 are kept: how many keys, whether 3 and 4 are held, and all
+// of them in order.
+fn retained(alloc: Global) -> Result<(usize, bool, bool, Vec<u8>), AllocError> {
+    let mut heap = filled(alloc, 9, &[4, 1, 3, 0, 8, 2, 6, 7, 5])?;
+    heap.retain(|key| *key % 3 == 0, &Reverse(ByNumber));
+    let (len, three, four) = (heap.len(), heap.contains(3), heap.contains(4));
+    Ok((
+        len,
+        three,
+        four,
+        heap.drain_sorted(alloc, &Reverse(ByNumber))?,
+    ))
+}
+
+#[test]
+fn a_bounded_heap_keeps_what_is_told(rt: HostRuntime) -> Result<(), Fail> {
+    let (len, three, four, keys) = retained(rt.alloc())?;
+    assert!(rt; (len, three, four) == (3, true, false));
+    assert!(rt; keys.as_slice() == [0, 3, 6].as_slice());
+    Ok(())
+}
+
+#[test]
+fn a_bounded_heap_becomes_the_vector_of_its_keys(rt: HostRuntime) -> Result<(), Fail> {
+    let mut keys = filled(rt.alloc(), 9, &[4, 1, 3])?.into_vec();
+    keys.sort_unstable();
+    assert!(rt; keys.as_slice() == [1, 3, 4].as_slice());
     Ok(())
 }

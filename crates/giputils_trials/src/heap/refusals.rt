@@ -159,6 +159,12 @@ fn rebuild(heap: &mut BinaryHeap<u32, &Refusing>) {
     heap.rebuild_counted(&mut Counting::new(&ByNumber));
 }
 
+// Keeps the keys other than 10, twice.
+fn keep_others(heap: &mut BinaryHeap<u32, &Refusing>) {
+    heap.retain(|key| *key != 10, &ByNumber);
+    heap.retain_counted(|key| *key != 10, &mut Counting::new(&ByNumber));
+}
+
 fn push_held(heap: &mut BinaryHeap<u32, &Refusing>) -> Result<(), AllocError> {
     heap.push(6, &ByNumber)?;
     heap.push_counted(9, &mut Counting::new(&ByNumber))
@@ -197,8 +203,10 @@ fn called_in_place(
         repair_counted(&mut heap, key);
     }
     rebuild(&mut heap);
+    keep_others(&mut heap);
     let seen = (found(&heap), popped(&mut heap), removed(&mut heap));
     heap.clear();
+    drop(heap.into_vec());
     Ok(seen)
 }
 

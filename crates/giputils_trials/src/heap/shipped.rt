@@ -1,6 +1,6 @@
 //! The comparers of the library at concrete types.
 
-use giputils_heap::{BinaryHeapCmp, ByNumber, ByOrd, ByRank, RankTable};
+use giputils_heap::{BinaryHeapCmp, ByNumber, ByOrd, ByRank, Counting, RankTable};
 use std::cmp::Reverse;
 
 // Asks a comparer through its trait. It ensures nothing, so that a test need not look through what the answer means.
@@ -26,4 +26,16 @@ fn ranks_of_any_order_tell_the_greater_key(rt: HostRuntime) {
         assert!(rt; gte(&scores, s, o));
         assert!(rt; s == o || !gte(&scores, o, s));
     }
+}
+
+#[test]
+fn counters_are_equal_by_comparer_and_count(rt: HostRuntime) {
+    let (table, other) = (RankTable([5, 3]), RankTable([5, 4]));
+    assert!(rt; table == RankTable([5, 3]));
+    assert!(rt; table != other);
+    let mut asked = Counting::new(&table);
+    assert!(rt; asked == Counting::new(&table));
+    assert!(rt; asked != Counting::new(&other));
+    assert!(rt; asked.gte(0u8, 1));
+    assert!(rt; asked != Counting::new(&table));
 }
