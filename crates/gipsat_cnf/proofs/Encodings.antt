@@ -1,13 +1,14 @@
 -- What clauses that are added one after another mean together, and clauses that choose among literals.
-use Rattle.std.proofs.Common.{◌≡◌, ◌↔◌, ℕ, zero, suc, ◌+◌, true, ◌&&◌, List, [], ◌∷◌, ◌++◌, map, IsTrue, arith, refl, sym, ap, subst, ◌∙◌, ⊎_elim}
+use Rattle.std.proofs.Common.{◌≡◌, ◌↔◌, ℕ, zero, suc, ◌+◌, true, ◌&&◌, List, [], ◌∷◌, ◌++◌, map, take, drop, append_assoc, take-append-drop, IsTrue, arith, refl, sym, ap, subst, ◌∙◌, ⊎_elim}
 use Rattle.std.specs.Prelude.{slice_get, Some}
 use Rattle.std.specs.List.{list_all}
 use Rattle.std.proofs.lemmas.Bool.{and_parts, and_from, cases_lt, cases_Bool}
+use Rattle.std.proofs.lemmas.List.{map-append}
 use Rattle.std.proofs.lemmas.List.Folds.{list_all-append, list_all-map}
-use Rattle.gipsat_cnf.specs.Encodings.{Adds, AllBelow, AtLeastOneTrue, AtMostOneTrue, ExactlyOneTrue, at_least_one, at_most_one, exactly_one, one_false}
+use Rattle.gipsat_cnf.specs.Encodings.{Adds, AddsPart, AllBelow, AtLeastOneTrue, AtMostOneTrue, ExactlyOneTrue, at_least_one, at_most_one, exactly_one, one_false}
 use Rattle.gipsat_cnf.specs.Formulas.{Assignment, Clause, Formula, Has, is_true, satisfies, satisfies_clause}
 use Rattle.gipsat_cnf.specs.Literals.{Lit, negated}
-use Rattle.gipsat_cnf.proofs.Formulas.{all-at, all-each}
+use Rattle.gipsat_cnf.proofs.Formulas.{all-at, all-each, satisfies-first}
 use Rattle.gipsat_cnf.proofs.LiteralLemmas.{beq_not, not_both, satisfied_by, true_literal}
 use Rattle.gipsat_cnf.proofs.Places.{none_some, same_some}
 
@@ -56,6 +57,60 @@ Adds-more P n f g h before last =
     Adds-same (λ a. AllBelow n (P a) × P a n) (λ a. AllBelow (n + 1) (P a)) f h
     (λ a. (λ (all, at). AllBelow-more (P a) n all at, λ all. (λ i less. all i (omega (arith, less)), all n (omega arith))))
     (Adds-both (λ a. AllBelow n (P a)) (λ a. P a n) f g h before last)
+
+-- where all is added, a part is
+pub AddsPart-whole : (M : Assignment → Type 0) (f g : Formula) → Adds M f g → AddsPart M f g
+AddsPart-whole M f g adds a = (λ sat. ((adds a).0 sat).0, λ sat m. (adds a).1 (sat, m))
+
+-- a part of what is implied is a part
+pub AddsPart-of : (M N : Assignment → Type 0) (f g : Formula) → ((a : Assignment) → N a → M a) → AddsPart M f g → AddsPart N f g
+AddsPart-of M N f g implies part a = ((part a).0, λ sat n. (part a).1 sat (implies a n))
+
+-- first a part is added, then another one
+pub AddsPart-then : (M : Assignment → Type 0) (f g h : Formula) → AddsPart M f g → AddsPart M g h → AddsPart M f h
+AddsPart-then M f g h first then a =
+    (λ sat. (first a).0 ((then a).0 sat), λ sat m. (then a).1 ((first a).1 sat m) m)
+
+-- nothing is a part
+pub AddsPart-none : (M : Assignment → Type 0) (f : Formula) → AddsPart M f f
+AddsPart-none M f a = (λ sat. sat, λ sat m. sat)
+
+-- the first thing is added, and then a part of the other
+pub AddsPart-both : (M N : Assignment → Type 0) (f g h : Formula) → Adds M f g → AddsPart N g h → AddsPart (λ a. M a × N a) f h
+AddsPart-both M N f g h first part =
+    AddsPart-then (λ a. M a × N a) f g h
+    (AddsPart-of M (λ a. M a × N a) f g (λ a both. both.0) (AddsPart-whole M f g first))
+    (AddsPart-of N (λ a. M a × N a) g h (λ a both. both.1) part)
+
+-- the first ones of the clauses that are added are a part
+pub AddsPart-begun : (M : Assignment → Type 0) (f g h more rest : Formula) → Adds M f h → h ≡ g ++ rest → g ≡ f ++ more
+    → AddsPart M f g
+AddsPart-begun M f g h more rest adds whole begun a = (
+  λ sat. satisfies-first a f more (subst (λ x. IsTrue (satisfies a x)) begun sat),
+  λ sat m. satisfies-first a g rest (subst (λ x. IsTrue (satisfies a x)) whole ((adds a).1 (sat, m))),
+)
+
+-- so are those of the first ones of some items
+pub AddsPart-mapped : {A : Type 0} (clause : A → Clause) (xs : List A) (k : ℕ) (f g : Formula) → g ≡ f ++ map clause (take k xs)
+    → AddsPart (λ a. IsTrue (satisfies a (map clause xs))) f g
+AddsPart-mapped clause xs k f g same =
+    let first = map clause (take k xs) in
+    let rest = map clause (drop k xs) in
+    let all : map clause xs ≡ first ++ rest = ap (map clause) (sym (take-append-drop k xs)) ∙ map-append clause (take k xs) (drop k xs) in
+    let whole : f ++ map clause xs ≡ g ++ rest = ap (λ cs. f ++ cs) all ∙ sym (append_assoc f first rest) ∙ ap (λ h. h ++ rest) (sym same) in
+    AddsPart-begun (λ a. IsTrue (satisfies a (map clause xs))) f g (f ++ map clause xs) first rest
+    (Adds-clauses (map clause xs) f (f ++ map clause xs) refl) whole same
+
+-- some of the clauses were added, and then a part of the next ones
+pub AddsPart-next : (M : Assignment → Type 0) (f g h whole more next rest : Formula) → Adds M f whole → whole ≡ g ++ (next ++ rest)
+    → g ≡ f ++ more → AddsPart (λ a. IsTrue (satisfies a next)) g h → AddsPart M f h
+AddsPart-next M f g h whole more next rest adds all begun part a = (
+  λ sat. satisfies-first a f more (subst (λ x. IsTrue (satisfies a x)) begun ((part a).0 sat)),
+  λ sat m.
+      let both = sym (list_all-append (satisfies_clause a) g (next ++ rest)) ∙ subst (λ x. IsTrue (satisfies a x)) all ((adds a).1 (sat, m)) in
+      let (was, others) = and_parts (satisfies a g) (satisfies a (next ++ rest)) both in
+      (part a).1 was (satisfies-first a next rest others),
+)
 
 -- of two literals one is false where they are not both true
 one_false-says : (a : Assignment) (l m : Lit)

@@ -3,6 +3,7 @@ pub mod LiteralLemmas
 pub mod Formulas
 pub mod MakesTrue
 pub mod Cores
+pub mod Follows
 pub mod Simplifying
 pub mod Encodings
 mod LayoutLemmas

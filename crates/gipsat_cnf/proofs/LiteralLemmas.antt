@@ -43,6 +43,16 @@ beq_not true false e = refl
 beq_not false true e = refl
 beq_not false false e = absurd (false≢true (sym e))
 
+beq-not : (v p : Bool) → beq v (not p) ≡ not (beq v p)
+beq-not true true = refl
+beq-not true false = refl
+beq-not false true = refl
+beq-not false false = refl
+
+-- a literal is true exactly if its negation is not
+pub is_true-negated : (a : Assignment) (l : Lit) → is_true a (negated l) ≡ not (is_true a l)
+is_true-negated a l = beq-not (a l.variable) l.positive
+
 beq_both : (v p : Bool) → beq v p ≡ true → beq v (not p) ≡ true → ⊥
 beq_both true true e f = false≢true f
 beq_both true false e f = false≢true e

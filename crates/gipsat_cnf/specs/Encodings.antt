@@ -11,6 +11,12 @@ use Rattle.gipsat_cnf.specs.Literals.{Lit, negated}
 abbrev pub Adds : (Assignment → Type 0) → Formula → Formula → Type 0
 Adds Means old new = (a : Assignment) → IsTrue (satisfies a new) ↔ (IsTrue (satisfies a old) × Means a)
 
+-- the new formula says what the old one says, and of the property a part, or nothing
+abbrev pub AddsPart : (Assignment → Type 0) → Formula → Formula → Type 0
+AddsPart Means old new =
+    (a : Assignment) → (IsTrue (satisfies a new) → IsTrue (satisfies a old))
+    × (IsTrue (satisfies a old) → Means a → IsTrue (satisfies a new))
+
 -- it holds at each number below n
 abbrev pub AllBelow : ℕ → (ℕ → Type 0) → Type 0
 AllBelow n Holds = (i : ℕ) → i < n → Holds i

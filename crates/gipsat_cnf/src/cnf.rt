@@ -1,11 +1,15 @@
 //! Formulas in conjunctive form: clauses, one behind another in one vector of literals.
 ghost use Rattle.std.specs.Prelude.{◌≡◌, ◌==◌, ◌++◌, ◌∷◌, ◌+◌, ◌<◌, ◌≤◌, ◌^◌, [], Some, true, length, take, slice_get, slice_index_or, IfSome, IfOk, OnOk, OnErr};
+ghost use Rattle.std.specs.Option.{option_map};
 ghost use Rattle.gipsat_cnf.specs.Formulas.{AreBelow, satisfies};
 ghost use Rattle.gipsat_cnf.specs.Lists.{AreAllBelow, KeepsBut, Reorders, retained};
 ghost use Rattle.gipsat_cnf.specs.Models.{assignment_in};
 
+mod iter;
+
 use crate::literal::Literal;
 use crate::values::satisfies_clause;
+pub use iter::ClauseIter;
 use std::alloc::{AllocError, Global};
 use std::marker::Model;
 
@@ -172,6 +176,17 @@ impl Cnf {
     {
         let span = self.spans[place];
         &self.literals[span.start as usize..span.end as usize]
+    }
+
+    /// The clause at a place. None where there is no clause.
+    #[inline]
+    pub fn get(&self, place: usize) -> Option<&[Literal]>
+        ensures { option_map (λ clause. clause.now) result ≡ slice_get self.now place }
+    {
+        if place >= self.len() {
+            return None;
+        }
+        Some(self.clause(place))
     }
 
     /// The literals of all clauses, one clause behind another. The clause with the span `s` is

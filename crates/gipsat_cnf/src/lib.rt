@@ -10,7 +10,7 @@ pub mod solver;
 pub mod values;
 
 pub use answers::{Answer, AnswerUnder, Budget, Effort, Guess};
-pub use cnf::{Cnf, Span};
+pub use cnf::{ClauseIter, Cnf, Span};
 pub use literal::Literal;
 pub use sink::ClauseSink;
 pub use solver::SatSolver;
