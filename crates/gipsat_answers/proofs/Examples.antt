@@ -108,14 +108,14 @@ first-last : first_verdict 2 Unsatisfiable ≡ Satisfiable
 first-last = refl
 
 -- values that are right, and an answer that is open: as many clauses were learned as the limit says
-text-values : IsRightText true either 5 (record { formula = either.clauses; learned = 0 }) Satisfiable (codes "s SATISFIABLE\nv -1 2 0\n")
+text-values : IsRightText true either 5 (record { formula = either.clauses; learned = 0; given = 0 }) Satisfiable (codes "s SATISFIABLE\nv -1 2 0\n")
 unfolding digits
 text-values = ((λ k. k == 1), refl, refl)
 
-text-open : IsRightText true either 5 (record { formula = either.clauses; learned = 5 }) Unknown (codes "s UNKNOWN\n")
+text-open : IsRightText true either 5 (record { formula = either.clauses; learned = 5; given = 0 }) Unknown (codes "s UNKNOWN\n")
 text-open = (refl, refl)
 
-text-too_early : IsRightText true either 5 (record { formula = either.clauses; learned = 4 }) Unknown (codes "s UNKNOWN\n") → ⊥
+text-too_early : IsRightText true either 5 (record { formula = either.clauses; learned = 4; given = 0 }) Unknown (codes "s UNKNOWN\n") → ⊥
 text-too_early (spent, is) = absurd cc
 
 -- two questions, each of the clauses before it

@@ -4,7 +4,7 @@ use Rattle.std.specs.Prelude.{slice_get, slice_index_or, replicate}
 use Rattle.std.proofs.lemmas.Bool.{false≢true, and_from, cases_Bool, cases_lt}
 use Rattle.std.proofs.lemmas.Option.{slice_get_within}
 use Rattle.gipsat_cnf.specs.Formulas.{Assignment, Clause, Implies, satisfies, satisfies_clause}
-use Rattle.gipsat_cnf.specs.Lists.{AreAmong, IsAmong, KeepsBut, retained}
+use Rattle.gipsat_cnf.specs.Lists.{AreAllBelow, AreAmong, IsAmong, KeepsBut, retained}
 use Rattle.gipsat_cnf.specs.Simplifying.{SaysSame}
 use Rattle.gipsat_kernel.specs.Kernel.{OriginalStay, original_among}
 use Rattle.gipsat_cnf.proofs.Formulas.{satisfies-at, satisfies-each}
@@ -42,6 +42,11 @@ original_among-among (flag ∷ flags) [] k c at = none_some c at
 original_among-among (true ∷ flags) (d ∷ cs) zero c at = (zero, at)
 original_among-among (true ∷ flags) (d ∷ cs) (suc k) c at = let was = original_among-among flags cs k c at in (suc was.0, was.1)
 original_among-among (false ∷ flags) (d ∷ cs) k c at = let was = original_among-among flags cs k c at in (suc was.0, was.1)
+
+-- what the variables of all are below, those of the original ones are
+pub AreAllBelow-original : (flags : List Bool) (cs : List Clause) (n : ℕ) → AreAllBelow n cs
+    → AreAllBelow n (original_among flags cs)
+AreAllBelow-original flags cs n below k c at = let there = original_among-among flags cs k c at in below there.0 c there.1
 
 -- a clause with a flag that is set is one of the formula
 pub original_among-has : (flags : List Bool) (cs : List Clause) (k : ℕ) (c : Clause) → slice_index_or flags k false ≡ true

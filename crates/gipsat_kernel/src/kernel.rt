@@ -3,6 +3,7 @@ ghost use Rattle.std.specs.Prelude.{◌≡◌, ◌++◌, ◌∷◌, ◌<◌, [],
 ghost use Rattle.std.specs.Bool.{OnFalse, OnTrue};
 ghost use Rattle.gipsat_cnf.specs.Assumptions.{IsCore, IsModelUnder, IsSatisfiableUnder};
 ghost use Rattle.gipsat_cnf.specs.Formulas.{Implies, IsSatisfiable, satisfies};
+ghost use Rattle.gipsat_cnf.specs.Lists.{AreAllBelow};
 ghost use Rattle.gipsat_cnf.specs.Literals.{negated};
 ghost use Rattle.gipsat_cnf.specs.Models.{assignment_in};
 ghost use Rattle.gipsat_cnf.specs.Simplifying.{SaysSame};
@@ -120,7 +121,9 @@ impl Kernel {
 
     /// A number, at most 2^31, that the variables of all working clauses are below.
     #[inline]
-    pub fn variables(&self) -> usize {
+    pub fn variables(&self) -> usize
+        ensures { AreAllBelow result self.now }
+    {
         self.clauses.variables()
     }
 

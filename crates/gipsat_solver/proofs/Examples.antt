@@ -10,7 +10,7 @@ yes v = record { variable = v; positive = true }
 
 -- x0 is a clause, and so many clauses were learned
 abbrev after : ℕ → SolverState
-after n = record { formula = (yes 0 ∷ []) ∷ []; learned = n }
+after n = record { formula = (yes 0 ∷ []) ∷ []; learned = n; given = 0 }
 
 two_more : HasMore 2 (after 3) (after 5)
 two_more = refl

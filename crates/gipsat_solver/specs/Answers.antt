@@ -15,10 +15,11 @@ use Rattle.gipsat_solver.specs.declared.answers.End.TheVariants as end
 use Rattle.gipsat_solver.specs.declared.turns.Step.{Step}
 use Rattle.gipsat_solver.specs.declared.turns.Step.TheVariants as step
 
--- what a solver holds: the formula, and how many clauses were learned
+-- what a solver holds: the formula, how many clauses were learned, and a number above the variables that it gave
 pub record SolverState : Type 0 where
   pub formula : Formula
   pub learned : ℕ
+  pub given : ℕ
 
 -- so many clauses more were learned
 abbrev pub HasMore : ℕ → SolverState → SolverState → Type 0

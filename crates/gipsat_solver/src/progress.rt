@@ -23,6 +23,7 @@ pub fn solve_in_slices<P: Progress>(
     ensures right { IfOk result (λ found. IfSome found (IsRight solver.old solver.new limit)) }
     ensures stopped { IfOk result (λ found. IfNone found (IsTrue (P.wants_stop progress.new))) }
     ensures formula { solver.new.formula ≡ solver.old.formula }
+    ensures given { solver.new.given ≡ solver.old.given }
     ensures learned { HasNoFewer solver.old solver.new }
     ensures most { OnOk result (solver.new.learned ≤ solver.old.learned + limit) }
 {
@@ -48,6 +49,7 @@ pub fn solve_under_in_slices<P: Progress>(
         (λ found. IfSome found (IsRightUnder assumptions.now solver.old solver.new limit)) }
     ensures stopped { IfOk result (λ found. IfNone found (IsTrue (P.wants_stop progress.new))) }
     ensures formula { solver.new.formula ≡ solver.old.formula }
+    ensures given { solver.new.given ≡ solver.old.given }
     ensures learned { HasNoFewer solver.old solver.new }
     ensures most { OnOk result (solver.new.learned ≤ solver.old.learned + limit) }
 {
@@ -74,6 +76,7 @@ fn solve_on<P: Progress>(
         (λ found. IfSome found (IsRightUnder assumptions.now solver.old solver.new limit)) }
     ensures stopped { IfOk result (λ found. IfNone found (IsTrue (P.wants_stop progress.new))) }
     ensures formula { solver.new.formula ≡ solver.old.formula }
+    ensures given { solver.new.given ≡ solver.old.given }
     ensures learned { HasNoFewer solver.old solver.new }
     ensures most { OnOk result (solver.new.learned ≤ solver.old.learned + limit) }
 {
@@ -111,6 +114,7 @@ fn solve_to_pause<P: Progress>(
     ensures most { OnOk result (HasUpTo limit solver.old solver.new) }
     ensures refused { OnErr result (HasNoFewer solver.old solver.new) }
     ensures formula { solver.new.formula ≡ solver.old.formula }
+    ensures given { solver.new.given ≡ solver.old.given }
 {
     let query = Query {
         assumptions,

@@ -1,7 +1,8 @@
 //! The solver: a search that guesses, and a kernel that is believed.
-ghost use Rattle.std.specs.Prelude.{◌≡◌, ◌++◌, ◌∷◌, [], IfNone, IfOk, IfSome, IsTrue, OnOk, OnErr};
+ghost use Rattle.std.specs.Prelude.{◌≡◌, ◌+◌, ◌≤◌, ◌++◌, ◌∷◌, [], true, IfNone, IfOk, IfSome, IsTrue, OnOk, OnErr};
 ghost use Rattle.gipsat_cnf.specs.Encodings.{Adds};
 ghost use Rattle.gipsat_cnf.specs.Formulas.{IsSatisfiable, satisfies_clause};
+ghost use Rattle.gipsat_cnf.specs.Lists.{AreAllBelow};
 ghost use Rattle.gipsat_cnf.specs.Models.{IsModel};
 ghost use Rattle.gipsat_cnf.specs.Simplifying.{SaysSame};
 ghost use Rattle.gipsat_solver.specs.Answers.{HasMore, HasNoFewer, HasUpTo, IsRight, IsRightEnd, IsRightGuess, IsRightLimited, IsRightUnder};
@@ -39,11 +40,14 @@ impl Inprocessing {
 
 /// A formula to which clauses may be added, and what was learned of it.
 ///
-/// It is seen as its formula, and how many clauses were learned from conflicts.
+/// It is seen as its formula, how many clauses were learned from conflicts, and a number above all variables that
+/// [`Solver::new_variable`] gave.
 pub struct Solver {
     alloc: Global,
     kernel: Kernel,
     search: Search,
+    // One more than the last variable that was given. 0 where none was.
+    given: usize,
     // How many clauses were learned from conflicts.
     learned: usize,
     // How many working clauses need not be told any more.
@@ -61,6 +65,7 @@ impl Drop for Solver {
             alloc: _,
             kernel,
             search,
+            given: _,
             learned: _,
             told: _,
             lost: _,
@@ -74,7 +79,7 @@ impl Model for Solver {
 
     ghost Value = { SolverState };
 
-    ghost view = { λ s. record { formula = s.kernel; learned = s.learned } };
+    ghost view = { λ s. record { formula = s.kernel; learned = s.learned; given = s.given } };
 }
 
 // Tells a working clause that was derived.
@@ -91,11 +96,13 @@ impl Solver {
     pub fn new(alloc: Global) -> Self
         ensures formula { result.formula ≡ [] }
         ensures learned { result.learned ≡ 0 }
+        ensures given { result.given ≡ 0 }
     {
         Solver {
             alloc,
             kernel: Kernel::new(alloc),
             search: Search::new(alloc),
+            given: 0,
             learned: 0,
             told: 0,
             lost: 0,
@@ -110,11 +117,13 @@ impl Solver {
     pub fn over(alloc: Global, formula: Cnf) -> Result<Self, AllocError>
         ensures formula { IfOk result (λ solver. solver.formula ≡ formula) }
         ensures learned { IfOk result (λ solver. solver.learned ≡ 0) }
+        ensures given { IfOk result (λ solver. solver.given ≡ 0) }
     {
         Ok(Solver {
             alloc,
             kernel: Kernel::over(alloc, formula)?,
             search: Search::new(alloc),
+            given: 0,
             learned: 0,
             told: 0,
             lost: 0,
@@ -132,10 +141,42 @@ impl Solver {
         ensures means { OnOk result
             (Adds (λ a. IsTrue (satisfies_clause a clause.now)) self.old.formula self.new.formula) }
         ensures learned { self.new.learned ≡ self.old.learned }
+        ensures given { self.new.given ≡ self.old.given }
         ensures refused { OnErr result (self.new ≡ self.old) }
     {
         self.kernel.add_clause(clause)?;
         Ok(())
+    }
+
+    /// A number, at most 2^31, that all variables of the formula are below, and all that [`Solver::new_variable`] gave.
+    #[inline]
+    pub fn variables(&self) -> usize
+        ensures below { AreAllBelow result self.now.formula }
+        ensures given { self.now.given ≤ result }
+    {
+        self.kernel.variables().max(self.given)
+    }
+
+    /// A new variable: no clause of the formula has it, and no other call gave it. It takes no memory before a clause
+    /// or an assumption has it.
+    ///
+    /// # Errors
+    /// `AllocError` where its number would be 2^31. Nothing changes then.
+    pub fn new_variable(&mut self) -> Result<Literal, AllocError>
+        ensures unused { IfOk result (λ l. AreAllBelow l.variable self.old.formula) }
+        ensures other { IfOk result (λ l. self.old.given ≤ l.variable) }
+        ensures given { IfOk result (λ l. self.new.given ≡ l.variable + 1) }
+        ensures positive { IfOk result (λ l. l.positive ≡ true) }
+        ensures formula { self.new.formula ≡ self.old.formula }
+        ensures learned { self.new.learned ≡ self.old.learned }
+        ensures refused { OnErr result (self.new ≡ self.old) }
+    {
+        let variable = self.variables();
+        if variable >= 1 << 31 {
+            return Err(AllocError);
+        }
+        self.given = variable + 1;
+        Ok(Literal::new(variable as u32, true))
     }
 
     /// How many clauses it holds: those of the formula, and those that follow and were not freed. Nothing is proved of
@@ -169,6 +210,7 @@ impl Solver {
     pub fn solve(&mut self, limit: usize) -> Result<Answer, AllocError>
         ensures right { IfOk result (IsRight self.old self.new limit) }
         ensures formula { self.new.formula ≡ self.old.formula }
+        ensures given { self.new.given ≡ self.old.given }
         ensures learned { OnOk result (HasUpTo limit self.old self.new) }
         ensures refused { OnErr result (HasNoFewer self.old self.new) }
     {
@@ -191,6 +233,7 @@ impl Solver {
     ) -> Result<AnswerUnder, AllocError>
         ensures right { IfOk result (IsRightUnder assumptions.now self.old self.new limit) }
         ensures formula { self.new.formula ≡ self.old.formula }
+        ensures given { self.new.given ≡ self.old.given }
         ensures learned { OnOk result (HasUpTo limit self.old self.new) }
         ensures refused { OnErr result (HasNoFewer self.old self.new) }
     {
@@ -224,6 +267,7 @@ impl Solver {
     ) -> Result<AnswerUnder, AllocError>
         ensures right { IfOk result (IsRightLimited assumptions.now self.old self.new budget.clauses) }
         ensures formula { self.new.formula ≡ self.old.formula }
+        ensures given { self.new.given ≡ self.old.given }
         ensures learned { OnOk result (HasUpTo budget.clauses self.old self.new) }
         ensures refused { OnErr result (HasNoFewer self.old self.new) }
     {
@@ -257,6 +301,7 @@ impl Solver {
     ) -> Result<Guess, AllocError>
         ensures right { IfOk result (IsRightGuess assumptions.now self.old self.new limit) }
         ensures formula { self.new.formula ≡ self.old.formula }
+        ensures given { self.new.given ≡ self.old.given }
         ensures learned { OnOk result (HasUpTo limit self.old self.new) }
         ensures refused { OnErr result (HasNoFewer self.old self.new) }
     {
@@ -281,6 +326,7 @@ impl Solver {
     ) -> Result<Guess, AllocError>
         ensures right { IfOk result (IsRightGuess assumptions.now self.old self.new limit) }
         ensures formula { self.new.formula ≡ self.old.formula }
+        ensures given { self.new.given ≡ self.old.given }
         ensures learned { OnOk result (HasUpTo limit self.old self.new) }
         ensures refused { OnErr result (HasNoFewer self.old self.new) }
     {
@@ -296,6 +342,7 @@ impl Solver {
     ) -> Result<Guess, AllocError>
         ensures right { IfOk result (IsRightGuess assumptions.now self.old self.new limit) }
         ensures formula { self.new.formula ≡ self.old.formula }
+        ensures given { self.new.given ≡ self.old.given }
         ensures learned { OnOk result (HasUpTo limit self.old self.new) }
         ensures refused { OnErr result (HasNoFewer self.old self.new) }
     {
@@ -329,6 +376,7 @@ impl Solver {
         ensures model { IfOk result (λ found. IfSome found (λ model. IsModel self.old.formula model.items)) }
         ensures none { IfOk result (λ found. IfNone found (¬ (IsSatisfiable self.old.formula))) }
         ensures formula { self.new.formula ≡ self.old.formula }
+        ensures given { self.new.given ≡ self.old.given }
         ensures learned { HasNoFewer self.old self.new }
     {
         match self.solve(usize::MAX)? {
@@ -346,6 +394,7 @@ impl Solver {
         progress: &mut P,
     ) -> Result<Option<End>, AllocError>
         ensures formula { self.new.formula ≡ self.old.formula }
+        ensures given { self.new.given ≡ self.old.given }
         ensures right { IfOk result (λ end. IfSome end (IsRightEnd self.old.formula query.now)) }
         ensures limit { IfOk result (λ end. IfNone end (HasMore limit self.old self.new)) }
         ensures most { OnOk result (HasUpTo limit self.old self.new) }
@@ -365,6 +414,7 @@ impl Solver {
         progress: &mut P,
     ) -> Result<Option<End>, AllocError>
         ensures formula { self.new.formula ≡ self.old.formula }
+        ensures given { self.new.given ≡ self.old.given }
         ensures right { IfOk result (λ end. IfSome end (IsRightEnd self.old.formula query.now)) }
         ensures limit { IfOk result (λ end. IfNone end (HasMore limit self.old self.new)) }
         ensures most { OnOk result (HasUpTo limit self.old self.new) }
@@ -386,6 +436,7 @@ impl Solver {
         progress: &mut P,
     ) -> Result<Option<End>, AllocError>
         ensures formula { self.new.formula ≡ self.old.formula }
+        ensures given { self.new.given ≡ self.old.given }
         ensures right { IfOk result (λ end. IfSome end (IsRightEnd self.old.formula query.now)) }
         ensures limit { IfOk result (λ end. IfNone end (HasMore limit self.old self.new)) }
         ensures most { OnOk result (HasUpTo limit self.old self.new) }
@@ -414,6 +465,7 @@ impl Solver {
     // Counts a learned clause. It is refused where the count would overflow.
     fn count_learned(&mut self) -> Result<(), AllocError>
         ensures formula { self.new.formula ≡ self.old.formula }
+        ensures given { self.new.given ≡ self.old.given }
         ensures more { OnOk result (HasMore 1 self.old self.new) }
         ensures refused { OnErr result (self.new ≡ self.old) }
     {
@@ -577,6 +629,7 @@ impl Solver {
     pub fn simplify(&mut self) -> Result<(), AllocError>
         ensures same { OnOk result (SaysSame self.old.formula self.new.formula) }
         ensures learned { self.new.learned ≡ self.old.learned }
+        ensures given { self.new.given ≡ self.old.given }
         ensures refused { OnErr result (self.new ≡ self.old) }
     {
         self.search.simplify(&mut self.kernel)?;

@@ -7,6 +7,7 @@ use Rattle.gipsat_solver.proofs.solver.Solver.find_on.Given as goal
 abbrev pub invariant-loop : goal.invariant-loop
 invariant-loop g l = record {
   formula : l.self.formula ≡ l.fn.self.formula;
+  given : l.self.given ≡ l.fn.self.given;
   more : HasMore l.counter l.fn.self l.self;
   stop : IsTrue (g.P.Progress.wants_stop l.fn.progress) → IsTrue (g.P.Progress.wants_stop l.progress);
 }
