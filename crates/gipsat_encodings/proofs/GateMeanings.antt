@@ -1,25 +1,15 @@
 -- What the clauses of gates say, by the values of their literals.
-use Rattle.std.proofs.Common.{◌≡◌, ◌↔◌, Bool, true, false, cond, not, ◌&&◌, ◌||◌, List, [], ◌∷◌, ◌++◌, map, IsTrue, refl, sym, ap, ◌∙◌}
-use Rattle.std.specs.Bool.{beq}
+use Rattle.std.proofs.Common.{◌≡◌, ◌↔◌, ℕ, Bool, true, false, cond, not, ◌&&◌, ◌||◌, List, [], ◌∷◌, ◌++◌, map, take, IsTrue, refl, sym, ap, ◌∙◌}
 use Rattle.std.specs.List.{list_all}
 use Rattle.std.proofs.lemmas.Bool.{and_from, and_parts, false≢true}
 use Rattle.std.proofs.lemmas.List.Folds.{list_all-map, list_any-append}
 use Rattle.gipsat_cnf.specs.Assumptions.{makes_true}
-use Rattle.gipsat_cnf.specs.Encodings.{Adds}
+use Rattle.gipsat_cnf.specs.Encodings.{Adds, AddsPart}
 use Rattle.gipsat_cnf.specs.Formulas.{Assignment, Clause, Formula, is_true, satisfies, satisfies_clause}
 use Rattle.gipsat_cnf.specs.Literals.{Lit, negated}
-use Rattle.gipsat_cnf.proofs.Encodings.{Adds-both, Adds-clause, Adds-clauses, Adds-same}
+use Rattle.gipsat_cnf.proofs.Encodings.{Adds-both, Adds-clause, Adds-clauses, Adds-same, AddsPart-both, AddsPart-mapped, AddsPart-of}
+use Rattle.gipsat_cnf.proofs.LiteralLemmas.{is_true-negated}
 use Rattle.gipsat_encodings.specs.Gates.{IsAnd, IsChoice, IsOr, IsXor, differ}
-
-beq-not : (x y : Bool) → beq x (not y) ≡ not (beq x y)
-beq-not true true = refl
-beq-not true false = refl
-beq-not false true = refl
-beq-not false false = refl
-
--- a literal is true exactly if its negation is not
-pub is_true-negated : (a : Assignment) (l : Lit) → is_true a (negated l) ≡ not (is_true a l)
-is_true-negated a l = beq-not (a l.variable) l.positive
 
 not-same : (x y : Bool) → not x ≡ not y → x ≡ y
 not-same true true same = refl
@@ -116,3 +106,13 @@ Adds-or output literals f g same =
     (λ a. or-says a output literals)
     (Adds-both (λ a. IsTrue (satisfies_clause a first)) (λ a. IsTrue (satisfies a (map (implied output) literals))) f (f ++ first ∷ []) g
     (Adds-clause first f (f ++ first ∷ []) refl) (Adds-clauses (map (implied output) literals) (f ++ first ∷ []) g same))
+
+-- the first ones of its clauses are a part
+pub AddsPart-or : (output : Lit) (literals : List Lit) (k : ℕ) (f g : Formula)
+    → g ≡ (f ++ (literals ++ negated output ∷ []) ∷ []) ++ map (implied output) (take k literals) → AddsPart (IsOr output literals) f g
+AddsPart-or output literals k f g same =
+    let first = literals ++ negated output ∷ [] in
+    AddsPart-of (λ a. IsTrue (satisfies_clause a first) × IsTrue (satisfies a (map (implied output) literals))) (IsOr output literals) f g
+    (λ a. (or-says a output literals).1)
+    (AddsPart-both (λ a. IsTrue (satisfies_clause a first)) (λ a. IsTrue (satisfies a (map (implied output) literals))) f (f ++ first ∷ []) g
+    (Adds-clause first f (f ++ first ∷ []) refl) (AddsPart-mapped (implied output) literals k (f ++ first ∷ []) g same))

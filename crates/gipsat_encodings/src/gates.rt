@@ -1,6 +1,6 @@
 //! Clauses that a literal has the value of a gate (G. Tseitin, 1968).
-ghost use Rattle.std.specs.Prelude.{◌≡◌, ◌∷◌, ◌++◌, map, take, IfOk, IsTrue, OnOk};
-ghost use Rattle.gipsat_cnf.specs.Encodings.{Adds};
+ghost use Rattle.std.specs.Prelude.{◌≡◌, ◌∷◌, ◌++◌, map, take, IfOk, IsTrue, OnErr, OnOk};
+ghost use Rattle.gipsat_cnf.specs.Encodings.{Adds, AddsPart};
 ghost use Rattle.gipsat_cnf.specs.Formulas.{is_true};
 ghost use Rattle.gipsat_cnf.specs.Literals.{negated};
 ghost use Rattle.gipsat_encodings.specs.Gates.{IsAnd, IsChoice, IsOr, IsXor};
@@ -11,14 +11,16 @@ use std::alloc::{AllocError, Global};
 /// Adds the clauses that the output is true exactly if each of the literals is: n + 1 clauses for n literals.
 ///
 /// # Errors
-/// `AllocError` where memory is refused. Some of the clauses may have been added.
+/// `AllocError` where memory is refused. Some of the clauses may have been added: the formula lies between the old one
+/// and the intended one.
 pub fn add_and<S: ClauseSink>(
     alloc: Global,
     sink: &mut S,
     output: Literal,
     literals: &[Literal],
 ) -> Result<(), AllocError>
-    ensures { OnOk result (Adds (IsAnd output literals.now) (S.formula sink.old) (S.formula sink.new)) }
+    ensures means { OnOk result (Adds (IsAnd output literals.now) (S.formula sink.old) (S.formula sink.new)) }
+    ensures left { OnErr result (AddsPart (IsAnd output literals.now) (S.formula sink.old) (S.formula sink.new)) }
 {
     let negations = negations(alloc, literals)?;
     add_or(alloc, sink, output.negated(), &negations)
@@ -27,14 +29,16 @@ pub fn add_and<S: ClauseSink>(
 /// Adds the clauses that the output is true exactly if one of the literals is: n + 1 clauses for n literals.
 ///
 /// # Errors
-/// `AllocError` where memory is refused. Some of the clauses may have been added.
+/// `AllocError` where memory is refused. Some of the clauses may have been added: the formula lies between the old one
+/// and the intended one.
 pub fn add_or<S: ClauseSink>(
     alloc: Global,
     sink: &mut S,
     output: Literal,
     literals: &[Literal],
 ) -> Result<(), AllocError>
-    ensures { OnOk result (Adds (IsOr output literals.now) (S.formula sink.old) (S.formula sink.new)) }
+    ensures means { OnOk result (Adds (IsOr output literals.now) (S.formula sink.old) (S.formula sink.new)) }
+    ensures left { OnErr result (AddsPart (IsOr output literals.now) (S.formula sink.old) (S.formula sink.new)) }
 {
     let mut clause = Vec::with_capacity(alloc, literals.len())?;
     clause.extend_from_slice(literals)?;
@@ -49,14 +53,16 @@ pub fn add_or<S: ClauseSink>(
 /// Adds the four clauses that the output is true exactly if one of the two literals is, and the other is not.
 ///
 /// # Errors
-/// `AllocError` where memory is refused. Some of the clauses may have been added.
+/// `AllocError` where memory is refused. Some of the clauses may have been added: the formula lies between the old one
+/// and the intended one.
 pub fn add_xor<S: ClauseSink>(
     sink: &mut S,
     output: Literal,
     l: Literal,
     m: Literal,
 ) -> Result<(), AllocError>
-    ensures { OnOk result (Adds (IsXor output l m) (S.formula sink.old) (S.formula sink.new)) }
+    ensures means { OnOk result (Adds (IsXor output l m) (S.formula sink.old) (S.formula sink.new)) }
+    ensures left { OnErr result (AddsPart (IsXor output l m) (S.formula sink.old) (S.formula sink.new)) }
 {
     add_choice(sink, output, l, m.negated(), m)
 }
@@ -64,7 +70,8 @@ pub fn add_xor<S: ClauseSink>(
 /// Adds the four clauses that the output is what `yes` is where the condition is true, and else what `no` is.
 ///
 /// # Errors
-/// `AllocError` where memory is refused. Some of the clauses may have been added.
+/// `AllocError` where memory is refused. Some of the clauses may have been added: the formula lies between the old one
+/// and the intended one.
 pub fn add_choice<S: ClauseSink>(
     sink: &mut S,
     output: Literal,
@@ -72,7 +79,9 @@ pub fn add_choice<S: ClauseSink>(
     yes: Literal,
     no: Literal,
 ) -> Result<(), AllocError>
-    ensures { OnOk result (Adds (IsChoice output condition yes no) (S.formula sink.old) (S.formula sink.new)) }
+    ensures means { OnOk result (Adds (IsChoice output condition yes no) (S.formula sink.old) (S.formula sink.new)) }
+    ensures left { OnErr result
+        (AddsPart (IsChoice output condition yes no) (S.formula sink.old) (S.formula sink.new)) }
 {
     add_chosen(sink, output, condition, yes)?;
     add_chosen(sink, output, condition.negated(), no)
@@ -85,7 +94,9 @@ fn add_chosen<S: ClauseSink>(
     condition: Literal,
     chosen: Literal,
 ) -> Result<(), AllocError>
-    ensures { OnOk result (Adds (λ a. IsTrue (is_true a condition) → is_true a output ≡ is_true a chosen)
+    ensures means { OnOk result (Adds (λ a. IsTrue (is_true a condition) → is_true a output ≡ is_true a chosen)
+        (S.formula sink.old) (S.formula sink.new)) }
+    ensures left { OnErr result (AddsPart (λ a. IsTrue (is_true a condition) → is_true a output ≡ is_true a chosen)
         (S.formula sink.old) (S.formula sink.new)) }
 {
     sink.add_clause(&[condition.negated(), chosen.negated(), output])?;

@@ -1,6 +1,7 @@
 //! Clauses that at least, at most or exactly one of some literals is true, with no variables of their own.
-ghost use Rattle.std.specs.Prelude.{◌≡◌, ◌++◌, map, OnOk, OnErr};
-ghost use Rattle.gipsat_cnf.specs.Encodings.{Adds, AtLeastOneTrue, AtMostOneTrue, ExactlyOneTrue, at_most_one, one_false};
+ghost use Rattle.std.specs.Prelude.{◌≡◌, ◌++◌, map, IsTrue, OnOk, OnErr};
+ghost use Rattle.gipsat_cnf.specs.Encodings.{Adds, AddsPart, AtLeastOneTrue, AtMostOneTrue, ExactlyOneTrue, at_most_one, one_false};
+ghost use Rattle.gipsat_cnf.specs.Formulas.{satisfies};
 
 use gipsat_cnf::{ClauseSink, Literal};
 use std::alloc::AllocError;
@@ -19,10 +20,12 @@ pub fn add_at_least_one<S: ClauseSink>(sink: &mut S, literals: &[Literal]) -> Re
 /// Adds the clauses that at most one of the literals is true: one for each pair, n (n - 1) / 2 for n literals.
 ///
 /// # Errors
-/// `AllocError` where memory is refused. Some of the clauses may have been added.
+/// `AllocError` where memory is refused. Some of the clauses may have been added: the formula lies between the old one
+/// and the intended one.
 pub fn add_at_most_one<S: ClauseSink>(sink: &mut S, literals: &[Literal]) -> Result<(), AllocError>
     ensures clauses { OnOk result (S.formula sink.new ≡ S.formula sink.old ++ at_most_one literals.now) }
     ensures means { OnOk result (Adds (AtMostOneTrue literals.now) (S.formula sink.old) (S.formula sink.new)) }
+    ensures left { OnErr result (AddsPart (AtMostOneTrue literals.now) (S.formula sink.old) (S.formula sink.new)) }
 {
     for place in 0..literals.len() {
         add_pairs(sink, literals[place], &literals[place + 1..])?;
@@ -33,9 +36,11 @@ pub fn add_at_most_one<S: ClauseSink>(sink: &mut S, literals: &[Literal]) -> Res
 /// Adds the clauses that exactly one of the literals is true.
 ///
 /// # Errors
-/// `AllocError` where memory is refused. Some of the clauses may have been added.
+/// `AllocError` where memory is refused. Some of the clauses may have been added: the formula lies between the old one
+/// and the intended one.
 pub fn add_exactly_one<S: ClauseSink>(sink: &mut S, literals: &[Literal]) -> Result<(), AllocError>
-    ensures { OnOk result (Adds (ExactlyOneTrue literals.now) (S.formula sink.old) (S.formula sink.new)) }
+    ensures means { OnOk result (Adds (ExactlyOneTrue literals.now) (S.formula sink.old) (S.formula sink.new)) }
+    ensures left { OnErr result (AddsPart (ExactlyOneTrue literals.now) (S.formula sink.old) (S.formula sink.new)) }
 {
     add_at_least_one(sink, literals)?;
     add_at_most_one(sink, literals)
@@ -47,7 +52,9 @@ fn add_pairs<S: ClauseSink>(
     literal: Literal,
     others: &[Literal],
 ) -> Result<(), AllocError>
-    ensures { OnOk result (S.formula sink.new ≡ S.formula sink.old ++ map (one_false literal) others.now) }
+    ensures clauses { OnOk result (S.formula sink.new ≡ S.formula sink.old ++ map (one_false literal) others.now) }
+    ensures left { OnErr result (AddsPart (λ a. IsTrue (satisfies a (map (one_false literal) others.now)))
+        (S.formula sink.old) (S.formula sink.new)) }
 {
     for other in others {
         sink.add_clause(&[literal.negated(), other.negated()])?;
