@@ -200,7 +200,7 @@ try_usage "'--check' takes no option '--time=9'" --check --time=9 a b
 try_usage "'--check' takes no option '--binary'" --check --binary a b
 try_usage "one file at most is read from standard input" --check - -
 try_usage "'--check' takes two files, FORMULA and PROOF" --lrat-from-drat a b
-try_usage "'--check' takes no option '--lrat'" --lrat-from-drat a --lrat b c
+try_usage "'--lrat-from-drat' takes no option '--lrat'" --lrat-from-drat a --lrat b c
 try_usage "'-' names no file to write, since standard output has the answer" --lrat-from-drat - a b
 try_usage "'--cube' and '--join' take a file FORMULA and a file CUBES" --cube 1 a
 try_usage "'--cube' and '--join' take a file FORMULA and a file CUBES" --join o a
@@ -212,7 +212,8 @@ try_usage "a proof of '--cube' needs '--lrat'" --cube 1 --proof p a b
 try_usage "'--cubes' has a meaning without '--assume', '--models', '--proof' and '--cube'" --cubes 9 --models 2 a
 try_usage "'--cubes' has a meaning without '--assume', '--models', '--proof' and '--cube'" --cubes 9 --proof p a
 try_usage "'--cubes' has a meaning without '--assume', '--models', '--proof' and '--cube'" --cubes 9 --cube 1 a b
-try_usage "'--check' takes no option '--lrat'" --join o --lrat a b c
+try_usage "'--join' takes no option '--lrat'" --join o --lrat a b c
+try_usage "'--join' takes no option '-q'" -q --join o a b c
 try_usage "'--join' has a meaning without '--check' and '--lrat-from-drat'" --join o --check a b c
 try_usage "'-' names no file to write, since standard output has the answer" --join - a b
 

@@ -9,7 +9,7 @@ use Rattle.gipsat_dimacs.specs.declared.rule.HeaderRule.TheVariants.{Relaxed, St
 use Rattle.gipsat_drat.specs.declared.error.Flaw.TheVariants.{NotShown}
 use Rattle.gipsat_drat.specs.declared.error.Outcome.TheVariants.{Verified, Refused}
 use Rattle.gipsat_drat.specs.declared.error.Place.TheVariants.{Line}
-use Rattle.gipsat_command.specs.Misuses.{Words, CheckOfMore, CubesOfMore, ExtraFile, MissingCubes, MissingFile, MissingHints, MissingModels, MissingProof, PartOfMore, ProofOfMore, NotForCheck, InputTwice}
+use Rattle.gipsat_command.specs.Misuses.{Words, CheckOfMore, CubesOfMore, ExtraFile, MissingCubes, MissingFile, MissingHints, MissingModels, MissingProof, PartOfMore, ProofOfMore, NotFor, InputTwice}
 use Rattle.gipsat_command.specs.Options.{Request, table}
 use Rattle.gipsat_command.specs.Statuses.{TellsVerified, checking_status}
 use Rattle.gipsat_command.specs.Words.{work_asked, Tell, Solve, Check, Convert, Cubes, Part, Join}
@@ -92,11 +92,11 @@ convert = codes "--check" ∷ codes "--binary" ∷ codes "a" ∷ codes "-" ∷ c
 convert-asked : work_asked convert ≡ Ok (Convert (record (asked convert (Some (codes "a"))) { force = true }) None (codes "o"))
 convert-asked = refl
 
-refused-check_in_binary : work_asked (codes "--check" ∷ codes "--binary" ∷ codes "a" ∷ codes "b" ∷ []) ≡ Err (NotForCheck (codes "--binary"))
+refused-check_in_binary : work_asked (codes "--check" ∷ codes "--binary" ∷ codes "a" ∷ codes "b" ∷ []) ≡ Err (NotFor (codes "--check") (codes "--binary"))
 refused-check_in_binary = refl
 
 refused-convert_with_option : work_asked (codes "--lrat-from-drat" ∷ codes "o" ∷ codes "--lrat" ∷ codes "a" ∷ codes "b" ∷ [])
-    ≡ Err (NotForCheck (codes "--lrat"))
+    ≡ Err (NotFor (codes "--lrat-from-drat") (codes "--lrat"))
 refused-convert_with_option = refl
 
 -- cubes, a part, whose cubes may be standard input, and proofs to join
@@ -133,7 +133,7 @@ refused-part_in_drat = refl
 refused-cubes_and_a_proof : work_asked (codes "--cubes=1" ∷ codes "--proof=p" ∷ codes "a" ∷ []) ≡ Err CubesOfMore
 refused-cubes_and_a_proof = refl
 
-refused-join_with_option : work_asked (codes "--join=o" ∷ codes "--lrat" ∷ codes "a" ∷ codes "b" ∷ []) ≡ Err (NotForCheck (codes "--lrat"))
+refused-join_with_option : work_asked (codes "--join=o" ∷ codes "--lrat" ∷ codes "a" ∷ codes "b" ∷ []) ≡ Err (NotFor (codes "--join") (codes "--lrat"))
 refused-join_with_option = refl
 
 refused-join_and_check : work_asked (codes "--join=o" ∷ codes "--check" ∷ codes "a" ∷ codes "b" ∷ []) ≡ Err CheckOfMore
@@ -168,7 +168,7 @@ refused-check_of_three : work_asked (codes "--check" ∷ codes "a" ∷ codes "b"
 refused-check_of_three = refl
 
 refused-check_with_option : work_asked (codes "--stats" ∷ codes "--check" ∷ codes "a" ∷ codes "b" ∷ [])
-    ≡ Err (NotForCheck (codes "--stats"))
+    ≡ Err (NotFor (codes "--check") (codes "--stats"))
 refused-check_with_option = refl
 
 refused-check_of_stdin : work_asked (codes "--check" ∷ codes "-" ∷ codes "-" ∷ []) ≡ Err InputTwice

@@ -6,8 +6,8 @@ use Rattle.gipsat_command.specs.declared.errors.UsageError.TheVariants as error
 
 -- words without a meaning by the table, a file too many or too few, `--lrat` without a proof, `--project` without
 -- `--models`, a proof beside assumptions or several models, a cube beside them, a proof of a part without hints, cubes
--- beside an answer or a proof, no file of cubes, proofs to join beside another check, an option that a check does not
--- take, and standard input as two files
+-- beside an answer or a proof, no file of cubes, proofs to join beside another check, an option beside one that does not
+-- take it, and standard input as two files
 pub data Misuse : Type 0 where
   Words : items.Misuse → Misuse
   ExtraFile : List ℕ → Misuse
@@ -20,7 +20,7 @@ pub data Misuse : Type 0 where
   CubesOfMore : Misuse
   MissingCubes : Misuse
   CheckOfMore : Misuse
-  NotForCheck : List ℕ → Misuse
+  NotFor : List ℕ → List ℕ → Misuse
   InputTwice : Misuse
 
 -- what an error tells
@@ -36,5 +36,5 @@ misuse_of error.MissingHints = MissingHints
 misuse_of error.CubesOfMore = CubesOfMore
 misuse_of error.MissingCubes = MissingCubes
 misuse_of error.CheckOfMore = CheckOfMore
-misuse_of (error.NotForCheck word) = NotForCheck word.now
+misuse_of (error.NotFor name word) = NotFor name.now word.now
 misuse_of error.InputTwice = InputTwice

@@ -7,7 +7,7 @@ use Rattle.gip_cli.specs.Asked.{ended, file_at, has, input_of, last_in, number, 
 use Rattle.gip_cli.specs.Items as items
 use Rattle.gip_cli.specs.Items.{Said}
 use Rattle.gip_cli.specs.declared.items.Info.{Info}
-use Rattle.gipsat_command.specs.Misuses.{Misuse, Words, CheckOfMore, ExtraFile, MissingCubes, MissingFile, NotForCheck, InputTwice}
+use Rattle.gipsat_command.specs.Misuses.{Misuse, Words, CheckOfMore, ExtraFile, MissingCubes, MissingFile, NotFor, InputTwice}
 use Rattle.gipsat_command.specs.Options.{Request, clash, request, request_of, table}
 use Rattle.gipsat_command.specs.declared.options.Inputs.{Inputs}
 use Rattle.gipsat_command.specs.declared.options.Task.{Task}
@@ -76,7 +76,7 @@ files_of said = files_named (file_at 0 said) (file_at 1 said)
 -- a check that writes no proof, and so takes no option that says how one is written
 abbrev pub plain_check_of : Option (List ℕ) → List Said → Result Work Misuse
 plain_check_of None said = result_map_both (λ files. Check files.0 files.1) (λ e. e) (files_of said)
-plain_check_of (Some word) said = Err (NotForCheck word)
+plain_check_of (Some word) said = Err (NotFor (codes "--check") word)
 
 abbrev pub plain_check : List Said → Result Work Misuse
 plain_check said = plain_check_of (word_said (last_in (codes "form") said)) said
@@ -85,9 +85,14 @@ plain_check said = plain_check_of (word_said (last_in (codes "form") said)) said
 abbrev pub conversion : List Said → List ℕ → Result Work Misuse
 conversion said out = result_map_both (λ files. Convert (request said) files.1 out) (λ e. e) (files_of said)
 
+-- the option that asks for a check, with or without a proof to write
+abbrev pub checker : Option (List ℕ) → List ℕ
+checker None = codes "--check"
+checker (Some out) = codes "--lrat-from-drat"
+
 -- a check, with no option of a search
 abbrev pub check_of : Option (List ℕ) → Option (List ℕ) → List Said → Result Work Misuse
-check_of (Some word) out said = Err (NotForCheck word)
+check_of (Some word) out said = Err (NotFor (checker out) word)
 check_of None (Some out) said = conversion said out
 check_of None None said = plain_check said
 
@@ -102,7 +107,7 @@ work_of_files None said =
 
 -- proofs to join to this file, with no option of a search
 abbrev pub join_of : Option (List ℕ) → List Said → List ℕ → Result Work Misuse
-join_of (Some word) said out = Err (NotForCheck word)
+join_of (Some word) said out = Err (NotFor (codes "--join") word)
 join_of None said out =
     if has (codes "--check") said || has (codes "--lrat-from-drat") said then Err CheckOfMore
     else result_map_both (λ cubes. Join (request said) cubes out) (λ e. e) (cubes_of said)

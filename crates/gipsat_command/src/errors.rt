@@ -32,8 +32,8 @@ pub enum UsageError<'a> {
     MissingCubes,
     /// Proofs are to be joined, and another check is asked for.
     CheckOfMore,
-    /// A check takes no such option.
-    NotForCheck(&'a str),
+    /// The second option does not go with the first.
+    NotFor(&'static str, &'a str),
     /// Standard input is named as the formula and as the other file.
     InputTwice,
 }
@@ -62,7 +62,7 @@ impl Display for UsageError<'_> {
             UsageError::CheckOfMore => {
                 f.write_str("'--join' has a meaning without '--check' and '--lrat-from-drat'")
             }
-            UsageError::NotForCheck(word) => write!(f, "'--check' takes no option '{word}'"),
+            UsageError::NotFor(name, word) => write!(f, "'{name}' takes no option '{word}'"),
             UsageError::InputTwice => {
                 f.write_str("one file at most is read from standard input")
             }

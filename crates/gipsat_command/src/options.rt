@@ -1,12 +1,12 @@
 //! What the words of a command line ask for.
-ghost use Rattle.std.specs.Prelude.{◌≡◌, map, string_bytes};
+ghost use Rattle.std.specs.Prelude.{◌≡◌, codes, map, string_bytes};
 ghost use Rattle.std.specs.Option.{option_map};
 ghost use Rattle.std.specs.Result.{result_map_both};
 ghost use Rattle.gip_cli.specs.Asked.{asked_said, file_at, has, number, said_by, word};
 ghost use Rattle.gip_cli.specs.Options.{entry_of};
 ghost use Rattle.gipsat_command.specs.Misuses.{misuse_of};
 ghost use Rattle.gipsat_command.specs.Options.{clash, models_of, request, request_of, rule_of, said_of, table};
-ghost use Rattle.gipsat_command.specs.Words.{check, conversion, cubes_of, files_of, join, names_of, part, plain_check, search};
+ghost use Rattle.gipsat_command.specs.Words.{check, checker, conversion, cubes_of, files_of, join, names_of, part, plain_check, search};
 ghost use Rattle.gipsat_command.specs.Words.{work, work_asked, work_of};
 
 use crate::about::{FORM, OPTIONS, SEARCH};
@@ -189,7 +189,7 @@ fn join<'a>(asked: Asked<'a>, words: &'a [String], out: &'a str) -> Result<Task<
     ensures { result_map_both work_of misuse_of result ≡ join (asked_said asked.entry) out.now }
 {
     if let Some(given) = asked.last_in(SEARCH) {
-        return Err(UsageError::NotForCheck(given.word));
+        return Err(UsageError::NotFor("--join", given.word));
     }
     if asked.has("--check") || asked.has("--lrat-from-drat") {
         return Err(UsageError::CheckOfMore);
@@ -281,11 +281,22 @@ fn check<'a>(asked: Asked<'a>, words: &'a [String]) -> Result<Task<'a>, UsageErr
     ensures { result_map_both work_of misuse_of result ≡ check (asked_said asked.entry) }
 {
     if let Some(given) = asked.last_in(SEARCH) {
-        return Err(UsageError::NotForCheck(given.word));
+        return Err(UsageError::NotFor(checker(asked), given.word));
     }
     match asked.word("--lrat-from-drat") {
         Some(out) => conversion(asked, words, out),
         None => plain_check(asked),
+    }
+}
+
+// The option that asks for a check, with or without a proof to write.
+fn checker(asked: Asked) -> &'static str
+    ensures { result.now ≡ checker (word (codes "--lrat-from-drat") (asked_said asked.entry)) }
+{
+    if asked.word("--lrat-from-drat").is_some() {
+        "--lrat-from-drat"
+    } else {
+        "--check"
     }
 }
 
@@ -294,7 +305,7 @@ fn plain_check<'a>(asked: Asked<'a>) -> Result<Task<'a>, UsageError<'a>>
     ensures { result_map_both work_of misuse_of result ≡ plain_check (asked_said asked.entry) }
 {
     if let Some(given) = asked.last_in(FORM) {
-        return Err(UsageError::NotForCheck(given.word));
+        return Err(UsageError::NotFor("--check", given.word));
     }
     let Inputs { formula, proof } = files(asked)?;
     Ok(Task::Check(formula, proof))
