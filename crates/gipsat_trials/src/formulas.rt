@@ -48,6 +48,30 @@ fn a_formula_tells_its_literals(rt: HostRuntime) -> Result<(), AllocError> {
     Ok(())
 }
 
+// Whether the walk over a formula gives the clauses of some numbers, in order, and `get` reads the same ones.
+fn gives_clauses(formula: &Cnf, wanted: &[&[i32]]) -> bool {
+    let mut place = 0usize;
+    for clause in formula {
+        let (Some(numbers), Some(read)) = (wanted.get(place), formula.get(place)) else {
+            return false;
+        };
+        if !are(clause, numbers) || !are(read, numbers) {
+            return false;
+        }
+        place = place.saturating_add(1);
+    }
+    place == wanted.len() && formula.iter().len() == place && formula.get(place).is_none()
+}
+
+#[test]
+fn a_formula_is_walked_over(rt: HostRuntime) -> Result<(), AllocError> {
+    let formula = formula(rt.alloc())?;
+    assert!(rt; gives_clauses(&formula, &[&[1, -2], &[], &[3]]));
+    let copy = formula.clone()?;
+    assert!(rt; gives_clauses(&copy, &[&[1, -2], &[], &[3]]));
+    Ok(())
+}
+
 #[test]
 fn the_example_finds_values(rt: HostRuntime) -> Result<(), AllocError> {
     let found = either_with(rt.alloc(), Literal::new(0, false))?;

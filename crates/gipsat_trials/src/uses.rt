@@ -1,12 +1,14 @@
 //! Each use of the solver: that it answers. What it answers is proved, but for the values of the first question.
 
 use crate::numbers::{add_all, literal, literals};
-use gipsat_cnf::Literal;
+use gipsat_cnf::{Budget, Literal};
 use gipsat_encodings::counts::{Counter, add_at_least, add_at_most, add_exactly};
 use gipsat_encodings::pairs::{add_at_least_one, add_at_most_one, add_exactly_one};
 use gipsat_encodings::parity::add_parity;
 use gipsat_solver::{AnswerUnder, Solver};
+use gipsat_uses::colouring::colouring;
 use gipsat_uses::first_question::values_with_c;
+use gipsat_uses::follows::follows;
 use gipsat_uses::incremental::{cover, longest_start, model_with};
 use gipsat_uses::minimal_core::minimal_core;
 use std::alloc::{AllocError, Global};
@@ -46,6 +48,36 @@ fn have_cores(alloc: Global, solver: &mut Solver) -> Result<[bool; 2], AllocErro
 fn a_minimal_core_is_found(rt: HostRuntime) {
     let found = have_cores(rt.alloc(), &mut Solver::new(rt.alloc()));
     assert!(rt; found == Ok([true, false]));
+}
+
+// Whether the first variables that a solver without clauses gives are 0 and 1, and its clause of 1 and 7 is heeded.
+fn gives_variables(solver: &mut Solver) -> Result<bool, AllocError> {
+    let before = solver.variables();
+    let first = solver.new_variable()?;
+    let second = solver.new_variable()?;
+    solver.add_clause(&[literal(1), literal(7)])?;
+    Ok(before == 0 && first.variable() == 0 && second.variable() == 1 && solver.variables() == 8)
+}
+
+// A clause that holds while a new variable is assumed, and is taken back with it: which variable it is, how many there
+// are then, and whether no model breaks the clause before, and one does after.
+fn take_back(solver: &mut Solver) -> Result<(u32, usize, [bool; 2]), AllocError> {
+    let guard = solver.new_variable()?;
+    solver.add_clause(&[guard.negated(), literal(1)])?;
+    let under = solver.solve_under(&[guard, literal(-1)], 1000)?;
+    solver.add_clause(&[guard.negated()])?;
+    let without = solver.solve_under(&[literal(-1)], 1000)?;
+    let holds = matches!(under, AnswerUnder::Unsat(_));
+    let is_gone = matches!(without, AnswerUnder::Sat(_));
+    Ok((guard.variable(), solver.variables(), [holds, is_gone]))
+}
+
+#[test]
+fn new_variables_are_above_all(rt: HostRuntime) {
+    let mut solver = Solver::new(rt.alloc());
+    assert!(rt; gives_variables(&mut solver) == Ok(true));
+    assert!(rt; take_back(&mut solver) == Ok((8, 9, [true, true])));
+    assert!(rt; take_back(&mut solver) == Ok((9, 10, [true, true])));
 }
 
 // How many literals are said to be true.
@@ -182,4 +214,36 @@ fn formulas_that_grow_are_answered(rt: HostRuntime) {
     for formula in FORMULAS {
         assert!(rt; taken(alloc, &mut Solver::new(alloc), formula).is_ok());
     }
+}
+
+// Whether a triangle has a colouring by two colours, and by three.
+fn are_coloured(alloc: Global) -> Result<[bool; 2], AllocError> {
+    let edges = [(0, 1), (1, 2), (2, 0)];
+    let by_two = colouring::<Solver>(alloc, 3, &edges, 2)?.is_some();
+    let by_three = colouring::<Solver>(alloc, 3, &edges, 3)?.is_some();
+    Ok([by_two, by_three])
+}
+
+#[test]
+fn a_triangle_is_coloured(rt: HostRuntime) {
+    assert!(rt; are_coloured(rt.alloc()) == Ok([false, true]));
+}
+
+// What is told of clauses: that 4 is true, that 1 is, and that 3 is where 2 is.
+fn told(alloc: Global, solver: &mut Solver) -> Result<[Option<bool>; 3], AllocError> {
+    add_all(alloc, solver, CHAIN)?;
+    let budget = Budget {
+        clauses: 1000,
+        propagations: u64::MAX,
+    };
+    let last = follows(alloc, solver, &[literal(4)], budget)?;
+    let first = follows(alloc, solver, &[literal(1)], budget)?;
+    let step = follows(alloc, solver, &[literal(-2), literal(3)], budget)?;
+    Ok([last, first, step])
+}
+
+#[test]
+fn it_is_told_what_follows(rt: HostRuntime) {
+    let told = told(rt.alloc(), &mut Solver::new(rt.alloc()));
+    assert!(rt; told == Ok([Some(true), Some(false), Some(true)]));
 }

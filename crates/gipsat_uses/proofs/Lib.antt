@@ -1,3 +1,4 @@
+mod Colours
 mod Examples
 mod FirstQuestion
 mod Followed

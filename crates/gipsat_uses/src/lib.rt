@@ -3,6 +3,8 @@
 
 pub mod bounded;
 pub mod cardinality;
+pub mod colouring;
 pub mod first_question;
+pub mod follows;
 pub mod incremental;
 pub mod minimal_core;
