@@ -5,7 +5,7 @@ use gipsat_cnf::Literal;
 use std::alloc::Global;
 
 /// An and-gate: its output is true exactly if both operands are.
-#[derive(Clone, Copy)]
+#[derive(Clone, Copy, Debug, PartialEq, Eq)]
 pub struct And {
     /// The variable of its output.
     pub output: u32,
@@ -16,7 +16,7 @@ pub struct And {
 }
 
 /// A latch: one bit of a circuit's state.
-#[derive(Clone, Copy)]
+#[derive(Clone, Copy, Debug, PartialEq, Eq)]
 pub struct Latch {
     /// Its variable.
     pub variable: u32,
@@ -27,6 +27,7 @@ pub struct Latch {
 }
 
 /// A circuit. Variable 0 is false; each other variable is that of an input, of a latch or of a gate.
+#[derive(Debug)]
 pub struct Circuit {
     /// The variables of the inputs, which may have any value at each moment.
     pub inputs: Vec<u32>,
