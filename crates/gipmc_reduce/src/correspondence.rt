@@ -7,6 +7,7 @@ mod classes;
 mod clauses;
 mod graph;
 pub mod guess;
+mod keeping;
 mod merged;
 pub mod merges;
 mod runs;
@@ -16,6 +17,7 @@ use gipmc_circuits::{Netlist, Trace, invariant_doubt};
 use gipsat_cnf::{Literal, SatSolver};
 pub use guess::Bounds;
 use guess::guess;
+use keeping::Keeping;
 use merged::merged_circuit;
 pub use merges::Merges;
 use std::alloc::{AllocError, Global};
@@ -83,7 +85,7 @@ impl Correspondence {
             (λ s. s.netlist.circuit.bads.items ≡ map (merged s.merges.literals.items) bads.now)) }
     {
         let invariant = merges.clauses(alloc)?;
-        match invariant_doubt::<S>(alloc, whole, &invariant, limit)? {
+        match invariant_doubt::<Keeping<S>>(alloc, whole, &invariant, limit)? {
             Some(_) => Ok(None),
             None => Self::with(alloc, whole, bads, merges, invariant),
         }

@@ -1,7 +1,7 @@
 //! Gates in a solver: constants are folded, and gates with the same operands are one.
 
 use crate::correspondence::runs::mixed;
-use gipsat_cnf::{AnswerUnder, Budget, Literal, SatSolver};
+use gipsat_cnf::{AnswerUnder, Budget, Guess, Literal, SatSolver};
 use std::alloc::{AllocError, Global};
 
 // A gate of the solver. No gate has the output 0.
@@ -11,6 +11,15 @@ struct Gate {
     right: Literal,
     output: u32,
 }
+
+// How many variables a question decides at first, those next to its literals, and how many at the second time. They mostly
+// suffice to show that two literals are equal.
+const NEAR: usize = 32;
+
+const FAR: usize = 512;
+
+// How many clauses it learns there at most. The work of a question that decides all variables has a bound of its own.
+const LEARNED: usize = 100;
 
 /// What is said of two literals.
 #[derive(Drop)]
@@ -26,8 +35,12 @@ pub(crate) enum Said {
 /// The gates and the solver. Variable 0 is false.
 pub(crate) struct Graph<S: Drop> {
     solver: S,
-    // How many variables it has.
-    variables: u32,
+    // For each variable, those of the operands of its gate; 0 twice where it has none.
+    operands: Vec<(u32, u32)>,
+    // What the literals of a question depend on, the next ones first, as far as it is wanted, and for each variable whether
+    // it is among that.
+    cone: Vec<u32>,
+    is_reached: Vec<bool>,
     table: Vec<Gate>,
     // How many gates it has.
     gates: usize,
@@ -40,7 +53,9 @@ impl<S: Drop> Drop for Graph<S> {
     fn drop(self) {
         let Graph {
             solver,
-            variables: _,
+            operands,
+            cone,
+            is_reached,
             table,
             gates: _,
             budget: _,
@@ -63,6 +78,10 @@ impl<S: SatSolver + Drop> Graph<S> {
     pub(crate) fn new(alloc: Global, gates: usize, budget: Budget) -> Result<Self, AllocError> {
         let mut solver = S::new(alloc);
         solver.add_clause(&[never().negated()])?;
+        let mut operands = Vec::new(alloc);
+        operands.push((0, 0))?;
+        let mut is_reached = Vec::new(alloc);
+        is_reached.push(false)?;
         let mut table = Vec::new(alloc);
         table.resize(
             gates.saturating_mul(2).saturating_add(16),
@@ -74,7 +93,9 @@ impl<S: SatSolver + Drop> Graph<S> {
         )?;
         Ok(Graph {
             solver,
-            variables: 1,
+            operands,
+            cone: Vec::new(alloc),
+            is_reached,
             table,
             gates: 0,
             budget,
@@ -83,11 +104,17 @@ impl<S: SatSolver + Drop> Graph<S> {
 
     /// A new variable.
     pub(crate) fn fresh(&mut self) -> Result<Literal, AllocError> {
-        let variable = self.variables;
+        self.made_of((0, 0))
+    }
+
+    // A new variable that is made of others.
+    fn made_of(&mut self, operands: (u32, u32)) -> Result<Literal, AllocError> {
+        let variable = u32::try_from(self.operands.len()).unwrap_or(u32::MAX);
         if variable >= 1 << 31 {
             return Err(AllocError);
         }
-        self.variables = variable + 1;
+        self.operands.push(operands)?;
+        self.is_reached.push(false)?;
         Ok(Literal::new(variable, true))
     }
 
@@ -106,7 +133,7 @@ impl<S: SatSolver + Drop> Graph<S> {
                 return Ok(Literal::new(gate.output & 0x7FFF_FFFF, true));
             }
         }
-        let output = self.fresh()?;
+        let output = self.made_of((left.variable(), right.variable()))?;
         self.solver.add_clause(&[output.negated(), left])?;
         self.solver.add_clause(&[output.negated(), right])?;
         self.solver
@@ -157,6 +184,7 @@ impl<S: SatSolver + Drop> Graph<S> {
 
     /// Whether both are equal.
     pub(crate) fn compare(&mut self, l: Literal, m: Literal) -> Result<Said, AllocError> {
+        self.find_cone(l, m)?;
         match self.ask(&[l, m.negated()])? {
             Said::Equal => self.ask(&[l.negated(), m]),
             said => Ok(said),
@@ -169,8 +197,54 @@ impl<S: SatSolver + Drop> Graph<S> {
         effort.propagations.saturating_add(effort.clauses as u64)
     }
 
-    // Whether not all of them can be true.
+    // Finds out what two literals depend on: the next FAR variables and their operands.
+    fn find_cone(&mut self, l: Literal, m: Literal) -> Result<(), AllocError> {
+        for variable in self.cone.iter() {
+            if let Some(is_reached) = self.is_reached.get_mut(*variable as usize) {
+                *is_reached = false;
+            }
+        }
+        self.cone.truncate(0);
+        self.reach(l.variable())?;
+        self.reach(m.variable())?;
+        for place in 0..FAR {
+            let Some(&variable) = self.cone.get(place) else {
+                break;
+            };
+            let Some(&(left, right)) = self.operands.get(variable as usize) else {
+                break;
+            };
+            self.reach(left)?;
+            self.reach(right)?;
+        }
+        Ok(())
+    }
+
+    // Adds a variable to the cone, unless it is there, or false.
+    fn reach(&mut self, variable: u32) -> Result<(), AllocError> {
+        let Some(is_reached) = self.is_reached.get_mut(variable as usize) else {
+            return Ok(());
+        };
+        if variable == 0 || *is_reached {
+            return Ok(());
+        }
+        *is_reached = true;
+        self.cone.push(variable)?;
+        Ok(())
+    }
+
+    // Whether not all of them can be true, where few variables are decided at first, then more, and all at the end.
     fn ask(&mut self, literals: &[Literal]) -> Result<Said, AllocError> {
+        let learned = self.budget.clauses.min(LEARNED);
+        for &most in &[NEAR, FAR] {
+            let near = self.cone.get(..most).unwrap_or(&self.cone);
+            if let Guess::Unsat(_) = self.solver.guess_within(near, literals, learned)? {
+                return Ok(Said::Equal);
+            }
+            if self.cone.len() <= most {
+                break;
+            }
+        }
         match self.solver.solve_limited(literals, self.budget)? {
             AnswerUnder::Sat(values) => Ok(Said::Differ(values)),
             AnswerUnder::Unsat(_) => Ok(Said::Equal),
