@@ -78,18 +78,29 @@ pub(crate) const MOMENT_WORK: u64 = 8;
 // How often the inputs of a moment are drawn for a run, where a constraint is false by those that were drawn before.
 pub(crate) const DRAWS: u64 = 8;
 
-// With more latches or inputs a circuit has too many states, or too many values of its inputs for one word.
-pub(crate) const EXPLICIT_LATCHES: usize = 20;
+// With more latches a state is no number of a word, and with more inputs it has too many values of them to follow.
+pub(crate) const EXPLICIT_LATCHES: usize = 63;
 
-pub(crate) const EXPLICIT_INPUTS: usize = 6;
+pub(crate) const EXPLICIT_INPUTS: usize = 10;
 
-// How many states an explicit-state search looks at in a turn.
+// With more latches that may begin at either value there are too many first states.
+pub(crate) const EXPLICIT_FREE: usize = 10;
+
+// With more states that were reached an explicit-state search ends.
+pub(crate) const EXPLICIT_REACHED: usize = 100_000;
+
+// How many states it looks at in a turn at most, and how many gates it evaluates until the turn ends.
 pub(crate) const EXPLICIT_STATES: usize = 1000;
+
+pub(crate) const EXPLICIT_TURN: u64 = 1_000_000;
+
+// How many literals the others propagate before it begins.
+pub(crate) const EXPLICIT_AFTER: u64 = 300_000;
 
 // How many gates it evaluates first, and how many for each literal that the others propagate.
 pub(crate) const EXPLICIT_FIRST: u64 = 1_000_000;
 
-pub(crate) const EXPLICIT_GATES: u64 = 2;
+pub(crate) const EXPLICIT_GATES: u64 = 8;
 
 // How many clauses its invariant has at most: they are certified.
 pub(crate) const EXPLICIT_CLAUSES: usize = 10_000;

@@ -9,6 +9,8 @@ mod bounded;
 pub mod caller;
 pub mod client;
 #[cfg(test)]
+mod explicit;
+#[cfg(test)]
 mod found;
 pub mod least;
 #[cfg(test)]

@@ -114,19 +114,9 @@ fn finds_constants_alone_without_calls(rt: HostRuntime) -> Result<(), AllocError
 
 #[test]
 fn explores_states_alone(rt: HostRuntime) -> Result<(), AllocError> {
-    let explores = Plan {
-        explores: true,
-        ..plan(Engine::Simulation, 0, 0)
-    };
     let (open, fails, now) = (Said::Unknown, Said::Fails(3), Said::Fails(1));
-    let found = found_out(rt.alloc(), &explores, 4)?;
+    let found = found_out(rt.alloc(), &plan(Engine::Explicit, 0, 0), 4)?;
     assert!(rt; found == [Said::Safe, fails, now, fails, open]);
-    // The counter comes to three of its four states: one clause excludes the last one, in which gate 6 is true.
-    let netlist = made(rt.alloc(), THREE)?;
-    let bads = [Literal::new(6, true)];
-    let found = check_all::<Plain, _>(rt.alloc(), &netlist, &bads, &explores, &mut ())?;
-    assert!(rt; found.engine(0) == Some(Technique::Explicit));
-    assert!(rt; found.invariant.len() == 1);
     Ok(())
 }
 
@@ -150,12 +140,14 @@ fn tells_which_engine_decided(rt: HostRuntime) -> Result<(), AllocError> {
     let constant = Some(Technique::Ternary);
     let bmc = Some(Technique::Bounded);
     let step = Some(Technique::Induction);
+    let states = Some(Technique::Explicit);
     let ic3 = Some(Technique::Ic3);
     for &(engine, wanted) in &[
         (Engine::Simulation, [None, sim, sim, sim]),
         (Engine::Bounded, [bmc, bmc, bmc, bmc]),
         (Engine::Ic3, [constant, ic3, ic3, ic3]),
         (Engine::Induction, [step, bmc, bmc, bmc]),
+        (Engine::Explicit, [states, states, states, states]),
         (Engine::All, [constant, sim, sim, sim]),
     ] {
         assert!(rt; engines_of(rt.alloc(), engine)? == wanted);
