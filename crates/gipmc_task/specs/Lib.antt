@@ -1,6 +1,7 @@
 -- What is answered about a circuit.
 pub mod Answers
 pub mod Certificates
+pub mod Joins
 pub mod Justice
 pub mod Kinds
 pub mod Left

@@ -237,7 +237,8 @@ fn merges<W: Write>(engine: Engine, asked: Subject, output: &Output<W>) -> bool 
     }
     match engine {
         Engine::Invariants | Engine::All => output.certifying == Certifying::Nothing,
-        Engine::Simulation | Engine::Bounded | Engine::Ic3 | Engine::Induction => false,
+        Engine::Simulation | Engine::Bounded | Engine::Ic3 => false,
+        Engine::Induction | Engine::Explicit => false,
     }
 }
 

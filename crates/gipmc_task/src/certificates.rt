@@ -486,6 +486,11 @@ fn a_line_later(error: TaskError) -> TaskError {
     }
 }
 
+/// Whether a text begins neither with a k nor as a circuit does.
+pub(crate) fn is_clauses_alone(text: &[u8]) -> bool {
+    !begins_as_circuit(text) && behind_k(text).is_none()
+}
+
 // Whether a text begins as that of a circuit does.
 fn begins_as_circuit(text: &[u8]) -> bool {
     text.starts_with(b"aag ") || text.starts_with(b"aig ")

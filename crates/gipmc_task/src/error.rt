@@ -35,6 +35,9 @@ pub enum TaskError {
     /// The text has no witness of what is asked for.
     #[error("no witness")]
     NoWitness,
+    /// The certificate has a k or is a circuit, where clauses alone are asked for.
+    #[error("a certificate that has a k or is a circuit")]
+    NotClauses,
     /// The clauses that were found do not certify the circuit.
     #[error("what was found does not certify the circuit")]
     Uncertified,

@@ -59,7 +59,7 @@ impl Display for PropertyKind {
 
 /// The name of a property in texts: `b` or `j`, and its place.
 #[derive(Clone, Copy)]
-pub(crate) struct PropertyName(pub(crate) Property);
+pub struct PropertyName(pub Property);
 
 impl Display for PropertyName {
     fn fmt<W: fmt::Write>(&self, f: &mut fmt::Formatter<W>) -> fmt::Result {

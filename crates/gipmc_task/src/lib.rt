@@ -8,6 +8,7 @@ mod any;
 pub mod certificates;
 pub mod error;
 pub mod induction;
+pub mod join;
 pub mod justice;
 pub mod kind;
 mod known;
@@ -29,7 +30,8 @@ pub use certificates::{
 };
 pub use error::TaskError;
 pub use induction::InductionDoubt;
-pub use kind::PropertyKind;
+pub use join::{CertificateParts, JoinedCertificate};
+pub use kind::{PropertyKind, PropertyName};
 pub use outcome::Outcome;
 pub use output::{AnswerOrder, Certifying, Lost, Output, Traces, Wanted};
 pub use verdict::{Evidence, Verdict};

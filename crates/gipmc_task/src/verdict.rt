@@ -8,7 +8,7 @@ use gipmc_reduce::Means;
 use gipsat_cnf::Literal;
 
 /// What is known of a property: of a bad literal, or of a justice property under all fairness constraints.
-#[derive(Drop)]
+#[derive(Debug, Drop)]
 pub enum Verdict {
     /// It fails by this trace, which was replayed. That of a justice property is a lasso.
     Fails(Trace),
@@ -21,7 +21,7 @@ pub enum Verdict {
 }
 
 /// What shows that a property holds.
-#[derive(Drop)]
+#[derive(Debug, Drop)]
 pub enum Evidence {
     /// An invariant of the circuit excludes the bad literal.
     Invariant,
