@@ -66,6 +66,21 @@ try "a latch that stays, by IC3" 20 "" "$safe" "$kept" --engine ic3
 try "a latch that may rise, by IC3" 10 "" "$fails" "$held" --engine ic3
 try "a latch that stays, by induction" 20 "" "$safe" "$kept" --engine induction
 try "a latch that may rise, by induction" 10 "" "$fails" "$held" --engine induction
+try "a latch that stays, by states" 20 "" "$safe" "$kept" --engine states
+try "a latch that may rise, by states" 10 "" "$fails" "$held" --engine states
+
+# LATCHES: a token goes round in so many latches. Gate 1 + LATCHES is bad: it is true where the first two have one.
+token() {
+    local latch bad=$((2 * $1 + 2))
+    printf 'aag %s 0 %s 0 1 1\n2 %s 1\n' $(($1 + 1)) "$1" $((2 * $1))
+    for latch in $(seq 2 "$1"); do
+        printf '%s %s\n' $((2 * latch)) $((2 * latch - 2))
+    done
+    printf '%s\n%s 2 4\n' $bad $bad
+}
+try "a token in 30 latches, by states" 20 "" "$safe" "$(token 30)\n" --engine states
+try "a token in 64 latches, by states" 0 "" "$(printf '2\nb0\n.')" "$(token 64)\n" --engine states
+
 try "no time for IC3" 0 "" "$(printf '2\nb0\n.')" "$kept" --engine ic3 -t 0
 try "no memory for a search" 0 "" "$(printf '2\nb0\n.')" "$kept" --memory 0
 try "a memory limit that is not reached" 20 "" "$safe" "$kept" --memory 9999999
@@ -165,7 +180,8 @@ cp staying.aag drawn_part
 try_parts "certificates of both bad literals" 0 "" "s VERIFIED" joins0 joins1
 try_parts "certificates in another order, one of them twice" 0 "" "s VERIFIED" joins1 joins0 joins1
 try_parts "a certificate that is missing" 1 "joined: b1: the clauses allow a bad moment" "s NOT VERIFIED" joins0
-try_parts "no certificate" 1 "joined: b0: the clauses allow a bad moment" "s NOT VERIFIED"
+try_parts "no certificate" 2 \
+    "gipmc: '--join' needs certificates behind the circuit (try --help)" ""
 try_parts "a certificate of another circuit" 1 "rising: b0: clause 1 is false at an initial moment" "s NOT VERIFIED" \
     joins0 joins1 rising
 # shellcheck disable=SC2016
@@ -180,7 +196,7 @@ cp joins0 stands
 try "a joined certificate whose name is taken" 1 "stands: cannot be made: entity already exists" "" "" \
     --join stands staying.aag joins0
 # shellcheck disable=SC2016
-try "no circuit to join for" 1 '<stdin>:1: no header `aag` or `aig`' "" "" --join joined
+try "no circuit to join for" 1 '<stdin>:1: no header `aag` or `aig`' "" "" --join joined - joins0
 
 # Simulation: what it finds is a trace.
 printf '%b' "$held" > held.aag
@@ -1694,8 +1710,8 @@ try "an option that there is not" 2 "gipmc: unknown option '--deep' (try --help)
 try "a value for an option that there is not" 2 "gipmc: unknown option '--deep=3' (try --help)" "" "" --deep=3
 try "no depth" 2 "gipmc: '--depth' needs a number behind it (try --help)" "" "" --depth
 try "no witness behind the option" 2 "gipmc: '--replay' needs a file behind it (try --help)" "" "" --replay
-try "no engine" 2 "gipmc: '--engine' needs sim, bmc, ic3 or induction behind it (try --help)" "" "" --engine
-try "another engine" 2 "gipmc: '--engine' takes sim, bmc, ic3 or induction, not 'ic4' (try --help)" "" "" --engine ic4
+try "no engine" 2 "gipmc: '--engine' needs sim, bmc, ic3, induction or states behind it (try --help)" "" "" --engine
+try "another engine" 2 "gipmc: '--engine' takes sim, bmc, ic3, induction or states, not 'ic4' (try --help)" "" "" --engine ic4
 try "a time that is no number" 2 "gipmc: '--time' takes a number below 2^64, not 'x' (try --help)" "" "" -t x
 try "no time behind the option" 2 "gipmc: '--time' needs a number behind it (try --help)" "" "" -t
 try "a short option with = in it" 2 "gipmc: '--time' takes a number below 2^64, not '=9' (try --help)" "" "" -t=9
@@ -1790,6 +1806,7 @@ summary "bounded search without a depth, beside all engines" 20 \
     "c b0: round [0-9]*; depth [1-9][0-9][0-9]*, $solver$steps${ic3}decided by ic3; $took" "$top/tests/traffic.aag"
 summary "a summary of two literals" 10 "c b0: $bmc${took}c b1: ${bmc}decided by bmc; $took" --engine bmc --depth 3 two.aag
 summary "a summary of the second literal" 10 "c b1: ${bmc}decided by bmc; $took" --engine bmc --bad 1 two.aag
+summary "a summary of explicit states" 20 "c b0: decided by explicit states; $took" --engine states kept.aag
 summary "a summary of induction" 20 "c b0: ${bmc}${steps}decided by induction; $took" --engine induction kept.aag
 printf '%b' "$fair" > fair.aag
 summary "a summary of a property that holds" 20 "c j0: [^#]*${took}c j0: decided by counting to [0-9]*#" fair.aag
@@ -1911,6 +1928,8 @@ while read -r name said text; do
         certify "as a circuit" --certificate cert --aiger
         certify "by induction" --certificate cert --engine induction --depth 64
     fi
+    ask states --engine states
+    certify "by states" --engine states --certificate cert
     ask induction --engine induction --depth 64
     [[ $said != *fails* ]] || ask sim --engine sim
     [[ $said != *fails* ]] || ask shortest --shortest

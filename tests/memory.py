@@ -103,7 +103,7 @@ def runs():
     yield solver("all models of two variables", ["--models", "0", "--project", "1 2", f], files={f: SATISFIABLE})
     yield solver("an assumption", ["--assume", "1 -2", f], files={f: SATISFIABLE})
     yield solver("questions", [f], files={f: QUESTIONS})
-    for engine in ("all", "sim", "bmc", "ic3", "induction"):
+    for engine in ("all", "sim", "bmc", "ic3", "induction", "states"):
         words = [] if engine == "all" else ["--engine", engine, *(["--depth", "9"] if engine == "bmc" else [])]
         for kind, text in (("is safe", COUNTER), ("fails", FAILS)):
             yield checker(f"a circuit that {kind}, by {engine}", [*words, c], files={c: text})

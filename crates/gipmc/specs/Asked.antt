@@ -88,8 +88,8 @@ abbrev pub properties : Problem → List Property
 properties p =
     followed (followed [] Bad (length p.netlist.circuit.bads.items)) Justice (length p.liveness.justice.items)
 
--- what is asked about, if that is one property, and else the other
+-- what is asked about, if that is one property, and otherwise this
 abbrev pub asked_or : Subject → Subject → Subject
-asked_or All other = other
-asked_or Any other = other
-asked_or (One property) other = One property
+asked_or All otherwise = otherwise
+asked_or Any otherwise = otherwise
+asked_or (One property) otherwise = One property

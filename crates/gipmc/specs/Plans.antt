@@ -6,7 +6,7 @@ use Rattle.gip_cli.specs.Asked.{asked_said, has, number, word}
 use Rattle.gipmc_command.specs.declared.options.Options.{Options}
 use Rattle.gipmc_engines.specs.declared.engines.Engine.{Engine}
 use Rattle.gipmc_engines.specs.declared.engines.Engine.TheVariants.{All, Bounded, Ic3, Induction, Invariants}
-use Rattle.gipmc_engines.specs.declared.engines.Engine.TheVariants.{Simulation}
+use Rattle.gipmc_engines.specs.declared.engines.Engine.TheVariants.{Explicit, Simulation}
 
 -- a certificate as a circuit is wanted
 abbrev pub wants_circuit : Options → Bool
@@ -21,6 +21,7 @@ engine_named (Some word) =
     else if bytes_eq word (codes "bmc") then Bounded
     else if bytes_eq word (codes "ic3") then Ic3
     else if bytes_eq word (codes "induction") then Induction
+    else if bytes_eq word (codes "states") then Explicit
     else All
 
 -- the engine that is asked for
@@ -44,6 +45,7 @@ engine_by wants Simulation = Simulation
 engine_by wants Bounded = Bounded
 engine_by wants Ic3 = Ic3
 engine_by wants Induction = Induction
+engine_by wants Explicit = Explicit
 engine_by wants Invariants = Invariants
 
 -- the most transitions of bounded model checking where that is not said: 100 where it searches alone, and no bound

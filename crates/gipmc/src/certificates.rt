@@ -102,23 +102,23 @@ fn keep_of_justice<'a>(
     let Verdict::Holds(Evidence::Longer(means, invariant)) = &answer.verdict else {
         return Ok(());
     };
-    let (other, grounds) = (
+    let (property, grounds) = (
         Subject::One(answer.property),
         Grounds::Longer(*means, invariant),
     );
-    write_certificate(rt, options, problem, other, grounds, file)
+    write_certificate(rt, options, problem, property, grounds, file)
 }
 
-// Writes the certificate that is made of this to the file: of the property that is asked about, or else of the other.
+// Writes the certificate that is made of this to the file: of the property that is asked about, or otherwise of this.
 fn write_certificate<'a>(
     rt: &HostRuntime,
     options: &Options<'a>,
     problem: &Problem,
-    other: Subject,
+    otherwise: Subject,
     grounds: Grounds,
     file: NewFile<'a>,
 ) -> Result<(), Failure<'a>> {
-    match certificate_text(rt, options, problem, other, grounds) {
+    match certificate_text(rt, options, problem, otherwise, grounds) {
         Ok(text) => write_whole(file, &text),
         Err(error) => Err(Failure::NoCertificate(Some(file.name()), error)),
     }
@@ -129,22 +129,22 @@ fn certificate_text(
     rt: &HostRuntime,
     options: &Options,
     problem: &Problem,
-    other: Subject,
+    otherwise: Subject,
     grounds: Grounds,
 ) -> Result<Vec<u8>, TaskError>
-    ensures { IfOk result (λ text. Certifies problem.now text.items (asked_or options.now.subject other)) }
+    ensures { IfOk result (λ text. Certifies problem.now text.items (asked_or options.now.subject otherwise)) }
 {
-    let asked = asked_or(options.subject, other);
+    let asked = asked_or(options.subject, otherwise);
     certificate_of::<Solver>(rt.alloc(), problem, asked, grounds, usize::MAX)
 }
 
-// What is asked about, if that is one property, and else the other.
-fn asked_or(subject: Subject, other: Subject) -> Subject
-    ensures { result ≡ asked_or subject other }
+// What is asked about, if that is one property, and otherwise this.
+fn asked_or(subject: Subject, otherwise: Subject) -> Subject
+    ensures { result ≡ asked_or subject otherwise }
 {
     match subject {
         Subject::One(_) => subject,
-        Subject::All | Subject::Any => other,
+        Subject::All | Subject::Any => otherwise,
     }
 }
 

@@ -206,8 +206,16 @@ pub fn new_file<'a>(
     let Some(name) = name else {
         return Ok(None);
     };
+    Ok(Some(begin_file(rt, name)?))
+}
+
+/// A new file of this name, which nothing has yet.
+///
+/// # Errors
+/// Those of [`new_file`].
+pub fn begin_file<'a>(rt: &HostRuntime, name: &'a str) -> Result<NewFile<'a>, Failure<'a>> {
     match NewFile::begin(rt, name, Existing::Refuse) {
-        Ok(file) => Ok(Some(file)),
+        Ok(file) => Ok(file),
         Err(error) => Err(Failure::Create(name, error)),
     }
 }

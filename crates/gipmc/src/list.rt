@@ -13,6 +13,7 @@ use gipmc_aiger::{Problem, Property};
 use gipmc_circuits::Circuit;
 use gipmc_command::Options;
 use gipmc_reduce::Cone;
+use gipmc_task::PropertyName;
 use gipsat_cnf::Literal;
 use std::alloc::{AllocError, Global};
 use std::process::ExitCode;
@@ -127,13 +128,8 @@ fn text_of(alloc: Global, rows: &[Listing]) -> Result<Vec<u8>, AllocError> {
 
 // The line of a row.
 fn line_of(alloc: Global, row: &Listing) -> Result<Vec<u8>, AllocError> {
-    let (letter, place) = match row.property {
-        Property::Bad(place) => ('b', place),
-        Property::Justice(place) => ('j', place),
-    };
+    let name = PropertyName(row.property);
     let (latches, gates, inputs) = (row.latches, row.gates, row.inputs);
-    let line = format!(in alloc;
-        "{letter}{place} latches {latches} gates {gates} inputs {inputs}\n"
-    )?;
+    let line = format!(in alloc; "{name} latches {latches} gates {gates} inputs {inputs}\n")?;
     Ok(line.into_bytes())
 }

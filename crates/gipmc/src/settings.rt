@@ -40,7 +40,6 @@ pub fn plan_of(options: &Options) -> Plan
         },
         // A search for one answer about all bad literals sets that.
         ends_at_trace: false,
-        explores: false,
         // Without a certificate equal latches and gates are merged. Behind that, gates in lemmas gain nothing.
         names_gates: wants_circuit(options),
     }
@@ -96,6 +95,7 @@ fn engine_named(name: Option<&str>) -> Engine
         "bmc" => Engine::Bounded,
         "ic3" => Engine::Ic3,
         "induction" => Engine::Induction,
+        "states" => Engine::Explicit,
         _ => Engine::All,
     }
 }

@@ -4,7 +4,7 @@ use Rattle.std.specs.Prelude.{Option}
 use Rattle.gip_cli.specs.Asked.{has, number, said_by, word}
 use Rattle.gip_cli.specs.Items.{NoChoice, NoNumber, NoOutput, NoValue, Said, UnknownOption}
 use Rattle.gip_cli.specs.declared.items.Info.TheVariants as info
-use Rattle.gipmc_command.specs.Misuses.{Words, ExtraFile, TwoTasks, NoSearch, NoLimit, NoProperty, InputTwice}
+use Rattle.gipmc_command.specs.Misuses.{Words, ExtraFile, TwoTasks, NoSearch, NoLimit, NoPart, NoProperty, InputTwice}
 use Rattle.gipmc_aiger.specs.declared.problem.Property.TheVariants.{Bad, Justice}
 use Rattle.gipmc_aiger.specs.declared.problem.Subject.{Subject}
 use Rattle.gipmc_aiger.specs.declared.problem.Subject.TheVariants.{All, Any, One}
@@ -124,6 +124,9 @@ joined-asked = refl
 
 refused-joined_list : work_asked (codes "--list" ∷ codes "--join=o" ∷ codes "a" ∷ []) ≡ Err TwoTasks
 refused-joined_list = refl
+
+refused-joined_of_none : work_asked (codes "--join=o" ∷ codes "a" ∷ []) ≡ Err NoPart
+refused-joined_of_none = refl
 
 refused-joined_of_one : work_asked (codes "--join=o" ∷ codes "--any" ∷ codes "a" ∷ []) ≡ Err (NoProperty (codes "--any"))
 refused-joined_of_one = refl

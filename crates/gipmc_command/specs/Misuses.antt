@@ -6,7 +6,7 @@ use Rattle.gipmc_command.specs.declared.misuse.UsageError.TheVariants as error
 
 -- words without a meaning by the table, a second file, two of a witness, a certificate, a list and a joined certificate, an
 -- option of a search beside one of these, a limit beside a witness or a list, an option about properties beside a list or
--- a joined certificate, and standard input as both the circuit and the answer
+-- a joined certificate, no certificate to join, and standard input as both the circuit and the answer
 pub data Misuse : Type 0 where
   Words : items.Misuse → Misuse
   ExtraFile : List ℕ → Misuse
@@ -14,6 +14,7 @@ pub data Misuse : Type 0 where
   NoSearch : List ℕ → Misuse
   NoLimit : List ℕ → Misuse
   NoProperty : List ℕ → Misuse
+  NoPart : Misuse
   InputTwice : Misuse
 
 -- what an error tells
@@ -24,4 +25,5 @@ misuse_of error.TwoTasks = TwoTasks
 misuse_of (error.NoSearch word) = NoSearch word.now
 misuse_of (error.NoLimit word) = NoLimit word.now
 misuse_of (error.NoProperty word) = NoProperty word.now
+misuse_of error.NoPart = NoPart
 misuse_of error.InputTwice = InputTwice

@@ -17,8 +17,8 @@ table =
     option.number (codes "--bad") [] (codes "property") ∷
     option.number (codes "--justice") [] (codes "property") ∷
     option.switch (codes "--any") [] (codes "property") ∷
-    option.choice (codes "--engine") (codes "sim" ∷ codes "bmc" ∷ codes "ic3" ∷ codes "induction" ∷ [])
-    (codes "search") ∷
+    option.choice (codes "--engine")
+    (codes "sim" ∷ codes "bmc" ∷ codes "ic3" ∷ codes "induction" ∷ codes "states" ∷ []) (codes "search") ∷
     option.number (codes "--depth") [] (codes "search") ∷
     option.number (codes "--limit") [] (codes "limit") ∷
     option.number (codes "--time") (codes "-t") (codes "search") ∷

@@ -7,7 +7,7 @@ use Rattle.gip_cli.specs.Asked.{ended, file_at, has, input_of, last_in, said_by,
 use Rattle.gip_cli.specs.Items as items
 use Rattle.gip_cli.specs.Items.{Said}
 use Rattle.gip_cli.specs.declared.items.Info.{Info}
-use Rattle.gipmc_command.specs.Misuses.{Misuse, Words, ExtraFile, TwoTasks, NoSearch, NoLimit, NoProperty, InputTwice}
+use Rattle.gipmc_command.specs.Misuses.{Misuse, Words, ExtraFile, TwoTasks, NoSearch, NoLimit, NoPart, NoProperty, InputTwice}
 use Rattle.gipmc_command.specs.Options.{Request, request, request_of, table}
 use Rattle.gipmc_command.specs.declared.options.Task.{Task}
 use Rattle.gipmc_command.specs.declared.options.Task.TheVariants as task
@@ -69,11 +69,19 @@ list said =
     if checks said then Err TwoTasks
     else result_and (heeded true said) (result_and (of_all said) (Ok (Properties (request said))))
 
+-- a certificate is named behind the circuit
+abbrev pub has_part : Option (List ℕ) → Result Unit Misuse
+has_part (Some name) = Ok tt
+has_part None = Err NoPart
+
+abbrev pub parts : List Said → Result Unit Misuse
+parts said = has_part (file_at 1 said)
+
 -- certificates of all bad literals are joined to one in the file of this name
 abbrev pub join : List Said → List ℕ → Result Work Misuse
 join said out =
     if has (codes "--list") said || checks said then Err TwoTasks
-    else result_and (heeded false said) (result_and (of_all said) (Ok (Join (request said) out)))
+    else result_and (heeded false said) (result_and (of_all said) (result_and (parts said) (Ok (Join (request said) out))))
 
 -- of one file at most: a list, or a search or a check
 abbrev pub work_of_files : Option (List ℕ) → List Said → Result Work Misuse

@@ -78,11 +78,12 @@ pub const OPTIONS: &[Opt] = &[
     Opt {
         long: "--engine",
         short: "",
-        kind: Kind::Choice("ENGINE", &["sim", "bmc", "ic3", "induction"]),
+        kind: Kind::Choice("ENGINE", &["sim", "bmc", "ic3", "induction", "states"]),
         scope: SEARCH,
         section: "Search",
-        help: "only this one: sim (random simulation), bmc (bounded model checking), ic3, or induction (k-induction, \
-               and bmc for its base); without this, simulation for a moment, and then bmc, induction and ic3 by turns",
+        help: "only this one: sim (random simulation), bmc (bounded model checking), ic3, induction (k-induction, and \
+               bmc for its base), or states (one state after another, of circuits with at most 63 latches and 10 \
+               inputs); without this, simulation for a moment, and then bmc, induction, ic3 and states by turns",
     },
     Opt {
         long: "--depth",

@@ -17,6 +17,8 @@ pub enum UsageError<'a> {
     NoLimit(&'a str),
     /// This option about properties stands beside a list or a joined certificate.
     NoProperty(&'a str),
+    /// No certificate to join is named.
+    NoPart,
     /// Standard input is named twice.
     InputTwice,
 }
@@ -39,6 +41,7 @@ impl Display for UsageError<'_> {
             UsageError::NoProperty(word) => {
                 write!(f, "'{word}' goes with neither '--list' nor '--join'")
             }
+            UsageError::NoPart => f.write_str("'--join' needs certificates behind the circuit"),
             UsageError::InputTwice => f.write_str("one file at most is read from standard input"),
         }
     }

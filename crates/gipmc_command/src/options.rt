@@ -7,7 +7,7 @@ ghost use Rattle.gip_cli.specs.Items.{given_said};
 ghost use Rattle.gip_cli.specs.Options.{entry_of};
 ghost use Rattle.gipmc_command.specs.Misuses.{misuse_of};
 ghost use Rattle.gipmc_command.specs.Options.{request, request_of, subject_of, table};
-ghost use Rattle.gipmc_command.specs.Words.{answer_of, checks, heeded, join, list, of_all, search};
+ghost use Rattle.gipmc_command.specs.Words.{answer_of, checks, heeded, join, list, of_all, parts, search};
 ghost use Rattle.gipmc_command.specs.Words.{work, work_asked, work_of};
 
 use crate::about::{LIMIT, OPTIONS, PROPERTY, SEARCH};
@@ -121,7 +121,18 @@ fn join<'a>(asked: Asked<'a>, out: &'a str) -> Result<Task<'a>, UsageError<'a>>
     }
     heeded(asked, false)?;
     of_all(asked)?;
+    parts(asked)?;
     Ok(Task::Join(Options::new(asked), out))
+}
+
+// Tests that a certificate is named behind the circuit.
+fn parts<'a>(asked: Asked<'a>) -> Result<(), UsageError<'a>>
+    ensures { result_map_both (λ done. done) misuse_of result ≡ parts (asked_said asked.entry) }
+{
+    match asked.file(1) {
+        Some(_) => Ok(()),
+        None => Err(UsageError::NoPart),
+    }
 }
 
 // To list the properties.
