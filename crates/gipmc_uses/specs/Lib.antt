@@ -3,3 +3,4 @@ pub mod Arbiter
 pub mod Confirm
 pub mod Counter
 pub mod Lights
+pub mod Throughout

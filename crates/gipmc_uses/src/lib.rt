@@ -7,3 +7,4 @@ pub mod confirm;
 pub mod counter;
 pub mod larger;
 pub mod lights;
+pub mod throughout;
