@@ -63,14 +63,18 @@ class Libraries:
         # Where those lie that `rt ci` built.
         self.given = {}
 
+    def find(self, libraries):
+        """Takes those of these libraries that `rt ci` built. Each stands behind those that it stands on."""
+        kept = self.kit.Kept(libraries)
+        for library in libraries:
+            if all(it.name in self.given for it in library.below()):
+                self.take(library, kept)
+
     def prepare(self, names):
         """Finds or builds what is below these crates, and answers which of them can be checked."""
         needed = {library.name: library for name in names for library in self.crates[name].below()}
         in_order = sorted(needed.values(), key=lambda it: len(it.below()))
-        kept = self.kit.Kept(in_order)
-        for library in in_order:
-            if all(it.name in self.given for it in library.below()):
-                self.take(library, kept)
+        self.find(in_order)
         # What is below a crate is of one kind: where `rt ci` left not all of it, `rt check` builds all.
         lacking = {library.name for name in names if not self.is_given(name) for library in self.crates[name].below()}
         for library in in_order:
