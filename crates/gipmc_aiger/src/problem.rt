@@ -38,7 +38,7 @@ pub(crate) fn is_live_alone(circuit: &Circuit, liveness: &Liveness) -> bool
 }
 
 /// A property of a problem, by its place among those of its kind.
-#[derive(Clone, Copy, PartialEq, Eq)]
+#[derive(Clone, Copy, Debug, PartialEq, Eq)]
 pub enum Property {
     /// A bad literal.
     Bad(usize),
@@ -47,7 +47,7 @@ pub enum Property {
 }
 
 /// Which properties of a problem are asked about.
-#[derive(Clone, Copy, PartialEq, Eq)]
+#[derive(Clone, Copy, Debug, PartialEq, Eq)]
 pub enum Subject {
     /// Each, with an answer of its own.
     All,

@@ -12,7 +12,7 @@ use gipsat_cnf::Literal;
 use std::alloc::{AllocError, Global};
 
 /// A lasso: a trace, from whose last moment one more transition leads back to one of its moments. There its loop starts.
-#[derive(Drop)]
+#[derive(Debug, Drop)]
 pub struct Lasso {
     /// Its moments: those before the loop, and then those of the loop.
     pub trace: Trace,

@@ -14,7 +14,7 @@ use std::alloc::{AllocError, Global};
 use std::io::Write;
 
 /// An answer about a property.
-#[derive(Drop)]
+#[derive(Debug, Drop)]
 pub struct Answered {
     /// The property.
     pub property: Property,

@@ -37,7 +37,7 @@ pub enum Certificate {
 }
 
 /// Why a certificate is not known to show that what is asked about holds.
-#[derive(Clone, Copy, PartialEq, Eq)]
+#[derive(Clone, Copy, Debug, PartialEq, Eq)]
 pub struct Doubt {
     /// The property of which it is not known.
     pub property: Property,

@@ -58,7 +58,7 @@ impl Display for PropertyKind {
 }
 
 /// The name of a property in texts: `b` or `j`, and its place.
-#[derive(Clone, Copy)]
+#[derive(Clone, Copy, Debug)]
 pub struct PropertyName(pub Property);
 
 impl Display for PropertyName {

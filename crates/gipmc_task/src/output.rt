@@ -24,7 +24,7 @@ pub enum Traces {
 }
 
 /// In which order answers about all bad literals of a circuit are written.
-#[derive(Clone, Copy, PartialEq, Eq)]
+#[derive(Clone, Copy, Debug, PartialEq, Eq)]
 pub enum AnswerOrder {
     /// In that of the literals. So one that is not decided holds back the answers about those behind it.
     Places,
@@ -34,7 +34,7 @@ pub enum AnswerOrder {
 }
 
 /// What a certificate is made of that shows what is safe.
-#[derive(Clone, Copy, PartialEq, Eq)]
+#[derive(Clone, Copy, Debug, PartialEq, Eq)]
 pub enum Certifying {
     /// Clauses over latches, or a k: the `Grounds::Clauses` of `certificate_of`.
     Clauses,
@@ -46,7 +46,7 @@ pub enum Certifying {
 }
 
 /// What a search is to find out.
-#[derive(Clone, Copy, PartialEq, Eq)]
+#[derive(Clone, Copy, Debug, PartialEq, Eq)]
 pub enum Wanted {
     /// Nothing more: it is over.
     Nothing,

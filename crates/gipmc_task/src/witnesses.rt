@@ -51,7 +51,7 @@ impl Display for WitnessReason {
 }
 
 /// Which witness shows no failure of a property, and why.
-#[derive(Clone, Copy, PartialEq, Eq)]
+#[derive(Clone, Copy, Debug, PartialEq, Eq)]
 pub struct WitnessDoubt {
     /// Which of the witnesses of the text it is among those of properties of its kind, counted from 1.
     pub witness: usize,

@@ -4,7 +4,7 @@ use gipmc_reduce::{Lasso, Means};
 use gipsat_cnf::Literal;
 
 /// What is found out about a justice property.
-#[derive(Drop)]
+#[derive(Debug, Drop)]
 pub enum Verdict {
     /// This lasso, which was replayed, is a counterexample.
     Fails(Lasso),
