@@ -9,6 +9,7 @@ use gipmc_uses::confirm::confirms;
 use gipmc_uses::counter::{counter, is_never_three};
 use gipmc_uses::larger::larger;
 use gipmc_uses::lights::never_both_green;
+use gipmc_uses::throughout::is_false_throughout;
 use gipsat_cnf::SatSolver;
 use gipsat_plain::Plain;
 use std::alloc::{AllocError, Global};
@@ -24,6 +25,25 @@ fn size_of_counter(alloc: Global) -> Result<(usize, usize), AllocError> {
 fn the_counter_is_never_three(rt: HostRuntime) -> Result<(), AllocError> {
     assert!(rt; is_never_three::<Plain>(rt.alloc())?);
     assert!(rt; size_of_counter(rt.alloc())? == (2, 1));
+    Ok(())
+}
+
+// Whether this clause shows that the counter is never 3: that it is not, or an empty one.
+fn is_shown_by(alloc: Global, is_empty: bool) -> Result<bool, AllocError> {
+    let (netlist, at_three) = counter(alloc)?;
+    let mut clause = Vec::new(alloc);
+    if !is_empty {
+        clause.push(at_three.negated())?;
+    }
+    let mut invariant = Vec::new(alloc);
+    invariant.push(clause)?;
+    is_false_throughout::<Plain>(alloc, &netlist, at_three, &invariant, 1000)
+}
+
+#[test]
+fn what_clauses_show_is_false_throughout(rt: HostRuntime) -> Result<(), AllocError> {
+    assert!(rt; is_shown_by(rt.alloc(), false)?);
+    assert!(rt; !is_shown_by(rt.alloc(), true)?);
     Ok(())
 }
 
