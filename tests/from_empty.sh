@@ -55,8 +55,10 @@ seen() {
     tail -n 1 log
 }
 
+began=$SECONDS
 rt ci > log 2>&1
 status=$?
+echo "rt ci took $((SECONDS - began)) s"
 if [ "$status" -eq 0 ]; then
     grep '^rt: ok' log
 else
