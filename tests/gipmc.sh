@@ -1959,6 +1959,26 @@ told "all rows of circuits" $?
 [ -z "$differing" ]
 told "unordered, the same answers" $?
 
+# Larger ones, of `tools/live.py`: an arbiter of eight, and a memory that is refreshed in time.
+for name in arbiter-8 refresh-20; do
+    if is_wanted "$name-right, with its certificate"; then
+        "$top/tools/live.py" --print "$name-right" > live.aag
+        answer=$("$gipmc" -q --justice 0 --certificate live.cert live.aag 2> err)
+        status=$?
+        [ "$status" = 20 ] && [ "$answer" = "$(printf '0\nj0\n.')" ] &&
+            [ "$("$gipmc" --justice 0 --certify live.cert live.aag)" = "s VERIFIED" ]
+        told "$name-right, with its certificate" $?
+        rm -f live.cert
+    fi
+    if is_wanted "$name-bug, with its lasso"; then
+        "$top/tools/live.py" --print "$name-bug" > live.aag
+        "$gipmc" --justice 0 live.aag > out 2> err
+        status=$?
+        [ "$status" = 10 ] && [ "$("$gipmc" --replay out live.aag)" = "s VERIFIED" ]
+        told "$name-bug, with its lasso" $?
+    fi
+done
+
 # Circuits with justice properties beside the stored ones: their runs are enumerated now.
 if is_wanted "justice properties of 500 more circuits"; then
     "$top/tools/circuits.py" --justice 500 "$gipmc" > out 2> err

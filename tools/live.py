@@ -29,6 +29,15 @@ def hold(c, latch, change, literal):
     c.next(latch, c.mux(change, literal, latch))
 
 
+def waiting(c, begins, served):
+    """A wait that begins once, at a moment that an input tells, and ends where it is served."""
+    pick, once, waits = c.input(), c.latch(), c.latch()
+    begun = c.all([pick, once ^ 1, begins])
+    c.next(once, c.disj(once, begun))
+    c.next(waits, c.conj(c.disj(waits, begun), served ^ 1))
+    c.justice.append([waits])
+
+
 def ring(c, n, bug):
     """A token goes round; a client that asks waits until it has it. With the bug the last one is passed over."""
     token = [c.latch(1 if i == 0 else 0) for i in range(n)]
@@ -124,6 +133,45 @@ def queue(c, n, bug):
     c.fairness.append(pop if not bug else 1)
 
 
+def arbiter(c, n, bug):
+    """Clients that wait are served in turn, behind the one that was served last; with the bug behind the first."""
+    asks, waits, served = [c.input() for _ in range(n)], [c.latch() for _ in range(n)], [c.latch() for _ in range(n)]
+    last = [c.latch() for _ in range(max(1, math.ceil(math.log2(n))))]
+    serves = [0] * n
+    for before in range(n):
+        free = c.equal(last, before)
+        for i in range(1, n + 1):
+            client = (before + i) % n
+            serves[client] = c.disj(serves[client], c.conj(free, waits[client]))
+            free = c.conj(free, waits[client] ^ 1)
+    for i in range(n):
+        c.next(waits[i], c.conj(c.disj(waits[i], asks[i]), served[i] ^ 1))
+        c.next(served[i], serves[i])
+    none = c.all([s ^ 1 for s in serves])
+    for bit, latch in enumerate(last):
+        of = c.all([serves[i] ^ 1 for i in range(n) if i >> bit & 1]) ^ 1
+        hold(c, latch, 0 if bug else none ^ 1, of)
+    waiting(c, asks[0], served[0])
+
+
+def refresh(c, n, bug):
+    """A memory is refreshed again n steps later, once no access goes on, which n steps end; with the bug another may begin."""
+    wants, ends = c.input(), c.input()
+    age, since = [c.latch() for _ in range(n.bit_length())], [c.latch() for _ in range(n.bit_length())]
+    busy, due, fresh = c.latch(), c.latch(), c.latch()
+    begins = c.all([wants, busy ^ 1, 1 if bug else due ^ 1])
+    stops = c.disj(ends, c.equal(age, n - 1))
+    starts = c.all([due, busy ^ 1, begins ^ 1])
+    c.next(busy, c.mux(busy, stops ^ 1, begins))
+    c.next(due, c.mux(due, starts ^ 1, c.equal(since, n - 1)))
+    c.next(fresh, starts)
+    for latch, literal in zip(age, c.increment(age, 1)):
+        c.next(latch, c.conj(busy, literal))
+    for latch, literal in zip(since, c.increment(since, 1)):
+        c.next(latch, c.mux(due, c.conj(starts ^ 1, latch), literal))
+    waiting(c, 1, fresh)
+
+
 FAMILIES = {
     "ring": (ring, (4, 8, 16, 32, 64)),
     "fair_ring": (fair_ring, (4, 8, 16, 24, 32)),
@@ -131,6 +179,8 @@ FAMILIES = {
     "timer": (timer, (3, 4, 5, 6, 7)),
     "mutex": (mutex, (2, 3, 4, 6, 8)),
     "queue": (queue, (2, 3, 4, 6, 8)),
+    "arbiter": (arbiter, (3, 4, 5, 6, 8)),
+    "refresh": (refresh, (5, 10, 15, 20, 31)),
 }
 
 

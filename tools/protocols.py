@@ -597,15 +597,6 @@ def buddies(c, height, bug):
 # What never ends. The justice property is that somebody waits for ever.
 
 
-def waiting(c, begins, served):
-    """A wait that begins once, at a moment that an input tells, and ends where it is served."""
-    pick, once, waits = c.input(), c.latch(), c.latch()
-    begun = c.all([pick, once ^ 1, begins])
-    c.next(once, c.disj(once, begun))
-    c.next(waits, c.conj(c.disj(waits, begun), served ^ 1))
-    c.justice.append([waits])
-
-
 @family(3, 4, 6, 8, is_live=True)
 def lift_calls(c, n, bug):
     """A lift that goes on in its direction while somebody calls there; with the bug it goes up wherever one calls
@@ -628,7 +619,7 @@ def lift_calls(c, n, bug):
         to = [at[i - 1] if i else at[i], at[i + 1] if i + 1 < n else at[i]]
         c.update([at[i]], (stops, [at[i]]), (goes_up, [to[0] if i else 0]), (goes_down, [to[1] if i + 1 < n else 0]))
         c.update([calls[i]], (c.conj(at[i], calls[i]), [0]), (asks[i], [1]))
-    waiting(c, c.conj(asks[0], at[0] ^ 1), c.conj(at[0], calls[0]))
+    live.waiting(c, c.conj(asks[0], at[0] ^ 1), c.conj(at[0], calls[0]))
 
 
 @family(3, 4, 6, 8, is_live=True)
@@ -649,7 +640,7 @@ def aging(c, n, bug):
         c.next(waits[i], c.conj(wants[i], chosen[i] ^ 1) if i < n - 1 else 1)
         older = c.choose(c.all(ages[i]), ages[i], c.plus(ages[i], [1])[0])
         c.update(ages[i], (chosen[i], [0] * width), (wants[i], older))
-    waiting(c, 1, chosen[-1])
+    live.waiting(c, 1, chosen[-1])
 
 
 @family(1, 2, 4, 6, is_live=True)
@@ -667,7 +658,7 @@ def retries(c, width, bug):
     c.update([number], (fits, [number ^ 1]))
     c.update(timer, (fits, [0] * width), (1, c.plus(timer, [1])[0]))
     c.fairness += [arrives] if bug else [arrives, heard]
-    waiting(c, 1, fits)
+    live.waiting(c, 1, fits)
 
 
 @family(2, 3, 4, 6, is_live=True)
@@ -693,7 +684,7 @@ def philosophers_eat(c, n, bug):
     for fork, take, give in zip(forks, takes, gives):
         c.update([fork], (c.any(take), [1]), (c.any(give), [0]))
     c.fairness += chosen
-    waiting(c, 1, c.any(eats))
+    live.waiting(c, 1, c.any(eats))
 
 
 @family(2, 3, 4, 5, is_live=True)
@@ -717,7 +708,7 @@ def filter_lock(c, n, bug):
         told = [0 if bug and k == n - 1 and i > 0 else come for i, come in enumerate(comes[k])]
         c.update(word, *((come, constant(i, len(word))) for i, come in enumerate(told)))
     c.fairness += chosen
-    waiting(c, comes[1][0], c.equal(levels[0], n))
+    live.waiting(c, comes[1][0], c.equal(levels[0], n))
 
 
 @family(2, 4, 8, 15, is_live=True)
@@ -736,7 +727,7 @@ def credits_return(c, n, bug):
     c.update(held, (c.conj(sent, taken), held), (sent, c.plus(held, [1])[0]), (taken, c.minus(held, [1])[0]))
     c.next(back, taken)
     c.fairness += [c.disj(taken, c.any(held) ^ 1), sends]
-    waiting(c, 1, sent)
+    live.waiting(c, 1, sent)
 
 
 @family((2, 2), (3, 2), (4, 3), (8, 4), is_live=True)
@@ -752,7 +743,7 @@ def slow_turns(c, n, width, bug):
     for i, latch in enumerate(turn):
         c.update([latch], (ends, [turn[i - 1]]))
     c.update(time, (ends, [0] * width), (own, c.plus(time, [1])[0]))
-    waiting(c, 1, turn[-1])
+    live.waiting(c, 1, turn[-1])
 
 
 def circuits(is_live):
