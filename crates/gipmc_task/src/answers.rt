@@ -18,13 +18,13 @@ use crate::any::find_any;
 use crate::error::TaskError;
 use crate::kind::PropertyKind;
 use crate::known::tell_known;
-use crate::output::{AnswerOrder, Certifying, Output, Wanted};
+use crate::output::{AnswerOrder, Output, Wanted};
 use crate::parted::{Parted, part_of};
 use crate::query::Query;
 use crate::verdict::Verdict;
 use gipmc_aiger::{Property, Subject};
 use gipmc_circuits::Netlist;
-use gipmc_engines::{Engine, Event, Observer, Plan};
+use gipmc_engines::{Event, Observer, Plan};
 use gipmc_reduce::Cone;
 use gipsat_cnf::{Literal, SatSolver};
 use std::alloc::{AllocError, Global};
@@ -185,11 +185,10 @@ fn answer_by<S: SatSolver + Drop, O: Observer, W: Write>(
     }
 }
 
-// The same, by a search in that part: in what is left of it where equal variables are merged, if that is much smaller
-// and no certificate is wanted.
+// The same, by a search in that part: in what is left of it where equal variables are merged, if that is much smaller.
 fn answer_with<S: SatSolver + Drop, O: Observer, W: Write>(
     alloc: Global,
-    mut parted: Parted<'_, S>,
+    parted: Parted<'_, S>,
     asked: Subject,
     plan: &Plan,
     observer: &mut O,
@@ -201,45 +200,9 @@ fn answer_with<S: SatSolver + Drop, O: Observer, W: Write>(
     ensures written { IfOk result (λ said. IsWritten output.old.failure output.new.failure
         (W.contents output.old.writer) (W.contents output.new.writer) (texts_of said.answers.items)) }
 {
-    let first = first_wanted(&parted, asked, output.wanted(), observer);
-    let merges = first != Wanted::Nothing && merges(plan.engine, asked, output);
-    let left = parted.find_left(alloc, merges, observer);
-    let mut query = Query::new(alloc, parted, &left, plan, first);
+    let mut slot = None;
+    let mut query = Query::new(parted, &mut slot, plan, output.certifying);
     say(alloc, &mut query, asked, observer, output)
-}
-
-// What is to be found out of the first literal of a search, if it has one.
-fn first_wanted<S: SatSolver + Drop, O: Observer>(
-    parted: &Parted<'_, S>,
-    asked: Subject,
-    wanted: Wanted,
-    observer: &mut O,
-) -> Wanted {
-    if parted.bads.is_empty() {
-        return Wanted::Nothing;
-    }
-    wanted_at(first_place(asked), wanted, observer)
-}
-
-// The place of the first literal that is asked about.
-fn first_place(asked: Subject) -> usize {
-    match asked {
-        Subject::One(Property::Bad(place)) => place,
-        _ => 0,
-    }
-}
-
-// Whether equal variables are merged where these engines search, and answers are written there. They are not where each
-// answer is written as soon as it is known: it would wait for the merges.
-fn merges<W: Write>(engine: Engine, asked: Subject, output: &Output<W>) -> bool {
-    if matches!(asked, Subject::All) && output.order == AnswerOrder::Known {
-        return false;
-    }
-    match engine {
-        Engine::Invariants | Engine::All => output.certifying == Certifying::Nothing,
-        Engine::Simulation | Engine::Bounded | Engine::Ic3 => false,
-        Engine::Induction | Engine::Explicit => false,
-    }
 }
 
 // Says what is told of the literals that are asked for, about which a search is.
@@ -407,7 +370,7 @@ pub(crate) fn tell_at<S: SatSolver + Drop, O: Observer, W: Write>(
         (W.contents output.old.writer) (W.contents output.new.writer) (answer_text a)) }
 {
     let bad = query.bads[at];
-    let wanted = wanted_of(query, at, place, output.wanted(), observer);
+    let wanted = wanted_at(place, output.wanted(), observer);
     let depths = tell_depths(alloc, query, at, bad, wanted, observer, output)?;
     let wanted = wanted_still(wanted, output, observer);
     let known = query.find_out(alloc, at, wanted, observer);
@@ -415,22 +378,8 @@ pub(crate) fn tell_at<S: SatSolver + Drop, O: Observer, W: Write>(
     tell_behind(alloc, property, depths, known, observer, output)
 }
 
-// What is to be found out of the literal at one of a search's places, which is the bad one at a place of the circuit.
-pub(crate) fn wanted_of<S: SatSolver + Drop, O: Observer>(
-    query: &Query<'_, S>,
-    at: usize,
-    place: usize,
-    wanted: Wanted,
-    observer: &mut O,
-) -> Wanted {
-    if at == 0 {
-        return query.first;
-    }
-    wanted_at(place, wanted, observer)
-}
-
-// What is to be found out of the literal at a place: nothing if the search is over, or an observer has no time for it.
-fn wanted_at<O: Observer>(place: usize, wanted: Wanted, observer: &mut O) -> Wanted {
+/// What is to be found out of the literal at a place: nothing if the search is over, or an observer has no time for it.
+pub(crate) fn wanted_at<O: Observer>(place: usize, wanted: Wanted, observer: &mut O) -> Wanted {
     if wanted == Wanted::Nothing || observer.note(Event::Begin(place)).is_break() {
         return Wanted::Nothing;
     }

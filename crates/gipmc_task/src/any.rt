@@ -6,7 +6,7 @@ ghost use Rattle.gipmc_task.specs.Verdicts.{outcome_of};
 ghost use Rattle.gipmc_circuits.specs.Circuit.{IsSafe};
 ghost use Rattle.gipmc_task.specs.declared.outcome.Outcome.TheVariants.{Fails, Safe};
 
-use crate::answers::wanted_of;
+use crate::answers::wanted_at;
 use crate::output::Wanted;
 use crate::query::Query;
 use crate::verdict::Verdict;
@@ -63,7 +63,7 @@ fn find_at<S: SatSolver + Drop, O: Observer>(
     ensures right { (bad : Lit) → slice_get query.old.bads.now result.place ≡ Some bad →
         IsKnown query.old.whole.now.circuit bad result.known }
 {
-    let wanted = wanted_of(query, place, place, wanted, observer);
+    let wanted = wanted_at(place, wanted, observer);
     let known = query.find_out(alloc, place, wanted, observer);
     Placed { place, known }
 }

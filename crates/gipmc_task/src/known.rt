@@ -38,7 +38,6 @@ pub(crate) fn tell_known<S: SatSolver + Drop, O: Observer, W: Write>(
         let _told = told;
         at = next_known(alloc, query, &left, at, output.wanted(), observer);
         let place = left.remove(at);
-        begin_again(query, place, observer);
         let answer = tell_at(alloc, query, place, place, observer, output)?;
         answers.reserve(1)?;
         answers.push_reserved(answer);
@@ -115,21 +114,6 @@ fn begin<O: Observer>(place: usize, observer: &mut O) -> bool {
     !observer.note(Event::Begin(place)).is_break()
 }
 
-// Tells it once more of the first literal, since `tell_at` does so of the others alone. Nothing more is wanted of that one
-// where the search is not to go on.
-fn begin_again<S: SatSolver + Drop, O: Observer>(
-    query: &mut Query<'_, S>,
-    place: usize,
-    observer: &mut O,
-)
-    ensures whole { query.new.whole ≡ query.old.whole }
-    ensures bads { query.new.bads ≡ query.old.bads }
-{
-    if place == 0 && !begin(place, observer) {
-        query.first = Wanted::Nothing;
-    }
-}
-
 // Goes on until the literal at one of these places is decided, or the search ends, if something is wanted of it.
 fn go_on<S: SatSolver + Drop, O: Observer>(
     alloc: Global,
@@ -189,8 +173,9 @@ fn before(left: &[usize], end: usize) -> Option<usize> {
     left.get(end.checked_sub(1)?).copied()
 }
 
-// Goes on until no trace of at most so many transitions fails as to the literal at a place, and answers up to how many that
-// is known. None where it is decided, or the search ends.
+// Goes on until no trace of at most so many transitions fails as to the literal at a place, or of one more than it is known
+// of where what is left was found meanwhile, and answers up to how many that is known. None where it is decided, or the search
+// ends.
 fn clear_at<S: SatSolver + Drop, O: Observer>(
     alloc: Global,
     query: &mut Query<'_, S>,
@@ -204,5 +189,7 @@ fn clear_at<S: SatSolver + Drop, O: Observer>(
     if place >= query.bads.len() {
         return None;
     }
+    query.look(alloc, place, depth, observer);
+    let depth = depth.min(query.length(place));
     query.clear(alloc, place, depth, observer)
 }

@@ -1,12 +1,12 @@
 //! What is left of a circuit where equal variables are merged.
-ghost use Rattle.std.specs.Prelude.{IfSome};
+ghost use Rattle.std.specs.Prelude.{◌≡◌, IfSome};
 ghost use Rattle.gipmc_task.specs.Left.{StandFor};
 ghost use Rattle.gipmc_reduce.specs.Correspondence.{IsSweptOf, merged};
 
 use crate::parted::part_of;
 use gipmc_circuits::{Netlist, Trace};
 use gipmc_reduce::{Bounds, Cone, Correspondence};
-use gipsat_cnf::SatSolver;
+use gipsat_cnf::{Literal, SatSolver};
 use std::alloc::{AllocError, Global};
 
 /// What is left of a circuit.
@@ -18,12 +18,19 @@ pub(crate) struct Left {
 }
 
 impl Left {
-    /// What is left of a circuit. None where that was not found out by so much work, or where memory is refused.
-    pub(crate) fn of<S: SatSolver + Drop>(alloc: Global, whole: &Netlist, work: u64) -> Option<Self>
+    /// What is left of a circuit where latches are merged, and gates if that is wanted. None where that was not found out by
+    /// so much work, or where memory is refused.
+    pub(crate) fn of<S: SatSolver + Drop>(
+        alloc: Global,
+        whole: &Netlist,
+        with_gates: bool,
+        work: u64,
+    ) -> Option<Self>
         ensures { IfSome result (λ left. StandFor left.part.netlist.circuit left.part.netlist.circuit.bads.items
             whole.now.circuit whole.now.circuit.bads.items) }
     {
         let bounds = Bounds {
+            with_gates,
             work,
             ..Bounds::default()
         };
@@ -63,4 +70,22 @@ impl Left {
         let trace = self.part.trace_of(alloc, &self.sweep.netlist, trace)?;
         self.sweep.trace_of(alloc, whole, &trace)
     }
+
+    /// The clauses of the merges, and behind them these of an invariant of what is left, over the variables of the circuit.
+    pub(crate) fn clauses_of(
+        &self,
+        alloc: Global,
+        clauses: &[Vec<Literal>],
+    ) -> Result<Vec<Vec<Literal>>, AllocError> {
+        let clauses = self.part.names.clauses_of(alloc, clauses)?;
+        self.sweep.clauses_of(alloc, &clauses)
+    }
+}
+
+/// What is left, once it is put where it is kept.
+pub(crate) fn kept(slot: &mut Option<Left>, left: Left) -> Option<&Left>
+    ensures { IfSome result (λ l. l.now ≡ left) }
+{
+    *slot = Some(left);
+    slot.as_ref()
 }

@@ -13,11 +13,11 @@ pub(crate) struct Meter<'a, O: Observer> {
 }
 
 impl<'a, O: Observer> Meter<'a, O> {
-    /// Before a search.
-    pub(crate) fn new(observer: &'a mut O) -> Self {
+    /// Before a search goes on in which IC3 has propagated so many literals.
+    pub(crate) fn new(observer: &'a mut O, propagations: u64) -> Self {
         Meter {
             observer,
-            propagations: 0,
+            propagations,
         }
     }
 }

@@ -29,19 +29,20 @@ pub enum AnswerOrder {
     /// In that of the literals. So one that is not decided holds back the answers about those behind it.
     Places,
     /// Each once its literal is decided, as far as that is looked for: some times at each depth of bounded model checking,
-    /// and where the search ends. Then no progress is written, and nothing is merged, since an answer would wait for it.
+    /// and where the search ends. Then no progress is written.
     Known,
 }
 
 /// What a certificate is made of that shows what is safe.
 #[derive(Clone, Copy, Debug, PartialEq, Eq)]
 pub enum Certifying {
-    /// Clauses over latches, or a k: the `Grounds::Clauses` of `certificate_of`.
+    /// Clauses over latches, or a k: the `Grounds::Clauses` of `certificate_of`. In a search that takes long, equal latches
+    /// may be merged.
     Clauses,
-    /// A circuit: its `Grounds::Strengthened`.
+    /// A circuit: its `Grounds::Strengthened`. Equal latches and gates may be merged.
     Circuit,
-    /// No certificate is wanted. Equal latches and gates may be merged in a search that takes long, and what is shown of the
-    /// rest makes no certificate of the circuit.
+    /// No certificate is wanted. Equal latches and gates may be merged, and what is shown of the rest makes no certificate
+    /// of the circuit.
     Nothing,
 }
 

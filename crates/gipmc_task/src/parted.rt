@@ -3,9 +3,8 @@ ghost use Rattle.std.specs.Prelude.{◌≡◌, ◌<◌, length, map, slice_get, 
 ghost use Rattle.gipsat_cnf.specs.Literals.{Lit};
 ghost use Rattle.gipmc_task.specs.Answers.{IsKnown};
 ghost use Rattle.gipmc_task.specs.Left.{StandFor, StandsFor};
-ghost use Rattle.gipmc_task.specs.declared.verdict.Verdict.TheVariants.{ClearTo};
 ghost use Rattle.gipmc_engines.specs.Findings.{verdict_by};
-ghost use Rattle.gipmc_engines.specs.Verdicts.{IsRightVerdict, NeverFailsWithin};
+ghost use Rattle.gipmc_engines.specs.Verdicts.{IsRightVerdict};
 ghost use Rattle.gipmc_reduce.specs.Cone.{IsPartOf, literal_named};
 
 use crate::left::Left;
@@ -13,23 +12,13 @@ use crate::meter::Meter;
 use crate::output::Wanted;
 use crate::verdict::{Evidence, Verdict};
 use gipmc_circuits::{Netlist, Trace, replay};
-use gipmc_engines::{Bounds, Event, Finding, Joint, Observer, Plan, Tries, search};
+use gipmc_engines::{Bounds, Event, Finding, Findings, Joint, Observer, Plan, Tries, search};
 use gipmc_reduce::Cone;
 use gipsat_cnf::{Literal, SatSolver};
 use std::alloc::{AllocError, Global};
 
-// A sweep may do one part in so many of what IC3 has propagated. The other engines do about as much as IC3, so this is a
-// quarter of all work so far. The first sweep begins once this share is SWEEP for each gate.
-const SHARE: u64 = 2;
-
 // An estimate of the work of a sweep for each gate: 32 runs, and what its questions propagate.
 const SWEEP: u64 = 100;
-
-// How many times as much IC3 does until what is left is looked for again.
-const LATER: u64 = 8;
-
-// How often it is looked for.
-const SWEEPS: usize = 3;
 
 /// The part of a circuit that some of its literals depend on. None where memory is refused, or where one of them is of no
 /// variable of the circuit.
@@ -42,6 +31,17 @@ pub(crate) fn part_of(alloc: Global, whole: &Netlist, bads: &[Literal]) -> Optio
         Ok(part) => part,
         Err(_) => None,
     }
+}
+
+/// Why a search does not go on about a literal.
+#[derive(Clone, Copy, PartialEq, Eq)]
+pub(crate) enum Pause {
+    /// Nothing fails up to the depth that was asked for.
+    Depth,
+    /// The work is done that was asked for.
+    Work,
+    /// The literal is decided, or the search is over.
+    End,
 }
 
 /// One search about some literals of a circuit, in a part of it or in what is left of that.
@@ -59,6 +59,8 @@ pub(crate) struct Parted<'a, S: SatSolver + Drop> {
     joint: Joint<'a, S>,
     // How many clauses a question about shorter traces may learn.
     limit: usize,
+    /// How many literals IC3 has propagated.
+    pub(crate) work: u64,
     pub ghost part_stands: { StandFor part.now.netlist.circuit part.now.netlist.circuit.bads.items
         whole.now.circuit bads.now },
     pub ghost stand: { StandFor joint.findings.netlist.now.circuit joint.findings.bads.now whole.now.circuit bads.now },
@@ -88,103 +90,117 @@ impl<'a, S: SatSolver + Drop> Parted<'a, S> {
             left: None,
             joint,
             limit: plan.bounds.limit,
+            work: 0,
         })
     }
 
-    /// Before the search in what is left of a part. It begins without simulation, which has been in the part.
+    /// Before the search in what is left of the part, about what is open. It begins without simulation, which has been in
+    /// the part.
     ///
     /// # Errors
     /// `AllocError` where memory is refused.
     pub(crate) fn in_left(
+        &self,
         alloc: Global,
-        whole: &'a Netlist,
-        bads: &'a [Literal],
-        part: &'a Cone,
         left: &'a Left,
         plan: &Plan,
     ) -> Result<Self, AllocError>
-        requires part { StandFor part.now.netlist.circuit part.now.netlist.circuit.bads.items
-            whole.now.circuit bads.now }
-        requires left { StandFor left.now.part.netlist.circuit left.now.part.netlist.circuit.bads.items
-            whole.now.circuit bads.now }
-        ensures whole { IfOk result (λ p. p.whole.now ≡ whole.now) }
-        ensures bads { IfOk result (λ p. p.bads.now ≡ bads.now) }
+        requires { StandFor left.now.part.netlist.circuit left.now.part.netlist.circuit.bads.items
+            self.now.whole.now.circuit self.now.bads.now }
+        ensures whole { IfOk result (λ p. p.whole ≡ self.now.whole) }
+        ensures bads { IfOk result (λ p. p.bads ≡ self.now.bads) }
     {
         let netlist = &left.part.netlist;
-        let joint = Joint::new(
-            alloc,
-            netlist,
-            &netlist.circuit.bads,
-            &without_simulation(plan),
-        )?;
+        let plan = without_simulation(plan);
+        let mut joint = Joint::new(alloc, netlist, &netlist.circuit.bads, &plan)?;
+        self.leave_out(alloc, &mut joint.findings);
         Ok(Parted {
-            whole,
-            bads,
-            part,
+            whole: self.whole,
+            bads: self.bads,
+            part: self.part,
             left: Some(left),
             joint,
             limit: plan.bounds.limit,
+            work: 0,
         })
     }
 
-    /// Goes on with the search about the first literal, and now and then tries to find out what is left of the part, by a
-    /// part of the work that the search has done. None where nothing is to be merged, where the literal is decided before, and
-    /// where that work does not suffice.
-    pub(crate) fn find_left<O: Observer>(
-        &mut self,
-        alloc: Global,
-        merges: bool,
-        observer: &mut O,
-    ) -> Option<Left>
-        ensures whole { self.new.whole ≡ self.old.whole }
-        ensures bads { self.new.bads ≡ self.old.bads }
-        ensures left { IfSome result (λ left. StandFor left.part.netlist.circuit
-            left.part.netlist.circuit.bads.items self.old.whole.now.circuit self.old.bads.now) }
+    // Takes the literals that are decided out of what a search that has not begun is to find out.
+    fn leave_out(&self, alloc: Global, findings: &mut Findings<'_>)
+        ensures netlist { findings.new.netlist ≡ findings.old.netlist }
+        ensures bads { findings.new.bads ≡ findings.old.bads }
     {
-        if !merges {
-            return None;
-        }
-        let mut done = self.sweep_work().saturating_mul(SHARE);
-        for _ in 0..SWEEPS {
-            done = self.go_on_to(done, observer)?;
-            let left = self.sweep(alloc, done / SHARE);
-            if left.is_some() {
-                return left;
+        for at in 0..self.bads.len() {
+            if !self.is_open(at) {
+                leave_out_at(alloc, findings, at);
             }
-            done = done.saturating_mul(LATER);
         }
-        None
     }
 
-    // About how much it takes to find out what is left of the part.
-    fn sweep_work(&self) -> u64 {
+    /// About how much it takes to find out what is left of the part.
+    pub(crate) fn sweep_work(&self) -> u64 {
         (self.part.netlist.circuit.gates.len() as u64).saturating_mul(SWEEP)
     }
 
-    // What is left of the part, if so much work suffices to find that out.
-    fn sweep(&self, alloc: Global, work: u64) -> Option<Left>
+    /// What is left of the part where latches are merged, and gates if that is wanted. None where so much work does not
+    /// suffice to find that out.
+    pub(crate) fn sweep(&self, alloc: Global, with_gates: bool, work: u64) -> Option<Left>
         ensures { IfSome result (λ left. StandFor left.part.netlist.circuit
             left.part.netlist.circuit.bads.items self.now.whole.now.circuit self.now.bads.now) }
     {
-        Left::of::<S>(alloc, &self.part.netlist, work)
+        Left::of::<S>(alloc, &self.part.netlist, with_gates, work)
     }
 
-    // Goes on with the search about the first literal, until IC3 has propagated so many literals, and answers how many it
-    // has. None where the literal is decided before, or the search cannot go on.
-    fn go_on_to<O: Observer>(&mut self, propagations: u64, observer: &mut O) -> Option<u64>
+    /// Goes on with the search about the literal at a place, until no trace of at most so many transitions fails, IC3 has
+    /// propagated so many literals, or the literal is decided.
+    pub(crate) fn go_on<O: Observer>(
+        &mut self,
+        at: usize,
+        depth: usize,
+        work: u64,
+        observer: &mut O,
+    ) -> Pause
         ensures whole { self.new.whole ≡ self.old.whole }
         ensures bads { self.new.bads ≡ self.old.bads }
     {
-        let mut meter = Meter::new(observer);
-        for depth in 0..usize::MAX {
-            if !self.joint.find_out_to(0, depth, &mut meter) {
-                return None;
+        for next in self.length(at)..usize::MAX {
+            let to = if work == u64::MAX {
+                depth
+            } else {
+                next.min(depth)
+            };
+            if !self.step(at, to, observer) {
+                return Pause::End;
             }
-            if meter.propagations >= propagations {
-                return Some(meter.propagations);
+            if to >= depth {
+                return Pause::Depth;
+            }
+            if self.work >= work {
+                return Pause::Work;
             }
         }
-        None
+        Pause::End
+    }
+
+    // Goes on until no trace of at most so many transitions fails as to the literal at a place. Whether the search can go on
+    // about it.
+    fn step<O: Observer>(&mut self, at: usize, depth: usize, observer: &mut O) -> bool
+        ensures whole { self.new.whole ≡ self.old.whole }
+        ensures bads { self.new.bads ≡ self.old.bads }
+    {
+        let mut meter = Meter::new(observer, self.work);
+        let goes_on = self.joint.find_out_to(at, depth, &mut meter);
+        self.work = meter.propagations;
+        goes_on
+    }
+
+    /// For how many lengths of traces, from no transition on, it is known that none fails as to the literal at a place that is
+    /// open.
+    pub(crate) fn length(&self, at: usize) -> usize {
+        match self.joint.findings.each.get(at) {
+            Some(Finding::NoFailureWithin(depth)) => depth.saturating_add(1),
+            _ => 0,
+        }
     }
 
     /// Whether nothing is decided about the literal at a place.
@@ -192,52 +208,27 @@ impl<'a, S: SatSolver + Drop> Parted<'a, S> {
         self.joint.findings.is_open(at)
     }
 
-    /// Goes on until the literal at one of the places is decided, and answers what is known of it then, by a shortest trace
-    /// where that is wanted and found. A search that is over does not go on.
-    pub(crate) fn find_out<O: Observer>(
-        &mut self,
+    /// What is known of the literal at a place, by a shortest trace where that is wanted and found. The observer is told which
+    /// engine decided it, and that the search does not go on.
+    pub(crate) fn tell<O: Observer>(
+        &self,
         alloc: Global,
         at: usize,
         wanted: Wanted,
         observer: &mut O,
     ) -> Verdict
-        requires { at < length self.old.bads.now }
-        ensures whole { self.new.whole ≡ self.old.whole }
-        ensures bads { self.new.bads ≡ self.old.bads }
-        ensures right { (bad : Lit) → slice_get self.old.bads.now at ≡ Some bad →
-            IsKnown self.old.whole.now.circuit bad result }
+        requires { at < length self.now.bads.now }
+        ensures { (bad : Lit) → slice_get self.now.bads.now at ≡ Some bad →
+            IsKnown self.now.whole.now.circuit bad result }
     {
         if wanted == Wanted::Nothing {
             return self.known(alloc, at);
         }
-        self.joint.find_out(at, observer);
         self.tell_engine(at, observer);
         let verdict = self.told(alloc, at, wanted, observer);
         let is_refused = self.is_refused(at, &verdict);
         let _ = observer.note(Event::End { is_refused });
         verdict
-    }
-
-    /// Goes on until it is known that no trace of at most so many transitions fails as to the literal at one of the places,
-    /// and answers up to how many it is known. None where the literal is decided, or the search cannot go on.
-    pub(crate) fn clear<O: Observer>(
-        &mut self,
-        alloc: Global,
-        at: usize,
-        depth: usize,
-        observer: &mut O,
-    ) -> Option<usize>
-        requires { at < length self.old.bads.now }
-        ensures whole { self.new.whole ≡ self.old.whole }
-        ensures bads { self.new.bads ≡ self.old.bads }
-        ensures clear { IfSome result (λ n. (bad : Lit) → slice_get self.old.bads.now at ≡ Some bad →
-            NeverFailsWithin self.old.whole.now.circuit bad n) }
-    {
-        if !self.joint.find_out_to(at, depth, observer) {
-            return None;
-        }
-        let known = self.known(alloc, at);
-        depth_of(&known)
     }
 
     // Tells an observer which engine decided the literal at a place, if it is decided.
@@ -414,14 +405,36 @@ impl<'a, S: SatSolver + Drop> Parted<'a, S> {
         }
     }
 
-    /// The clauses of the invariant that was found in the part, over the variables of the whole circuit; none where memory is
-    /// refused.
+    /// The clauses of the invariant that was found, over the variables of the whole circuit, behind those of the merges; none
+    /// where memory is refused, or where none was found in what is left.
     pub(crate) fn invariant(&self, alloc: Global) -> Vec<Vec<Literal>> {
-        let clauses = &self.joint.findings.invariant;
-        match self.part.names.clauses_of(alloc, clauses) {
+        match self.clauses(alloc) {
             Ok(clauses) => clauses,
             Err(_) => Vec::new(alloc),
         }
+    }
+
+    // The same, if memory suffices.
+    fn clauses(&self, alloc: Global) -> Result<Vec<Vec<Literal>>, AllocError> {
+        let clauses = &self.joint.findings.invariant;
+        match self.left {
+            Some(left) if self.excludes() => {
+                let clauses = left.clauses_of(alloc, clauses)?;
+                self.part.names.clauses_of(alloc, &clauses)
+            }
+            Some(_) => Ok(Vec::new(alloc)),
+            None => self.part.names.clauses_of(alloc, clauses),
+        }
+    }
+
+    // Whether the invariant that was found excludes a literal.
+    fn excludes(&self) -> bool {
+        for finding in self.joint.findings.each.iter() {
+            if matches!(finding, Finding::Safe) {
+                return true;
+            }
+        }
+        false
     }
 
     /// The greatest k for which a literal was found to be k-inductive, if one was.
@@ -450,14 +463,20 @@ fn moments_of(known: &Verdict) -> Option<usize> {
     }
 }
 
-// Up to how many transitions it is known that nothing fails, if that is all.
-fn depth_of(known: &Verdict) -> Option<usize>
-    ensures { IfSome result (λ n. known.now ≡ ClearTo n) }
+// Takes the literal at a place out of what a search is to find out, as if it were decided there.
+fn leave_out_at(alloc: Global, findings: &mut Findings<'_>, at: usize)
+    ensures netlist { findings.new.netlist ≡ findings.old.netlist }
+    ensures bads { findings.new.bads ≡ findings.old.bads }
 {
-    match known {
-        Verdict::ClearTo(depth) => Some(*depth),
-        _ => None,
+    if at >= findings.bads.len() || at >= findings.each.len() {
+        return;
     }
+    let trace = Trace {
+        latches: Vec::new(alloc),
+        inputs: Vec::new(alloc),
+    };
+    let _bad = findings.bads[at];
+    findings.each[at] = Finding::Fails(trace);
 }
 
 // The same plan without simulation.

@@ -27,7 +27,7 @@ tell_at-requires-clause-within g c =
     let left = c.loop-told.left.items in
     let at = c.next_known-at.result in
     let less : at < length left = subst (λ ks. at < length ks) c.deref.ensures.value c.next_known-at.ensures.within in
-    subst (λ bs. c.remove-place.result < length bs.now) (sym (c.begin_again.ensures.bads ∙ (c.next_known-at.ensures.bads ∙ c.loop-told.invariant.bads)))
+    subst (λ bs. c.remove-place.result < length bs.now) (sym (c.next_known-at.ensures.bads ∙ c.loop-told.invariant.bads))
     (left_within count (places_of c.loop-told.answers.items) left at c.remove-place.result c.loop-told.invariant.once less
     c.remove-place.ensures.value)
 
@@ -44,11 +44,11 @@ loop-told-preserved g c =
     let taken = c.remove-place.ensures.value in
     let less : at < length left = subst (λ ks. at < length ks) c.deref.ensures.value c.next_known-at.ensures.within in
     let tells : Tells circuit place answer = subst (λ w. Tells w.now.circuit place answer)
-    (c.begin_again.ensures.whole ∙ (c.next_known-at.ensures.whole ∙ so_far.whole)) c.in_ok-answer.ensures.tells in
+    (c.next_known-at.ensures.whole ∙ so_far.whole) c.in_ok-answer.ensures.tells in
     let own = names_own circuit place answer tells in
     record {
-      whole = c.in_ok-answer.ensures.whole ∙ (c.begin_again.ensures.whole ∙ (c.next_known-at.ensures.whole ∙ so_far.whole));
-      bads = c.in_ok-answer.ensures.bads ∙ (c.begin_again.ensures.bads ∙ (c.next_known-at.ensures.bads ∙ so_far.bads));
+      whole = c.in_ok-answer.ensures.whole ∙ (c.next_known-at.ensures.whole ∙ so_far.whole);
+      bads = c.in_ok-answer.ensures.bads ∙ (c.next_known-at.ensures.bads ∙ so_far.bads);
       count = rw (c.remove-place.ensures.items) (omega (arith, so_far.count, left_shorter left at place less taken));
       once = rw (c.push_reserved.ensures.items, c.in_ok-reserve.ensures.items, c.remove-place.ensures.items)
           (once-more count answers left at place answer so_far.once less taken own);

@@ -1,6 +1,6 @@
 -- The circuit and the literals stay.
 use Rattle.std.proofs.Common.{◌≡◌}
-use Rattle.gipmc_task.proofs.parted.Parted.find_left.Given as goal
+use Rattle.gipmc_task.proofs.query.Query.go_on.Given as goal
 
 abbrev pub invariant-loop : goal.invariant-loop
 invariant-loop g l = record {

@@ -1,9 +1,9 @@
 -- The circuit and the literals stay.
 use Rattle.std.proofs.Common.{◌≡◌}
-use Rattle.gipmc_task.proofs.parted.Parted.go_on_to.Given as goal
+use Rattle.gipmc_task.proofs.query.Query.look.Given as goal
 
-abbrev pub invariant-loop-depth : goal.invariant-loop-depth
-invariant-loop-depth g l = record {
+abbrev pub invariant-loop : goal.invariant-loop
+invariant-loop g l = record {
   whole : l.self.whole ≡ l.fn.self.whole;
   bads : l.self.bads ≡ l.fn.self.bads;
 }
