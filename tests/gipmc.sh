@@ -440,17 +440,39 @@ twins() {
     }'
 }
 
-# They are merged, latch by latch, where no certificate is wanted; without that the search is open for long.
-if is_wanted "two copies of a machine, merged" "two copies of a machine are not merged where a certificate is wanted"; then
+# They are merged, latch by latch, in a search that takes long; without that it is open for long.
+merges="two copies of a machine, merged"
+if is_wanted "$merges" "$merges beside clauses" "$merges beside a circuit" "$merges for a later literal" "$merges, unordered"; then
     twins 16 > twins.aag
     "$gipmc" --quiet -t 60 twins.aag > out 2> err
     status=$?
     [ "$status" = 20 ] && [ ! -s err ] && [ "$(cat out)" = "$safe" ]
-    told "two copies of a machine, merged" $?
-    "$gipmc" --quiet -t 1 --certificate twins.cert twins.aag > out 2> err
-    status=$?
-    [ "$status" = 0 ] && [ ! -e twins.cert ]
-    told "two copies of a machine are not merged where a certificate is wanted" $?
+    told "$merges" $?
+    # OPTION..: whether the answer is the same with these options and a certificate, and that is verified.
+    is_certified() {
+        rm -f twins.cert
+        "$gipmc" --quiet -t 60 --certificate twins.cert "$@" twins.aag > out 2> err
+        status=$?
+        [ "$status" = 20 ] && [ ! -s err ] && [ "$(cat out)" = "$safe" ] &&
+            [ "$("$gipmc" --certify twins.cert twins.aag)" = "s VERIFIED" ]
+    }
+    is_certified
+    told "$merges beside clauses" $?
+    is_certified --aiger
+    told "$merges beside a circuit" $?
+    # Before it stand a literal that is never true, and an input.
+    sed '1s/1$/3/; 36i 0\n2' twins.aag > third.aag
+    # OPTION..: whether the last two literals are answered as they are, with these options.
+    is_third() {
+        "$gipmc" --quiet -t 60 "$@" third.aag > out 2> err
+        status=$?
+        [ "$status" = 10 ] && [ ! -s err ] && [ "$(grep -A 1 '^0$' out | grep '^b' | sort | tr '\n' ' ')" = "b0 b2 " ] &&
+            [ "$(grep -A 1 '^1$' out | grep '^b')" = b1 ]
+    }
+    is_third
+    told "$merges for a later literal" $?
+    is_third --unordered
+    told "$merges, unordered" $?
 fi
 
 # Witnesses of other programs.

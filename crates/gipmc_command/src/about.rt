@@ -239,8 +239,8 @@ pub const OPTIONS: &[Opt] = &[
         section: "Output",
         help: "write each answer about a bad literal soon after it is known, in whatever order, so that a run which is \
                stopped from outside keeps it. What is known is looked for some times at each depth of bmc. No lines \
-               `u N` tell how far the search has come, and what is equal is not merged. It changes nothing where one answer is \
-               asked for (--bad, --justice, --any)",
+               `u N` tell how far the search has come. It changes nothing where one answer is asked for (--bad, \
+               --justice, --any)",
     },
     Opt {
         long: "--quiet",
