@@ -3,10 +3,10 @@ use Rattle.std.proofs.Common.{◌≡◌, ◌↔◌, ℕ, suc, ◌+◌, ◌<◌, 
 use Rattle.std.proofs.lemmas.Bool.{cases_lt}
 use Rattle.std.proofs.lemmas.Option.{slice_get_within}
 use Rattle.gipsat_cnf.specs.Encodings.{Adds}
-use Rattle.gipsat_cnf.specs.Formulas.{AreBelow, Assignment, Formula, is_true}
+use Rattle.gipsat_cnf.specs.Formulas.{AreBelow, Assignment, Formula, is_true, satisfies}
 use Rattle.gipsat_cnf.specs.Literals.{Lit}
 use Rattle.gipsat_encodings.specs.Counts.{AreBetween, AtLeastTrue, AtMostTrue, ExactlyTrue, count_true}
-use Rattle.gipsat_encodings.specs.Extending.{Anything, Constrains, Defines}
+use Rattle.gipsat_encodings.specs.Extending.{AddsSome, AgreeBelow, Anything, Constrains, ConstrainsPart, Defines, SpeaksBelow}
 use Rattle.gipsat_encodings.specs.Outputs.{Counts, SaysSum, TellCount, reached, says, value_or}
 use Rattle.gipsat_encodings.proofs.Agreeing.{SpeaksBelow-adds, count-agreeing}
 use Rattle.gipsat_encodings.proofs.Counting.{count-length}
@@ -21,6 +21,22 @@ SaysSum-implied a up left right sums i j p q s within is_p is_q is_s = (
   λ implied inside from_left from_right. sym is_s ∙ implied (is_p ∙ from_left) (is_q ∙ from_right),
   λ say from_p from_q. is_s ∙ say within (sym is_p ∙ from_p) (sym is_q ∙ from_q),
 )
+
+-- each model within bounds is one in which the outputs say these, by other values
+bounded : (up down : Bool) (size n m least most : ℕ) (literals outputs : List Lit) (f g : Formula) → AreBelow n literals
+    → Counts up down size n m literals outputs f g → least ≤ length literals → least ≤ size → SpeaksBelow n f → (a : Assignment)
+    → IsTrue (satisfies a f) → AreBetween least most literals a
+    → (b : Assignment) × AgreeBelow n a b × IsTrue (satisfies b g) × IsTrue (reached b outputs least) × IsTrue (not (reached b outputs (suc most)))
+bounded up down size n m least most literals outputs f g below counts fits room speaks a sat (is_least, is_most) =
+    let sized = counts.sized in
+    let (b, same, mid, say_least, say_most) = counts.complete speaks a sat in
+    let as_many = count-agreeing n a b literals same below in (
+      b,
+      same,
+      mid,
+      say_least least (omega arith) (omega (arith, as_many, is_least)),
+      not-false-is (reached b outputs (suc most)) (unreached b outputs (count_true b literals) most say_most (omega (arith, as_many, is_most))),
+    )
 
 -- outputs that count are bounded
 pub Constrains-between : (up down : Bool) (size v n m least most : ℕ) (literals outputs : List Lit) (f g h : Formula) → v ≤ n → AreBelow n literals
@@ -47,25 +63,30 @@ Constrains-between up down size v n m least most literals outputs f g h from bel
                   (λ many. omega arith) (cases_lt most (length literals)),
             ),
           );
-      complete = λ speaks a sat (is_least, is_most).
-          let (b, same, mid, say_least, say_most) = counts.complete speaks a sat in
-          let as_many = count-agreeing n a b literals same below in (
-            b,
-            same,
-            (adds b).1 (
-              mid,
-              (
-                say_least least (omega arith) (omega (arith, as_many, is_least)),
-                not-false-is (reached b outputs (suc most)) (unreached b outputs (count_true b literals) most say_most (omega (arith, as_many, is_most))),
-              ),
-            ),
-          );
+      complete = λ speaks a sat asked.
+          let (b, same, mid, is_least, not_more) = bounded up down size n m least most literals outputs f g below counts fits room speaks a sat asked in
+          (b, same, (adds b).1 (mid, (is_least, not_more)));
       speaks = λ speaks.
           SpeaksBelow-adds m m (λ a. IsTrue (reached a outputs least) × IsTrue (not (reached a outputs (suc most)))) g h (omega arith) adds
           (λ a b same (is_least, not_more). (
             sym (reached-agreeing m a b outputs least same counts.below) ∙ is_least,
             ap not (sym (reached-agreeing m a b outputs (suc most) same counts.below)) ∙ not_more,
           )) (counts.speaks speaks);
+    })
+
+-- a part of the bounds is a part of the constraint
+pub ConstrainsPart-between : (up down : Bool) (size v n m least most : ℕ) (literals outputs : List Lit) (f g h : Formula) → v ≤ n → AreBelow n literals
+    → Counts up down size n m literals outputs f g → least ≤ length literals → least ≤ size
+    → AddsSome outputs (λ a. IsTrue (reached a outputs least) × IsTrue (not (reached a outputs (suc most)))) g h
+    → ConstrainsPart v m (AreBetween least most literals) f h
+ConstrainsPart-between up down size v n m least most literals outputs f g h from below counts fits room some =
+    Extends-from v n m (AreBetween least most literals) Anything f h from (record {
+      up = counts.rises;
+      sound = λ a sat. (counts.keeps a ((some.part a).0 sat), tt);
+      complete = λ speaks a sat asked.
+          let (b, same, mid, is_least, not_more) = bounded up down size n m least most literals outputs f g below counts fits room speaks a sat asked in
+          (b, same, (some.part b).1 mid (is_least, not_more));
+      speaks = λ speaks. some.speaks m counts.below (counts.speaks speaks);
     })
 
 -- outputs that count both ways tell how many are true

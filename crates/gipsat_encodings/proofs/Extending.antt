@@ -6,7 +6,7 @@ use Rattle.gipsat_cnf.specs.Encodings.{Adds}
 use Rattle.gipsat_cnf.specs.Formulas.{Assignment, Formula, is_true, satisfies}
 use Rattle.gipsat_cnf.specs.Literals.{Lit}
 use Rattle.gipsat_cnf.proofs.Encodings.{Adds-same}
-use Rattle.gipsat_encodings.specs.Extending.{AgreeBelow, Anything, Constrains, Defines, Extends, RestsBelow, SpeaksBelow}
+use Rattle.gipsat_encodings.specs.Extending.{AgreeBelow, Anything, Constrains, ConstrainsPart, Defines, Extends, RestsBelow, SpeaksBelow}
 use Rattle.gipsat_encodings.proofs.Agreeing.{AgreeBelow-both, AgreeBelow-less, AgreeBelow-refl, RestsBelow-more, SpeaksBelow-adds, is_true-agreeing}
 
 -- a formula that stays has what its models have
@@ -108,6 +108,10 @@ Defines-output n m o value f g same_o same_m rests adds =
 -- what is meant is the same
 pub Constrains-same : (n m : ℕ) (M N : Assignment → Type 0) (f g : Formula) → ((a : Assignment) → M a ↔ N a) → Constrains n m M f g → Constrains n m N f g
 Constrains-same n m M N f g same = Extends-weaker n m M N M N f g (λ a. (same a).1) (λ a. (same a).0)
+
+pub ConstrainsPart-same : (n m : ℕ) (M N : Assignment → Type 0) (f g : Formula) → ((a : Assignment) → M a ↔ N a) → ConstrainsPart n m M f g
+    → ConstrainsPart n m N f g
+ConstrainsPart-same n m M N f g same = Extends-weaker n m M N Anything Anything f g (λ a. (same a).1) (λ a any. any)
 
 -- every assignment has it, and no clause is added
 pub Constrains-always : (n : ℕ) (M : Assignment → Type 0) (f : Formula) → ((a : Assignment) → M a) → Constrains n n M f f

@@ -1,5 +1,5 @@
 -- Parts of lists of literals, and outputs that count them together.
-use Rattle.std.proofs.Common.{◌≡◌, ℕ, zero, suc, ◌+◌, ◌-◌, ◌<◌, length-drop, Bool, List, [], ◌∷◌, ◌++◌, drop, get_or, length, take, Some, Result, Ok, Err, refl, sym, ap, subst, ◌∙◌, arith}
+use Rattle.std.proofs.Common.{◌≡◌, ℕ, zero, suc, ◌+◌, ◌-◌, ◌<◌, ◌≤◌, length-drop, Bool, List, [], ◌∷◌, ◌++◌, drop, get_or, length, take, Some, Result, Ok, Err, refl, sym, ap, subst, ◌∙◌, arith}
 use Rattle.std.specs.Prelude.{min, slice_get, IfOk}
 use Rattle.std.proofs.lemmas.List.{take-append-drop, take_all}
 use Rattle.std.proofs.lemmas.Option.{slice_get_read}
@@ -7,10 +7,11 @@ use Rattle.gipsat_cnf.specs.Encodings.{Adds}
 use Rattle.gipsat_cnf.specs.Formulas.{AreBelow, Formula}
 use Rattle.gipsat_cnf.specs.Literals.{Lit}
 use Rattle.gipsat_cnf.proofs.Places.{none_some, same_some}
-use Rattle.gipsat_encodings.specs.Outputs.{AreFresh, Counts}
+use Rattle.gipsat_encodings.specs.Extending.{DefinesPart}
+use Rattle.gipsat_encodings.specs.Outputs.{AreFresh, AreSums, Counts, SumsPart}
 use Rattle.gipsat_encodings.proofs.Agreeing.{AreBelow-more}
 use Rattle.gipsat_encodings.proofs.Parities.{taken}
-use Rattle.gipsat_encodings.proofs.Summing.{AreSums, Counts-few, Counts-sums}
+use Rattle.gipsat_encodings.proofs.Summing.{Counts-few, Counts-sums, DefinesPart-sums}
 
 get-take : {A : Type 0} (k : ℕ) (xs : List A) (i : ℕ) (x : A) → slice_get (take k xs) i ≡ Some x → slice_get xs i ≡ Some x
 get-take zero xs i x at = none_some x at
@@ -76,3 +77,22 @@ Counts-next up down size n k m literals place l row row_now sums f g h some belo
     (Counts-sums up down size n k k m (take place literals) (l ∷ []) row_now (l ∷ []) sums f g g h (AreBelow-take n place literals below) one
     (subst (λ o. Counts up down size n k (take place literals) o f g) (sym same_row) before)
     (Counts-few up down size k (l ∷ []) g some (omega arith) (AreBelow-more n k (l ∷ []) rises one)) fresh len next adds)
+
+-- the same where only a part of these sums is added
+pub DefinesPart-next : (up down : Bool) (size n k m : ℕ) (literals : List Lit) (place : ℕ) (l : Lit) (row row_now : List Lit) (f g h : Formula) → 0 < size
+    → AreBelow n literals → place < length literals → l ≡ get_or literals place l → row_now ≡ row → Counts up down size n k (take place literals) row f g
+    → k ≤ m → SumsPart up down size k m row_now (l ∷ []) g h → DefinesPart n m f h
+DefinesPart-next up down size n k m literals place l row row_now f g h some below within is same_row before above part =
+    let rises = before.rises in
+    let one = AreBelow-one n literals place l below within is in
+    DefinesPart-sums up down size n k k m (take place literals) (l ∷ []) row_now (l ∷ []) f g g h (AreBelow-take n place literals below) one
+    (subst (λ o. Counts up down size n k (take place literals) o f g) (sym same_row) before)
+    (Counts-few up down size k (l ∷ []) g some (omega arith) (AreBelow-more n k (l ∷ []) rises one)) above part
+
+-- the same of sums of the outputs of two lists
+pub DefinesPart-halves : (up down : Bool) (size n k l m : ℕ) (xs ys left right left_now right_now : List Lit) (f g h i : Formula) → left_now ≡ left
+    → right_now ≡ right → AreBelow n xs → AreBelow n ys → Counts up down size n k xs left f g → Counts up down size k l ys right g h → l ≤ m
+    → SumsPart up down size l m left_now right_now h i → DefinesPart n m f i
+DefinesPart-halves up down size n k l m xs ys left right left_now right_now f g h i same_left same_right xs_below ys_below first then rises part =
+    DefinesPart-sums up down size n k l m xs ys left_now right_now f g h i xs_below ys_below
+    (subst (λ o. Counts up down size n k xs o f g) (sym same_left) first) (subst (λ o. Counts up down size k l ys o g h) (sym same_right) then) rises part

@@ -5,7 +5,7 @@ use Rattle.gipsat_cnf.specs.Formulas.{AreBelow, Assignment, is_true}
 use Rattle.gipsat_cnf.specs.Literals.{Lit}
 use Rattle.gipsat_cnf.proofs.Places.{none_some}
 use Rattle.gipsat_encodings.specs.Extending.{AgreeBelow}
-use Rattle.gipsat_encodings.specs.Outputs.{AreFresh, SayAtLeast, SayAtMost, SaySums, reached, says}
+use Rattle.gipsat_encodings.specs.Outputs.{AreFresh, SayAtLeast, SayAtMost, SaySums, SaysSum, reached, says}
 use Rattle.gipsat_encodings.proofs.Agreeing.{AreBelow-first, AreBelow-rest, is_true-agreeing}
 use Rattle.gipsat_encodings.proofs.Extending.{changed, changed-above, is_true-plain, plain}
 
@@ -38,12 +38,16 @@ SayAtMost-agreeing n a b outputs c d same below as_many say i within is =
     omega (arith, as_many, less)
 
 -- what the sums say rests on the variables of the outputs
+pub SaysSum-agreeing : (n : ℕ) (a b : Assignment) (up : Bool) (left right sums : List Lit) (i j : ℕ) → AgreeBelow n a b → AreBelow n left
+    → AreBelow n right → AreBelow n sums → SaysSum up left right sums a i j → SaysSum up left right sums b i j
+SaysSum-agreeing n a b up left right sums i j same left_below right_below sums_below say within from_left from_right =
+    sym (says-agreeing n a b up sums (i + j) same sums_below)
+    ∙ say within (says-agreeing n a b up left i same left_below ∙ from_left) (says-agreeing n a b up right j same right_below ∙ from_right)
+
 pub SaySums-agreeing : (n : ℕ) (a b : Assignment) (up : Bool) (left right sums : List Lit) → AgreeBelow n a b → AreBelow n left → AreBelow n right
     → AreBelow n sums → SaySums up left right sums a → SaySums up left right sums b
-SaySums-agreeing n a b up left right sums same left_below right_below sums_below say i i_within j j_within within from_left from_right =
-    sym (says-agreeing n a b up sums (i + j) same sums_below)
-    ∙ say i i_within j j_within within
-    (says-agreeing n a b up left i same left_below ∙ from_left) (says-agreeing n a b up right j same right_below ∙ from_right)
+SaySums-agreeing n a b up left right sums same left_below right_below sums_below say i i_within j j_within =
+    SaysSum-agreeing n a b up left right sums i j same left_below right_below sums_below (say i i_within j j_within)
 
 -- outputs that say no more than c say no more than what c is at most
 pub unreached : (a : Assignment) (outputs : List Lit) (c n : ℕ) → SayAtMost outputs c a → c ≤ n → reached a outputs (suc n) ≡ false

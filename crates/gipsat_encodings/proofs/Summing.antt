@@ -4,10 +4,11 @@ use Rattle.std.specs.Prelude.{min}
 use Rattle.std.proofs.lemmas.Bool.{cases_Bool, cases_lt, false≢true}
 use Rattle.std.proofs.lemmas.List.{length-append}
 use Rattle.gipsat_cnf.specs.Encodings.{Adds}
-use Rattle.gipsat_cnf.specs.Formulas.{AreBelow, Assignment, Formula, is_true}
+use Rattle.gipsat_cnf.specs.Formulas.{AreBelow, Assignment, Formula, is_true, satisfies}
 use Rattle.gipsat_cnf.specs.Literals.{Lit}
 use Rattle.gipsat_encodings.specs.Counts.{count_true}
-use Rattle.gipsat_encodings.specs.Outputs.{AreFresh, Counts, SayAtLeast, SayAtMost, SaySums, reached}
+use Rattle.gipsat_encodings.specs.Extending.{AgreeBelow, DefinesPart, SpeaksBelow}
+use Rattle.gipsat_encodings.specs.Outputs.{AreFresh, AreSums, Counts, SayAtLeast, SayAtMost, SaySums, SumsPart, reached}
 use Rattle.gipsat_encodings.proofs.Agreeing.{AgreeBelow-both, AgreeBelow-refl, AreBelow-more, SpeaksBelow-adds, count-agreeing}
 use Rattle.gipsat_encodings.proofs.Counting.{count-append, count-length}
 use Rattle.gipsat_encodings.proofs.Extending.{changed-below}
@@ -86,9 +87,40 @@ exact-sums a false size n m c d left right sums of_left of_right sized ll lm rl 
     not-false-is (reached a sums (suc (i + j))) (unreached a sums (c + d) (i + j) sm (omega (arith, x, y))))
     (λ past. not-false-is (reached a sums (suc (i + j))) (reached-past a sums (i + j) past)) (cases_lt (i + j) (length sums))
 
--- what is asked of sums, each way where it is wanted
-abbrev pub AreSums : Bool → Bool → List Lit → List Lit → List Lit → Assignment → Type 0
-AreSums up down left right sums a = (IsTrue up → SaySums true left right sums a) × (IsTrue down → SaySums false left right sums a)
+-- each model is one of the grown formula in which fresh sums say exactly what both parts say, by other values
+both-exact : (up down : Bool) (size n k l : ℕ) (xs ys left right sums : List Lit) (f g h : Formula) → AreBelow n xs → AreBelow n ys
+    → Counts up down size n k xs left f g → Counts up down size k l ys right g h → AreFresh l sums
+    → length sums ≡ min (length left + length right) size → SpeaksBelow n f → (a : Assignment) → IsTrue (satisfies a f)
+    → (d : Assignment) × AgreeBelow n a d × IsTrue (satisfies d h) × AreSums up down left right sums d
+    × SayAtLeast sums (count_true d (xs ++ ys)) d × SayAtMost sums (count_true d (xs ++ ys)) d
+both-exact up down size n k l xs ys left right sums f g h xs_below ys_below first then fresh sized speaks a sat =
+    let first_rises = first.rises in
+    let then_rises = then.rises in
+    let of_left = λ (a : Assignment). are-of a size xs left first.sized in
+    let of_right = λ (a : Assignment). are-of a size ys right then.sized in
+    let (b, a_b, sat_b, ll, lm) = first.complete speaks a sat in
+    let (c, b_c, sat_c, rl, rm) = then.complete (first.speaks speaks) b sat_b in
+    let many = count_true c xs + count_true c ys in
+    let d = counting l many c in
+    let c_d = changed-below l c _ in
+    let sat_d = then.speaks (first.speaks speaks) c d c_d sat_c in
+    let b_d = AgreeBelow-both k l b c d then_rises b_c c_d in
+    let xs_same = count-agreeing n b d xs (AgreeBelow-both n k b d d first_rises (λ v less. b_d v (omega (arith, less, first_rises))) (AgreeBelow-refl k d)) xs_below in
+    let ys_same = count-agreeing n c d ys (λ v less. c_d v (omega (arith, less, first_rises, then_rises))) ys_below in
+    let xs_count = count-agreeing n c d xs (λ v less. c_d v (omega (arith, less, first_rises, then_rises))) xs_below in
+    let all : many ≡ count_true d xs + count_true d ys = omega (arith, xs_count, ys_same) in
+    let sl = subst (λ x. SayAtLeast sums x d) all (SayAtLeast-counting l many c sums fresh) in
+    let sm = subst (λ x. SayAtMost sums x d) all (SayAtMost-counting l many c sums fresh) in
+    let exact = λ (way : Bool). exact-sums d way size (length xs) (length ys) (count_true d xs) (count_true d ys) left right sums (of_left d) (of_right d) sized
+    (SayAtLeast-agreeing k b d left _ _ b_d first.below xs_same ll) (SayAtMost-agreeing k b d left _ _ b_d first.below xs_same lm)
+    (SayAtLeast-agreeing l c d right _ _ c_d then.below ys_same rl) (SayAtMost-agreeing l c d right _ _ c_d then.below ys_same rm) sl sm in (
+      d,
+      AgreeBelow-both n k a b d first_rises a_b b_d,
+      sat_d,
+      (λ is_up. exact true, λ is_down. exact false),
+      subst (λ x. SayAtLeast sums x d) (sym (count-append d xs ys)) sl,
+      subst (λ x. SayAtMost sums x d) (sym (count-append d xs ys)) sm,
+    )
 
 -- outputs of two lists, and sums of them, are outputs of both lists
 pub Counts-sums : (up down : Bool) (size n k l m : ℕ) (xs ys left right sums : List Lit) (f g h i : Formula) → AreBelow n xs → AreBelow n ys
@@ -121,28 +153,10 @@ Counts-sums up down size n k l m xs ys left right sums f g h i xs_below ys_below
           (first.at_most a (then.keeps a mid) is_down) (then.at_most a mid is_down));
       keeps = λ a sat. first.keeps a (then.keeps a ((adds a).0 sat).0);
       complete = λ speaks a sat.
-          let (b, a_b, sat_b, ll, lm) = first.complete speaks a sat in
-          let (c, b_c, sat_c, rl, rm) = then.complete (first.speaks speaks) b sat_b in
-          let many = count_true c xs + count_true c ys in
-          let d = counting l many c in
-          let c_d = changed-below l c _ in
-          let sat_d = then.speaks (first.speaks speaks) c d c_d sat_c in
-          let b_d = AgreeBelow-both k l b c d then_rises b_c c_d in
-          let xs_same = count-agreeing n b d xs (AgreeBelow-both n k b d d first_rises (λ v less. b_d v (omega (arith, less, first_rises))) (AgreeBelow-refl k d)) xs_below in
-          let ys_same = count-agreeing n c d ys (λ v less. c_d v (omega (arith, less, first_rises, then_rises))) ys_below in
-          let xs_count = count-agreeing n c d xs (λ v less. c_d v (omega (arith, less, first_rises, then_rises))) xs_below in
-          let all : many ≡ count_true d xs + count_true d ys = omega (arith, xs_count, ys_same) in
-          let sl = subst (λ x. SayAtLeast sums x d) all (SayAtLeast-counting l many c sums fresh) in
-          let sm = subst (λ x. SayAtMost sums x d) all (SayAtMost-counting l many c sums fresh) in
-          let exact = λ (way : Bool). exact-sums d way size (length xs) (length ys) (count_true d xs) (count_true d ys) left right sums (of_left d) (of_right d) sized
-          (SayAtLeast-agreeing k b d left _ _ b_d first.below xs_same ll) (SayAtMost-agreeing k b d left _ _ b_d first.below xs_same lm)
-          (SayAtLeast-agreeing l c d right _ _ c_d then.below ys_same rl) (SayAtMost-agreeing l c d right _ _ c_d then.below ys_same rm) sl sm in (
-            d,
-            AgreeBelow-both n k a b d first_rises a_b b_d,
-            (adds d).1 (sat_d, (λ is_up. exact true, λ is_down. exact false)),
-            subst (λ x. SayAtLeast sums x d) (sym (count-append d xs ys)) sl,
-            subst (λ x. SayAtMost sums x d) (sym (count-append d xs ys)) sm,
-          );
+          let (d, same, was, are, sl, sm) =
+          both-exact up down size n k l xs ys left right sums f g h xs_below ys_below first then fresh sized speaks a sat
+          in
+          (d, same, (adds d).1 (was, are), sl, sm);
       speaks = λ speaks.
           SpeaksBelow-adds l m (AreSums up down left right sums) h i (omega arith) adds
           (λ a b same are. (
@@ -150,6 +164,34 @@ Counts-sums up down size n k l m xs ys left right sums f g h i xs_below ys_below
             λ is_down. SaySums-agreeing m a b false left right sums same left_below right_below sums_below (are.1 is_down),
           )) (then.speaks (first.speaks speaks));
     }
+
+-- outputs of two lists, and a part of sums of them, leave the models as they were
+pub DefinesPart-sums : (up down : Bool) (size n k l m : ℕ) (xs ys left right : List Lit) (f g h i : Formula) → AreBelow n xs → AreBelow n ys
+    → Counts up down size n k xs left f g → Counts up down size k l ys right g h → l ≤ m → SumsPart up down size l m left right h i
+    → DefinesPart n m f i
+DefinesPart-sums up down size n k l m xs ys left right f g h i xs_below ys_below first then rises some =
+    let first_rises = first.rises in
+    let then_rises = then.rises in
+    record {
+      up = omega arith;
+      sound = λ a sat. (first.keeps a (then.keeps a ((some.part a).0 sat)), tt);
+      complete = λ speaks a sat asked.
+          let (d, same, was, are, sl, sm) =
+          both-exact up down size n k l xs ys left right some.sums f g h xs_below ys_below first then some.fresh some.sized speaks a sat
+          in
+          (d, same, (some.part d).1 was are);
+      speaks = λ speaks. some.speaks (AreBelow-more k l left then_rises first.below) then.below (then.speaks (first.speaks speaks));
+    }
+
+-- so do outputs of one list
+pub DefinesPart-counts : (up down : Bool) (size n m : ℕ) (literals outputs : List Lit) (f g : Formula) → Counts up down size n m literals outputs f g
+    → DefinesPart n m f g
+DefinesPart-counts up down size n m literals outputs f g counts = record {
+  up = counts.rises;
+  sound = λ a sat. (counts.keeps a sat, tt);
+  complete = λ speaks a sat asked. let (b, same, is, say_least, say_most) = counts.complete speaks a sat in (b, same, is);
+  speaks = counts.speaks;
+}
 
 -- a literal counts itself, and no literal counts none
 pub Counts-few : (up down : Bool) (size n : ℕ) (literals : List Lit) (f : Formula) → 0 < size → length literals < 2 → AreBelow n literals

@@ -1,6 +1,8 @@
 -- What a formula that grows says more than before, where the clauses that are added have variables of their own.
-use Rattle.std.specs.Prelude.{◌≡◌, ℕ, ◌<◌, ◌≤◌, IsTrue, ⊤}
-use Rattle.gipsat_cnf.specs.Formulas.{Assignment, Formula, satisfies}
+use Rattle.std.specs.Prelude.{◌≡◌, ℕ, ◌<◌, ◌≤◌, List, IsTrue, ⊤}
+use Rattle.gipsat_cnf.specs.Encodings.{AddsPart}
+use Rattle.gipsat_cnf.specs.Formulas.{AreBelow, Assignment, Formula, satisfies}
+use Rattle.gipsat_cnf.specs.Literals.{Lit}
 
 -- both give each variable below n the same value
 abbrev pub AgreeBelow : ℕ → Assignment → Assignment → Type 0
@@ -35,3 +37,21 @@ Constrains n m Means = Extends n m Means Means
 -- the models of the new formula are those of the old, but for the variables from n on, which have the property
 abbrev pub Defines : ℕ → ℕ → (Assignment → Type 0) → Formula → Formula → Type 0
 Defines n m Means = Extends n m Anything Means
+
+-- Of the clauses of a constraint, a part is added, or none: each model of the new formula is one of the old, and each
+-- model of the old that has the property is one of the new, once the variables from n on have other values.
+abbrev pub ConstrainsPart : ℕ → ℕ → (Assignment → Type 0) → Formula → Formula → Type 0
+ConstrainsPart n m Means = Extends n m Means Anything
+
+-- of the clauses of a definition, a part is added, or none: the models stay, but for the variables from n on
+abbrev pub DefinesPart : ℕ → ℕ → Formula → Formula → Type 0
+DefinesPart n m = Extends n m Anything Anything
+
+-- what is added speaks of the variables of the literals alone
+abbrev pub SpeaksOf : List Lit → Formula → Formula → Type 0
+SpeaksOf literals old new = (n : ℕ) → AreBelow n literals → SpeaksBelow n old → SpeaksBelow n new
+
+-- a part of what the property says is added, or nothing, by clauses of the variables of the literals alone
+pub record AddsSome (literals : List Lit) (Means : Assignment → Type 0) (old new : Formula) : Type 0 where
+  pub part : AddsPart Means old new
+  pub speaks : SpeaksOf literals old new

@@ -1,6 +1,6 @@
 -- Outputs that count literals: the output at place j says that more than j of them are true.
 use Rattle.std.specs.Prelude.{◌≡◌, ◌↔◌, ℕ, zero, suc, ◌+◌, ◌<◌, ◌≤◌, Bool, true, false, not, List, length, slice_get, Option, Some, None, IsTrue, min}
-use Rattle.gipsat_cnf.specs.Encodings.{AllBelow}
+use Rattle.gipsat_cnf.specs.Encodings.{AddsPart, AllBelow}
 use Rattle.gipsat_cnf.specs.Formulas.{AreBelow, Assignment, Formula, is_true, satisfies}
 use Rattle.gipsat_cnf.specs.Literals.{Lit}
 use Rattle.gipsat_encodings.specs.Counts.{count_true}
@@ -42,6 +42,18 @@ SayAtMost outputs n a = (i : ℕ) → i ≤ length outputs → IsTrue (reached a
 -- the variables of the literals are those from n on, in order
 abbrev pub AreFresh : ℕ → List Lit → Type 0
 AreFresh n literals = (k : ℕ) (l : Lit) → slice_get literals k ≡ Some l → l ≡ record { variable = n + k; positive = true }
+
+-- the sums of outputs, each way where it is wanted
+abbrev pub AreSums : Bool → Bool → List Lit → List Lit → List Lit → Assignment → Type 0
+AreSums up down left right sums a = (IsTrue up → SaySums true left right sums a) × (IsTrue down → SaySums false left right sums a)
+
+-- Of the clauses of sums of outputs, whose variables are those from n on, a part is added, or none.
+pub record SumsPart (up down : Bool) (size n m : ℕ) (left right : List Lit) (old new : Formula) : Type 0 where
+  pub sums : List Lit
+  pub sized : length sums ≡ min (length left + length right) size
+  pub fresh : AreFresh n sums
+  pub part : AddsPart (AreSums up down left right sums) old new
+  pub speaks : AreBelow n left → AreBelow n right → SpeaksBelow n old → SpeaksBelow m new
 
 -- A formula grows by outputs that count literals up to a size, with the variables from n on, below m: they say as many
 -- as are true in each model, or more where `up` is set, and or less where `down` is; and each model of the old formula

@@ -1,9 +1,9 @@
 //! Clauses that at most, at least or exactly k of some literals are true, by variables of their own.
-ghost use Rattle.std.specs.Prelude.{◌≡◌, ◌<◌, ◌≤◌, IfOk, OnOk, IsTrue, length, min, not, suc};
+ghost use Rattle.std.specs.Prelude.{◌≡◌, ◌<◌, ◌≤◌, IfOk, OnErr, OnOk, IsTrue, length, min, not, suc};
 ghost use Rattle.gipsat_cnf.specs.Encodings.{Adds};
 ghost use Rattle.gipsat_cnf.specs.Formulas.{AreBelow};
 ghost use Rattle.gipsat_encodings.specs.Counts.{AreBetween, AtLeastTrue, AtMostTrue, ExactlyTrue};
-ghost use Rattle.gipsat_encodings.specs.Extending.{Constrains, Defines};
+ghost use Rattle.gipsat_encodings.specs.Extending.{AddsSome, Constrains, ConstrainsPart, Defines, DefinesPart};
 ghost use Rattle.gipsat_encodings.specs.Outputs.{Counts, TellCount, reached};
 
 use crate::fresh::above;
@@ -26,7 +26,7 @@ pub enum Counter {
 ///
 /// # Errors
 /// `AllocError` where memory is refused, or where a variable would be 2^31 or more. Some of the clauses may have been
-/// added.
+/// added: the formula lies between the old one and the intended one.
 pub fn add_at_most<S: ClauseSink>(
     alloc: Global,
     sink: &mut S,
@@ -35,7 +35,9 @@ pub fn add_at_most<S: ClauseSink>(
     k: usize,
     counter: Counter,
 ) -> Result<(), AllocError>
-    ensures { OnOk result (Constrains variables.old variables.new (AtMostTrue k literals.now)
+    ensures means { OnOk result (Constrains variables.old variables.new (AtMostTrue k literals.now)
+        (S.formula sink.old) (S.formula sink.new)) }
+    ensures left { OnErr result (ConstrainsPart variables.old variables.new (AtMostTrue k literals.now)
         (S.formula sink.old) (S.formula sink.new)) }
 {
     add_between(alloc, sink, variables, literals, 0, k, counter)
@@ -45,7 +47,7 @@ pub fn add_at_most<S: ClauseSink>(
 ///
 /// # Errors
 /// `AllocError` where memory is refused, or where a variable would be 2^31 or more. Some of the clauses may have been
-/// added.
+/// added: the formula lies between the old one and the intended one.
 pub fn add_at_least<S: ClauseSink>(
     alloc: Global,
     sink: &mut S,
@@ -54,7 +56,9 @@ pub fn add_at_least<S: ClauseSink>(
     k: usize,
     counter: Counter,
 ) -> Result<(), AllocError>
-    ensures { OnOk result (Constrains variables.old variables.new (AtLeastTrue k literals.now)
+    ensures means { OnOk result (Constrains variables.old variables.new (AtLeastTrue k literals.now)
+        (S.formula sink.old) (S.formula sink.new)) }
+    ensures left { OnErr result (ConstrainsPart variables.old variables.new (AtLeastTrue k literals.now)
         (S.formula sink.old) (S.formula sink.new)) }
 {
     add_between(alloc, sink, variables, literals, k, literals.len(), counter)
@@ -64,7 +68,7 @@ pub fn add_at_least<S: ClauseSink>(
 ///
 /// # Errors
 /// `AllocError` where memory is refused, or where a variable would be 2^31 or more. Some of the clauses may have been
-/// added.
+/// added: the formula lies between the old one and the intended one.
 pub fn add_exactly<S: ClauseSink>(
     alloc: Global,
     sink: &mut S,
@@ -73,7 +77,9 @@ pub fn add_exactly<S: ClauseSink>(
     k: usize,
     counter: Counter,
 ) -> Result<(), AllocError>
-    ensures { OnOk result (Constrains variables.old variables.new (ExactlyTrue k literals.now)
+    ensures means { OnOk result (Constrains variables.old variables.new (ExactlyTrue k literals.now)
+        (S.formula sink.old) (S.formula sink.new)) }
+    ensures left { OnErr result (ConstrainsPart variables.old variables.new (ExactlyTrue k literals.now)
         (S.formula sink.old) (S.formula sink.new)) }
 {
     add_between(alloc, sink, variables, literals, k, k, counter)
@@ -84,7 +90,7 @@ pub fn add_exactly<S: ClauseSink>(
 ///
 /// # Errors
 /// `AllocError` where memory is refused, or where a variable would be 2^31 or more. Some of the clauses may have been
-/// added.
+/// added: the formula lies between the old one and the intended one.
 pub fn add_count<S: ClauseSink>(
     alloc: Global,
     sink: &mut S,
@@ -96,6 +102,7 @@ pub fn add_count<S: ClauseSink>(
     ensures len { IfOk result (λ outputs. length outputs.items ≡ min (length literals.now) size) }
     ensures tell { IfOk result (λ outputs. Defines variables.old variables.new (TellCount outputs.items literals.now)
         (S.formula sink.old) (S.formula sink.new)) }
+    ensures left { OnErr result (DefinesPart variables.old variables.new (S.formula sink.old) (S.formula sink.new)) }
 {
     if size == 0 {
         return Ok(Vec::new(alloc));
@@ -118,7 +125,9 @@ fn add_between<S: ClauseSink>(
     most: usize,
     counter: Counter,
 ) -> Result<(), AllocError>
-    ensures { OnOk result (Constrains variables.old variables.new (AreBetween least most literals.now)
+    ensures means { OnOk result (Constrains variables.old variables.new (AreBetween least most literals.now)
+        (S.formula sink.old) (S.formula sink.new)) }
+    ensures left { OnErr result (ConstrainsPart variables.old variables.new (AreBetween least most literals.now)
         (S.formula sink.old) (S.formula sink.new)) }
 {
     let len = literals.len();
@@ -146,7 +155,10 @@ fn add_bounds<S: ClauseSink>(
     most: usize,
 ) -> Result<(), AllocError>
     requires { least ≤ length outputs.now }
-    ensures { OnOk result (Adds
+    ensures means { OnOk result (Adds
+        (λ a. IsTrue (reached a outputs.now least) × IsTrue (not (reached a outputs.now (suc most))))
+        (S.formula sink.old) (S.formula sink.new)) }
+    ensures left { OnErr result (AddsSome outputs.now
         (λ a. IsTrue (reached a outputs.now least) × IsTrue (not (reached a outputs.now (suc most))))
         (S.formula sink.old) (S.formula sink.new)) }
 {
@@ -166,8 +178,9 @@ fn count<S: ClauseSink>(
 ) -> Result<Vec<Literal>, AllocError>
     requires some { 0 < size }
     requires below { AreBelow variables.old literals.now }
-    ensures { IfOk result (λ outputs. Counts ways.up ways.down size variables.old variables.new
+    ensures counts { IfOk result (λ outputs. Counts ways.up ways.down size variables.old variables.new
         literals.now outputs.items (S.formula sink.old) (S.formula sink.new)) }
+    ensures left { OnErr result (DefinesPart variables.old variables.new (S.formula sink.old) (S.formula sink.new)) }
 {
     match counter {
         Counter::Sequential => count_in_line(alloc, sink, variables, literals, size, ways),
@@ -186,8 +199,9 @@ fn count_in_line<S: ClauseSink>(
 ) -> Result<Vec<Literal>, AllocError>
     requires some { 0 < size }
     requires below { AreBelow variables.old literals.now }
-    ensures { IfOk result (λ outputs. Counts ways.up ways.down size variables.old variables.new
+    ensures counts { IfOk result (λ outputs. Counts ways.up ways.down size variables.old variables.new
         literals.now outputs.items (S.formula sink.old) (S.formula sink.new)) }
+    ensures left { OnErr result (DefinesPart variables.old variables.new (S.formula sink.old) (S.formula sink.new)) }
 {
     let mut row = copy_of(alloc, &literals[..literals.len().min(1)])?;
     for place in 1..literals.len() {
@@ -208,8 +222,9 @@ fn count_halves<S: ClauseSink>(
 ) -> Result<Vec<Literal>, AllocError>
     requires some { 0 < size }
     requires below { AreBelow variables.old literals.now }
-    ensures { IfOk result (λ outputs. Counts ways.up ways.down size variables.old variables.new
+    ensures counts { IfOk result (λ outputs. Counts ways.up ways.down size variables.old variables.new
         literals.now outputs.items (S.formula sink.old) (S.formula sink.new)) }
+    ensures left { OnErr result (DefinesPart variables.old variables.new (S.formula sink.old) (S.formula sink.new)) }
 {
     if literals.len() < 2 {
         return copy_of(alloc, literals);

@@ -1,8 +1,9 @@
 //! Clauses that a literal has the value of a gate (G. Tseitin, 1968).
-ghost use Rattle.std.specs.Prelude.{◌≡◌, ◌∷◌, ◌++◌, map, take, IfOk, IsTrue, OnErr, OnOk};
+ghost use Rattle.std.specs.Prelude.{◌≡◌, [], ◌∷◌, ◌++◌, map, take, IfOk, IsTrue, OnErr, OnOk};
 ghost use Rattle.gipsat_cnf.specs.Encodings.{Adds, AddsPart};
 ghost use Rattle.gipsat_cnf.specs.Formulas.{is_true};
 ghost use Rattle.gipsat_cnf.specs.Literals.{negated};
+ghost use Rattle.gipsat_encodings.specs.Extending.{SpeaksOf};
 ghost use Rattle.gipsat_encodings.specs.Gates.{IsAnd, IsChoice, IsOr, IsXor};
 
 use gipsat_cnf::{ClauseSink, Literal};
@@ -63,6 +64,7 @@ pub fn add_xor<S: ClauseSink>(
 ) -> Result<(), AllocError>
     ensures means { OnOk result (Adds (IsXor output l m) (S.formula sink.old) (S.formula sink.new)) }
     ensures left { OnErr result (AddsPart (IsXor output l m) (S.formula sink.old) (S.formula sink.new)) }
+    ensures speaks { OnErr result (SpeaksOf (output ∷ l ∷ m ∷ []) (S.formula sink.old) (S.formula sink.new)) }
 {
     add_choice(sink, output, l, m.negated(), m)
 }
@@ -82,6 +84,8 @@ pub fn add_choice<S: ClauseSink>(
     ensures means { OnOk result (Adds (IsChoice output condition yes no) (S.formula sink.old) (S.formula sink.new)) }
     ensures left { OnErr result
         (AddsPart (IsChoice output condition yes no) (S.formula sink.old) (S.formula sink.new)) }
+    ensures speaks { OnErr result
+        (SpeaksOf (output ∷ condition ∷ yes ∷ no ∷ []) (S.formula sink.old) (S.formula sink.new)) }
 {
     add_chosen(sink, output, condition, yes)?;
     add_chosen(sink, output, condition.negated(), no)
@@ -98,6 +102,8 @@ fn add_chosen<S: ClauseSink>(
         (S.formula sink.old) (S.formula sink.new)) }
     ensures left { OnErr result (AddsPart (λ a. IsTrue (is_true a condition) → is_true a output ≡ is_true a chosen)
         (S.formula sink.old) (S.formula sink.new)) }
+    ensures speaks { OnErr result
+        (SpeaksOf (output ∷ condition ∷ chosen ∷ []) (S.formula sink.old) (S.formula sink.new)) }
 {
     sink.add_clause(&[condition.negated(), chosen.negated(), output])?;
     sink.add_clause(&[condition.negated(), chosen, output.negated()])

@@ -1,8 +1,8 @@
 //! Clauses that an odd number of literals is true, or an even one: an exclusive or of many.
-ghost use Rattle.std.specs.Prelude.{◌≡◌, ◌<◌, ◌≤◌, IfOk, OnOk, IsTrue, length};
+ghost use Rattle.std.specs.Prelude.{◌≡◌, ◌<◌, ◌≤◌, IfOk, OnErr, OnOk, IsTrue, length};
 ghost use Rattle.gipsat_cnf.specs.Encodings.{Adds};
 ghost use Rattle.gipsat_cnf.specs.Formulas.{AreBelow, is_true};
-ghost use Rattle.gipsat_encodings.specs.Extending.{Constrains, Defines};
+ghost use Rattle.gipsat_encodings.specs.Extending.{Constrains, ConstrainsPart, Defines, DefinesPart};
 ghost use Rattle.gipsat_encodings.specs.Gates.{HasParity, differ, parity};
 
 use crate::fresh::{above, fresh};
@@ -15,14 +15,16 @@ use std::alloc::AllocError;
 ///
 /// # Errors
 /// `AllocError` where memory is refused, or where a variable would be 2^31 or more. Some of the clauses may have been
-/// added.
+/// added: the formula lies between the old one and the intended one.
 pub fn add_parity<S: ClauseSink>(
     sink: &mut S,
     variables: &mut usize,
     literals: &[Literal],
     odd: bool,
 ) -> Result<(), AllocError>
-    ensures { OnOk result (Constrains variables.old variables.new (HasParity literals.now odd)
+    ensures means { OnOk result (Constrains variables.old variables.new (HasParity literals.now odd)
+        (S.formula sink.old) (S.formula sink.new)) }
+    ensures left { OnErr result (ConstrainsPart variables.old variables.new (HasParity literals.now odd)
         (S.formula sink.old) (S.formula sink.new)) }
 {
     *variables = above(*variables, literals);
@@ -44,6 +46,7 @@ fn add_sum<S: ClauseSink>(
     ensures sum { IfOk result (λ sum. Defines variables.old variables.new
         (λ a. is_true a sum ≡ parity a literals.now) (S.formula sink.old) (S.formula sink.new)) }
     ensures below { IfOk result (λ sum. sum.variable < variables.new) }
+    ensures left { OnErr result (DefinesPart variables.old variables.new (S.formula sink.old) (S.formula sink.new)) }
 {
     let mut sum = literals[0];
     for place in 1..literals.len() {
@@ -64,6 +67,7 @@ fn add_next<S: ClauseSink>(
     ensures sum { IfOk result (λ output. Defines variables.old variables.new
         (λ a. is_true a output ≡ differ (is_true a sum) (is_true a l)) (S.formula sink.old) (S.formula sink.new)) }
     ensures below { IfOk result (λ output. output.variable < variables.new) }
+    ensures left { OnErr result (DefinesPart variables.old variables.new (S.formula sink.old) (S.formula sink.new)) }
 {
     let output = fresh(variables)?;
     add_xor(sink, output, sum, l)?;
@@ -72,7 +76,8 @@ fn add_next<S: ClauseSink>(
 
 // The literal has the value.
 fn add_value<S: ClauseSink>(sink: &mut S, l: Literal, value: bool) -> Result<(), AllocError>
-    ensures { OnOk result (Adds (λ a. is_true a l ≡ value) (S.formula sink.old) (S.formula sink.new)) }
+    ensures means { OnOk result (Adds (λ a. is_true a l ≡ value) (S.formula sink.old) (S.formula sink.new)) }
+    ensures refused { OnErr result (S.formula sink.new ≡ S.formula sink.old) }
 {
     let l = if value { l } else { l.negated() };
     sink.add_clause(&[l])
@@ -80,7 +85,8 @@ fn add_value<S: ClauseSink>(sink: &mut S, l: Literal, value: bool) -> Result<(),
 
 // It holds, or nothing satisfies the formula.
 pub(crate) fn add_fact<S: ClauseSink>(sink: &mut S, holds: bool) -> Result<(), AllocError>
-    ensures { OnOk result (Adds (λ a. IsTrue holds) (S.formula sink.old) (S.formula sink.new)) }
+    ensures means { OnOk result (Adds (λ a. IsTrue holds) (S.formula sink.old) (S.formula sink.new)) }
+    ensures refused { OnErr result (S.formula sink.new ≡ S.formula sink.old) }
 {
     if holds {
         return Ok(());

@@ -1,8 +1,9 @@
 //! Sums of outputs that count literals: where the left outputs say i and the right ones j, the sums say i + j.
-ghost use Rattle.std.specs.Prelude.{◌≡◌, ◌+◌, ◌≤◌, ◌<◌, length, min, false, true, IfOk, IsTrue, OnOk};
+ghost use Rattle.std.specs.Prelude.{◌≡◌, ◌+◌, ◌≤◌, ◌<◌, ◌++◌, length, min, false, true, IfOk, IsTrue, OnErr, OnOk};
 ghost use Rattle.gipsat_cnf.specs.Encodings.{Adds, AllBelow};
 ghost use Rattle.gipsat_cnf.specs.Formulas.{Assignment};
-ghost use Rattle.gipsat_encodings.specs.Outputs.{AreFresh, SaySums, SaysSum, says, value_or};
+ghost use Rattle.gipsat_encodings.specs.Extending.{AddsSome};
+ghost use Rattle.gipsat_encodings.specs.Outputs.{AreFresh, AreSums, SaySums, SaysSum, SumsPart, says, value_or};
 
 use crate::fresh::fresh;
 use gipsat_cnf::{ClauseSink, Literal};
@@ -37,9 +38,10 @@ pub(crate) fn add_implied<S: ClauseSink>(
     second: Option<Literal>,
     conclusion: Option<Literal>,
 ) -> Result<(), AllocError>
-    ensures { OnOk result (Adds
+    ensures means { OnOk result (Adds
         (λ a. IsTrue (value_or true a first) → IsTrue (value_or true a second) → IsTrue (value_or true a conclusion))
         (S.formula sink.old) (S.formula sink.new)) }
+    ensures refused { OnErr result (S.formula sink.new ≡ S.formula sink.old) }
 {
     let Some(l) = conclusion else {
         return Ok(());
@@ -62,7 +64,10 @@ fn add_row<S: ClauseSink>(
     up: bool,
 ) -> Result<(), AllocError>
     requires { i ≤ length left.now }
-    ensures { OnOk result (Adds
+    ensures means { OnOk result (Adds
+        (λ a. AllBelow (length right.now + 1) (SaysSum up left.now right.now sums.now a i))
+        (S.formula sink.old) (S.formula sink.new)) }
+    ensures left { OnErr result (AddsSome (left.now ++ right.now ++ sums.now)
         (λ a. AllBelow (length right.now + 1) (SaysSum up left.now right.now sums.now a i))
         (S.formula sink.old) (S.formula sink.new)) }
 {
@@ -84,7 +89,10 @@ fn add_rows<S: ClauseSink>(
     sums: &[Literal],
     up: bool,
 ) -> Result<(), AllocError>
-    ensures { OnOk result (Adds (SaySums up left.now right.now sums.now) (S.formula sink.old) (S.formula sink.new)) }
+    ensures means { OnOk result
+        (Adds (SaySums up left.now right.now sums.now) (S.formula sink.old) (S.formula sink.new)) }
+    ensures left { OnErr result (AddsSome (left.now ++ right.now ++ sums.now)
+        (SaySums up left.now right.now sums.now) (S.formula sink.old) (S.formula sink.new)) }
 {
     for i in 0..left.len() + 1 {
         add_row(sink, left, i, right, sums, up)?;
@@ -101,7 +109,10 @@ fn add_way<S: ClauseSink>(
     up: bool,
     is_wanted: bool,
 ) -> Result<(), AllocError>
-    ensures { OnOk result (Adds (λ a. IsTrue is_wanted → SaySums up left.now right.now sums.now a)
+    ensures means { OnOk result (Adds (λ a. IsTrue is_wanted → SaySums up left.now right.now sums.now a)
+        (S.formula sink.old) (S.formula sink.new)) }
+    ensures left { OnErr result (AddsSome (left.now ++ right.now ++ sums.now)
+        (λ a. IsTrue is_wanted → SaySums up left.now right.now sums.now a)
         (S.formula sink.old) (S.formula sink.new)) }
 {
     if !is_wanted {
@@ -138,9 +149,9 @@ pub(crate) fn add_sums<S: ClauseSink>(
     ensures fresh { IfOk result (λ sums. AreFresh variables.old sums.items) }
     ensures next { IfOk result (λ sums. variables.new ≡ variables.old + length sums.items) }
     ensures rises { variables.old ≤ variables.new }
-    ensures up { IfOk result (λ sums. Adds
-        (λ a. (IsTrue ways.up → SaySums true left.now right.now sums.items a)
-        × (IsTrue ways.down → SaySums false left.now right.now sums.items a))
+    ensures means { IfOk result (λ sums. Adds (AreSums ways.up ways.down left.now right.now sums.items)
+        (S.formula sink.old) (S.formula sink.new)) }
+    ensures left { OnErr result (SumsPart ways.up ways.down size variables.old variables.new left.now right.now
         (S.formula sink.old) (S.formula sink.new)) }
 {
     let len = left.len().saturating_add(right.len()).min(size);

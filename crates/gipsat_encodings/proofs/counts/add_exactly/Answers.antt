@@ -1,8 +1,11 @@
 -- Bounds on both sides say the same.
-use Rattle.std.proofs.lemmas.Result.{on_ok_weaker}
+use Rattle.std.proofs.lemmas.Result.{on_err_weaker, on_ok_weaker}
 use Rattle.gipsat_encodings.proofs.Bounds.{between-exactly}
-use Rattle.gipsat_encodings.proofs.Extending.{Constrains-same}
+use Rattle.gipsat_encodings.proofs.Extending.{Constrains-same, ConstrainsPart-same}
 use Rattle.gipsat_encodings.proofs.counts.add_exactly.Goals as goal
 
-pub returns : goal.returns
-returns g c = on_ok_weaker c.add_between.result (Constrains-same _ _ _ _ _ _ (between-exactly c.args.k c.args.literals.now)) c.add_between.ensures
+pub returns-clause-means : goal.returns-clause-means
+returns-clause-means g c = on_ok_weaker c.add_between.result (Constrains-same _ _ _ _ _ _ (between-exactly c.args.k c.args.literals.now)) c.add_between.ensures.means
+
+pub returns-clause-left : goal.returns-clause-left
+returns-clause-left g c = on_err_weaker c.add_between.result (ConstrainsPart-same _ _ _ _ _ _ (between-exactly c.args.k c.args.literals.now)) c.add_between.ensures.left
