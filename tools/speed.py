@@ -13,20 +13,23 @@ the time of OTHER, a program, or a workload of giputils_bench. The programs of a
 one processor. A time is the least of a program's, since other work on the machine only adds to it. In each turn
 giputils_bench runs twice. The noise is how far the least of its first runs is from that of its second runs, or the
 ratio of every other turn from that of the rest, whichever is more. A ratio is worse than the stored one if it is above
-it by more than both noises together; then the status is 1. It is better likewise.
+it by more than both noises together; then the status is 1. It is better likewise. Behind it stands the median of the
+turns' ratios, where the two runs of giputils_bench count by their mean, with the least and the greatest of them.
 
-Where valgrind is installed, a ratio at the lesser size has that of instructions beside it, which no other work on the
+Where valgrind is installed, a ratio at up to 10 000 has that of instructions beside it, which no other work on the
 machine changes. They are the difference between 40 and 20 runs of the workload, so that no program's start counts. The
 workloads of the solver, which take long, have none.
 
-With --write, the ratios of a workload replace the stored ones as soon as they are measured, and the table of
-crates/giputils_bench/README.md is made of all that are stored.
+With --size, it measures at this size alone, and compares and stores nothing. With --write, the ratios of a workload
+replace the stored ones as soon as they are measured, and the table of crates/giputils_bench/README.md is made of all
+that are stored.
 """
 import argparse
 import os
 import pathlib
 import re
 import shutil
+import statistics
 import subprocess
 import sys
 
@@ -55,8 +58,9 @@ REPS = {
     "bits_subset": 10,
     "bits_get": 5,
 }
-# Instructions are counted between so many runs of a workload.
+# Instructions are counted between so many runs of a workload, up to this size.
 COUNTED = (20, 40)
+MOST_COUNTED = 10000
 # The other workload that does the same in another way.
 TWINS = {
     "rebuild": ("rebuild_by_update", "rebuild_std"),
@@ -107,7 +111,7 @@ def collected(program, workload, size, reps):
 
 def counted(program, others, workload, size):
     """For each other, the ratio of instructions, or none where they are not counted."""
-    if size != min(SIZES) or workload.startswith("calls") or not shutil.which("valgrind"):
+    if size > MOST_COUNTED or workload.startswith("calls") or not shutil.which("valgrind"):
         return {}
     ours = instructions(program, workload, size)
     return {name: ours / instructions(path, twin, size) for name, (path, twin) in others.items()}
@@ -137,7 +141,7 @@ def distance(one, other):
 
 
 def measured(program, others, workload, size, reps, turns):
-    """For each other, the ratio of the least times and the noise."""
+    """For each other, the ratio of the least times, the noise, and the ratio of each turn."""
     first, second, times = [], [], {name: [] for name in others}
     for _ in range(turns):
         first.append(run(program, workload, size, reps)[0])
@@ -148,7 +152,8 @@ def measured(program, others, workload, size, reps, turns):
     for name, theirs in times.items():
         halves = [least_ratio(first[k::2] + second[k::2], theirs[k::2]) for k in (0, 1)]
         noise = max(distance(min(first), min(second)), distance(*halves))
-        found[name] = (least_ratio(first + second, theirs), noise)
+        by_turn = [(one + two) / (2 * other) for one, two, other in zip(first, second, theirs)]
+        found[name] = (least_ratio(first + second, theirs), noise, by_turn)
     return found
 
 
@@ -192,11 +197,14 @@ def main():
     parser.add_argument("--peers", default=os.environ.get("GIPUTILS_PEERS"), metavar="DIR")
     parser.add_argument("--turns", type=int, default=7, metavar="N", help="at least 2")
     parser.add_argument("--processor", type=int, metavar="N")
+    parser.add_argument("--size", type=int, metavar="N")
     parser.add_argument("--write", action="store_true")
     parser.add_argument("workloads", nargs="*", metavar="WORKLOAD")
     said = parser.parse_args()
     if said.turns < 2:
         parser.error("--turns is at least 2, since the noise is measured between turns")
+    if said.size is not None and (said.write or not 1000 <= said.size <= max(SIZES)):
+        parser.error(f"--size is from 1000 to {max(SIZES)}, and does not go with --write")
     known = workloads()
     unknown = [it for it in said.workloads if it not in known]
     if unknown:
@@ -210,24 +218,24 @@ def main():
     os.sched_setaffinity(0, {max(os.sched_getaffinity(0)) if said.processor is None else said.processor})
     rows, worse = load(), 0
     for workload in said.workloads or known:
-        for size in sizes(workload):
+        for size in [said.size] if said.size else sizes(workload):
             reps = REPS.get(workload, 1) * max(sizes(workload)) // size
             others = rivals(said.program, peers, workload, size, reps)
             fastest = best(rows, workload, size)
-            if not said.write and fastest:
+            if not said.write and not said.size and fastest:
                 others = {name: it for name, it in others.items() if name in (CRATE, fastest, *TWINS.get(workload, ()))}
             if not others:
                 continue
             found = measured(said.program, others, workload, size, reps, said.turns)
             by_count = counted(said.program, others, workload, size)
-            new = {(workload, size, name): (reps, *it) for name, it in found.items()}
+            new = {(workload, size, name): (reps, *it[:2]) for name, it in found.items()}
             if said.write:
                 kept = {CRATE, best(new, workload, size), *TWINS.get(workload, ())}
                 rows = {key: it for key, it in rows.items() if key[:2] != (workload, size) or not peers}
                 rows |= {key: it for key, it in new.items() if key[2] in kept}
                 write(rows)
             for (_, _, name), (_, ratio, noise) in new.items():
-                _, old, old_noise = rows.get((workload, size, name), (reps, None, 0))
+                _, old, old_noise = (reps, None, 0) if said.size else rows.get((workload, size, name), (reps, None, 0))
                 word = ""
                 if old and not said.write:
                     margin = 1 + noise + old_noise
@@ -235,7 +243,9 @@ def main():
                 worse += word == "WORSE"
                 stored = f", stored {old:.2f} ± {old_noise:.2f}: {word}" if word else ""
                 count = f", {by_count[name]:.2f} of its instructions" if name in by_count else ""
-                print(f"{workload} {size} to {name}: {ratio:.2f} ± {noise:.2f}{stored}{count}", flush=True)
+                turns = found[name][2]
+                middle = f", turns {statistics.median(turns):.2f} ({min(turns):.2f} to {max(turns):.2f})"
+                print(f"{workload} {size} to {name}: {ratio:.2f} ± {noise:.2f}{stored}{count}{middle}", flush=True)
     if worse:
         sys.exit(f"speed.py: ratios that are worse than the stored ones: {worse}")
 
