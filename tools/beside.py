@@ -7,8 +7,8 @@
                                           --table may stand several times
 
 A PROGRAM is gipmc with its options, or the commands of abc behind `abc`, which get the circuit with its constraints
-folded in: "crates/gipmc/out/gipmc --engine ic3", "abc pdr", "abc scorr; pdr", or "abc pdr -a", which answers each of
-many bad literals. abc has the name berkeley-abc. Each line of the file that --keep names has the runs of a circuit.
+folded in: "crates/gipmc/out/gipmc --engine ic3", "abc pdr", "abc scorr; pdr", "abc dprove", or "abc pdr -a", which
+answers each of many bad literals. abc has the name berkeley-abc. Each line of the file that --keep names has the runs of a circuit.
 
     --limit SECONDS     processor time that a run may take, 10 where it is not given
     --processor N       the processor on which all programs run, in their turn
@@ -120,7 +120,7 @@ def of_abc(text, bads, trace):
             # Its latches are those that it kept, and one for the constraints. Without inputs it has no line for a moment.
             traces[int(place)] = ["", *(trace[1:] or [""] * (int(frame) + 1))]
     counts = re.search(r"All = \d+. Proved = (\d+). Disproved = (\d+). Undecided = 0", text)
-    if "Property proved" in text or counts:
+    if "Property proved" in text or "Networks are equivalent" in text or counts:
         answers = ["s" if answer == "-" else answer for answer in answers]
     return answers, traces
 
