@@ -102,6 +102,12 @@ pub(crate) const EXPLICIT_FIRST: u64 = 1_000_000;
 
 pub(crate) const EXPLICIT_GATES: u64 = 8;
 
+// Once the others have propagated so many literals, how many it evaluates more for each further one: all that it may do
+// takes some seconds at most.
+pub(crate) const EXPLICIT_LATE: u64 = 20_000_000;
+
+pub(crate) const EXPLICIT_LATE_GATES: u64 = 64;
+
 // How many clauses its invariant has at most: they are certified.
 pub(crate) const EXPLICIT_CLAUSES: usize = 10_000;
 
