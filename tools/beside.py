@@ -114,7 +114,7 @@ def limited(words, limit, processor, folder):
 
 def of_abc(text, bads, trace):
     answers, traces = ["-"] * bads, {}
-    for place, frame in re.findall(r"Output +(\d+) .*?was asserted in frame (\d+)", text):
+    for place, frame in re.findall(r"Output +(\d+) .*?was asserted in frame +(\d+)", text):
         answers[int(place)] = "f"
         if trace:
             # Its latches are those that it kept, and one for the constraints. Without inputs it has no line for a moment.
