@@ -148,7 +148,7 @@ impl Solver {
         Ok(())
     }
 
-    /// A number, at most 2^31, that all variables of the formula are below, and all that [`Solver::new_variable`] gave.
+    /// A number that all variables of the formula are below, and all that [`Solver::new_variable`] gave.
     #[inline]
     pub fn variables(&self) -> usize
         ensures below { AreAllBelow result self.now.formula }
