@@ -1,5 +1,5 @@
 -- Vertices with colours, as what literals say.
-use Rattle.std.proofs.Common.{◌≡◌, ◌↔◌, ℕ, zero, suc, ◌+◌, ◌*◌, ◌<◌, List, [], ◌∷◌, ◌++◌, length, get_or, Bool, true, false, IsTrue, arith, refl, sym, ap, subst, ◌∙◌, ⊎_elim}
+use Rattle.std.proofs.Common.{◌≡◌, ◌↔◌, ℕ, zero, suc, ◌+◌, ◌*◌, ◌<◌, List, [], ◌∷◌, length, get_or, Bool, true, false, IsTrue, arith, refl, sym, ap, subst, ◌∙◌}
 use Rattle.std.specs.Prelude.{slice_get, Some}
 use Rattle.std.specs.Bool.{beq}
 use Rattle.std.proofs.lemmas.Option.{slice_get-get_or, slice_get_within}
@@ -7,7 +7,7 @@ use Rattle.gipsat_cnf.specs.Encodings.{Adds, AtLeastOneTrue, AtMostOneTrue}
 use Rattle.gipsat_cnf.specs.Formulas.{Assignment, Formula, is_true}
 use Rattle.gipsat_cnf.specs.Literals.{Lit}
 use Rattle.gipsat_cnf.proofs.Encodings.{Adds-same}
-use Rattle.gipsat_cnf.proofs.Places.{before_or_last, none_some, same_some}
+use Rattle.gipsat_cnf.proofs.Places.{none_some, same_some}
 use Rattle.gipsat_uses.specs.Colouring.{EndsDiffer, EndsDifferAt, HasColour, IsColoured, has_colour}
 
 beq_true : (x : Bool) → beq x true ≡ x
@@ -59,13 +59,6 @@ at_least_one-coloured a colours vertex row len each = (
       let at : slice_get row c ≡ Some l = slice_get-get_or row c (has_colour colours vertex c) inside in
       (l, (c, at), is_true-colour a colours vertex c l (each c l at) ∙ has),
 )
-
--- a property of each literal at its place, and of one more
-pub each-more : (P : ℕ → Lit → Type 0) (row : List Lit) (last : Lit) → ((k : ℕ) (l : Lit) → slice_get row k ≡ Some l → P k l)
-    → P (length row) last → (k : ℕ) (l : Lit) → slice_get (row ++ last ∷ []) k ≡ Some l → P k l
-each-more P row last each holds k l at =
-    ⊎_elim (λ before. each k l before) (λ (place, same). subst (P k) same (subst (λ n. P n last) (sym place) holds))
-    (before_or_last row last k l at)
 
 -- one edge more is spoken of
 pub Adds-edge : (colours : ℕ) (edges : List (ℕ × ℕ)) (k : ℕ) (edge : ℕ × ℕ) (f g : Formula) → slice_get edges k ≡ Some edge
