@@ -1,6 +1,6 @@
 -- Worked examples of traces, of circuits that are safe, of certificates, and of circuits that are well-formed and not.
 use Rattle.std.proofs.Common.{◌≡◌, ℕ, ◌+◌, zero, suc, Bool, true, false, not, List, [], ◌∷◌, Vec, Some, None, eqb, length, map, arith, refl, sym, subst}
-use Rattle.std.specs.Prelude.{◌==◌, ◌&&◌, slice_get}
+use Rattle.std.specs.Prelude.{◌==◌, ◌&&◌, ◌||◌, slice_get, IsTrue}
 use Rattle.std.specs.declared.alloc.Global.{Global}
 use Rattle.std.proofs.Math.Nat.{le_refl}
 use Rattle.std.specs.Bool.{beq}
@@ -18,7 +18,7 @@ use Rattle.gipmc_circuits.specs.Circuit.{FailsAfter, IsSafe, IsTrace, has_value,
 use Rattle.gipmc_circuits.specs.Traces.{FailsBy, HoldsRow, HoldsRows, have_width}
 use Rattle.gipmc_circuits.specs.WellFormed.{are_in_order, are_new, is_constant, with_variables}
 use Rattle.gipmc_circuits.specs.Widened.{are_stacked}
-use Rattle.gipmc_circuits.specs.WitnessCircuits.{are_defined_from, reset_gate, unlinked}
+use Rattle.gipmc_circuits.specs.WitnessCircuits.{SaySame, are_defined_from, reset_gate, unlinked}
 
 abbrev yes_of : ℕ → Lit
 yes_of v = record { variable = v; positive = true }
@@ -204,3 +204,22 @@ own_latches : unlinked (record { variable = 2; literal = yes_of 5 } ∷ [])
     (record { variable = 2; next = yes_of 1; reset = yes_of 0 } ∷ record { variable = 3; next = yes_of 1; reset = yes_of 2 } ∷ [])
     ≡ record { variable = 3; next = yes_of 1; reset = yes_of 2 } ∷ []
 own_latches = refl
+
+-- where a gate has the value that both operands have together, its clause says the same as theirs
+both : (x y z : Bool) → IsTrue (beq z (beq x true && beq y true) && true)
+    → ((beq z true || false) && true) ≡ ((beq x true || false) && ((beq y true || false) && true))
+both true true true is = refl
+both true false false is = refl
+both false true false is = refl
+both false false false is = refl
+both true true false is = absurd (false≢true is)
+both true false true is = absurd (false≢true is)
+both false true true is = absurd (false≢true is)
+both false false true is = absurd (false≢true is)
+
+conjunction_apart : (c : Circuit) (whole left right : Vec Lit Global)
+    → c.gates.items ≡ record { output = 3; left = yes_of 1; right = yes_of 2 } ∷ [] → whole.items ≡ yes_of 3 ∷ []
+    → left.items ≡ yes_of 1 ∷ [] → right.items ≡ yes_of 2 ∷ [] → SaySame c (whole ∷ []) (left ∷ right ∷ [])
+conjunction_apart c whole left right gates w l r a valued =
+    let value = (and_parts (not (a 0)) (list_all (has_value a) c.gates.items) valued).1 in
+    rw (w, l, r) (both (a 1) (a 2) (a 3) (rw gates at value))

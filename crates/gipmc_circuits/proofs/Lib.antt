@@ -4,6 +4,7 @@ pub mod Certified
 mod Defined
 mod Ends
 mod Examples
+mod Implied
 pub mod Encoded
 pub mod Rows
 pub mod Runs

@@ -17,7 +17,7 @@ use Rattle.gipmc_circuits.specs.declared.witness_circuit.WitnessCircuit.{Witness
 use Rattle.gipmc_circuits.specs.Certificate.{ImpliesAt, ImpliesItem, holds}
 use Rattle.gipmc_circuits.specs.Circuit.{IsSafe, is_initial, is_moment, is_transition, is_valuation}
 use Rattle.gipmc_circuits.specs.Encoding.{is_below, literal_below, values_at}
-use Rattle.gipmc_circuits.specs.WitnessCircuits.{ExcludesBy, IsCertifiedBy, IsInductiveBy, IsInitiatedBy, are_linked, are_paired, claims, claims_hold, is_linked, is_witness_below, link_below}
+use Rattle.gipmc_circuits.specs.WitnessCircuits.{ExcludesBy, IsCertifiedBy, IsInductiveBy, IsInitiatedBy, SayClaims, are_linked, are_paired, claims, claims_hold, is_linked, is_witness_below, link_below}
 use Rattle.gipmc_circuits.proofs.Agreeing.{AgreeBelow, all_alike, below-parts, both_alike, is_moment-alike, is_transition-alike, is_true-alike, is_valuation-alike}
 use Rattle.gipmc_circuits.proofs.Certified.{beside, beside-first, implied_items, values_at-none}
 use Rattle.gipmc_circuits.proofs.Traces.{safe_by}
@@ -78,6 +78,10 @@ claims-alike n w b e within agree =
     ∙ and_from (list_all (literal_below n) (map negated w.circuit.bads.items)) (list_all (literal_below n) w.circuit.constraints.items)
     (list_all-map (literal_below n) negated w.circuit.bads.items ∙ parts.bads) parts.constraints in
     all_alike (literal_below n) (is_true b) (is_true e) (claims w.circuit) (λ l. is_true-alike n b e l agree) all
+
+-- a pair's second values are a valuation of the certificate
+valued : (c : Circuit) (w : WitnessCircuit) (a b : Assignment) → IsTrue (are_paired c w a b) → IsTrue (is_valuation w.circuit b)
+valued c w a b together = (and_parts (is_valuation w.circuit b) (are_linked a b w.shared.items && is_moment c a) together).0
 
 -- the values behind others, as they stand there
 beside-behind : (n : ℕ) (b a : Assignment) → values_at n (beside n b a) ≡ a
@@ -140,7 +144,7 @@ excluded_by n m c w bad rows e f g none within claimed pair adds implied a b tog
 -- the clauses of two pairs with a transition of both between them imply the claims behind it, where they hold before
 pub inductive_by : (n m k l : ℕ) (c : Circuit) (w : WitnessCircuit) (rows : List (Vec Lit Global))
     (e f g h i j : Formula) → k ≡ n + m → l ≡ k + n → e ≡ [] → IsTrue (is_below m c) → IsTrue (is_witness_below n m w)
-    → ((a : Assignment) → holds rows a ≡ makes_true a (claims w.circuit))
+    → SayClaims w rows
     → Adds (λ a. IsTrue (are_paired c w (values_at n a) (values_at 0 a))) e f
     → Adds (λ a. IsTrue (holds rows a)) f g
     → Adds (λ a. IsTrue (is_transition c (values_at n a) (values_at l a))) g h
@@ -170,7 +174,9 @@ inductive_by n m k l c w rows e f g h i j stride second none c_below within clai
       subst IsTrue (paired-alike n m c w a (values_at n z) b (values_at 0 z) (is_moment-alike m c a (values_at n z) c_below at_n)
           below at_n at_0) together,
     ) in
-    let sat_g = (adds z).1 (sat_f, claimed z ∙ sym (claims-alike n w b z below.circuit plain) ∙ claims_are) in
+    let own = valued c w a b together in
+    let own_z = subst IsTrue (is_valuation-alike n w.circuit b z below.circuit plain) own in
+    let sat_g = (adds z).1 (sat_f, claimed z own_z ∙ sym (claims-alike n w b z below.circuit plain) ∙ claims_are) in
     let sat_h = (goes z).1 (
       sat_g,
       subst IsTrue (is_transition-alike m c a (values_at n z) d (values_at l z) c_below at_n (same-agree m d (values_at l z) (sym at_l)))
@@ -186,4 +192,5 @@ inductive_by n m k l c w rows e f g h i j stride second none c_below within clai
           (same-agree m d (values_at l z) (sym at_l)) new) behind,
     ) in
     subst IsTrue (sym (claims-alike n w x (values_at k z) below.circuit new))
-    (sym (claimed (values_at k z)) ∙ implied_items k j rows z all sat_j)
+    (sym (claimed (values_at k z) (subst IsTrue (is_valuation-alike n w.circuit x (values_at k z) below.circuit new) (valued c w d x behind)))
+    ∙ implied_items k j rows z all sat_j)

@@ -1,5 +1,6 @@
 -- Circuits that certify another one, as the witness circuits of HWMCC do.
-use Rattle.std.specs.Prelude.{ℕ, ◌++◌, ◌&&◌, Bool, true, not, List, map, filter, cond, IsTrue}
+use Rattle.std.specs.Prelude.{◌≡◌, ℕ, ◌++◌, ◌&&◌, Bool, true, not, List, Vec, map, filter, cond, IsTrue}
+use Rattle.std.specs.declared.alloc.Global.{Global}
 use lib.Dec.{eqb, ltb}
 use Rattle.std.specs.Bool.{beq}
 use Rattle.std.specs.List.{list_all}
@@ -11,6 +12,7 @@ use Rattle.gipmc_circuits.specs.declared.circuit.Circuit.{Circuit}
 use Rattle.gipmc_circuits.specs.declared.witness_circuit.Link.{Link}
 use Rattle.gipmc_circuits.specs.declared.witness_circuit.Register.{Register}
 use Rattle.gipmc_circuits.specs.declared.witness_circuit.WitnessCircuit.{WitnessCircuit}
+use Rattle.gipmc_circuits.specs.Certificate.{holds}
 use Rattle.gipmc_circuits.specs.Circuit.{is_initial, is_moment, is_transition, is_valuation}
 use Rattle.gipmc_circuits.specs.Encoding.{is_below, literal_below}
 use Rattle.gipmc_circuits.specs.WellFormed.{are_in_order, are_new, is_constant, with_variables}
@@ -30,6 +32,18 @@ is_linked a b k = beq (b k.variable) (is_true a k.literal)
 -- each of the variables has in b the value that its literal has in a
 abbrev pub are_linked : Assignment → Assignment → List Link → Bool
 are_linked a b links = list_all (is_linked a b) links
+
+-- where the values are those of the circuit's gates, some clauses hold wherever given ones do
+abbrev pub Implies : Circuit → List (Vec Lit Global) → List (Vec Lit Global) → Type 0
+Implies c given rows = (a : Assignment) → IsTrue (is_valuation c a) → IsTrue (holds given a) → IsTrue (holds rows a)
+
+-- where the values are those of the circuit's gates, some clauses hold just where others do
+abbrev pub SaySame : Circuit → List (Vec Lit Global) → List (Vec Lit Global) → Type 0
+SaySame c first second = (a : Assignment) → IsTrue (is_valuation c a) → holds first a ≡ holds second a
+
+-- where the values are those of the certificate's gates, the clauses say what it claims
+abbrev pub SayClaims : WitnessCircuit → List (Vec Lit Global) → Type 0
+SayClaims w rows = (b : Assignment) → IsTrue (is_valuation w.circuit b) → holds rows b ≡ claims_hold w b
 
 -- a valuation of the certificate and a moment of the circuit, alike in what they share
 abbrev pub are_paired : Circuit → WitnessCircuit → Assignment → Assignment → Bool

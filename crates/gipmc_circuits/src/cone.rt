@@ -43,14 +43,20 @@ impl Cone {
         })
     }
 
+    /// That of the gates of a circuit, of which nothing is kept.
+    pub(crate) fn of_gates(alloc: Global, circuit: &Circuit) -> Result<Self, AllocError> {
+        let mut cone = Cone::new(alloc, variables(circuit))?;
+        cone.define_gates(&circuit.gates, 0);
+        Ok(cone)
+    }
+
     /// That of a moment of a circuit. What clauses and the constraints depend on is kept.
     pub(crate) fn of_moment(
         alloc: Global,
         circuit: &Circuit,
         clauses: &[Vec<Literal>],
     ) -> Result<Self, AllocError> {
-        let mut cone = Cone::new(alloc, variables(circuit))?;
-        cone.define_gates(&circuit.gates, 0);
+        let mut cone = Cone::of_gates(alloc, circuit)?;
         cone.keep_moment(circuit, 0, clauses, 0)?;
         Ok(cone)
     }

@@ -3,10 +3,12 @@
 
 pub mod certificate;
 pub mod circuit;
+mod claims;
 mod cone;
 pub mod diagnosis;
 pub mod encoding;
 pub mod netlist;
+mod parts;
 mod simulation;
 pub mod trace;
 pub mod well_formed;

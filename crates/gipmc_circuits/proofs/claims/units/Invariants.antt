@@ -3,7 +3,7 @@ use Rattle.std.proofs.Common.{◌≡◌, take}
 use Rattle.gipsat_cnf.specs.Assumptions.{makes_true}
 use Rattle.gipsat_cnf.specs.Formulas.{Assignment}
 use Rattle.gipmc_circuits.specs.Certificate.{holds}
-use Rattle.gipmc_circuits.proofs.witnessed.units.Given as goal
+use Rattle.gipmc_circuits.proofs.claims.units.Given as goal
 
 abbrev pub invariant-loop-place : goal.invariant-loop-place
 invariant-loop-place l = (a : Assignment) → holds l.rows.items a ≡ makes_true a (take l.place l.literals)
