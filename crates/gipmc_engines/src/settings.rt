@@ -31,6 +31,10 @@ pub(crate) const EARLY_WORK: u64 = 2_000_000;
 // How many times as much as bounded model checking IC3 does then.
 pub(crate) const IC3_SHARE: u64 = 3;
 
+// How many times as much as bounded model checking IC3 does where its frames exclude all traces of the length that comes
+// next.
+pub(crate) const AHEAD_SHARE: u64 = 8;
+
 // Which part of what the others did inductive steps do beside them.
 pub(crate) const STEPS_SHARE: u64 = 8;
 
