@@ -14,7 +14,6 @@ pub mod kind;
 mod known;
 mod latches;
 mod left;
-mod meter;
 pub mod outcome;
 pub mod output;
 mod parted;

@@ -8,7 +8,6 @@ ghost use Rattle.gipmc_engines.specs.Verdicts.{IsRightVerdict};
 ghost use Rattle.gipmc_reduce.specs.Cone.{IsPartOf, literal_named};
 
 use crate::left::Left;
-use crate::meter::Meter;
 use crate::output::Wanted;
 use crate::verdict::{Evidence, Verdict};
 use gipmc_circuits::{Netlist, Trace, replay};
@@ -59,8 +58,6 @@ pub(crate) struct Parted<'a, S: SatSolver + Drop> {
     joint: Joint<'a, S>,
     // How many clauses a question about shorter traces may learn.
     limit: usize,
-    /// How many literals IC3 has propagated.
-    pub(crate) work: u64,
     pub ghost part_stands: { StandFor part.now.netlist.circuit part.now.netlist.circuit.bads.items
         whole.now.circuit bads.now },
     pub ghost stand: { StandFor joint.findings.netlist.now.circuit joint.findings.bads.now whole.now.circuit bads.now },
@@ -90,7 +87,6 @@ impl<'a, S: SatSolver + Drop> Parted<'a, S> {
             left: None,
             joint,
             limit: plan.bounds.limit,
-            work: 0,
         })
     }
 
@@ -121,7 +117,6 @@ impl<'a, S: SatSolver + Drop> Parted<'a, S> {
             left: Some(left),
             joint,
             limit: plan.bounds.limit,
-            work: 0,
         })
     }
 
@@ -139,7 +134,8 @@ impl<'a, S: SatSolver + Drop> Parted<'a, S> {
 
     /// About how much it takes to find out what is left of the part.
     pub(crate) fn sweep_work(&self) -> u64 {
-        (self.part.netlist.circuit.gates.len() as u64).saturating_mul(SWEEP)
+        let gates = self.part.netlist.circuit.gates.len() as u64;
+        gates.saturating_mul(SWEEP).max(1)
     }
 
     /// What is left of the part where latches are merged, and gates if that is wanted. None where so much work does not
@@ -163,35 +159,19 @@ impl<'a, S: SatSolver + Drop> Parted<'a, S> {
         ensures whole { self.new.whole ≡ self.old.whole }
         ensures bads { self.new.bads ≡ self.old.bads }
     {
-        for next in self.length(at)..usize::MAX {
-            let to = if work == u64::MAX {
-                depth
-            } else {
-                next.min(depth)
-            };
-            if !self.step(at, to, observer) {
-                return Pause::End;
-            }
-            if to >= depth {
-                return Pause::Depth;
-            }
-            if self.work >= work {
-                return Pause::Work;
-            }
+        if !self.joint.find_out_to(at, depth, work, observer) {
+            return Pause::End;
         }
-        Pause::End
+        if self.length(at) > depth {
+            Pause::Depth
+        } else {
+            Pause::Work
+        }
     }
 
-    // Goes on until no trace of at most so many transitions fails as to the literal at a place. Whether the search can go on
-    // about it.
-    fn step<O: Observer>(&mut self, at: usize, depth: usize, observer: &mut O) -> bool
-        ensures whole { self.new.whole ≡ self.old.whole }
-        ensures bads { self.new.bads ≡ self.old.bads }
-    {
-        let mut meter = Meter::new(observer, self.work);
-        let goes_on = self.joint.find_out_to(at, depth, &mut meter);
-        self.work = meter.propagations;
-        goes_on
+    /// How many literals IC3 has propagated.
+    pub(crate) fn work(&self) -> u64 {
+        self.joint.propagations()
     }
 
     /// For how many lengths of traces, from no transition on, it is known that none fails as to the literal at a place that is

@@ -16,16 +16,18 @@ use gipmc_engines::{Engine, Observer, Plan};
 use gipsat_cnf::{Literal, SatSolver};
 use std::alloc::Global;
 
-// A sweep may do one part in so many of what IC3 has propagated. The other engines do about as much as IC3, so this is a
-// quarter of all work so far. The first sweep begins once this share is what it is thought to take.
+// A sweep may do one part in so many of what IC3 has propagated. The first sweep begins once this share is what it is thought
+// to take.
 const SHARE: u64 = 2;
 
-// How many times as much IC3 does until what is left is looked for again, and how many times as much it does there as in the
-// circuit itself, where both searches go on.
-const LATER: u64 = 8;
+// How many times as much IC3 does until what is left is looked for again, where too little work was allowed.
+const AGAIN: u64 = 3;
+
+// How many times as much IC3 does in what is left as in the circuit itself, where both searches go on.
+const LEFT_SHARE: u64 = 8;
 
 // How often what is left is looked for.
-const SWEEPS: usize = 3;
+const SWEEPS: usize = 4;
 
 /// One search about some literals of a circuit. What is open goes on in what is left of the circuit, if something is merged.
 pub(crate) struct Query<'a, S: SatSolver + Drop> {
@@ -199,39 +201,44 @@ impl<'a, S: SatSolver + Drop> Query<'a, S> {
         false
     }
 
-    // Goes on in what is left, until the search beside it is to go on.
+    // Goes on in what is left, until the search beside it is to go on; by one turn at least.
     fn go_on_in_left<O: Observer>(&mut self, at: usize, depth: usize, observer: &mut O) -> Pause
         ensures whole { self.new.whole ≡ self.old.whole }
         ensures bads { self.new.bads ≡ self.old.bads }
     {
-        let work = self.turn();
+        let turn = self.turn();
         match &mut self.left {
-            Some(left) => left.go_on(at, depth, work, observer),
+            Some(left) => {
+                let work = left.work().saturating_add(1).max(turn);
+                left.go_on(at, depth, work, observer)
+            }
             None => Pause::End,
         }
     }
 
-    // Goes on in the circuit itself to traces of one transition more, if it is to. Whether the search can go on.
+    // Goes on in the circuit itself, if it is to: to traces of one transition more, or until it did its share. Whether the
+    // search can go on.
     fn go_on_beside<O: Observer>(&mut self, at: usize, observer: &mut O) -> bool
         ensures whole { self.new.whole ≡ self.old.whole }
         ensures bads { self.new.bads ≡ self.old.bads }
     {
         let turn = self.turn();
         let work = match &self.left {
-            Some(left) => left.work,
+            Some(left) => left.work(),
             None => 0,
         };
         if work < turn {
             return true;
         }
         let next = self.parted.length(at);
-        self.parted.go_on(at, next, u64::MAX, observer) != Pause::End
+        let share = (work / LEFT_SHARE).saturating_add(1);
+        self.parted.go_on(at, next, share, observer) != Pause::End
     }
 
     // How many literals IC3 propagates in what is left before the search beside it goes on.
     fn turn(&self) -> u64 {
         if self.is_beside {
-            self.parted.work.saturating_mul(LATER)
+            self.parted.work().saturating_mul(LEFT_SHARE)
         } else {
             u64::MAX
         }
@@ -254,7 +261,7 @@ impl<'a, S: SatSolver + Drop> Query<'a, S> {
                 return;
             }
             let pause = self.parted.go_on(at, depth, self.due, observer);
-            if pause == Pause::End || self.parted.work < self.due {
+            if pause == Pause::End || self.parted.work() < self.due {
                 return;
             }
             self.sweep(alloc);
@@ -267,9 +274,9 @@ impl<'a, S: SatSolver + Drop> Query<'a, S> {
         ensures bads { self.new.bads ≡ self.old.bads }
     {
         self.sweeps = self.sweeps.saturating_sub(1);
-        self.due = self.parted.work.saturating_mul(LATER);
+        self.due = self.parted.work().saturating_mul(AGAIN);
         let with_gates = self.certifying != Certifying::Clauses;
-        let work = self.parted.work / SHARE;
+        let work = self.parted.work() / SHARE;
         if let Some(left) = self.parted.sweep(alloc, with_gates, work) {
             self.sweeps = 0;
             self.begin(alloc, left);
