@@ -2001,6 +2001,45 @@ for name in arbiter-8 refresh-20; do
     fi
 done
 
+# A certificate as a circuit of 5000 gates, whose one claim is left open as a whole and kept in parts; and the same behind
+# a claim that is kept, where a gate of it forgets an operand.
+in_parts="a certificate as a circuit that is asked about in parts"
+if is_wanted "$in_parts" "$in_parts, one of which is not kept"; then
+    "$top/tools/protocols.py" --print moved_registers-16-8-right > moved.aag
+    "$gipmc" -q --engine ic3 --certificate moved.cert --aiger moved.aag > out 2> err
+    status=$?
+    [ "$status" = 20 ] && [ "$("$gipmc" --limit 1000 --certify moved.cert moved.aag)" = "s VERIFIED" ]
+    told "$in_parts" $?
+    awk 'NR == 1 { $7 = 2 } NR == 99 { print 0 } 1' moved.cert > two.cert
+    awk 'NR == 2001 && NF == 3 { $3 = 1 } 1' two.cert > forgetful.cert
+    "$gipmc" --limit 1000 --certify forgetful.cert moved.aag > out 2> err
+    status=$?
+    [ "$status" = 1 ] && ! cmp -s two.cert forgetful.cert &&
+        [ "$(cat err)" = "forgetful.cert: b0: clause 2 is not kept by a transition" ] &&
+        [ "$("$gipmc" --limit 1000 --certify two.cert moved.aag)" = "s VERIFIED" ]
+    told "$in_parts, one of which is not kept" $?
+    rm -f moved.cert two.cert forgetful.cert
+fi
+
+# Many bad literals, of `tools/protocols.py`: pairs of turns and clients that are served in time, and pairs of tokens.
+# Each name stands before how many are safe and how many fail.
+while read -r name safe fails; do
+    if is_wanted "$name, each answer as it is known"; then
+        "$top/tools/protocols.py" --print "$name" > many.aag
+        "$gipmc" --unordered many.aag > out 2> err
+        status=$?
+        [ "$status" = "$([ "$fails" = 0 ] && echo 20 || echo 10)" ] &&
+            [ "$(grep -c '^0$' out)" = "$safe" ] && [ "$(grep -c '^1$' out)" = "$fails" ] &&
+            { [ "$fails" = 0 ] || [ "$("$gipmc" --replay out many.aag)" = "s VERIFIED" ]; }
+        told "$name, each answer as it is known" $?
+    fi
+done << 'END'
+in_time-16-right 136 0
+in_time-16-bug 121 15
+one_token-21-right 210 0
+one_token-21-bug 0 210
+END
+
 # Circuits with justice properties beside the stored ones: their runs are enumerated now.
 if is_wanted "justice properties of 500 more circuits"; then
     "$top/tools/circuits.py" --justice 500 "$gipmc" > out 2> err

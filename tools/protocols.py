@@ -1,8 +1,10 @@
 #!/usr/bin/env python3
 """Circuits of families that tools/verilog.py and tools/live.py do not have, each right and with a bug put in.
 
-    tools/protocols.py FOLDER          writes an AIGER file for each circuit with a bad literal into FOLDER
-    tools/protocols.py --list          tells the families: what each is, its sizes, and whether it has a justice property
+    tools/protocols.py FOLDER          writes an AIGER file for each circuit with one bad literal into FOLDER
+    tools/protocols.py --many FOLDER   writes one for each circuit with many of them
+    tools/protocols.py --list          tells the families: what each is, its sizes, and whether it has many bad
+                                       literals, or a justice property
     tools/protocols.py --print NAME    prints a circuit in the ascii form of AIGER, as `barrier-5-bug`
     tools/protocols.py --live GIPMC    times GIPMC and abc's `l2s; dprove` on each circuit with a justice property
 
@@ -25,22 +27,24 @@ from lib.words import Words, constant, wide
 
 
 class Family(NamedTuple):
-    """A family of circuits; its function has a circuit, the numbers of a size, and whether a bug is put in."""
+    """A family of circuits; its function has a circuit, the numbers of a size, and whether a bug is put in. Its kind is
+    ONE, with a bad literal, MANY, with many of them, or LIVE, with a justice property."""
 
     make: Callable
     sizes: tuple
-    is_live: bool
+    kind: str
 
 
 FAMILIES = {}
+ONE, MANY, LIVE = "one", "many", "justice"
 
 
-def family(*sizes, is_live=False):
+def family(*sizes, kind=ONE):
     """Puts a function into the list."""
 
     def put(make):
         sizes_ = tuple(size if isinstance(size, tuple) else (size,) for size in sizes)
-        FAMILIES[make.__name__] = Family(make, sizes_, is_live)
+        FAMILIES[make.__name__] = Family(make, sizes_, kind)
         return make
 
     return put
@@ -597,7 +601,7 @@ def buddies(c, height, bug):
 # What never ends. The justice property is that somebody waits for ever.
 
 
-@family(3, 4, 6, 8, is_live=True)
+@family(3, 4, 6, 8, kind=LIVE)
 def lift_calls(c, n, bug):
     """A lift that goes on in its direction while somebody calls there; with the bug it goes up wherever one calls
     above."""
@@ -622,7 +626,7 @@ def lift_calls(c, n, bug):
     live.waiting(c, c.conj(asks[0], at[0] ^ 1), c.conj(at[0], calls[0]))
 
 
-@family(3, 4, 6, 8, is_live=True)
+@family(3, 4, 6, 8, kind=LIVE)
 def aging(c, n, bug):
     """An arbiter that grants the one that waits longest, by counts that stop at their end; with the bug they end too
     soon."""
@@ -643,7 +647,7 @@ def aging(c, n, bug):
     live.waiting(c, 1, chosen[-1])
 
 
-@family(1, 2, 4, 6, is_live=True)
+@family(1, 2, 4, 6, kind=LIVE)
 def retries(c, width, bug):
     """A word that is sent again when a timer has run out, over a line that lets words and answers through again and
     again; with the bug it may lose all answers."""
@@ -661,7 +665,7 @@ def retries(c, width, bug):
     live.waiting(c, 1, fits)
 
 
-@family(2, 3, 4, 6, is_live=True)
+@family(2, 3, 4, 6, kind=LIVE)
 def philosophers_eat(c, n, bug):
     """Philosophers at a table, half of which take the right fork first; with the bug all take the left one, and may
     starve."""
@@ -687,7 +691,7 @@ def philosophers_eat(c, n, bug):
     live.waiting(c, 1, c.any(eats))
 
 
-@family(2, 3, 4, 5, is_live=True)
+@family(2, 3, 4, 5, kind=LIVE)
 def filter_lock(c, n, bug):
     """Processes pass one level after another, at each of which the last one to come waits; with the bug all but the
     first one come to the top without saying so."""
@@ -711,7 +715,7 @@ def filter_lock(c, n, bug):
     live.waiting(c, comes[1][0], c.equal(levels[0], n))
 
 
-@family(2, 4, 8, 15, is_live=True)
+@family(2, 4, 8, 15, kind=LIVE)
 def credits_return(c, n, bug):
     """A sender with credits, of which one comes back for each word that is taken out; with the bug one is lost that
     comes back where there is none."""
@@ -730,7 +734,7 @@ def credits_return(c, n, bug):
     live.waiting(c, 1, sent)
 
 
-@family((2, 2), (3, 2), (4, 3), (8, 4), is_live=True)
+@family((2, 2), (3, 2), (4, 3), (8, 4), kind=LIVE)
 def slow_turns(c, n, width, bug):
     """Clients have turns of some length each, which end at once where they do not ask; with the bug one that asks goes
     on."""
@@ -746,10 +750,48 @@ def slow_turns(c, n, width, bug):
     live.waiting(c, 1, turn[-1])
 
 
-def circuits(is_live):
-    """For each circuit with a bad literal, or with a justice property, its name and the circuit."""
-    for name, (make, sizes, live_) in FAMILIES.items():
-        if live_ != is_live:
+# Many bad literals.
+
+
+@family(8, 12, 16, kind=MANY)
+def in_time(c, n, bug):
+    """Clients that get turns behind the one who had the last: no two have one at once, and each waits for fewer
+    than n moments."""
+    asks, turn = c.free(n), [c.latch(int(i == 0)) for i in range(n)]
+    grants, free = [0] * n, 0
+    for j in range(2 * n):
+        i = j % n
+        free = c.disj(free, turn[i]) if j < n else free
+        grants[i] = c.disj(grants[i], c.conj(free, asks[i]))
+        free = c.conj(free, asks[i] ^ 1)
+    stays = c.all([grants[0], asks[1], asks[2], turn[0]]) if bug else 0
+    some = c.any(grants)
+    for i in range(n):
+        c.update([turn[i]], (stays, [turn[i]]), (some, [grants[i - 1]]))
+    width = bits_of(n + 1)
+    waits = [c.register(width) for _ in range(n)]
+    for grant, ask, waited in zip(grants, asks, waits):
+        c.update(waited, (c.disj(grant, ask ^ 1), [0] * width), (1, c.plus(waited, [1])[0]))
+    c.bads += [c.conj(grants[i], grants[j]) for i in range(n) for j in range(i)]
+    c.bads += [c.equal(waited, n) for waited in waits]
+
+
+@family(8, 15, 21, kind=MANY)
+def one_token(c, n, bug):
+    """Stations in a ring that pass a token on, or keep it for a while: no two have one."""
+    keeps, tokens = c.free(n), [c.latch(int(i == 0)) for i in range(n)]
+    for i in range(n):
+        stays = c.conj(tokens[i], keeps[i])
+        if bug and i == n - 1:
+            stays = c.conj(tokens[i], c.disj(keeps[i], c.conj(keeps[0], keeps[1])))
+        c.next(tokens[i], c.disj(stays, c.conj(tokens[i - 1], keeps[i - 1] ^ 1)))
+    c.bads += [c.conj(tokens[i], tokens[j]) for i in range(n) for j in range(i)]
+
+
+def circuits(*kinds):
+    """For each circuit of these kinds its name and the circuit."""
+    for name, (make, sizes, kind) in FAMILIES.items():
+        if kind not in kinds:
             continue
         for size in sizes:
             for bug in (False, True):
@@ -758,24 +800,25 @@ def circuits(is_live):
                 yield "-".join([name, *map(str, size), "bug" if bug else "right"]), c
 
 
-def write(folder):
+def write(folder, kind):
     folder.mkdir(parents=True, exist_ok=True)
-    for name, c in circuits(is_live=False):
+    for name, c in circuits(kind):
         (folder / f"{name}.aig").write_bytes(binary(c))
         print(name, flush=True)
 
 
 def tell():
-    for name, (make, sizes, is_live) in FAMILIES.items():
+    for name, (make, sizes, kind) in FAMILIES.items():
         listed = ", ".join("-".join(map(str, size)) for size in sizes)
         about = " ".join(make.__doc__.split())
-        print(f"{name} ({'justice; ' if is_live else ''}{listed}): {about}")
+        print(f"{name} ({'' if kind == ONE else f'{kind}; '}{listed}): {about}")
 
 
 def main():
     parser = argparse.ArgumentParser(description=__doc__, formatter_class=argparse.RawDescriptionHelpFormatter)
     mode = parser.add_mutually_exclusive_group(required=True)
     mode.add_argument("folder", nargs="?", type=Path, metavar="FOLDER")
+    mode.add_argument("--many", type=Path, metavar="FOLDER")
     mode.add_argument("--list", action="store_true")
     mode.add_argument("--print", metavar="NAME")
     mode.add_argument("--live", metavar="GIPMC")
@@ -785,15 +828,17 @@ def main():
     elif asked.live:
         if not shutil.which(asked.live):
             parser.error(f"there is no program '{asked.live}'")
-        return 1 if live.beside(asked.live, list(circuits(is_live=True))) else 0
+        return 1 if live.beside(asked.live, list(circuits(LIVE))) else 0
     elif asked.print:
-        for name, c in [*circuits(is_live=False), *circuits(is_live=True)]:
+        for name, c in circuits(ONE, MANY, LIVE):
             if name == asked.print:
                 sys.stdout.write(c.text())
                 return 0
         parser.error(f"there is no circuit '{asked.print}'")
+    elif asked.many:
+        write(asked.many, MANY)
     else:
-        write(asked.folder)
+        write(asked.folder, ONE)
     return 0
 
 
