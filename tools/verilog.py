@@ -5,7 +5,7 @@
     tools/verilog.py --list           tells the families: what each is, and its sizes
     tools/verilog.py --print NAME     prints the text of a circuit, as `lift-9-bug`
 
-Of the settings of gipmc only one was chosen with these circuits in view (docs/EXPERIMENTS.md, merges). The name of a
+Of the settings of gipmc those of merges alone were chosen with some in view (docs/EXPERIMENTS.md). The name of a
 file is that of the family, the sizes, and `right` or `bug`: `lift-9-bug.aig`. Of one text and one yosys the files are
 the same each time. A file that stands there already is left alone. What is said to be right is not known to be; only
 the answers of model checkers tell.
