@@ -9,8 +9,9 @@
 
 One is due where what its refusal rests on differs between the tree and a base: on a branch the commit where it left the
 main branch, and on the main branch itself the commit that stands 60 before HEAD. Where there is no base, or its README
-names another kit, all are due. No result is stored. It also fails where a list of names (crates/NAME/wrong/LIST) is not that of the wrong bodies, or where
-one of the base is gone and no list says why. The last line is 'N passed, M failed'.
+names another kit, all are due. No result is stored. It also fails where a list of names (crates/NAME/wrong/LIST) is not
+that of the wrong bodies, or where one is gone that the base or a commit since then has, and no list says why.
+The last line is 'N passed, M failed'.
 """
 
 import argparse
@@ -30,14 +31,14 @@ DRAWN = 12
 
 
 def compared(bodies):
-    """Which wrong bodies are due, and which of the base are gone without a line that says why."""
+    """Which wrong bodies are due, and which of the base or of a commit since then are gone without a line that says why."""
     commit, why = wrong_sums.base_of(ROOT)
     if commit is None:
         print(f"base: none, since {why}: all are due")
         return bodies, []
     print(f"base: {commit[:12]}, {why}")
+    gone = wrong_sums.gone_since(ROOT, commit)
     with wrong_sums.files_of(ROOT, commit) as folder:
-        gone = wrong_bodies.vanished(ROOT, folder)
         version = subprocess.run(["rt", "version"], stdout=subprocess.PIPE, text=True).stdout
         if wrong_sums.is_of_another_kit(folder, version):
             print(f"the README of the base names another kit than {version.strip()}: all are due")

@@ -145,16 +145,14 @@ def write_lists(root=ROOT):
             file.unlink(missing_ok=True)
 
 
-def known(crate, root):
-    """The names that a crate has, or of which it tells why they went."""
-    return {body.stem for body in bodies_of(crate, root)} | {name for name, why in listed(crate, root) if why}
+def known(root):
+    """For each crate the names of its wrong bodies, and of those of which its list says why they went."""
+    told = {crate: {name for name, why in listed(crate, root) if why} for crate in libraries(root)}
+    return {crate: {body.stem for body in bodies_of(crate, root)} | names for crate, names in told.items()}
 
 
-def vanished(root, base):
-    """The wrong bodies of a base that are gone without a line that says why; one that another crate took over is not gone."""
-    uses, earlier = libraries(root), libraries(base)
-    here = {crate: known(crate, root) for crate in uses}
-    there = {crate: known(crate, base) for crate in earlier}
-    gone = [(crate, name) for crate in earlier for name in sorted(there[crate] - here.get(crate, set()))]
-    moved = lambda name: any(name in here[crate] and name not in there.get(crate, ()) for crate in uses)
+def vanished(here, there):
+    """Which of the names that crates had, by crate, are gone. One that another crate took over is not gone."""
+    gone = [(crate, name) for crate in there for name in sorted(there[crate] - here.get(crate, set()))]
+    moved = lambda name: any(name in names and name not in there.get(crate, ()) for crate, names in here.items())
     return [f"{crate}/{name}" for crate, name in gone if not moved(name)]

@@ -201,6 +201,26 @@ def base_of(root):
     return back, f"{BACK} commits before HEAD" if back else f"there is no commit {BACK} before HEAD"
 
 
+def known_at(root, commit):
+    """For each crate the names of the wrong bodies that a commit has, and of those of which its list says why they went."""
+    listing = ["git", "-C", str(root), "ls-tree", "-r", "-z", "--name-only", commit, "crates"]
+    paths = subprocess.run(listing, check=True, stdout=subprocess.PIPE, text=True).stdout.split("\0")
+    found = collections.defaultdict(set)
+    for path in filter(re.compile(r"crates/\w+/(wrong|must-fail)/[^/]+[.]edit").fullmatch, paths):
+        found[path.split("/")[1]].add(pathlib.PurePath(path).stem)
+    # Each line of a list that has a reason, behind the commit and the path.
+    for line in (git(root, "grep", "-F", ":", commit, "--", "crates/*/wrong/LIST") or "").splitlines():
+        _, path, name, _ = line.split(":", 3)
+        found[path.split("/")[1]].add(name.strip())
+    return found
+
+
+def gone_since(root, commit):
+    """The wrong bodies that a base or a commit since then has and that are gone without a line that says why."""
+    here, since = wrong_bodies.known(root), (git(root, "rev-list", "--first-parent", f"{commit}..HEAD") or "").split()
+    return sorted({name for each in [commit, *since] for name in wrong_bodies.vanished(here, known_at(root, each))})
+
+
 @contextlib.contextmanager
 def files_of(root, commit):
     """A folder with the files of a commit."""

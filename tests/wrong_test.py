@@ -305,13 +305,60 @@ def bases(folder):
         yield "the files of a commit", (files / "file").read_text(encoding="utf-8"), "text\n"
 
 
+def history(folder):
+    """Which wrong bodies of a base or of a commit since then are gone."""
+    git = lambda *words: subprocess.run(["git", "-C", folder, *words], check=True, stdout=subprocess.PIPE, text=True).stdout.strip()
+    text, high, low = "file: src/lib.rt\nold: 1\nnew: 2\n", folder / "crates/high/wrong", folder / "crates/low/must-fail"
+
+    def commit():
+        git("add", "--all")
+        git("-c", "user.name=A", "-c", "user.email=a@b", "commit", "--quiet", "--allow-empty", "-m", "a commit")
+        return git("rev-parse", "HEAD")
+
+    folder.mkdir()
+    git("init", "--quiet", "--initial-branch=main")
+    write(folder / "crates.txt", "low:\nhigh: low\n")
+    write(high / "of_base.edit", text)
+    base = commit()
+    gone = lambda: wrong_sums.gone_since(folder, base)
+    yield "none is gone", gone(), []
+    (high / "of_base.edit").unlink()
+    yield "one that the base has", gone(), ["high/of_base"]
+    write(high / "LIST", "of_base: it is a trial now\n")
+    yield "the list says why", gone(), []
+    write(low / "short_lived.edit", text)
+    commit()
+    (low / "short_lived.edit").rename(low / "renamed.edit")
+    yield "one that a commit since then has", gone(), ["low/short_lived"]
+    commit()
+    yield "also where another commit renamed it", gone(), ["low/short_lived"]
+    yield "none that no commit since then has", wrong_sums.gone_since(folder, git("rev-parse", "HEAD")), []
+    write(folder / "crates/low/wrong/LIST", "short_lived: it is renamed\n")
+    (low / "renamed.edit").rename(high / "renamed.edit")
+    commit()
+    yield "one that another crate took over", gone(), []
+    (high / "renamed.edit").rename(low / "renamed.edit")
+    commit()
+    yield "one that came back", gone(), []
+    for branch, name in (("side", "of_side"), ("main", "of_main")):
+        git("checkout", "--quiet", "-B", branch, "main")
+        write(low / f"{name}.edit", text)
+        commit()
+        (low / f"{name}.edit").unlink()
+        commit()
+    git("-c", "user.name=A", "-c", "user.email=a@b", "merge", "--quiet", "side")
+    yield "one of the main branch alone, where another one was merged", gone(), ["low/of_main"]
+    write(high / "LIST", "")
+    yield "a reason that is gone", gone(), ["high/of_base", "low/of_main"]
+
+
 def lists(folder):
     """The lists of names."""
     make(folder / "base")
     make(folder / "tree")
     tree, names = folder / "tree", folder / "tree/crates/high/wrong/LIST"
     count = lambda: len(wrong_bodies.faults_of_list("high", tree))
-    gone = lambda: wrong_bodies.vanished(tree, folder / "base")
+    gone = lambda: wrong_bodies.vanished(wrong_bodies.known(tree), wrong_bodies.known(folder / "base"))
     yield "a list that is right", (count(), gone()), (0, [])
     yield "a name that the list has not", with_text(names, "of_nothing\n", "", count), 1
     yield "a name that is not there", with_text(names, "of_nothing\n", "of_all\nof_nothing\n", count), 1
@@ -432,7 +479,7 @@ def shared(folder):
 def main():
     argparse.ArgumentParser(description=__doc__, formatter_class=argparse.RawDescriptionHelpFormatter).parse_args()
     passed = failed = 0
-    for cases in (sums, bases, lists, draws, judged, shared):
+    for cases in (sums, bases, history, lists, draws, judged, shared):
         with tempfile.TemporaryDirectory(prefix="giputils-wrong-test-") as folder:
             for name, found, wanted in cases(pathlib.Path(folder, "it")):
                 if found == wanted:
