@@ -19,8 +19,8 @@ import subprocess
 import sys
 import tempfile
 
-import wrong_checks
-from wrong_bodies import PARTS, ROOT
+import mutant_checks
+from mutant_files import PARTS, ROOT
 
 SECONDS = 30 * 60
 LINE = re.compile(r"`your_crate: ([^`]*)`")
@@ -112,7 +112,7 @@ def copy_crates(root):
 
 def compile_all(pages, room):
     """The faults of these pages, as the compiler finds them, by the names of their crates."""
-    libraries = wrong_checks.Libraries(ROOT, room)
+    libraries = mutant_checks.Libraries(ROOT, room)
     libraries.find(sorted({library for page in pages for library in page.needed(libraries)}, key=lambda it: len(it.below())))
     faults = {page.crate: page.lacking(libraries) for page in pages}
     tried = [page for page in pages if not faults[page.crate]]
@@ -122,7 +122,7 @@ def compile_all(pages, room):
     copy_crates(root)
     for crate in crates:
         crate.write(root)
-    with_examples = wrong_checks.Libraries(root, room)
+    with_examples = mutant_checks.Libraries(root, room)
     with_examples.given = libraries.given
     for crate in crates:
         said, status = crate.compiled(with_examples)

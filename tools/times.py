@@ -27,7 +27,7 @@ import time
 ROOT = pathlib.Path(__file__).resolve().parent.parent
 # It stands on the kit alone.
 YARDSTICK = "giputils_refusing"
-PARTS = ("proof", "tests", "must-fail", "wrong")
+PARTS = ("proof", "tests", "must-fail", "mutants")
 TICKS = os.sysconf("SC_CLK_TCK")
 
 
@@ -84,7 +84,7 @@ def part_of(process):
     crate = words[words.index("--crate-name") + 1]
     # A wrong body is checked in a copy of the crate; what stands elsewhere is no crate of this repository.
     if not pathlib.Path(folder).is_relative_to(ROOT):
-        parts = {"/rt-edit-": "must-fail", "/giputils-wrong-": "wrong"}
+        parts = {"/rt-edit-": "must-fail", "/giputils-mutant-": "mutants"}
         part = next((part for name, part in parts.items() if name in folder), None)
         return (crate, part) if part else None
     return crate, "tests" if "--test" in words else "proof"
