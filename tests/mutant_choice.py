@@ -1,5 +1,13 @@
-"""What the refusal of a mutant rests on, as a sum, and which mutants are due: those whose sum differs between the
-tree and a base that nobody can steer. Read by tests/due.py."""
+"""Which mutants are tried, compared with a base that nobody can steer. Read by tests/mutants.py.
+
+That a mutant breaks its clause is a fact of its text, of its function with its contract, and of the definitions, types and
+contracts to which these lead by name. No lemma and no proof can make a false clause true. So these are affected by a change:
+
+- those that are new, and those whose own text or function changed;
+- of each definition, type and contract that changed, so many that lead to it by the fewest steps (COVER), few and of few
+  crates.
+
+Beside these a rota samples all of them in turn."""
 
 import collections
 import contextlib
@@ -17,8 +25,17 @@ import mutant_sources
 BACK = 60
 # Where a repository has its main branch.
 MAIN = ("origin/main", "origin/master", "main", "master")
-# What judges: a change of it concerns all mutants.
-JUDGE = "tests/mutant_judge.py"
+# How many mutants are tried of each definition, type and contract that changed.
+COVER = 2
+# In how many commits the rota samples each mutant once.
+ROUND = 1600
+# What a check costs by itself, and a mutant in it, in seconds: by these few crates are better than many.
+CHECK, EACH = 12, 3
+# Where mutants stand, and where they stood in earlier commits.
+FOLDERS = (mutant_files.FOLDER, "wrong", "must-fail")
+
+
+# What a refusal rests on.
 
 
 class Tree:
@@ -27,8 +44,6 @@ class Tree:
     def __init__(self, root):
         self.root, self.uses = pathlib.Path(root), mutant_files.libraries(root)
         self.below = {crate: mutant_files.below(crate, self.uses) for crate in self.uses}
-        file = self.root / JUDGE
-        self.judge = digest(file.read_text(encoding="utf-8")) if file.is_file() else None
         self.reach = {}
 
     @functools.cache
@@ -63,10 +78,10 @@ class Tree:
 
     @functools.cache
     def defined(self, path):
-        """The items that a path of a definition, a lemma or a contract leads to; None where it is the kit's."""
+        """The items that a path of a definition, a lemma or a contract leads to; none where it is the kit's."""
         parts = path.split(".")
         if parts[0] != "Rattle" or len(parts) < 3 or parts[1] not in self.uses:
-            return None
+            return []
         crate, sources = parts[1], self.sources(parts[1])
         for cut in (len(parts) - 1, len(parts)):
             source = sources.get("/".join(parts[2:cut]) + ".antt")
@@ -75,7 +90,7 @@ class Tree:
             if source and parts[-1] in source.own:
                 return source.own[parts[-1]]
             if source and parts[-1] in source.handed_on:
-                return self.defined(source.handed_on[parts[-1]]) or []
+                return self.defined(source.handed_on[parts[-1]])
         root = sources.get(f"{parts[2]}/Lib.antt")
         if root and len(parts) > 3 and parts[3] in root.handed_on:
             return self.defined(".".join([root.handed_on[parts[3]], *parts[4:]]))
@@ -85,93 +100,112 @@ class Tree:
         return found or [item for name, source in sources.items() if name.startswith("specs/") for item in source.items]
 
     def leads_to(self, words, source, calls):
-        """What words of a source lead to: items, and texts of imports from the kit. Calls lead to contracts where they are
-        those of a body."""
+        """The items to which words of a source lead. Calls lead to contracts where they are those of a body."""
         found = set()
         for word in words:
             if word in source.ghost_uses:
                 items = self.defined(source.ghost_uses[word])
                 # Of a module those that are named with it.
-                inside = [item for item in items or () if item.names & words]
-                found.update(inside or items or [source.ghost_uses[word]])
+                found.update([item for item in items if item.names & words] or items)
             elif source.is_proof:
                 found.update(source.own.get(word, ()))
             if source.is_proof:
                 continue
             if word in source.uses:
-                found.add(source.uses[word])
                 word = source.uses[word].rpartition("::")[2]
             found.update(item for item in self.named(source.crate, word) if calls or item.kind != "fn")
-        return found
-
-    def of_tactics(self, text, crate):
-        """The definitions and lemmas that the attributes of a function name."""
-        found = set()
-        for owner, path in re.findall(r"\b(\w+)::((?:specs|proofs)::[\w:]+)", text):
-            owner = crate if owner == "crate" else owner
-            found.update(self.defined(".".join(["Rattle", owner, *path.split("::")])) or ())
-        return found
+        return {item for item in found if not item.is_lemma}
 
     def behind(self, item):
-        """What an item leads to by itself."""
+        """The items to which an item leads by itself."""
         if item not in self.reach:
             self.reach[item] = {it for it in self.leads_to(item.words, item.file, calls=item.kind == "const") if it is not item}
-            self.reach[item] |= self.of_tactics(item.text, item.file.crate) if not item.file.is_proof else set()
         return self.reach[item]
 
-    def all_behind(self, begun):
-        """These items, and all that they lead to."""
-        found, left = set(), list(begun)
-        while left:
-            item = left.pop()
-            if item not in found:
-                found.add(item)
-                left += () if isinstance(item, str) else self.behind(item)
-        return found
-
-    def sum_of(self, body):
-        """The sum of all that the refusal of a mutant rests on; None where it can't be tried."""
-        if body.fault or self.judge is None:
-            return None
-        total = {digest("\0".join([body.wanted, *(text for hunk in body.hunks for text in hunk)])), self.judge}
-        sources, begun = self.sources(body.crate), set()
-        for path, function in body.places:
-            source = sources.get(path)
-            if function is None or source is None:
-                # It stands in no function, so it rests on all of the crate.
-                for each in sources.values():
-                    total.add(digest(" ".join(each.source.split())))
-                    begun |= {*each.items, *self.leads_to(mutant_sources.words_of(each.source), each, calls=True)}
-                continue
+    def rests_on(self, mutant):
+        """The sum of a mutant and its functions, and those of the definitions, types and contracts to which these lead, each with
+        by how many steps."""
+        own = [mutant.wanted, *(text for hunk in mutant.hunks for text in hunk)]
+        found, left, steps = {}, set(), 0
+        for path, function in sorted(mutant.places):
+            source = self.sources(mutant.crate)[path]
             text = f"{function.head} {source.source[function.begins : function.closes + 1]}"
-            new = " ".join(new for at, _, new in body.hunks if at == path)
-            total.add(digest(" ".join(text.split())))
-            words = mutant_sources.words_of(f"{text} {new}")
-            begun |= self.leads_to(words, source, calls=True) | self.of_tactics(text, body.crate)
-            # What is said at the head of the file, and of the crate.
-            for each in (path, "src/lib.rt", "src/main.rt"):
-                begun.update(sources[each].own.get("#![", ()) if each in sources else ())
-            for proof in self.proofs_of(body.crate, path, function, text):
-                total.update(digest(item.text) for item in proof.items)
-                begun.update(proof.items)
-        total.update(it if isinstance(it, str) else digest(it.text) for it in self.all_behind(begun))
-        return digest("\n".join(sorted(total)))
-
-    def proofs_of(self, crate, path, function, text):
-        """The files of a function's own proof: below the folder of its name, or of its cycle of calls."""
-        module = "/".join(map(re.escape, ["proofs", *mutant_files.module_of(path)]))
-        # A type may stand in another module than its impl does.
-        front = rf"proofs/(?:\w+/)*{re.escape(function.owner)}\w*" if function.owner else module
-        cycles = "|".join(map(re.escape, [function.name, *re.findall(r"\bcycle\((\w+)\)", text)]))
-        own = re.compile(rf"(?:{front}/{re.escape(function.name)}|{module}/(?:\w+/)*\+(?:{cycles}))/")
-        return [source for name, source in self.sources(crate).items() if own.match(name)]
+            own.append(" ".join(text.split()))
+            new = " ".join(new for at, _, new in mutant.hunks if at == path)
+            left |= self.leads_to(mutant_sources.words_of(f"{text} {new}"), source, calls=True)
+        while left:
+            steps += 1
+            found |= dict.fromkeys(left, steps)
+            left = set().union(*map(self.behind, left)) - found.keys()
+        return digest("\0".join(own)), {item.sum: steps for item, steps in reversed(found.items())}
 
 
 def digest(text):
     return hashlib.sha256(text.encode()).hexdigest()
 
 
-# The base, and what is due.
+# What is affected.
+
+
+def affected(mutants, tree, base):
+    """Those of the tree's mutants that are affected by what changed since a base, each with why."""
+    earlier = {mutant.name: mutant for mutant in mutant_files.all_mutants(base.root, FOLDERS) if not mutant.fault}
+    chosen, reached = {}, {}
+    for mutant in mutants:
+        if mutant.fault or mutant.name not in earlier:
+            chosen[mutant] = "it is new" if not mutant.fault else mutant.fault
+            continue
+        (own, items), (before, items_before) = tree.rests_on(mutant), base.rests_on(earlier[mutant.name])
+        if own != before:
+            chosen[mutant] = "its own text or function changed"
+        reached[mutant] = {item: (items | items_before)[item] for item in items.keys() ^ items_before.keys()}
+    cover = covering(reached, chosen)
+    return chosen | {mutant: "a definition, type or contract that it rests on changed" for mutant in cover}
+
+
+def covering(reached, chosen):
+    """Mutants that lead with those that are chosen to each changed item COVER times, by as few steps as any do: few, and of
+    few crates. What is reached has the steps of each item."""
+    steps = collections.defaultdict(list)
+    for items in reached.values():
+        for item, count in items.items():
+            steps[item].append(count)
+    farthest = {item: sorted(counts)[:COVER][-1] for item, counts in steps.items()}
+    near = {mutant: {item for item, count in items.items() if count <= farthest[item]} for mutant, items in reached.items()}
+    left = collections.Counter(dict.fromkeys(farthest, COVER))
+    left.subtract(item for mutant in chosen for item in near.get(mutant, ()))
+    crates = {mutant.crate for mutant in chosen}
+    open_to = {mutant: near[mutant] for mutant in sorted(near, key=lambda it: it.name) if mutant not in chosen}
+    found = []
+
+    def worth(mutant):
+        gain = sum(left[item] > 0 for item in open_to[mutant])
+        return gain / (EACH if mutant.crate in crates else EACH + CHECK)
+
+    while open_to and worth(best := max(open_to, key=worth)):
+        left.subtract(open_to.pop(best))
+        crates.add(best.crate)
+        found.append(best)
+    return found
+
+
+# What is sampled.
+
+
+def sampled(mutants, root, commit):
+    """The mutants that a rota tries for the commits behind this one. They stand in a round, crate by crate, in an order that
+    the commit gives with which the round began, and each commit goes on by its part of the round."""
+    first, last = (int(git(root, "rev-list", "--count", "--first-parent", each) or 0) for each in (commit, "HEAD"))
+    found = set()
+    for begin in {number - number % ROUND for number in range(first + 1, last + 1)}:
+        seed = git(root, "rev-list", "--first-parent", f"--skip={last - max(begin, 1)}", "-1", "HEAD")
+        order = sorted(mutants, key=lambda mutant: (digest(f"{seed} {mutant.crate}"), digest(f"{seed} {mutant.name}")))
+        passed = {number - begin for number in range(max(begin, first + 1), min(begin + ROUND, last + 1))}
+        found |= {mutant for place, mutant in enumerate(order) if place * ROUND // len(order) in passed}
+    return found
+
+
+# The base.
 
 
 def git(root, *words):
@@ -201,26 +235,6 @@ def base_of(root):
     return back, f"{BACK} commits before HEAD" if back else f"there is no commit {BACK} before HEAD"
 
 
-def known_at(root, commit):
-    """For each crate the names of the mutants that a commit has, and of those of which its list says why they went."""
-    listing = ["git", "-C", str(root), "ls-tree", "-r", "-z", "--name-only", commit, "crates"]
-    paths = subprocess.run(listing, check=True, stdout=subprocess.PIPE, text=True).stdout.split("\0")
-    found = collections.defaultdict(set)
-    for path in filter(re.compile(r"crates/\w+/(wrong|must-fail)/[^/]+[.]edit").fullmatch, paths):
-        found[path.split("/")[1]].add(pathlib.PurePath(path).stem)
-    # Each line of a list that has a reason, behind the commit and the path.
-    for line in (git(root, "grep", "-F", ":", commit, "--", "crates/*/wrong/LIST") or "").splitlines():
-        _, path, name, _ = line.split(":", 3)
-        found[path.split("/")[1]].add(name.strip())
-    return found
-
-
-def gone_since(root, commit):
-    """The mutants that a base or a commit since then has and that are gone without a line that says why."""
-    here, since = mutant_files.known(root), (git(root, "rev-list", "--first-parent", f"{commit}..HEAD") or "").split()
-    return sorted({name for each in [commit, *since] for name in mutant_files.vanished(here, known_at(root, each))})
-
-
 @contextlib.contextmanager
 def files_of(root, commit):
     """A folder with the files of a commit."""
@@ -239,12 +253,28 @@ def is_of_another_kit(base, version):
     return not logic or not file.is_file() or logic[0] not in file.read_text(encoding="utf-8")
 
 
-def due(bodies, tree, base):
-    """Those of the tree's mutants whose sums differ between the tree and a base, or that are not there."""
-    earlier = {body.name: body for crate in {body.crate for body in bodies} for body in mutant_files.bodies_of(crate, base.root)}
-    return [body for body in bodies if body.name not in earlier or differs(body, earlier[body.name], tree, base)]
+# Those that went.
 
 
-def differs(body, earlier, tree, base):
-    found = tree.sum_of(body)
-    return found is None or found != base.sum_of(earlier)
+def gone(root, commit):
+    """The mutants that a commit behind a base took out and that are not there, where no message since then says why: by a line
+    'NAME: TEXT', with the name of its file."""
+    there = {mutant.stem for mutant in mutant_files.all_mutants(root)}
+    commits = (git(root, "rev-list", "--first-parent", f"{commit}..HEAD") or "").split()
+    told = {line.partition(":")[0].strip() for line in (git(root, "log", "--format=%B", f"{commit}..HEAD") or "").splitlines() if re.match(r"\s*\w+: \S", line)}
+    went = {}
+    for each in commits:
+        removed = git(root, "diff", "--no-renames", "--diff-filter=D", "--name-only", f"{each}~", each, "--", "crates") or ""
+        for path in filter(re.compile(rf"crates/\w+/(?:{'|'.join(FOLDERS)})/\w+[.]edit").fullmatch, removed.splitlines()):
+            went[pathlib.PurePath(path).stem] = path.split("/")[1]
+    told |= told_by_lists(root, commits)
+    return sorted(f"{crate}/{stem}" for stem, crate in went.items() if stem not in there | told)
+
+
+def told_by_lists(root, commits):
+    """The names that have a reason in the lists of names that commits had (crates/NAME/wrong/LIST)."""
+    found = set()
+    for commit in commits:
+        for line in (git(root, "grep", "-hF", ":", commit, "--", "crates/*/wrong/LIST") or "").splitlines():
+            found.add(line.rpartition("LIST:")[2].partition(":")[0].strip())
+    return found

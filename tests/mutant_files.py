@@ -1,13 +1,8 @@
-"""The mutants of the crates, and the lists of their names. Read by the scripts that try mutants.
+"""The mutants of the crates. Read by the scripts that try mutants.
 
-A mutant is a file crates/NAME/wrong/*.edit: a line 'file: src/..' and pairs of lines 'old: TEXT' and 'new: TEXT',
-where each old TEXT stands in the file once. It changes a function's body so that a clause no longer holds. Those of
-must-fail/, which have the same form and which `rt ci` tries too, are mutants as well. A goal refuses it, or the
-file says which other reason does, in a line 'refused: REASON'. Where that is `limit`, `form` or `name`, a line
-'why: TEXT' says why no goal can.
-
-crates/NAME/wrong/LIST has the name of each, one a line, in order. One that was taken out stays, with why it went:
-'NAME: TEXT'."""
+A mutant is a file crates/NAME/mutants/*.edit: a line 'file: src/..' and pairs of lines 'old: TEXT' and 'new: TEXT', where
+each old TEXT stands in the file once. It changes the body of a function so that a clause no longer holds. A goal refuses
+it, or the file says which other reason does, in a line 'refused: REASON', and in a line 'why: TEXT' why no goal can."""
 
 import pathlib
 import re
@@ -16,7 +11,7 @@ import mutant_sources
 from mutant_judge import REASONS
 
 ROOT = pathlib.Path(__file__).resolve().parent.parent
-FOLDERS = ("mutants",)
+FOLDER = "mutants"
 PARTS = ("src", "specs", "proofs")
 
 
@@ -37,10 +32,15 @@ def below(crate, uses):
     return found
 
 
-def bodies_of(crate, root=ROOT):
+def mutants_of(crate, root=ROOT, folders=(FOLDER,)):
     """The mutants of a crate."""
     folder = pathlib.Path(root, "crates", crate)
-    return [Mutant(file, crate, folder) for each in FOLDERS for file in sorted((folder / each).glob("*.edit"))]
+    return [Mutant(file, crate, folder) for each in folders for file in sorted((folder / each).glob("*.edit"))]
+
+
+def all_mutants(root=ROOT, folders=(FOLDER,)):
+    """The mutants of all crates."""
+    return [mutant for crate in libraries(root) for mutant in mutants_of(crate, root, folders)]
 
 
 class Mutant:
@@ -49,7 +49,7 @@ class Mutant:
     def __init__(self, file, crate, folder):
         self.crate, self.stem, self.name = crate, file.stem, f"{crate}/{file.stem}"
         self.wanted, self.why, self.hunks, self.fault = "goal", "", [], None
-        # The functions in which it stands, each with its file; None for a function where it stands in none.
+        # The functions in which it stands, each with its file.
         self.places = set()
         texts, path, old = {}, None, None
         for line in filter(None, file.read_text(encoding="utf-8").splitlines()):
@@ -69,7 +69,11 @@ class Mutant:
                 if not old or texts[path].count(old) != 1:
                     self.fault = f"an 'old:' text does not stand once in {path}"
                     return
-                self.places.add(place_of(path, texts[path], texts[path].index(old), len(old)))
+                place = place_of(path, texts[path], texts[path].index(old), len(old))
+                if place is None:
+                    self.fault = f"an 'old:' text stands in no function of {path}"
+                    return
+                self.places.add(place)
                 self.hunks.append((path, old, value))
                 texts[path] = texts[path].replace(old, value)
             else:
@@ -79,6 +83,8 @@ class Mutant:
             self.fault = "it has no pair of 'old:' and 'new:' lines"
         elif self.wanted not in REASONS or self.wanted == "other":
             self.fault = f"'refused: {self.wanted}' is no reason"
+        elif self.wanted != "goal" and not self.why:
+            self.fault = f"'refused: {self.wanted}' wants a line 'why: TEXT'"
 
 
 def place_of(path, text, at, length):
@@ -86,7 +92,7 @@ def place_of(path, text, at, length):
     for function in mutant_sources.functions_of(text) if path.endswith(".rt") else ():
         if function.start <= at + length - 1 <= function.closes:
             return path, function
-    return path, None
+    return None
 
 
 def module_of(path):
@@ -95,64 +101,41 @@ def module_of(path):
     return () if parts in (("lib",), ("main",)) else parts
 
 
-def texts_with(bodies, folder):
+def rounds(mutants, root=ROOT):
+    """Parts of these mutants, each with its texts by their paths below `crates`: all that can be applied together."""
+    left = list(mutants)
+    while left:
+        texts, places, later = {}, set(), []
+        for mutant in left:
+            here = {f"{mutant.crate}/{path}" for path, _, _ in mutant.hunks}
+            taken = {path: texts.get(path) or pathlib.Path(root, "crates", path).read_text(encoding="utf-8") for path in here}
+            there = {(mutant.crate, path, function) for path, function in mutant.places}
+            if there & places or not applies(mutant, taken):
+                later.append(mutant)
+            else:
+                texts |= taken
+                places |= there
+        yield [mutant for mutant in left if mutant not in later], texts
+        left = later
+
+
+def applies(mutant, texts):
+    """Writes a mutant into texts, by their paths below `crates`, and answers whether each of its old texts stood there once."""
+    for path, old, new in mutant.hunks:
+        text = texts[f"{mutant.crate}/{path}"]
+        if text.count(old) != 1:
+            return False
+        texts[f"{mutant.crate}/{path}"] = text.replace(old, new)
+    return True
+
+
+def texts_with(mutants, folder):
     """The texts of the files that these mutants change, with all of them."""
     texts = {}
-    for body in bodies:
-        for path, old, new in body.hunks:
+    for mutant in mutants:
+        for path, old, new in mutant.hunks:
             text = texts.get(path) or (folder / path).read_text(encoding="utf-8")
             if text.count(old) != 1:
-                raise ValueError(f"{body.name}: {old!r} does not stand once in {path} beside other mutants")
+                raise ValueError(f"{mutant.name}: {old!r} does not stand once in {path} beside other mutants")
             texts[path] = text.replace(old, new)
     return texts
-
-
-# The lists of names.
-
-
-def listed(crate, root=ROOT):
-    """The lines of a crate's list: the names, and why each that was taken out went."""
-    file = pathlib.Path(root, "crates", crate, "wrong", "LIST")
-    lines = file.read_text(encoding="utf-8").splitlines() if file.is_file() else []
-    return [tuple(part.strip() for part in line.partition(":")[::2]) for line in lines if line.strip()]
-
-
-def faults_of_list(crate, root=ROOT):
-    """What is wrong with a crate's list of names, beside its mutants."""
-    lines = listed(crate, root)
-    names, there = [name for name, why in lines if not why], [body.stem for body in bodies_of(crate, root)]
-    faults = [f"{crate}/{name}: it has no line in wrong/LIST" for name in there if name not in names]
-    faults += [f"{crate}/{name}: wrong/LIST names it, and it is not there: say why, as '{name}: TEXT'" for name in names if name not in there]
-    faults += [f"{crate}/{name}: wrong/LIST says why it went, and it is there" for name, why in lines if why and name in there]
-    if [name for name, _ in lines] != sorted({name for name, _ in lines}):
-        faults.append(f"{crate}: wrong/LIST has not each name once, in order")
-    return faults
-
-
-def write_lists(root=ROOT):
-    """Adds the names that lists lack, in order, and takes out those that another crate has now. A name that is gone stays,
-    since its line has to say why."""
-    stems = {crate: {body.stem for body in bodies_of(crate, root)} for crate in libraries(root)}
-    for crate, own in stems.items():
-        elsewhere = set().union(*(names for each, names in stems.items() if each != crate)) - own
-        lines = {name: why for name, why in listed(crate, root) if why or name not in elsewhere} | dict.fromkeys(own, "")
-        text = "".join(f"{name}: {why}\n" if why else f"{name}\n" for name, why in sorted(lines.items()))
-        file = pathlib.Path(root, "crates", crate, "wrong", "LIST")
-        if text:
-            file.parent.mkdir(exist_ok=True)
-            file.write_text(text, encoding="utf-8")
-        else:
-            file.unlink(missing_ok=True)
-
-
-def known(root):
-    """For each crate the names of its mutants, and of those of which its list says why they went."""
-    told = {crate: {name for name, why in listed(crate, root) if why} for crate in libraries(root)}
-    return {crate: {body.stem for body in bodies_of(crate, root)} | names for crate, names in told.items()}
-
-
-def vanished(here, there):
-    """Which of the names that crates had, by crate, are gone. One that another crate took over is not gone."""
-    gone = [(crate, name) for crate in there for name in sorted(there[crate] - here.get(crate, set()))]
-    moved = lambda name: any(name in names and name not in there.get(crate, ()) for crate, names in here.items())
-    return [f"{crate}/{name}" for crate, name in gone if not moved(name)]

@@ -26,6 +26,8 @@ LIMIT = re.compile(r"the goal may hold|limit|gave up|ran out")
 NAME = re.compile(r"has no field|is not in scope|has no `|was not admitted|is no name|cannot be unfolded here")
 TYPE = re.compile(r"expected type|types? first differ|does not fit|has this type|no occurrence of")
 FORM = re.compile(r"(?:is|are) not covered|does not cover|expected a measure")
+# What it says of a function whose own goals all hold: where holes are let pass, and where they are not.
+ACCEPTED = re.compile(r"proved|no holes|depends on a hole|it calls .* which (?:are|is) not proved")
 WAITS = re.compile(r"declarations? that depends? on")
 # How a check ends that reached the prover.
 REACHED = re.compile(r"^(?:logic=|only=|rattle: no verdict)", re.MULTILINE)
@@ -77,7 +79,7 @@ class Said:
     def reason(self, function):
         """Why the prover refuses a function by its own goals, and what shows it; None where it is proved or only waits."""
         judged, folder = self.judged.get(function, ""), function.replace("::", "/") + "/"
-        if judged == "proved":
+        if ACCEPTED.match(judged):
             return None
         goals, others = {}, {}
         for names in UNPROVED.findall(judged):
@@ -95,6 +97,10 @@ class Said:
         if not found and functions and all(self.judged.get(name) == "proved" for name in functions):
             return PROVED
         return found
+
+    def accepts(self, functions):
+        """Whether the prover refuses no goal of these functions, and tells of each."""
+        return bool(functions) and all(ACCEPTED.match(self.judged.get(name, "")) for name in functions)
 
     def reason_of_crate(self):
         """Why the prover refuses a crate, where a mutant stands in no function that can be told."""

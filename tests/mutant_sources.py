@@ -3,6 +3,7 @@ Read by the scripts that try mutants."""
 
 import collections
 import functools
+import hashlib
 import pathlib
 import re
 
@@ -87,6 +88,16 @@ def owner_of(word, head):
     return camel_name(implementor or head) + (last_name(trait) if trait else ""), camel
 
 
+def parts_of_head(head):
+    """The trait and the type of an impl by its head, without their arguments; of an impl of no trait, and of a trait, no trait."""
+    head = re.sub(r"\bwhere\b.*", "", head, flags=re.DOTALL)
+    word, head = re.match(r"\s*(?:pub(?:\([a-z]+\))? )?(?:unsafe )?(impl|trait)\s*(.*)", head, re.DOTALL).groups()
+    if word == "impl" and head.startswith("<"):
+        head = head[angle(head, 0) + 1 :]
+    trait, _, implementor = head.rpartition(" for ") if word == "impl" else ("", "", head)
+    return last_name(trait), last_name(re.sub(r"&(?:'\w+ )?(?:mut )?", "", implementor))
+
+
 def camel_name(type_name):
     """How the prover writes a type in the name of an impl: `u32` as `U32`, `&[T]` as `Ref`, `&BitVec<A>` as `RefBitVec`."""
     name = last_name(re.sub(r"&(?:'\w+ )?(?:mut )?", "", type_name))
@@ -127,7 +138,7 @@ class Item:
     """An item of a source: the names by which others reach it, and its text without comments and without the bodies of
     functions. A function with a name of its own is a call's contract; all others are definitions."""
 
-    __slots__ = ("names", "kind", "is_public", "text", "words", "file", "trait")
+    __slots__ = ("names", "kind", "is_public", "text", "words", "file", "trait", "sum", "is_lemma")
 
     def __init__(self, names, kind, is_public, text, file, trait=""):
         # Of an impl, the name of its trait.
@@ -135,6 +146,8 @@ class Item:
         self.names, self.kind, self.is_public, self.file = names, kind, is_public, file
         self.text = text if file.is_proof else " ".join(text.split())
         self.words = words_of(text)
+        self.sum = hashlib.sha256(self.text.encode()).hexdigest()
+        self.is_lemma = file.is_proof and file.path.startswith("proofs/")
 
 
 def words_of(text):
@@ -173,11 +186,36 @@ class Source:
             else:
                 found[-1][1] += part
         for name, part in found:
-            inside = re.findall(r"(?m)^[ \t]+(?:(?:pub|abbrev)\s+)*([^\s:(){},]+) :", part) if re.match(r"(?:pub )?(?:module|data|record)\b", part) else []
-            names = {name, *inside}
-            parts = {each for name in names for each in name.split("◌") if each}
-            lines = [line.rstrip() for line in part.splitlines() if line.strip()]
-            self.items.append(Item(names | parts, "definition", True, "\n".join(lines), self))
+            if re.match(r"(?:pub )?module\b", part):
+                self.add_module(part)
+            else:
+                self.add_declaration(name, part)
+
+    def add_module(self, part):
+        """Adds the declarations of a module with parameters, each with the head of that."""
+        head, _, inner = part.partition("\n")
+        while inner and not re.search(r"\bwhere\s*$", head):
+            line, _, inner = inner.partition("\n")
+            head += f"\n{line}"
+        lines = [line for line in inner.splitlines() if line.strip()]
+        margin = min((len(line) - len(line.lstrip()) for line in lines), default=0)
+        declarations = []
+        for line in lines:
+            declared = re.match(rf"[ ]{{{margin}}}(?:(?:pub|abbrev|opaque|unfoldable|data|record)\s+)*([^\s:(){{}},]+)(?:\s*[({{:]|\s*$)", line)
+            is_signature = declared and (re.match(rf"[ ]{{{margin}}}(?:pub|abbrev|opaque|unfoldable|data|record)\b", line) or re.match(rf"[ ]{{{margin}}}\S+\s*(?:\{{[^}}]*\}}\s*)*:\s", line))
+            if is_signature or not declarations:
+                declarations.append([declared[1] if declared else "", head])
+            declarations[-1][1] += f"\n{line}"
+        for name, text in declarations:
+            self.add_declaration(name, text)
+
+    def add_declaration(self, name, part):
+        """Adds a declaration. Constructors, fields and what a record declares lead to it."""
+        inside = re.findall(r"(?m)^[ \t]+(?:(?:pub|abbrev)\s+)*([^\s:(){},]+) :", part) if re.search(r"(?m)^[ \t]*(?:pub )?(?:data|record)\b", part) else []
+        names = {name, *inside}
+        parts = {each for name in names for each in name.split("◌") if each}
+        lines = [line.rstrip() for line in part.splitlines() if line.strip()]
+        self.items.append(Item(names | parts, "definition", True, "\n".join(lines), self))
 
     # Files of src/.
 

@@ -1,11 +1,12 @@
 #!/usr/bin/env python3
-"""Tests the scripts that try mutants, without the prover, in small repositories: which are due after which change, with
-which commit a tree is compared, the lists of names, those drawn by chance, how a check is shared, and what is made of what the
-prover says. The last line is 'N passed, M failed'."""
+"""Tests the scripts that try mutants, without the prover, in small repositories: which a change affects, with which commit a tree
+is compared, which are gone, which a rota samples, how a check is shared, what is a stub in it, which are compiled together,
+and what is made of what the prover says. The last line is 'N passed, M failed'."""
 
 import argparse
 import contextlib
 import copy
+import itertools
 import os
 import pathlib
 import subprocess
@@ -13,10 +14,11 @@ import sys
 import tempfile
 
 sys.dont_write_bytecode = True
-import mutants
-import mutant_files
 import mutant_checks
 import mutant_choice
+import mutant_compiles
+import mutant_files
+import mutant_stubs
 from mutant_judge import Said
 
 LOW = """\
@@ -138,7 +140,6 @@ returns c = itself c.args.n
 
 FILES = {
     "crates.txt": "low:\nhigh: low\n",
-    "tests/mutant_judge.py": "# what judges\n",
     "crates/low/src/lib.rt": LOW,
     "crates/low/specs/Lib.antt": "pub mod Numbers\n",
     "crates/low/specs/Numbers.antt": NUMBERS,
@@ -149,47 +150,40 @@ FILES = {
     "crates/high/src/lib.rt": HIGH,
     "crates/high/proofs/Lib.antt": "mod Kept\n",
     "crates/high/proofs/Kept.antt": KEPT,
-    "crates/low/wrong/LIST": "a_step_is_two\ncount_is_one_more\ndouble_is_one_more\nquadruple_is_triple\n",
-    "crates/high/wrong/LIST": "of_nothing\nquintuple_is_quadruple\n",
 }
 
 # Mutants: the old text and the new one.
-BODIES = {
+MUTANTS = {
     "low/double_is_one_more": ("u16::from(n) + u16::from(n)", "u16::from(n) + u16::from(n) + 1"),
     "low/quadruple_is_triple": ("twice + twice", "twice + u16::from(n)"),
     "low/count_is_one_more": ("self.count", "self.count + 1"),
-    # It stands in no function.
-    "low/a_step_is_two": ("u16 = 1;", "u16 = 2;"),
     "high/quintuple_is_quadruple": ("quadruple(n) + u16::from(n)", "quadruple(n)"),
     "high/of_nothing": ("quintuple(counter.get())", "0"),
 }
 
-# Changes: what is changed, the file, the old and the new text, and what is due then.
-STEP = "a_step_is_two"
-LOW_ALL = {name.partition("/")[2] for name in BODIES if name.startswith("low/")}
+# Changes: what is changed, the file, the old and the new text, and what is affected then.
 CHANGES = [
-    ("a body", "low/src/lib.rt", "    twice + twice", "    2 * twice", {"quadruple_is_triple", STEP}),
-    ("the body of what is called", "low/src/lib.rt", "    m\n", "    m + 0\n", {STEP}),
-    ("a contract that is called", "low/src/lib.rt", "ensures { result ≡ m }", "ensures same { result ≡ m }", {"quadruple_is_triple", STEP}),
-    ("a contract of a library", "low/src/lib.rt", "n + n + n + n }", "4 * n }", {"quadruple_is_triple", "quintuple_is_quadruple", STEP}),
+    ("a body", "low/src/lib.rt", "    twice + twice", "    2 * twice", {"quadruple_is_triple"}),
+    ("the body of what is called", "low/src/lib.rt", "    m\n", "    m + 0\n", set()),
+    ("a contract that is called", "low/src/lib.rt", "ensures { result ≡ m }", "ensures same { result ≡ m }", {"quadruple_is_triple"}),
+    ("a contract of a library", "low/src/lib.rt", "n + n + n + n }", "4 * n }", {"quadruple_is_triple", "quintuple_is_quadruple"}),
     ("a comment", "low/src/lib.rt", "Twice the number", "Two times the number", set()),
     ("a comment of a specification", "low/specs/Numbers.antt", "-- the greatest", "-- the very greatest", set()),
     ("the layout", "low/src/lib.rt", "let twice = same", "let twice =\n        same", set()),
-    ("a clause of a type", "low/src/lib.rt", "λ c. c.count }", "λ c. c.count + 1 }", {"count_is_one_more", "of_nothing", STEP}),
-    ("the head of an impl", "low/src/lib.rt", "impl Counter {", "impl<> Counter {", {"count_is_one_more", "of_nothing", STEP}),
-    ("the head of a file", "low/src/lib.rt", "#![tactic(auto)]", "#![tactic(auto, using(std::x))]", LOW_ALL),
-    ("a definition that is reached", "low/specs/Numbers.antt", "greatest = 9", "greatest = 8", {"count_is_one_more", "of_nothing", STEP}),
-    ("one that is not", "low/specs/Numbers.antt", "lonely = 3", "lonely = 4", {STEP}),
-    ("an answer", "low/proofs/quadruple/Answers.antt", "itself c.args.n", "itself c.n", {"quadruple_is_triple", STEP}),
-    ("an answer of a type of another module", "low/proofs/other/Counter/get/Answers.antt", "c.count", "c.n", {"count_is_one_more", STEP}),
-    ("a lemma that an answer imports", "low/proofs/Facts.antt", "itself n = refl", "itself m = refl", {"quadruple_is_triple", STEP}),
-    ("a lemma that an attribute leads to", "low/proofs/Facts.antt", "again n = refl", "again m = refl", {"of_nothing", STEP}),
-    ("what is imported", "high/src/lib.rt", "use low::{Counter, quadruple}", "use low::{Counter, triple as quadruple}", {"quintuple_is_quadruple"}),
-    ("a mutant", "high/wrong/of_nothing.edit", "new: 0", "new: 1", {"of_nothing"}),
-    ("why it is no goal", "high/wrong/of_nothing.edit", "file:", "why: none\nfile:", set()),
-    ("for which reason", "high/wrong/of_nothing.edit", "file:", "refused: limit\nfile:", {"of_nothing"}),
-    ("a text that does not stand there", "high/wrong/of_nothing.edit", "old: quintuple", "old: quint", {"of_nothing"}),
-    ("what judges", "../tests/mutant_judge.py", "# what", "# who", {name.partition("/")[2] for name in BODIES}),
+    ("a clause of a type", "low/src/lib.rt", "λ c. c.count }", "λ c. c.count + 1 }", {"count_is_one_more", "of_nothing"}),
+    ("the head of an impl", "low/src/lib.rt", "impl Counter {", "impl<> Counter {", {"count_is_one_more", "of_nothing"}),
+    ("the head of a file", "low/src/lib.rt", "#![tactic(auto)]", "#![tactic(auto, using(std::x))]", set()),
+    ("a definition that is reached", "low/specs/Numbers.antt", "greatest = 9", "greatest = 8", {"count_is_one_more", "of_nothing"}),
+    ("one that is not", "low/specs/Numbers.antt", "lonely = 3", "lonely = 4", set()),
+    ("an answer", "low/proofs/quadruple/Answers.antt", "itself c.args.n", "itself c.n", set()),
+    ("a lemma that an answer imports", "low/proofs/Facts.antt", "itself n = refl", "itself m = refl", set()),
+    ("a lemma that an attribute leads to", "low/proofs/Facts.antt", "again n = refl", "again m = refl", set()),
+    ("a mutant", "high/mutants/of_nothing.edit", "new: 0", "new: 1", {"of_nothing"}),
+    ("why it is no goal", "high/mutants/of_nothing.edit", "file:", "why: none\nfile:", set()),
+    ("for which reason", "high/mutants/of_nothing.edit", "file:", "refused: limit\nwhy: none\nfile:", {"of_nothing"}),
+    ("for which reason, and not why", "high/mutants/of_nothing.edit", "file:", "refused: limit\nfile:", {"of_nothing"}),
+    ("a text that does not stand there", "high/mutants/of_nothing.edit", "old: quintuple", "old: quint", {"of_nothing"}),
+    ("a text outside of functions", "low/mutants/count_is_one_more.edit", "old: self.count", "old: u16 = 1", {"count_is_one_more"}),
 ]
 
 # What the prover says of functions, with what is made of it: the reason for which `f` is refused.
@@ -218,6 +212,8 @@ SAID = {
     ),
     "no clause was tried": ("fn c::f: no proof: a loop is not covered\nonly=1 proved=0", "form"),
     "it is proved": ("fn c::f: proved\nonly=1 proved=1", "none"),
+    "it has no holes of its own": ("fn c::f: no holes\nonly=1 holes=0", None),
+    "it depends on a hole": ("fn c::f: depends on a hole in ./proofs/g/Proof.antt\nonly=1 holes=1", None),
     "it waits for another one": ("fn c::f: not proved\nfn c::g: not proved\nonly=2 proved=0", None),
     "nothing is told of it": ("fn c::g: proved\nonly=1 proved=1", None),
 }
@@ -232,13 +228,9 @@ def make(folder):
     """A repository of two crates."""
     for name, text in FILES.items():
         write(folder / name, text)
-    for name, (old, new) in BODIES.items():
+    for name, (old, new) in MUTANTS.items():
         crate, _, stem = name.partition("/")
-        write(folder / "crates" / crate / "wrong" / f"{stem}.edit", f"file: src/lib.rt\nold: {old}\nnew: {new}\n")
-
-
-def every(folder):
-    return [body for crate in mutant_files.libraries(folder) for body in mutant_files.bodies_of(crate, folder)]
+        write(folder / "crates" / crate / "mutants" / f"{stem}.edit", f"file: src/lib.rt\nold: {old}\nnew: {new}\n")
 
 
 def with_text(path, old, new, action):
@@ -253,23 +245,50 @@ def with_text(path, old, new, action):
         path.write_text(text, encoding="utf-8")
 
 
-def sums(folder):
-    """Which mutants are due after each change."""
+def changes(folder):
+    """Which mutants each change affects."""
     make(folder / "base")
     make(folder / "tree")
-    stems_due = lambda: {body.stem for body in mutant_choice.due(every(folder / "tree"), mutant_choice.Tree(folder / "tree"), base)}
     base = mutant_choice.Tree(folder / "base")
-    yield "nothing is due where nothing changed", stems_due(), set()
+
+    def stems():
+        mutants = mutant_files.all_mutants(folder / "tree")
+        return {mutant.stem for mutant in mutant_choice.affected(mutants, mutant_choice.Tree(folder / "tree"), base)}
+
+    yield "nothing is affected where nothing changed", stems(), set()
     for what, file, old, new, wanted in CHANGES:
-        yield f"due after a change of {what}", with_text(folder / "tree/crates" / file, old, new, stems_due), wanted
-    write(folder / "tree/crates/high/wrong/another.edit", "file: src/lib.rt\nold: quadruple(n) + u16::from(n)\nnew: 5\n")
-    yield "one that is new is due", stems_due(), {"another"}
+        yield f"affected by a change of {what}", with_text(folder / "tree/crates" / file, old, new, stems), wanted
+    write(folder / "tree/crates/high/mutants/another.edit", "file: src/lib.rt\nold: quadruple(n) + u16::from(n)\nnew: 5\n")
+    yield "one that is new is affected", stems(), {"another"}
+    (folder / "tree/crates/high/mutants").rename(folder / "tree/crates/high/wrong")
+    (folder / "base/crates/low/mutants").rename(folder / "base/crates/low/wrong")
+    base = mutant_choice.Tree(folder / "base")
+    yield "a folder's earlier name makes none new, and is read in a base alone", stems(), set()
     write(folder / "base/README.md", "The kit is `kit-9`; any with its logic, `0a1b`, should do.\n")
     for version, wanted in (("kit-9 logic 0a1b", False), ("kit-8 logic 0a1b", False), ("kit-9 logic 2c", True), ("", True)):
-        yield f"due are all by another kit: {version}", mutant_choice.is_of_another_kit(folder / "base", version), wanted
-    (folder / "base/tests/mutant_judge.py").unlink()
-    base = mutant_choice.Tree(folder / "base")
-    yield "all are due where the base has none that judges", len(stems_due()), len(BODIES) + 1
+        yield f"all are tried by another kit: {version}", mutant_choice.is_of_another_kit(folder / "base", version), wanted
+
+
+def covers(folder):
+    """Which mutants are tried of the items that changed."""
+    make(folder)
+    one = mutant_files.all_mutants(folder)[0]
+
+    def cover(reached, chosen=()):
+        mutants = {name: copy.copy(one) for name in reached}
+        for name, mutant in mutants.items():
+            mutant.crate, mutant.name = name.split("/")[0], name
+        items = {mutants[name]: found if isinstance(found, dict) else dict.fromkeys(found, 1) for name, found in reached.items()}
+        return sorted(mutant.name for mutant in mutant_choice.covering(items, [mutants[name] for name in chosen]))
+
+    several = {"a/1": "xy", "a/2": "xy", "a/3": "x", "b/1": "y", "b/2": "z"}
+    yield "each item is reached so often as it can be", cover(several), ["a/1", "a/2", "b/2"]
+    yield "those that are tried all the same count", cover(several, ["a/3", "b/1", "b/2"]), ["a/1"]
+    yield "none where nothing changed", cover({"a/1": "", "b/1": ""}), []
+    far = {"a/1": {"x": 2}, "a/2": {"x": 1, "y": 3}, "a/3": {"x": 3}, "b/1": {"x": 1}, "b/2": {"y": 3}}
+    yield "by as few steps as any do", cover(far), ["a/2", "b/1", "b/2"]
+    even = {"a/1": "x", "b/1": "x", "c/1": "x", "c/2": "y", "c/3": "y"}
+    yield "crates that are open come first", cover(even, ["c/2"]), ["a/1", "c/1", "c/3"] if mutant_choice.COVER > 1 else ["c/1"]
 
 
 def bases(folder):
@@ -306,109 +325,144 @@ def bases(folder):
 
 
 def history(folder):
-    """Which mutants of a base or of a commit since then are gone."""
+    """Which mutants that commits took out are gone without a reason."""
     git = lambda *words: subprocess.run(["git", "-C", folder, *words], check=True, stdout=subprocess.PIPE, text=True).stdout.strip()
-    text, high, low = "file: src/lib.rt\nold: 1\nnew: 2\n", folder / "crates/high/wrong", folder / "crates/low/must-fail"
+    text, high, low = "file: src/lib.rt\nold: 1\nnew: 2\n", folder / "crates/high/mutants", folder / "crates/low/wrong"
 
-    def commit():
+    def commit(message="a commit"):
         git("add", "--all")
-        git("-c", "user.name=A", "-c", "user.email=a@b", "commit", "--quiet", "--allow-empty", "-m", "a commit")
+        git("-c", "user.name=A", "-c", "user.email=a@b", "commit", "--quiet", "--allow-empty", "-m", message)
         return git("rev-parse", "HEAD")
 
     folder.mkdir()
     git("init", "--quiet", "--initial-branch=main")
     write(folder / "crates.txt", "low:\nhigh: low\n")
-    write(high / "of_base.edit", text)
+    for name in ("of_base", "of_list", "moved", "told"):
+        write(high / f"{name}.edit", text)
     base = commit()
-    gone = lambda: mutant_choice.gone_since(folder, base)
+    gone = lambda: mutant_choice.gone(folder, base)
     yield "none is gone", gone(), []
     (high / "of_base.edit").unlink()
+    commit()
     yield "one that the base has", gone(), ["high/of_base"]
-    write(high / "LIST", "of_base: it is a trial now\n")
-    yield "the list says why", gone(), []
-    write(low / "short_lived.edit", text)
+    (high / "told.edit").unlink()
+    commit("High: a mutant goes\n\ntold: another one is of the same clause\n")
+    yield "one of which the message says why", gone(), ["high/of_base"]
+    commit("of_base: said later\n")
+    yield "a later message says why", gone(), []
+    write(high / "short_lived.edit", text)
     commit()
-    (low / "short_lived.edit").rename(low / "renamed.edit")
-    yield "one that a commit since then has", gone(), ["low/short_lived"]
-    commit()
-    yield "also where another commit renamed it", gone(), ["low/short_lived"]
-    yield "none that no commit since then has", mutant_choice.gone_since(folder, git("rev-parse", "HEAD")), []
-    write(folder / "crates/low/wrong/LIST", "short_lived: it is renamed\n")
-    (low / "renamed.edit").rename(high / "renamed.edit")
-    commit()
-    yield "one that another crate took over", gone(), []
-    (high / "renamed.edit").rename(low / "renamed.edit")
+    (high / "short_lived.edit").unlink()
+    commit("short_lived:\n\nno reason\n")
+    yield "one that came since the base, and a line without a reason", gone(), ["high/short_lived"]
+    write(high / "short_lived.edit", text)
     commit()
     yield "one that came back", gone(), []
-    for branch, name in (("side", "of_side"), ("main", "of_main")):
-        git("checkout", "--quiet", "-B", branch, "main")
-        write(low / f"{name}.edit", text)
-        commit()
-        (low / f"{name}.edit").unlink()
-        commit()
-    git("-c", "user.name=A", "-c", "user.email=a@b", "merge", "--quiet", "side")
-    yield "one of the main branch alone, where another one was merged", gone(), ["low/of_main"]
-    write(high / "LIST", "")
-    yield "a reason that is gone", gone(), ["high/of_base", "low/of_main"]
-
-
-def lists(folder):
-    """The lists of names."""
-    make(folder / "base")
-    make(folder / "tree")
-    tree, names = folder / "tree", folder / "tree/crates/high/wrong/LIST"
-    count = lambda: len(mutant_files.faults_of_list("high", tree))
-    gone = lambda: mutant_files.vanished(mutant_files.known(tree), mutant_files.known(folder / "base"))
-    yield "a list that is right", (count(), gone()), (0, [])
-    yield "a name that the list has not", with_text(names, "of_nothing\n", "", count), 1
-    yield "a name that is not there", with_text(names, "of_nothing\n", "of_all\nof_nothing\n", count), 1
-    yield "a reason for one that is there", with_text(names, "of_nothing\n", "of_nothing: it went\n", count), 2
-    yield "names out of order", with_text(names, "of_nothing\nquintuple_is_quadruple\n", "quintuple_is_quadruple\nof_nothing\n", count), 1
-
-    def written():
-        mutant_files.write_lists(tree)
-        return names.read_text(encoding="utf-8")
-
-    yield "names are added to a list", with_text(names, "of_nothing\n", "a_name: it went\n", written), "a_name: it went\nof_nothing\nquintuple_is_quadruple\n"
-    (tree / "crates/high/wrong/of_nothing.edit").unlink()
-    yield "one that is not there any more, and the list names it", (count(), gone()), (1, ["high/of_nothing"])
-    text = names.read_text(encoding="utf-8")
-    names.write_text(text.replace("of_nothing\n", ""), encoding="utf-8")
-    yield "one that is gone, and the list says nothing", (count(), gone()), (0, ["high/of_nothing"])
-    names.write_text(text.replace("of_nothing\n", "of_nothing: it is a trial now\n"), encoding="utf-8")
-    yield "one that is gone, and the list says why", (count(), gone()), (0, [])
-    names.write_text(text.replace("of_nothing\n", ""), encoding="utf-8")
-    write(tree / "crates/low/wrong/of_nothing.edit", "file: src/lib.rt\nold: self.count\nnew: 0\n")
+    low.mkdir(parents=True)
+    (high / "moved.edit").rename(folder / "crates/low/mutants-moved.edit")
+    commit()
+    yield "one that stands where none is read", gone(), ["high/moved"]
+    write(folder / "crates/low/mutants/moved.edit", text)
+    commit()
     yield "one that another crate took over", gone(), []
-    yield "is in the list of that", ("of_nothing" in written(), mutant_files.faults_of_list("low", tree)), (False, [])
+    write(low / "LIST", "of_list: it was a trial\n")
+    commit()
+    (low / "LIST").unlink()
+    (high / "of_list.edit").unlink()
+    commit()
+    yield "one of which a list of names said why", gone(), []
+    yield "none that went before the base", mutant_choice.gone(folder, git("rev-parse", "HEAD")), []
 
 
-def draws(folder):
-    """Those that are drawn, and what is told of all."""
+def rota(folder):
+    """Which mutants are sampled."""
+    git = lambda *words: subprocess.run(["git", "-C", folder, *words], check=True, stdout=subprocess.PIPE, text=True).stdout.strip()
     make(folder)
-    body = next(body for body in every(folder) if body.stem == "of_nothing")
-    bodies = [copy.copy(body) for _ in range(200)]
-    for number, each in enumerate(bodies):
-        each.name, each.wanted = f"high/{number}", "limit"
-    names = [tuple(each.name for each in due.drawn(bodies)) for _ in range(4)]
-    yield "twelve are drawn", [len(set(each)) for each in names], 4 * [12]
-    yield "by chance", len(set(names)) > 1, True
-    yield "all of fewer", len(due.drawn(bodies[:5])), 5
-    body = bodies[0]
+    kinds = [copy.copy(mutant) for mutant in mutant_files.all_mutants(folder) for _ in range(4)]
+    for number, mutant in enumerate(kinds):
+        mutant.name = f"{mutant.crate}/{number}"
+    git("init", "--quiet", "--initial-branch=main")
+    for number in range(50):
+        git("-c", "user.name=A", "-c", "user.email=a@b", "commit", "--quiet", "--allow-empty", "-m", str(number))
+    mutant_choice.ROUND = 20
+    commits = git("rev-list", "--first-parent", "--reverse", "HEAD").split()
 
-    def told(found):
+    def tried(first, last):
+        """Those that are sampled where a landing ends at one commit and its base is another one."""
+        git("checkout", "--quiet", commits[last - 1])
+        return {mutant.name for mutant in mutant_choice.sampled(kinds, folder, commits[first - 1])}
+
+    names = {mutant.name for mutant in kinds}
+    parts = [tried(first, first + 4) for first in range(19, 39, 4)]
+    yield "a round samples each of them", set().union(*parts), names
+    yield "once", sum(map(len, parts)), len(names)
+    yield "a part of them at a time", max(map(len, parts)) <= len(names) // 4, True
+    yield "however the landings part it", tried(21, 23) | tried(23, 25), tried(21, 25)
+    in_order = [{name.partition("/")[0] for name in tried(number, number + 1)} for number in range(19, 39)]
+    yield "crate by crate", len(list(itertools.groupby(crate for crates in in_order for crate in sorted(crates)))) <= 3, True
+    yield "also from one round to the next", tried(35, 45), tried(35, 39) | tried(39, 45)
+    yield "none without a commit", tried(30, 30), set()
+
+
+def stubs(folder):
+    """What is a stub in a check."""
+    make(folder)
+    more = "\nconst fn fixed() -> u8 {\n    7\n}\n\n#[tactic(cycle(turn))]\nfn turn() -> u8 {\n    8\n}\n\npub trait Kind {\n    fn kind(&self) -> u8 {\n        9\n    }\n}\n"
+    more += "\nimpl Drop for Counter {\n    fn drop(self) {\n        10;\n    }\n}\n\nimpl Kind for Counter {\n    fn kind(&self) -> u8 {\n        11\n    }\n}\n"
+    source = folder / "crates/low/src/lib.rt"
+    source.write_text(LOW + more, encoding="utf-8")
+    kept = {("src/lib.rt", "", "", "quadruple")}
+    mutant_stubs.put_stubs(folder / "crates/low", "low", kept)
+    text = source.read_text(encoding="utf-8")
+    yield "others lose their bodies", [part in text for part in ("u16::from(n) + u16::from(n)", "self.count\n", "    m\n", "10;", "11")], 5 * [False]
+    yield "those that are tried keep theirs, as do constants, cycles and what traits provide", [part in text for part in ("twice + twice", "7", "8", "9")], 4 * [True]
+    yield "contracts stay", text.count("ensures"), LOW.count("ensures")
+    proofs = folder / "crates/low/proofs"
+    holes = sorted(str(path.parent.relative_to(proofs)) for path in proofs.rglob("Proof.antt"))
+    yield "each stub's statement has a hole", holes, ["Counter/drop", "Counter/get", "CounterKind/kind", "double", "same"]
+    yield "which names it", (proofs / "Counter/get/Proof.antt").read_text(encoding="utf-8").splitlines()[0], "use Rattle.low.proofs.Counter.get.Statement as stated"
+    yield "the proof of what is tried stays", (proofs / "quadruple/Answers.antt").is_file(), True
+
+
+def compiled(folder):
+    """Which mutants are compiled together, and what is made of errors."""
+    make(folder)
+    write(folder / "crates/low/mutants/double_is_triple.edit", "file: src/lib.rt\nold: u16::from(n) + u16::from(n)\nnew: 3 * n\n")
+    mutants = mutant_files.all_mutants(folder)
+    parts = [([mutant.stem for mutant in batch], sorted(texts)) for batch, texts in mutant_files.rounds(mutants, folder)]
+    first = ["count_is_one_more", "double_is_one_more", "quadruple_is_triple", "of_nothing", "quintuple_is_quadruple"]
+    yield "those of one function are apart", parts, [(first, ["high/src/lib.rt", "low/src/lib.rt"]), (["double_is_triple"], ["low/src/lib.rt"])]
+    batch, texts = next(mutant_files.rounds(mutants, folder))
+    yield "all are applied", [new in texts[f"{mutant.crate}/src/lib.rt"] for mutant in batch for _, _, new in mutant.hunks], 5 * [True]
+
+    class Low:
+        name, folder = "low", ""
+
+    Low.folder = str(folder / "crates/low")
+    refused = lambda said: {mutant.stem: why for mutant, why in mutant_compiles.refused(batch, said, folder, Low).items()}
+    yield "none is refused where all is read", refused(f"src/lib.rt:1:1: {mutant_compiles.IS_READ}: help"), {}
+    error = f"{folder}/crates/high/src/lib.rt:7:1: error[unknown]: no `x`"
+    yield "those of a file with an error are", sorted(refused(error)), ["of_nothing", "quintuple_is_quadruple"]
+    yield "and all where the error is elsewhere", len(refused("other.rt:7:1: error[unknown]: no `x`")), 5
+
+
+def told(folder):
+    """What is told of mutants."""
+    make(folder)
+    mutant = next(mutant for mutant in mutant_files.all_mutants(folder) if mutant.stem == "of_nothing")
+
+    def count(found):
         with open(os.devnull, "w", encoding="utf-8") as nobody, contextlib.redirect_stdout(nobody):
-            return mutant_checks.report({body: (found, "")})
+            return mutant_checks.report({mutant: (found, "")})
 
-    yield "one at a limit has to say why", told("limit"), (0, 1)
-    yield "one that shows more than it says, too", told("goal"), (0, 1)
-    body.why = "no clause computes it"
-    yield "one that says why", told("limit"), (1, 0)
-    yield "one that shows more than it says", told("goal"), (1, 0)
-    yield "one that shows less", told("name"), (0, 1)
-    yield "one that is proved", told("none"), (0, 1)
-    body.wanted, body.why = "type", ""
-    yield "one that does not fit has no need to", told("type"), (1, 0)
+    yield "one that a goal refuses", count("goal"), (1, 0)
+    yield "one that shows less", count("limit"), (0, 1)
+    yield "one that is proved", count("none"), (0, 1)
+    mutant.wanted = "limit"
+    yield "one that shows more than it says", count("goal"), (1, 0)
+    yield "one that shows less than it says", count("name"), (0, 1)
+    mutant.fault = "it has no reason"
+    yield "one that has a fault", count("goal"), (0, 1)
     yield "counts", mutant_checks.counted(["goal", "limit", "goal", "none"]), "2 by a goal, 0 by type, 1 by limit, 0 by form, 0 by name"
 
 
@@ -424,15 +478,16 @@ def judged(_):
 
 
 class Checked(mutant_checks.Crate):
-    """A crate whose checks are answered by what a test says of each function."""
+    """A crate whose checks are answered by what a test says of each function, over stubs and over all of the crate."""
 
-    def __init__(self, bodies, room, told):
-        super().__init__("low", bodies, [], None, room)
-        self.told, self.tried = told, []
+    def __init__(self, mutants, room, over_stubs, over_all):
+        super().__init__("low", mutants, [], None, room)
+        self.answers, self.tried = {True: over_stubs, False: over_all}, []
 
-    def check(self, texts, only):
-        self.tried.append(sorted(only))
-        return self.told(texts, only)
+    def check(self, texts, only, stubbed=None):
+        over_stubs = stubbed is not None
+        self.tried.append(("stubs" if over_stubs else "all", sorted(only)))
+        return self.answers[over_stubs](texts, only)
 
 
 def shared(folder):
@@ -440,26 +495,37 @@ def shared(folder):
     make(folder)
     mutant_checks.ROOT = folder
     refused = "note: src/lib.rt:3:1: it is not proved that the clause holds (`returns`); it may be false\nfn low::{}: no proof; `search` did not prove `returns`\n"
+    accepted = "fn low::{}: depends on a hole in ./proofs/x/Proof.antt\n"
+    changed = ["Counter::get", "double", "quadruple"]
+    goals = dict.fromkeys(["count_is_one_more", "double_is_one_more", "quadruple_is_triple"], "goal")
+    # `same` is the only function that no mutant changes, and so the control.
+    said = lambda names, control=accepted: Said("".join((control if name == "same" else refused).format(name) for name in names) + "only=1 holes=0")
+    right = lambda texts, only: said(only)
+    blind = lambda texts, only: Said("".join(accepted.format(name) for name in only) + "only=1 holes=1")
 
-    def run(told):
-        bodies = [body for body in mutant_files.bodies_of("low", folder) if body.stem != STEP]
-        crate = Checked(bodies, folder, told)
+    def run(over_stubs, over_all=right):
+        mutants = mutant_files.mutants_of("low", folder)
+        crate = Checked(mutants, folder, over_stubs, over_all)
         mutant_checks.Trial([crate], 1, tells=False).run()
-        return {body.stem: crate.outcomes[body][0] for body in bodies}, crate.tried
+        return {mutant.stem: crate.outcomes[mutant][0] for mutant in mutants}, crate.tried
 
-    said = lambda names: Said("".join(refused.format(name) for name in names) + "only=1 proved=0")
-    all_three = ["Counter::get", "double", "quadruple"]
-    every_goal = dict.fromkeys(["count_is_one_more", "double_is_one_more", "quadruple_is_triple"], "goal")
-    yield "different functions are one check", run(lambda _, only: said(only)), (every_goal, [all_three])
+    yield "different functions are one check over stubs, beside a control", run(right), (goals, [("stubs", [*changed, "same"])])
+    found, tried = run(lambda texts, only: said(only, refused))
+    yield "where the control is refused, all of the crate is asked", (found, tried[1:]), (goals, [("all", changed)])
+    found, tried = run(lambda texts, only: said(set(only) - {"same"}))
+    yield "or where nothing is told of it", (found, tried[1:]), (goals, [("all", changed)])
+    yield "what stubs let pass is tried over all", run(blind), (goals, [("stubs", [*changed, "same"]), ("all", changed)])
+    accepts = lambda texts, only: Said("fn low::double: proved\n" + said(set(only) - {"double"}).text)
+    yield "and is not refused where that is proved", run(blind, accepts)[0], goals | {"double_is_one_more": "none"}
     breaks = lambda texts, only: said(only) if "self.count + 1" not in str(texts) else Said("error[E1]: no")
-    found, tried = run(breaks)
-    yield "one that does not compile is told apart", (found, len(tried)), (every_goal | {"count_is_one_more": "other"}, 3)
+    found, tried = run(breaks, breaks)
+    yield "one that does not compile is told apart", (found, len(tried)), (goals | {"count_is_one_more": "other"}, 4)
     waits = lambda _, only: said(only) if only == ["quadruple"] else said(set(only) - {"quadruple"})
-    found, tried = run(waits)
-    yield "one that waits is tried by itself", (found, tried[1:]), (every_goal, [["quadruple"]])
+    found, tried = run(blind, waits)
+    yield "one that waits is tried by itself", (found, tried[2:]), (goals, [("all", ["quadruple"])])
     other = lambda _, only: Said("rattle: error: `low` has no function `double`: help") if "double" in only else said(only or ["double"])
-    found, tried = run(other)
-    yield "a function of another name is asked of the crate", (found, [] in tried), (every_goal, True)
+    found, tried = run(blind, other)
+    yield "a function of another name is asked of the crate", (found, ("all", []) in tried), (goals, True)
 
     def elsewhere(_, only):
         if "Counter::get" in only:
@@ -469,17 +535,17 @@ def shared(folder):
         return said(only)
 
     found, tried = run(elsewhere)
-    yield "or by the name that the prover tells", (found, tried[-1]), (every_goal, ["a::Counter::get", "double", "quadruple"])
+    yield "or by the name that the prover tells", (found, tried[-1]), (goals, ("stubs", ["a::Counter::get", "double", "quadruple", "same"]))
     silent = lambda _, only: Said("fn low::other: proved\nonly=1 proved=1")
-    yield "what is not judged is not refused", run(silent)[0], dict.fromkeys(every_goal, "other")
+    yield "what is not judged is not refused", run(silent, silent)[0], dict.fromkeys(goals, "other")
     late = lambda _, only: None if "double" in only else said(only)
-    yield "nor is what comes to no end", run(late)[0], every_goal | {"double_is_one_more": "none"}
+    yield "nor is what comes to no end", run(late, late)[0], goals | {"double_is_one_more": "none"}
 
 
 def main():
     argparse.ArgumentParser(description=__doc__, formatter_class=argparse.RawDescriptionHelpFormatter).parse_args()
     passed = failed = 0
-    for cases in (sums, bases, history, lists, draws, judged, shared):
+    for cases in (changes, covers, bases, history, rota, stubs, compiled, told, judged, shared):
         with tempfile.TemporaryDirectory(prefix="giputils-mutant-test-") as folder:
             for name, found, wanted in cases(pathlib.Path(folder, "it")):
                 if found == wanted:
