@@ -369,7 +369,7 @@ def run(words, folder):
     script, however that ends."""
     streams = {"stdin": subprocess.PIPE, "stdout": subprocess.PIPE, "stderr": subprocess.STDOUT}
     guarded = ["sh", "-c", GUARDED, str(SECONDS), *words]
-    with subprocess.Popen(guarded, cwd=folder, start_new_session=True, **streams) as process:
+    with subprocess.Popen(guarded, cwd=folder, process_group=0, **streams) as process:
         # The guard waits while this thread holds its standard input.
         held, process.stdin = process.stdin, None
         try:

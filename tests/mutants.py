@@ -73,8 +73,8 @@ def arguments():
     parser.add_argument("--said", type=pathlib.Path, metavar="FOLDER")
     asked = parser.parse_args()
     every = mutant_files.all_mutants()
-    if unknown := set(asked.crates) - {mutant.crate for mutant in every}:
-        parser.error(f"'{min(unknown)}' is no crate with mutants")
+    if unknown := set(asked.crates) - set(mutant_files.libraries()):
+        parser.error(f"'{min(unknown)}' is no crate")
     if unknown := set(asked.only) - {mutant.name for mutant in every}:
         parser.error(f"'{min(unknown)}' is no mutant")
     if asked.base and mutant_choice.git(ROOT, "rev-parse", "--verify", "--quiet", f"{asked.base}^{{commit}}") is None:
