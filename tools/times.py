@@ -7,9 +7,8 @@ The yardstick is the check of one small crate from nothing, before ./test and af
 machines compare, and of one whose processors are lent out to others.
 
 The processes are looked at five times a second. The processor time of the prover's is added up by crate and by what
-they prove: the crate, its tests, the wrong bodies that `rt ci` tries, or those that tests/due.py tries. What they
-take between the last look and their end is no part of that. Stages are the commands that ./test runs. What is no proof
-of a crate is compilers, programs and scripts, and the small crates of wrong_test.py.
+they prove: the crate, or mutants of it. What they take between the last look and their end is no part of that. Stages are
+the commands that ./test runs. What is no proof of a crate is compilers, trials, programs and scripts.
 """
 
 import argparse
@@ -27,7 +26,7 @@ import time
 ROOT = pathlib.Path(__file__).resolve().parent.parent
 # It stands on the kit alone.
 YARDSTICK = "giputils_refusing"
-PARTS = ("proof", "tests", "must-fail", "mutants")
+PARTS = ("proof", "mutants")
 TICKS = os.sysconf("SC_CLK_TCK")
 
 
@@ -82,12 +81,10 @@ def part_of(process):
     except OSError:
         return None
     crate = words[words.index("--crate-name") + 1]
-    # A wrong body is checked in a copy of the crate; what stands elsewhere is no crate of this repository.
-    if not pathlib.Path(folder).is_relative_to(ROOT):
-        parts = {"/rt-edit-": "must-fail", "/giputils-mutant-": "mutants"}
-        part = next((part for name, part in parts.items() if name in folder), None)
-        return (crate, part) if part else None
-    return crate, "tests" if "--test" in words else "proof"
+    if pathlib.Path(folder).is_relative_to(ROOT):
+        return crate, "proof"
+    # Mutants are checked in a copy of the crate; what stands elsewhere is no crate of this repository.
+    return (crate, "mutants") if "/giputils-mutant-" in folder else None
 
 
 class Gate:
@@ -131,7 +128,7 @@ def crates():
 
 def print_crates(sums):
     """Prints the seconds of the prover by crate and part."""
-    print("\n| Crate | Proof | Proof of tests | `must-fail/` | `wrong/` |\n|---|---|---|---|---|")
+    print("\n| Crate | Proof | Mutants |\n|---|---|---|")
     for crate in crates():
         cells = [f"{sums[crate, part]:.0f}" if sums[crate, part] else "" for part in PARTS]
         print(f"| `{crate}` | {' | '.join(cells)} |")
