@@ -105,6 +105,7 @@ METHOD = re.compile(r"(?:^    (?://|#)[^\n]*\n)*^    (?:pub )?fn (\w+).*?^    \}
 FREE = re.compile(r"(?:^(?://|#)[^\n]*\n)*^(?:pub )?fn (\w+).*?^\}$", re.DOTALL | re.MULTILINE)
 DEFINED = re.compile(r"^(?:  )?(?:(?:abbrev|unfoldable|pub|record|data) +)+(?!use |mod )([^\s:(){}]+)(?=[ :({]|$)")
 IMPORTS = re.compile(r"\buse Rattle\.(\w+\.specs\.(?!contracts|declared)[\w.]+)\.\{([^}]*)\}")
+HANDED_ON = re.compile(r"^(?:unfoldable )?pub use Rattle\.(\w+\.specs\.[\w.]+)\.\{([^}]*)\}$", re.MULTILINE)
 RECORD = re.compile(r"^( *)pub record ([^\s:(){}]+)([^\n]*?) : Type 0 where\n((?:\1 +[^\n]*\n)+)", re.MULTILINE)
 LEMMA = re.compile(r"^( *)(pub )?(?:unfoldable )?([^\s:(){}]+) :(?= |$)(.*(?:\n(?:\1 +.*)?)*)", re.MULTILINE)
 
@@ -309,10 +310,21 @@ def file_of(module):
     return path if path.is_file() else None
 
 
+@functools.cache
+def handed_on_by(module):
+    """The words that the Prelude of a crate hands on, each with the module that declares it; of another module none."""
+    path = file_of(module)
+    if not module.endswith(".specs.Prelude") or path is None:
+        return {}
+    groups = HANDED_ON.findall(path.read_text(encoding="utf-8"))
+    return {name: own for own, group in groups for name in group.split(", ")}
+
+
 def words(text, lines):
-    """The words of specs/ that some lines of a text use, each with the module that the text imports it from."""
+    """The words of specs/ that some lines of a text use, each with the module that declares it."""
     said = "\n".join(line for line in lines if "use Rattle." not in line)
     names = {name: module for module, group in IMPORTS.findall(text) for name in re.split(r",\s*", group.strip())}
+    names = {name: handed_on_by(module).get(name, module) for name, module in names.items()}
     return {name: names[name] for name in names if re.search(rf"(?<![\w-]){re.escape(name)}(?![\w-])", said)}
 
 
