@@ -24,15 +24,14 @@ take() {
     done
 }
 
-# Makes a crate of a module of another one, with the proofs that are named: a caller of the libraries. It leaves out the
-# module's tests, which use other modules of that crate and end the file.
+# Makes a crate of a module of another one, with the proofs that are named: a caller of the libraries.
 call() {
     local caller=$1 crate=$2 module=$3 libraries=$4 name
     rt new "crates/$caller" start_lib > log 2>&1 || exit 2
     rm -rf "crates/$caller"/{src,specs,proofs}
     mkdir "crates/$caller/src"
     name=$(basename "$module")
-    sed '/^#\[test\]$/,$d' "$here/crates/$crate/src/$module.rt" | sed '${/^$/d}' > "crates/$caller/src/$name.rt" || exit 2
+    cp "$here/crates/$crate/src/$module.rt" "crates/$caller/src/$name.rt" || exit 2
     printf '%s\n' "//! A caller of $libraries." '#![tactic(auto)]' '' "pub mod $name;" > "crates/$caller/src/lib.rt"
     for name in "${@:5}"; do
         mkdir -p "crates/$caller/proofs/$(dirname "$name")"
@@ -46,9 +45,9 @@ call() {
 take giputils_vec giputils_bounded giputils_heap gipsat_cnf gipsat_kernel gipsat_search gipsat_solver
 take giputils_hash giputils_index giputils_bits gipsat_plain
 take gipmc_circuits gipmc_unroll gipmc_reduce gipmc_ic3 gipmc_engines
-call heap_caller giputils_trials heap/caller giputils_heap
+call heap_caller giputils_uses heap_caller giputils_heap
 call solver_caller gipsat_uses first_question "gipsat_solver gipsat_cnf" FirstQuestion first_question/ask/Answers
-call engine_caller gipmc_engines_trials verdict "gipmc_engines gipmc_circuits gipsat_cnf gipsat_plain"
+call engine_caller gipmc_uses pages/verdict "gipmc_engines gipmc_circuits gipsat_cnf gipsat_plain"
 
 # What a row that fails shows.
 seen() {

@@ -1,11 +1,11 @@
 #!/usr/bin/env python3
 """Compares the pages with the sources, and ends with 'N passed, M failed'.
 
-Each crate that PARTS names, and each one with a page for callers, has a page crates/NAME/README.md, with the parts that
-PARTS lists. A page for callers, crates/NAME/CALLING.md, quotes the sources. Pages may quote, between a line
+Each crate that PARTS names, and each one with a page for callers, has a page README.md in its folder of crates/ or
+trials/, with the parts that PARTS lists. A page for callers, crates/NAME/CALLING.md, quotes the sources. Pages may quote, between a line
 `<!-- quote ... -->` and the next line `<!-- end -->`; all else is written by hand.
 
-    <!-- quote file giputils_uses/src/drain.rt -->   a file below crates/
+    <!-- quote file giputils_uses/src/drain.rt -->   a file below crates/, or one below the root where it is of trials/
     <!-- quote file giputils_uses/src/activity.rt: bump pick -->
                                                     the same, with these functions and methods alone
     <!-- quote functions gipsat/src/main.rt: use solve -->
@@ -30,8 +30,8 @@ stands there, or in the README beside it, by name. Below a quote stand its words
 specs/. Each word of specs/ that a public contract uses has a comment there, and a link on a page that quotes contracts.
 The crate `giputils` hands out the files of specs/ that have these words, and all public lemmas.
 
-Each line of a test in Rust on a README that is not quoted stands in giputils_trials/src/examples.rt, its imports under
-the names that `giputils` gives them. The page of `gip` has the script that `gip` is run on, with its replies.
+Each line of a test in Rust on a README that is not quoted stands in trials/giputils_trials/src/examples.rs, its imports
+under the names that `giputils` gives them. The page of `gip` has the script that `gip` is run on, with its replies.
 docs/DESIGN.md names each crate, and links to its README; the solver has the names that stand there beside MiniSat's,
 the imports of its modules make no cycle, and each module begins with a line `//!`. A type has a name that no type of
 another file has, but for those of tests/names.txt, which has a reason for each. Each file that a page names is there,
@@ -51,6 +51,7 @@ import textwrap
 
 ROOT = pathlib.Path(__file__).resolve().parent.parent
 CRATES = ROOT / "crates"
+TRIALS = ROOT / "trials"
 NAMES = ROOT / "tests/names.txt"
 GATHERED = tuple(f"giputils_{part}" for part in "bits bounded hash heap index stat vec".split())
 SOLVER, WITH_SOLVER = "gipsat_solver", ", with a solver"
@@ -390,7 +391,8 @@ def quote(page, what, complaints):
     kind, _, names = what.partition(":")
     chosen = names.split()
     if kind.startswith(("file ", "functions ", "bare ")):
-        file = CRATES / kind.partition(" ")[2]
+        path = kind.partition(" ")[2]
+        file = (ROOT if path.startswith("trials/") else CRATES) / path
         if not file.is_file():
             complaints.append(f"there is no {kind}")
             return []
@@ -438,9 +440,10 @@ def too_wide(text):
 def lost_files(text):
     """The files that a page names and that are not there."""
     lost = []
-    for path in re.findall(r"`((?:src|specs|proofs|tests|tools|docs|crates)/[\w/.-]+)`", QUOTE.sub("", text)):
-        ways = [ROOT] if path.startswith(("tests", "tools", "docs", "crates")) else CRATES.iterdir()
-        found = [way for way in ways for end in ("", ".rt", ".antt") if (way / f"{path}{end}").exists()]
+    for path in re.findall(r"`((?:src|specs|proofs|tests|tools|docs|crates|trials)/[\w/.-]+)`", QUOTE.sub("", text)):
+        is_whole = path.startswith(("tests", "tools", "docs", "crates", "trials"))
+        ways = [ROOT] if is_whole else [*CRATES.iterdir(), *TRIALS.iterdir()]
+        found = [way for way in ways for end in ("", ".rt", ".rs", ".antt") if (way / f"{path}{end}").exists()]
         if not found and "NAME" not in path:
             lost.append(f"there is no {path}")
     return lost
@@ -497,7 +500,7 @@ def imports(text):
 
 def examples(text):
     """The lines of a page's tests in Rust that no test has, imports by the names that `giputils` gives them."""
-    tests = (CRATES / "giputils_trials/src/examples.rt").read_text(encoding="utf-8")
+    tests = (TRIALS / "giputils_trials/src/examples.rs").read_text(encoding="utf-8")
     found = re.findall(r"^```rust\n(.*?)^```", QUOTE.sub("", text), re.DOTALL | re.MULTILINE)
     lines = [line for example in found if "#[test]" in example for line in example.split("\n") if packed(line)]
     complaints, told, imported = [], packed(tests), imports(tests)
@@ -637,9 +640,9 @@ def ring_of_modules(folder):
 def map_of_crates(page, text):
     """What is wrong with the map: a crate that it does not name, a name beside one of MiniSat that the solver has not,
     modules of the solver that import each other, and a module whose first line says nothing."""
-    crates = sorted(path.parent.name for path in CRATES.glob("*/src"))
+    crates = sorted(path.parent.name for folder in (CRATES, TRIALS) for path in folder.glob("*/src"))
     complaints = [f"it does not name {crate}" for crate in crates if not re.search(rf"[`\[]{crate}[`\]]", text)]
-    readmes = sorted(path.relative_to(ROOT) for path in CRATES.glob("*/README.md"))
+    readmes = sorted(path.relative_to(ROOT) for folder in (CRATES, TRIALS) for path in folder.glob("*/README.md"))
     complaints += [f"it has no link to {path}" for path in readmes if f"](../{path})" not in text]
     folders = [CRATES / crate / "src" for crate in ("gipsat_cnf", "gipsat_kernel", "gipsat_search", "gipsat_solver")]
     solver = "".join(path.read_text(encoding="utf-8") for folder in folders for path in folder.rglob("*.rt"))
@@ -647,10 +650,15 @@ def map_of_crates(page, text):
     lost = [name for row in rows for name in re.findall(r"`(\w+)`", row) if not name.startswith("gip") and not re.search(rf"\b{name}\b", solver)]
     complaints += [f"the solver has no {name}" for name in lost]
     complaints += [ring for folder in folders for ring in ring_of_modules(folder)]
-    for path in sorted(CRATES.glob("*/src/**/*.rt")):
+    for path in sources():
         if not path.read_text(encoding="utf-8").startswith("//! "):
             complaints.append(f"{path.relative_to(ROOT)} does not begin with a line //!")
     return complaints + sound(page, text)
+
+
+def sources():
+    """The sources of all crates, those that are proved and those of trials/."""
+    return sorted([*CRATES.glob("*/src/**/*.rt"), *TRIALS.glob("*/src/**/*.rs")])
 
 
 def names_with_reasons():
@@ -663,7 +671,7 @@ def names_with_reasons():
 def names_given_twice():
     """The names that types of several files have."""
     files = collections.defaultdict(set)
-    for path in CRATES.glob("*/src/**/*.rt"):
+    for path in sources():
         text = without_comments(path.read_text(encoding="utf-8"))
         for name in re.findall(r"^ *(?:pub(?:\(\w+\))? )?(?:struct|enum|trait) (\w+)", text, re.MULTILINE):
             files[name].add(path)
@@ -678,6 +686,11 @@ def decisions(page, text):
     return complaints + sound(page, text)
 
 
+def folder_of(crate):
+    """The folder of a crate, which is proved, or one of trials/."""
+    return TRIALS / crate if (TRIALS / crate).is_dir() else CRATES / crate
+
+
 def arguments():
     """What the command line asks for."""
     parser = argparse.ArgumentParser(description=__doc__, formatter_class=argparse.RawDescriptionHelpFormatter)
@@ -688,12 +701,13 @@ def arguments():
 def main():
     write = arguments().write
     pages = {page: sound for folder in ("docs", "tools") for page in sorted((ROOT / folder).rglob("*.md"))}
-    pages |= {ROOT / "docs/DESIGN.md": map_of_crates, ROOT / "README.md": readme}
+    pages |= {ROOT / "docs/DESIGN.md": map_of_crates, ROOT / "README.md": readme, TRIALS / "README.md": sound}
     pages[ROOT / "docs/DECISIONS.md"] = decisions
     callers = sorted(CRATES.glob("*/CALLING.md"))
     pages |= {page: page_for_callers for page in callers}
-    wanted = {page.with_name("README.md") for page in callers} | {CRATES / crate / "README.md" for crate in PARTS}
-    pages |= {page: readme_of_crate for page in sorted(wanted | set(CRATES.glob("*/README.md")))}
+    wanted = {page.with_name("README.md") for page in callers} | {folder_of(crate) / "README.md" for crate in PARTS}
+    wanted |= {page for folder in (CRATES, TRIALS) for page in folder.glob("*/README.md")}
+    pages |= {page: readme_of_crate for page in sorted(wanted)}
     failed = 0
     for page, look in pages.items():
         complaints = []

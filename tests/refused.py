@@ -1,9 +1,9 @@
 #!/usr/bin/env python3
 """Tests that want of memory is told exactly where a request is refused, and what memory a library holds.
 
-    tests/refused.py CRATES
+    tests/refused.py PROGRAMS
 
-A row is a test of a crate of trials, which `rt ci` has built below CRATES (`crates/NAME/out/NAME_tests`). It runs once for
+A row is a test of a crate of trials/, whose tests `tests/trials.py` has left in PROGRAMS (trials/out). It runs once for
 each request for memory that it makes, which is refused by tests/refuse.c, alone or with those behind it. A test that
 asks for answers has to end with the error of a refused call each time; a collection at the end of `simplify` alone may be
 refused unseen, since a later one does its work. One that goes on behind a refused call has to pass so often at least, and
@@ -29,7 +29,7 @@ TOLD = [
     ("gipsat_trials", "refusals::small_questions_are_answered", 100),
     ("gipsat_trials", "texts::answered::a_text_is_answered", 20),
     ("gipsat_trials", "texts::checked::a_proof_is_checked", 20),
-    ("gipmc_circuits_trials", "longer::a_literal_of_no_variable_is_not_followed", 20),
+    ("gipmc_trials", "circuits::longer::a_literal_of_no_variable_is_not_followed", 20),
 ]
 
 # In how many runs of a test a collection at the end of `simplify` is refused.
@@ -48,16 +48,16 @@ HELD = [
 ]
 
 
-def program_of(crates, crate):
-    return (crates / crate / "out" / f"{crate}_tests").resolve()
+def program_of(programs, crate):
+    return (programs / f"{crate}_tests").resolve()
 
 
 class Trials:
-    """A machine on which tests of crates of trials run."""
+    """A machine on which tests of crates of trials/ run."""
 
-    def __init__(self, crates, folder):
+    def __init__(self, programs, folder):
         names = sorted({crate for crate, _, _ in TOLD + KEPT + HELD})
-        self.machine = memory.Machine({name: str(program_of(crates, name)) for name in names}, folder)
+        self.machine = memory.Machine({name: str(program_of(programs, name)) for name in names}, folder)
 
     def end_of(self, crate, test, first=0, last=0):
         """How a test ends that is refused its requests from the first to the last one: `passed`, `refused`, or otherwise."""
@@ -110,14 +110,14 @@ class Trials:
 
 def main():
     parser = argparse.ArgumentParser(description=__doc__, formatter_class=argparse.RawDescriptionHelpFormatter)
-    parser.add_argument("crates", metavar="CRATES", type=pathlib.Path)
+    parser.add_argument("programs", metavar="PROGRAMS", type=pathlib.Path)
     asked = parser.parse_args()
     passed = failed = 0
     with tempfile.TemporaryDirectory() as folder:
-        trials = Trials(asked.crates, folder)
+        trials = Trials(asked.programs, folder)
         for rows, fault_of in ((TOLD, trials.fault_of_told), (KEPT, trials.fault_of_kept), (HELD, trials.fault_of_held)):
             for crate, test, number in rows:
-                there = program_of(asked.crates, crate).is_file()
+                there = program_of(asked.programs, crate).is_file()
                 fault = fault_of(crate, test, number) if there else "its tests are not built"
                 print(f"FAILED: {crate} {test}: {fault}" if fault else f"ok: {crate} {test}", flush=True)
                 passed, failed = passed + (not fault), failed + bool(fault)

@@ -7,8 +7,8 @@ solver goes on behind a request for memory that is refused.
 `tools/make_lists.py --rows` puts the lists of tools/rows first into stdin and stdout of the program that runs them. A
 file of tools/rows counts as a test, and so do the lists behind the rows, which begin where the rows end.
 
-The lists of tests/lists are of formulas. Each is given as calls to GIPUTILS_REPLAY, the program that `rt ci` has built
-(crates/giputils_replay/out/giputils_replay), and its answers are compared. Sessions of calls at random are run again with
+The lists of tests/lists are of formulas. Each is given as calls to GIPUTILS_REPLAY, the program that `tests/trials.py`
+has built (trials/out/giputils_replay), and its answers are compared. Sessions of calls at random are run again with
 each request for memory refused alone, as tests/memory.py does: one call tells that at the most, no clause is left open,
 and the last answer is that of the session without this call. Where the call is made again, it is not refused, and the
 last answer is that of the session in which nothing is refused. A few requests are of the input or of the text of a reply,

@@ -35,7 +35,7 @@ ROOT = Path(__file__).resolve().parent.parent
 TABLES = ROOT / "tests" / "lists" / "tables.txt"
 
 # The folder of the program that runs the lists.
-REPLAY = ROOT / "crates" / "giputils_replay"
+REPLAY = ROOT / "trials" / "giputils_replay"
 
 # The files of tools/rows, and the first line behind their lists.
 ROWS = tuple(ROOT / "tools" / "rows" / f"{name}.txt" for name in ("base", "bits", "solver"))

@@ -7,4 +7,5 @@ pub mod confirm;
 pub mod counter;
 pub mod larger;
 pub mod lights;
+pub mod pages;
 pub mod throughout;

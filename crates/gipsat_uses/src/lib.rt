@@ -8,3 +8,4 @@ pub mod first_question;
 pub mod follows;
 pub mod incremental;
 pub mod minimal_core;
+pub mod pages;

@@ -2,6 +2,7 @@ mod Counting
 mod Examples
 mod Held
 mod Multiples
+mod Order
 mod Picked
 mod Reaching
 mod Searches

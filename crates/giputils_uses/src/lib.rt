@@ -5,6 +5,7 @@ pub mod activity;
 pub mod compaction;
 pub mod counts;
 pub mod drain;
+pub mod heap_caller;
 pub mod last;
 pub mod learned;
 pub mod paths;

@@ -1,5 +1,0 @@
-use Rattle.std.proofs.Common.{◌≡◌}
-use Rattle.gipsat_trials.proofs.search_example.find_model.Given as goal
-
-abbrev pub invariant-loop : goal.invariant-loop
-invariant-loop l = l.kernel ≡ l.fn.kernel

@@ -1,2 +1,0 @@
-mod Greatest
-mod Order
