@@ -1,4 +1,4 @@
-// The workload `calls` of giputils_bench over MiniSat's library, for tools/speed.py to compare with. With Debian's
+// The workload `calls` of gipsat_bench over MiniSat's library, for tools/speed.py to compare with. With Debian's
 // package minisat:
 //
 //     g++ -O3 -DNDEBUG -o DIR/bench-minisat-library tools/minisat_calls.cc -lminisat

@@ -8,6 +8,10 @@ and others with names bench-*. Each takes WORKLOAD SIZE SEED REPS, runs the work
 generator PCG32 of giputils_bench and the next seed, and writes the same checksum as giputils_bench. Status 3 tells
 that it lacks the workload. Without DIR only the ratios of two workloads of giputils_bench are measured.
 
+The workloads of the solver, `calls` and `calls_within`, are measured where they are named, and by another program:
+trials/out/gipsat_bench, which tests/trials.py builds without proofs. A proved one is faster; tools/unproved.py --help says by
+how much. Their ratios are not stored.
+
 A line of tools/speed.txt is a ratio of user times: WORKLOAD SIZE REPS OTHER RATIO NOISE, the time of giputils_bench by
 the time of OTHER, a program, or a workload of giputils_bench. The programs of a workload run by turns, N times (7) on
 one processor. A time is the least of a program's, since other work on the machine only adds to it. In each turn
@@ -40,8 +44,14 @@ BEGIN, END = "<!-- speed -->\n", "<!-- end -->\n"
 CRATE = "giputils"
 SEED = "7"
 SIZES = (1000, 1000000)
-# How many questions the workloads of the solver ask.
+# The workloads of the solver, and how many questions they ask.
+OF_SOLVER = ("calls", "calls_within")
 CALLS = (1000, 100000)
+# What runs the workloads of containers, what runs those of the solver, and how each is made.
+PROGRAMS = (
+    ("crates/giputils_bench/out/giputils_bench", "`rt run` in crates/giputils_bench"),
+    ("trials/out/gipsat_bench", "tests/trials.py gipsat_bench"),
+)
 # The system counts no shorter user time well, and sometimes tells 0.
 SHORTEST = 0.001
 # How often a workload runs at the greater of its sizes; at the lesser one as much oftener.
@@ -74,7 +84,7 @@ ALIASES = {"galloc_table": "galloc", "calls_within": "calls"}
 
 
 def sizes(workload):
-    return CALLS if workload.startswith("calls") else SIZES
+    return CALLS if workload in OF_SOLVER else SIZES
 
 
 def workloads():
@@ -111,7 +121,7 @@ def collected(program, workload, size, reps):
 
 def counted(program, others, workload, size):
     """For each other, the ratio of instructions, or none where they are not counted."""
-    if size > MOST_COUNTED or workload.startswith("calls") or not shutil.which("valgrind"):
+    if size > MOST_COUNTED or workload in OF_SOLVER or not shutil.which("valgrind"):
         return {}
     ours = instructions(program, workload, size)
     return {name: ours / instructions(path, twin, size) for name, (path, twin) in others.items()}
@@ -177,7 +187,7 @@ def write(rows):
     keys = sorted(rows, key=lambda key: (order.index(key[0]), key[1], key[2]))
     lines = [f"{w} {s} {rows[w, s, o][0]} {o} {rows[w, s, o][1]:.2f} {rows[w, s, o][2]:.2f}" for w, s, o in keys]
     STORED.write_text("".join(f"{line}\n" for line in lines))
-    table = f"| Workload | Other | 1000 | {max(SIZES)} (`calls`: {max(CALLS)}) |\n|---|---|---|---|\n"
+    table = f"| Workload | Other | 1000 | {max(SIZES)} |\n|---|---|---|---|\n"
     for workload in order:
         others = {other for w, _, other in keys if w == workload}
         others = sorted(others, key=lambda other: (other != CRATE, other in order, other))
@@ -193,7 +203,7 @@ def write(rows):
 
 def main():
     parser = argparse.ArgumentParser(description=__doc__, formatter_class=argparse.RawDescriptionHelpFormatter)
-    parser.add_argument("--program", default=str(TOP / "crates/giputils_bench/out/giputils_bench"), metavar="FILE")
+    parser.add_argument("--program", metavar="FILE")
     parser.add_argument("--peers", default=os.environ.get("GIPUTILS_PEERS"), metavar="DIR")
     parser.add_argument("--turns", type=int, default=7, metavar="N", help="at least 2")
     parser.add_argument("--processor", type=int, metavar="N")
@@ -206,11 +216,16 @@ def main():
     if said.size is not None and (said.write or not 1000 <= said.size <= max(SIZES)):
         parser.error(f"--size is from 1000 to {max(SIZES)}, and does not go with --write")
     known = workloads()
-    unknown = [it for it in said.workloads if it not in known]
+    unknown = [it for it in said.workloads if it not in (*known, *OF_SOLVER)]
     if unknown:
-        parser.error(f"no workload has the name {unknown[0]}; there are {' '.join(known)}")
+        parser.error(f"no workload has the name {unknown[0]}; there are {' '.join((*known, *OF_SOLVER))}")
+    of_solver = [it for it in said.workloads if it in OF_SOLVER]
+    if of_solver and (said.write or len(of_solver) < len(said.workloads)):
+        parser.error(f"{of_solver[0]} is of another program, and does not go with --write or with workloads of containers")
+    program, way = PROGRAMS[bool(of_solver)]
+    said.program = said.program or str(TOP / program)
     if not os.access(said.program, os.X_OK):
-        parser.error(f"there is no program {said.program}: make it by `rt run` in crates/giputils_bench")
+        parser.error(f"there is no program {said.program}: make it by {way}")
     folder = sorted(pathlib.Path(said.peers).glob("bench-*")) if said.peers else []
     if said.peers and not folder:
         parser.error(f"no program in {said.peers} has a name bench-*")

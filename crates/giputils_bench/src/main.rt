@@ -1,4 +1,4 @@
-//! Workloads of the containers and of the solver, to be timed: `giputils_bench WORKLOAD SIZE SEED [REPS]`.
+//! Workloads of the containers, to be timed: `giputils_bench WORKLOAD SIZE SEED [REPS]`.
 //!
 //! A run makes the workload REPS times (once where it isn't given), each with a generator of its own, and
 //! writes a checksum of all that was answered, in 16 hexadecimal digits. By it the runs of several programs
@@ -7,7 +7,6 @@
 #![tactic(auto)]
 
 mod bits;
-mod calls;
 mod common;
 mod galloc;
 mod heap;
@@ -20,7 +19,7 @@ use std::env;
 use std::io::{self, ErrorKind};
 use std::process::ExitCode;
 
-const WORKLOADS: [&str; 24] = [
+const WORKLOADS: [&str; 22] = [
     "heapsort",
     "vsids",
     "vsids_up",
@@ -43,8 +42,6 @@ const WORKLOADS: [&str; 24] = [
     "bits_aig",
     "bits_append",
     "bits_append_by_push",
-    "calls",
-    "calls_within",
 ];
 
 // What the arguments ask for.
@@ -146,9 +143,6 @@ fn run(
     }
     if made.is_none() {
         made = sets::run(alloc, name, size, rng, checksum);
-    }
-    if made.is_none() {
-        made = calls::run(alloc, name, size, rng, checksum);
     }
     made
 }

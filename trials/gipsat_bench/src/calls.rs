@@ -1,7 +1,6 @@
 //! Workloads of the solver: many small questions about a circuit over several moments, as model checkers ask them.
-ghost use Rattle.std.specs.Prelude.{◌^◌, ◌<◌};
 
-use crate::common::{Checksum, Generator};
+use crate::common::{Digest, Draws};
 use gipsat_solver::{Guess, Literal, Solver};
 use std::alloc::{AllocError, Global};
 
@@ -28,8 +27,8 @@ pub(crate) fn run(
     alloc: Global,
     workload: &str,
     size: u32,
-    rng: &mut Generator,
-    checksum: &mut Checksum,
+    rng: &mut Draws,
+    checksum: &mut Digest,
 ) -> Option<bool> {
     let outcome = match workload {
         "calls" => ask(alloc, size, Deciding::All, rng, checksum),
@@ -67,8 +66,8 @@ fn ask(
     alloc: Global,
     size: u32,
     deciding: Deciding,
-    rng: &mut Generator,
-    checksum: &mut Checksum,
+    rng: &mut Draws,
+    checksum: &mut Digest,
 ) -> Result<(), AllocError> {
     let circuit = drawn_circuit(alloc, rng)?;
     let mut cones = Cones::new(alloc)?;
@@ -93,8 +92,8 @@ fn ask_solver(
     cones: &mut Cones,
     size: u32,
     deciding: Deciding,
-    rng: &mut Generator,
-    checksum: &mut Checksum,
+    rng: &mut Draws,
+    checksum: &mut Digest,
 ) -> Result<(), AllocError> {
     for moment in 0..MOMENTS {
         add_moment(solver, circuit, moment)?;
@@ -127,7 +126,7 @@ fn has_model(
 }
 
 // A drawn circuit.
-fn drawn_circuit(alloc: Global, rng: &mut Generator) -> Result<Vec<Gate>, AllocError> {
+fn drawn_circuit(alloc: Global, rng: &mut Draws) -> Result<Vec<Gate>, AllocError> {
     let mut gates = Vec::new(alloc);
     for place in 0..GATES {
         let is_xor = rng.below(GATES_A_XOR) == 0;
@@ -143,7 +142,7 @@ fn drawn_circuit(alloc: Global, rng: &mut Generator) -> Result<Vec<Gate>, AllocE
 }
 
 // A drawn operand of the gate at this place.
-fn drawn_operand(rng: &mut Generator, place: u16) -> Operand {
+fn drawn_operand(rng: &mut Draws, place: u16) -> Operand {
     let bound = LATCHES as usize + INPUTS as usize + place as usize;
     let node = u16::try_from(rng.below(bound)).unwrap_or(0);
     let positive = rng.draw() % 2 == 0;
@@ -151,7 +150,7 @@ fn drawn_operand(rng: &mut Generator, place: u16) -> Operand {
 }
 
 // The literals that some drawn latches hold drawn values at a drawn moment.
-fn drawn_cube(alloc: Global, rng: &mut Generator) -> Result<Vec<Literal>, AllocError> {
+fn drawn_cube(alloc: Global, rng: &mut Draws) -> Result<Vec<Literal>, AllocError> {
     let moment = 1 + drawn(rng, MOMENTS);
     let count = 2 + rng.below(9);
     let mut cube = Vec::new(alloc);
@@ -164,17 +163,12 @@ fn drawn_cube(alloc: Global, rng: &mut Generator) -> Result<Vec<Literal>, AllocE
 }
 
 // A drawn number below this positive one.
-fn drawn(rng: &mut Generator, bound: u8) -> u8
-    requires { 0 < bound }
-    ensures { result < bound }
-{
+fn drawn(rng: &mut Draws, bound: u8) -> u8 {
     rng.below(bound as usize) as u8
 }
 
 // The variable of a latch, an input or a gate at a moment.
-fn variable(node: u16, moment: u8) -> u32
-    ensures { result < 2 ^ 31 }
-{
+fn variable(node: u16, moment: u8) -> u32 {
     u32::from(moment) * STRIDE + u32::from(node)
 }
 
