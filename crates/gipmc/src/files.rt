@@ -63,15 +63,22 @@ fn read_text<'a, R: Read>(
     }
 }
 
+// What compressed data begins with, and the program that decompresses it.
+const COMPRESSED: &[(&[u8], &str)] = &[
+    (&[0x1f, 0x8b], "gzip"),
+    (b"\xfd7zXZ", "xz"),
+    (b"BZh", "bzip2"),
+    (&[0x28, 0xb5, 0x2f, 0xfd], "zstd"),
+];
+
 // The program that decompresses these bytes, if their first ones tell that they are compressed.
 fn tool_of(bytes: &[u8]) -> Option<&'static str> {
-    match bytes {
-        [0x1f, 0x8b, ..] => Some("gzip"),
-        [0xfd, b'7', b'z', b'X', b'Z', ..] => Some("xz"),
-        [b'B', b'Z', b'h', ..] => Some("bzip2"),
-        [0x28, 0xb5, 0x2f, 0xfd, ..] => Some("zstd"),
-        _ => None,
+    for &(beginning, tool) in COMPRESSED {
+        if bytes.starts_with(beginning) {
+            return Some(tool);
+        }
     }
+    None
 }
 
 // A text without the carriage returns at the ends of its lines, if its first line has one.
