@@ -11,8 +11,8 @@ use Rattle.gipsat_dimacs.specs.Inputs.{OfProblem}
 use Rattle.gipsat_dimacs.specs.Texts.{Problem, Word, begins, clause_words, clauses_after, goes_on, header_of, is_header, item_of, literal_of, minus, number_of, problem_after, problem_begun, problem_by, problem_headed, problem_in, problem_with, says, signed_item, variable_limit, variables_with, word_lines}
 use Rattle.gipsat_dimacs.specs.declared.rule.HeaderRule.{HeaderRule}
 use Rattle.gipsat_dimacs.specs.declared.rule.HeaderRule.TheVariants.{Strict, Relaxed}
-use Rattle.gipsat_dimacs.specs.declared.words.Item.{Item}
-use Rattle.gipsat_dimacs.specs.declared.words.Item.TheVariants.{Literal, End}
+use Rattle.gipsat_cnf.specs.declared.dimacs.Item.{Item}
+use Rattle.gipsat_cnf.specs.declared.dimacs.Item.TheVariants.{Literal, End}
 use Rattle.gipsat_answers.specs.Assumed.{assuming, units}
 
 module _ (n : ℕ) where

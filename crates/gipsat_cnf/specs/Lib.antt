@@ -9,3 +9,4 @@ pub mod Lists
 pub mod Layout
 pub mod Numbers
 pub mod Answers
+pub mod Dimacs

@@ -3,6 +3,7 @@
 
 pub mod answers;
 pub mod cnf;
+pub mod dimacs;
 pub mod enumerate;
 pub mod literal;
 pub mod sink;

@@ -10,8 +10,8 @@ use Rattle.std.proofs.lemmas.List.Elements.{All-push}
 use Rattle.gipsat_cnf.specs.Formulas.{Clause, Formula}
 use Rattle.gipsat_dimacs.specs.Texts.{Word, begins, comment_byte, is_blank, has_comment, before_comment, with_word, uncommented, clause_words, word_lines, number_of, variable_limit, item_of, clauses_after, header_of, goes_on, is_header, problem_after, problem_headed, problem_begun, problem_in, problem_by}
 use Rattle.gipsat_dimacs.specs.Parsers.{is_full, problem_ended, problem_left, no_header, problem_given, problem_heading, problem_counted, problem_first, problem_opening, problem_at, problem_here, begins_line, takes_comment, is_ended, begins_comment, begins_end, is_word_byte, EndsLine, IsWord}
-use Rattle.gipsat_dimacs.specs.declared.words.Item.{Item}
-use Rattle.gipsat_dimacs.specs.declared.words.Item.TheVariants.{Literal, End}
+use Rattle.gipsat_cnf.specs.declared.dimacs.Item.{Item}
+use Rattle.gipsat_cnf.specs.declared.dimacs.Item.TheVariants.{Literal, End}
 use Rattle.gipsat_dimacs.specs.declared.rule.HeaderRule.{HeaderRule}
 use Rattle.gipsat_dimacs.specs.declared.rule.HeaderRule.TheVariants.{Strict, Relaxed}
 use Rattle.gipsat_dimacs.specs.declared.stage.Header.{Header}

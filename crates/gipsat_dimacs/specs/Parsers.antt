@@ -14,7 +14,7 @@ use Rattle.gipsat_dimacs.specs.declared.rule.HeaderRule.TheVariants.{Strict, Rel
 use Rattle.gipsat_dimacs.specs.declared.stage.Header.{Header}
 use Rattle.gipsat_dimacs.specs.declared.stage.Stage.{Stage}
 use Rattle.gipsat_dimacs.specs.declared.stage.Stage.TheVariants as stage
-use Rattle.gipsat_dimacs.specs.declared.words.Item.{Item}
+use Rattle.gipsat_cnf.specs.declared.dimacs.Item.{Item}
 use Rattle.gipsat_dimacs.specs.declared.lines.LineParser.{LineParser}
 use Rattle.gipsat_dimacs.specs.declared.parser.Parser.{Parser}
 use Rattle.gipsat_dimacs.specs.declared.error.Stop.{Stop}

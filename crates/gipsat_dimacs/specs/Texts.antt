@@ -6,14 +6,11 @@ use Rattle.std.specs.Str.{byte, bytes_eq}
 use Rattle.giputils_text.specs.Lines.{line_feed, pieces}
 use Rattle.giputils_text.specs.Numbers.{number_up_to}
 use Rattle.gipsat_cnf.specs.Formulas.{Clause, Formula}
+pub use Rattle.gipsat_cnf.specs.Dimacs.{Word, greatest_number, number_of, literal_of, signed_item, begins, minus, item_of, header_of}
 use Rattle.gipsat_dimacs.specs.declared.rule.HeaderRule.{HeaderRule}
 use Rattle.gipsat_dimacs.specs.declared.rule.HeaderRule.TheVariants.{Strict, Relaxed}
-use Rattle.gipsat_dimacs.specs.declared.words.Item.{Item}
-use Rattle.gipsat_dimacs.specs.declared.words.Item.TheVariants.{Literal, End}
-
--- some bytes in a row
-abbrev pub Word : Type 0
-Word = List ℕ
+use Rattle.gipsat_cnf.specs.declared.dimacs.Item.{Item}
+use Rattle.gipsat_cnf.specs.declared.dimacs.Item.TheVariants.{Literal, End}
 
 -- a formula, and how many variables its text has
 pub record Problem : Type 0 where
@@ -31,10 +28,6 @@ is_blank byte = (byte == 32) || (byte == 9) || (byte == 11) || (byte == 12) || (
 -- the words of a line: what stands between its blanks
 abbrev pub words : List ℕ → List Word
 words line = filter (λ word. nat_lt 0 (length word)) (slice_split is_blank line)
-
--- the word begins with this byte
-abbrev pub begins : ℕ → Word → Bool
-begins byte word = slice_index word 0 == byte
 
 -- a `c`, with which a comment begins
 abbrev pub comment_byte : ℕ
@@ -82,38 +75,10 @@ clause_words (line ∷ lines) = if ends_text line then [] else uncommented line 
 abbrev pub word_lines : List ℕ → List (List Word)
 word_lines text = map words (pieces line_feed text)
 
--- the greatest number that a text may name
-abbrev pub greatest_number : ℕ
-greatest_number = 2147483647
-
--- the number that a word of decimal digits writes, up to the greatest
-abbrev pub number_of : Word → Option ℕ
-number_of word = number_up_to greatest_number word
-
--- variable n of a text that has so many, or its negation; the formula counts its variables from 0
-abbrev pub literal_of : ℕ → Bool → ℕ → Option Item
-literal_of variables positive n =
-    if nat_le n variables then Some (Literal (record { variable = n - 1; positive = positive })) else None
-
 -- the greatest variable that a clause may name, where the header names so many
 abbrev pub variable_limit : HeaderRule → ℕ → ℕ
 variable_limit Strict variables = variables
 variable_limit Relaxed variables = greatest_number
-
--- what a number with this sign says: 0 ends a clause, any other is a literal
-abbrev pub signed_item : ℕ → Bool → ℕ → Option Item
-signed_item variables positive n = if n == 0 then Some End else literal_of variables positive n
-
--- a minus, which stands before a negation
-abbrev pub minus : ℕ
-minus = byte "-"
-
--- what a word of a clause says, where there are so many variables: a number, or a minus and a number
-abbrev pub item_of : ℕ → Word → Option Item
-item_of variables word =
-    if begins minus word
-    then option_and_then (signed_item variables false) (number_of (drop 1 word))
-    else option_and_then (signed_item variables true) (number_of word)
 
 -- the clauses that some items write, each of which has its end; the literals of `begun` stand before them
 abbrev pub clauses_after : Clause → List (Option Item) → Option Formula
@@ -121,13 +86,6 @@ clauses_after begun [] = if length begun == 0 then Some [] else None
 clauses_after begun (None ∷ items) = None
 clauses_after begun (Some (Literal l) ∷ items) = clauses_after (begun ++ l ∷ []) items
 clauses_after begun (Some End ∷ items) = option_map (λ clauses. begun ∷ clauses) (clauses_after [] items)
-
--- the numbers of variables and of clauses that the words of a header name: `p cnf VARIABLES CLAUSES`
-abbrev pub header_of : List Word → Option (ℕ × ℕ)
-header_of (p ∷ cnf ∷ variables ∷ clauses ∷ []) =
-    if bytes_eq p (codes "p") && bytes_eq cnf (codes "cnf")
-    then option_and_then (λ v. option_map (λ n. (v, n)) (number_of clauses)) (number_of variables) else None
-header_of words = None
 
 -- how many variables there are: so many, or more where one of these items names a greater one
 abbrev pub variables_with : ℕ → List (Option Item) → ℕ

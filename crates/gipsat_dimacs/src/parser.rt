@@ -9,7 +9,8 @@ use crate::error::{Reason, Stop};
 use crate::instance::Instance;
 use crate::rule::HeaderRule;
 use crate::stage::{Header, Stage, expect, first_word, is_header, next_line, takes_comment};
-use crate::words::{Item, is_blank, item_in, number};
+use crate::words::{is_blank, item_in, number};
+use gipsat_cnf::dimacs::Item;
 use gipsat_cnf::{ClauseSink, Literal};
 use std::alloc::Global;
 

@@ -4,15 +4,7 @@ ghost use Rattle.gipsat_dimacs.specs.Texts.{number_of, item_of, signed_item, is_
 
 use crate::error::{Compression, Reason};
 use gipsat_cnf::Literal;
-
-// What a word of a clause says.
-#[derive(Clone, Copy)]
-pub enum Item {
-    // A literal of the clause.
-    Literal(Literal),
-    // The end of the clause.
-    End,
-}
+use gipsat_cnf::dimacs::Item;
 
 // The greatest number that a text may name.
 pub const GREATEST_NUMBER: u32 = 2_147_483_647;
