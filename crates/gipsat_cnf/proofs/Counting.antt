@@ -97,9 +97,6 @@ makes_true-agreeing a b n literals below agree all =
     makes_true-each b literals
     (λ l has. true_alike a b n l (below has.0 l has.1) agree (makes_true-at a literals has.0 l all has.1))
 
-pub AreAllBelow-more : (n m : ℕ) (f : Formula) → n ≤ m → AreAllBelow n f → AreAllBelow m f
-AreAllBelow-more n m f more below k c at j l there = let less = below k c at j l there in omega (arith, less, more)
-
 pub NoneBelow-zero : (f : Formula) (assumed : List Lit) (len n : ℕ) → n ≡ 0 → NoneBelow f assumed len n
 NoneBelow-zero f assumed len n none values as_long less = absurd (omega (arith, less, none))
 

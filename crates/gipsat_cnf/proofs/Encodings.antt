@@ -5,7 +5,7 @@ use Rattle.std.specs.List.{list_all}
 use Rattle.std.proofs.lemmas.Bool.{and_parts, and_from, cases_lt, cases_Bool}
 use Rattle.std.proofs.lemmas.List.{map-append}
 use Rattle.std.proofs.lemmas.List.Folds.{list_all-append, list_all-map}
-use Rattle.gipsat_cnf.specs.Encodings.{Adds, AddsPart, AllBelow, AtLeastOneTrue, AtMostOneTrue, ExactlyOneTrue, at_least_one, at_most_one, exactly_one, one_false}
+use Rattle.gipsat_cnf.specs.Encodings.{Adds, AddsPart, AllBelow, AtLeastOneTrue, AtMostOneTrue, ExactlyOneTrue, at_most_one, exactly_one, one_false}
 use Rattle.gipsat_cnf.specs.Formulas.{Assignment, Clause, Formula, Has, is_true, satisfies, satisfies_clause}
 use Rattle.gipsat_cnf.specs.Literals.{Lit, negated}
 use Rattle.gipsat_cnf.proofs.Formulas.{all-at, all-each, satisfies-first}
@@ -181,12 +181,6 @@ pub Adds-at_most_one : (literals : List Lit) (f g : Formula) → g ≡ f ++ at_m
 Adds-at_most_one literals f g same =
     Adds-same (λ a. IsTrue (satisfies a (at_most_one literals))) (AtMostOneTrue literals) f g (λ a. at_most_one-says a literals)
     (Adds-clauses (at_most_one literals) f g same)
-
--- an added clause that says that at least one literal is true
-pub Adds-at_least_one : (literals : List Lit) (f g : Formula) → g ≡ f ++ at_least_one literals → Adds (AtLeastOneTrue literals) f g
-Adds-at_least_one literals f g same =
-    Adds-same (λ a. IsTrue (satisfies_clause a literals)) (AtLeastOneTrue literals) f g (λ a. at_least_one-says a literals)
-    (Adds-clause literals f g same)
 
 -- added clauses that say that exactly one literal is true
 pub Adds-exactly_one : (literals : List Lit) (f g : Formula) → g ≡ f ++ exactly_one literals → Adds (ExactlyOneTrue literals) f g

@@ -1,5 +1,5 @@
 -- Worked examples of the definitions: accepted and refused ones.
-use Rattle.std.proofs.Common.{◌≡◌, ℕ, ℤ, arith, eqb, inl, negsuc, pos, Bool, true, false, ◌||◌, [], ◌∷◌, refl, suc, zero}
+use Rattle.std.proofs.Common.{◌≡◌, ℕ, arith, eqb, inl, negsuc, pos, Bool, true, false, ◌||◌, [], ◌∷◌, refl, suc, zero}
 use Rattle.std.proofs.lemmas.Bool.{false≢true}
 use Rattle.gipsat_cnf.specs.Literals.{IsNamed, IsNoLiteral, Lit, aiger, code, decoded, dimacs}
 use Rattle.gipsat_cnf.specs.Assumptions.{IsCore, IsModelUnder, IsSatisfiableUnder, makes_true}

@@ -1,12 +1,12 @@
 -- Formulas and those that satisfy them: clause by clause, and where there are more clauses.
-use Rattle.std.proofs.Common.{◌≡◌, ℕ, List, [], ◌∷◌, ◌++◌, true, IsTrue, suc, zero, refl, sym, subst, ◌∙◌, Bool}
+use Rattle.std.proofs.Common.{◌≡◌, ℕ, ◌≤◌, arith, List, [], ◌∷◌, ◌++◌, true, IsTrue, suc, zero, refl, sym, subst, ◌∙◌, Bool}
 use Rattle.std.specs.Prelude.{slice_get, Some}
 use Rattle.std.specs.List.{list_all}
 use Rattle.std.proofs.lemmas.Bool.{and_from, and_parts}
 use Rattle.std.proofs.lemmas.List.Folds.{list_all-append}
 use Rattle.gipsat_cnf.specs.Formulas.{Assignment, Clause, Formula, satisfies, satisfies_clause, IsSatisfiable}
-use Rattle.gipsat_cnf.specs.Lists.{AreAmong}
-use Rattle.gipsat_cnf.proofs.Places.{none_some, same_some}
+use Rattle.gipsat_cnf.specs.Lists.{AreAllBelow, AreAmong}
+use Rattle.gipsat_cnf.proofs.Places.{each_push, none_some, same_some}
 
 pub all-at : {A : Type 0} (p : A → Bool) (xs : List A) (k : ℕ) (x : A) → list_all p xs ≡ true → slice_get xs k ≡ Some x → p x ≡ true
 all-at p [] k x all at = none_some x at
@@ -27,6 +27,13 @@ pub satisfies-each : (a : Assignment) (f : Formula) → ((k : ℕ) (c : Clause) 
     → IsTrue (satisfies a f)
 satisfies-each a f each = all-each (satisfies_clause a) f each
 
+-- a model of a formula is one of the formula with one more clause that it satisfies
+pub satisfies-push : (a : Assignment) (f : Formula) (c : Clause) → IsTrue (satisfies a f) → IsTrue (satisfies_clause a c)
+    → IsTrue (satisfies a (f ++ c ∷ []))
+satisfies-push a f c sat last =
+    satisfies-each a (f ++ c ∷ [])
+    (each_push (λ d. IsTrue (satisfies_clause a d)) f c (λ k d at. satisfies-at a f k d sat at) last)
+
 -- a model of a formula is one of any formula of some of its clauses
 pub satisfies-among : (a : Assignment) (more f : Formula) → AreAmong more f → IsTrue (satisfies a more) → IsTrue (satisfies a f)
 satisfies-among a more f among sat =
@@ -40,3 +47,7 @@ satisfies-first a f more sat =
 -- a formula to which clauses are added stays unsatisfiable
 pub unsatisfiable-more : (f more : Formula) → ¬ (IsSatisfiable f) → ¬ (IsSatisfiable (f ++ more))
 unsatisfiable-more f more none (a, sat) = none (a, satisfies-first a f more sat)
+
+-- where variables are below a number, they are below a greater one
+pub AreAllBelow-more : (m n : ℕ) (f : Formula) → m ≤ n → AreAllBelow m f → AreAllBelow n f
+AreAllBelow-more m n f more below k c at j l there = let less = below k c at j l there in omega (arith, less, more)

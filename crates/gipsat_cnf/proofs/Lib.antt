@@ -8,7 +8,7 @@ pub mod Simplifying
 pub mod Encodings
 mod LayoutLemmas
 mod Swaps
-mod Tests
+pub mod Tests
 pub mod Retaining
 mod Counting
 mod Examples

@@ -1,9 +1,10 @@
 -- Literals: equal ones, negations, truth, marks, and clauses that are satisfied.
 use Rattle.std.proofs.Common.{◌≡◌, ◌≢◌, ℕ, ◌+◌, ◌*◌, [], ◌∷◌, Some, unwrap_or, suc, zero}
-use Rattle.std.proofs.Common.{refl, sym, ap, subst, ◌∙◌, arith, ◌⊎◌, ⊎_elim, inl, inr, Bool, true, false, cond, not}
+use Rattle.std.proofs.Common.{refl, sym, ap, subst, arith, ◌⊎◌, ⊎_elim, inl, inr, Bool, true, false, cond, not, IsTrue}
 use Rattle.std.specs.Prelude.{slice_get}
 use Rattle.std.specs.Bool.{beq}
-use Rattle.std.proofs.lemmas.Bool.{false≢true, cases_eq, cases_Bool, or_cases, or_left, or_right}
+use Rattle.std.specs.Cmp.{booleans_Decides}
+use Rattle.std.proofs.lemmas.Bool.{false≢true, cases_eq, or_cases, or_left, or_right}
 use Rattle.gipsat_cnf.specs.Literals.{Lit, code, negated}
 use Rattle.gipsat_cnf.specs.Formulas.{Assignment, Clause, Has, is_true, satisfies_clause}
 use Rattle.gipsat_cnf.proofs.Places.{none_some}
@@ -43,7 +44,15 @@ beq_not true false e = refl
 beq_not false true e = refl
 beq_not false false e = absurd (false≢true (sym e))
 
-beq-not : (v p : Bool) → beq v (not p) ≡ not (beq v p)
+-- two values are equal if the test says so
+pub beq-same : (v p : Bool) → IsTrue (beq v p) → v ≡ p
+beq-same v p same = (booleans_Decides v p).0 same
+
+pub beq-true : (v : Bool) → beq v true ≡ v
+beq-true true = refl
+beq-true false = refl
+
+pub beq-not : (v p : Bool) → beq v (not p) ≡ not (beq v p)
 beq-not true true = refl
 beq-not true false = refl
 beq-not false true = refl
@@ -58,13 +67,6 @@ beq_both true true e f = false≢true f
 beq_both true false e f = false≢true e
 beq_both false true e f = false≢true e
 beq_both false false e f = false≢true f
-
--- the negation of a literal of a clause that is not satisfied is true
-pub negation_true : (a : Assignment) (c : Clause) (l : Lit) → Has c l → satisfies_clause a c ≡ false
-    → is_true a (negated l) ≡ true
-negation_true a c l has none =
-    beq_not (a l.variable) l.positive
-    (⊎_elim (λ yes_it_is. absurd (false≢true (sym none ∙ satisfied_by a c has.0 l has.1 yes_it_is))) (λ it_is_not. it_is_not) (cases_Bool (is_true a l)))
 
 -- no literal is true together with its negation
 pub not_both : (a : Assignment) (l : Lit) → is_true a l ≡ true → is_true a (negated l) ≡ true → ⊥

@@ -152,7 +152,3 @@ IsLaidOut-swapped v xs ys spans a b laid len is a_in b_in =
       within = λ k s at. let w = laid.within k s at in (w.0, omega (arith, w.1, len));
       apart = laid.apart;
     }
-
--- no literal changed its place
-pub Reorders-same : (cs : List Clause) → Reorders cs cs
-Reorders-same cs k c at = (c, at, λ l. ((λ has. has), (λ has. has)))

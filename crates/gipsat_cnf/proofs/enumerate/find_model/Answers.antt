@@ -4,7 +4,8 @@ use Rattle.gipsat_cnf.specs.Assumptions.{IsModelUnder}
 use Rattle.gipsat_cnf.specs.Formulas.{AreBelow}
 use Rattle.gipsat_cnf.specs.Lists.{AreAllBelow}
 use Rattle.gipsat_cnf.specs.Numbers.{NoneBelow, number}
-use Rattle.gipsat_cnf.proofs.Counting.{AreAllBelow-more, NoneBelow-all, NoneBelow-next, NoneBelow-zero, distance-less, number-replicate}
+use Rattle.gipsat_cnf.proofs.Formulas.{AreAllBelow-more}
+use Rattle.gipsat_cnf.proofs.Counting.{NoneBelow-all, NoneBelow-next, NoneBelow-zero, distance-less, number-replicate}
 use Rattle.gipsat_cnf.proofs.enumerate.find_model.Goals as goal
 
 pub loop-values-init : goal.loop-values-init
