@@ -20,6 +20,26 @@ pub enum Compression {
     Zstd,
 }
 
+// The first bytes of compressed data.
+const SIGNATURES: &[(&[u8], Compression)] = &[
+    (b"\x1f\x8b", Compression::Gzip),
+    (b"\xfd7zXZ", Compression::Xz),
+    (b"BZh", Compression::Bzip2),
+    (b"\x28\xb5\x2f\xfd", Compression::Zstd),
+];
+
+impl Compression {
+    /// How data that begins with these bytes is compressed, if they tell that it is.
+    pub fn of(start: &[u8]) -> Option<Self> {
+        for &(signature, compression) in SIGNATURES {
+            if start.starts_with(signature) {
+                return Some(compression);
+            }
+        }
+        None
+    }
+}
+
 /// Why a text has not the form.
 #[derive(Clone, Copy, Debug, PartialEq, Eq, Hash)]
 pub enum Reason {

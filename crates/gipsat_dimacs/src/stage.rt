@@ -5,9 +5,8 @@ ghost use Rattle.gipsat_dimacs.specs.Texts.{is_header};
 ghost use Rattle.gipsat_dimacs.specs.Parsers.{begins_line, header_with_literal, is_full, is_short, takes_comment, is_ended, EndsLine, EndsNowhere};
 ghost use Rattle.gipsat_dimacs.specs.declared.stage.Stage.TheVariants.{Problem};
 
-use crate::error::Reason;
+use crate::error::{Compression, Reason};
 use crate::rule::HeaderRule;
-use crate::words::compression_of;
 use gipsat_cnf::Literal;
 
 // How many variables there are, and how many clauses are left to come.
@@ -103,7 +102,7 @@ pub fn first_word(word: &[u8]) -> Result<Stage, Reason>
     if word == b"p".as_slice() {
         return Ok(Stage::Problem);
     }
-    match compression_of(word) {
+    match Compression::of(word) {
         Some(compression) => Err(Reason::Compressed(compression)),
         None => Err(Reason::Header),
     }

@@ -16,20 +16,9 @@ pub fn is_blank(byte: u8) -> bool
     matches!(byte, b' ' | b'\t' | 0x0b | 0x0c | b'\r')
 }
 
-// How data with this first word is compressed, if its first bytes tell that it is.
-pub fn compression_of(word: &[u8]) -> Option<Compression> {
-    match word {
-        [0x1f, 0x8b, ..] => Some(Compression::Gzip),
-        [0xfd, b'7', b'z', b'X', b'Z', ..] => Some(Compression::Xz),
-        [b'B', b'Z', b'h', ..] => Some(Compression::Bzip2),
-        [0x28, 0xb5, 0x2f, 0xfd, ..] => Some(Compression::Zstd),
-        _ => None,
-    }
-}
-
 // Why a word writes no number that a text may name.
 fn not_a_number(word: &[u8]) -> Reason {
-    if let Some(compression) = compression_of(word) {
+    if let Some(compression) = Compression::of(word) {
         return Reason::Compressed(compression);
     }
     if word.is_empty() || word.iter().any(|byte| !byte.is_ascii_digit()) {
