@@ -4,6 +4,7 @@ use crate::codes::Codes;
 use crate::error::OtherForm;
 use crate::lrat_step::GREATEST_NAME;
 use crate::words::{Word, Words};
+use gipsat_dimacs::Compression;
 
 // How many of its first bytes tell binary proofs from texts. The bytes of a text's clauses are fewer, so that a binary
 // step without a repeated literal has another byte among these: its 0, if no other.
@@ -25,17 +26,33 @@ pub(crate) enum Form {
 
 // The form of a proof that begins with these bytes, about so many clauses.
 pub(crate) fn form_of(start: &[u8], clauses: usize) -> Result<Form, OtherForm> {
-    match start {
-        [0x1f, 0x8b, ..] => Err(OtherForm::Gzip),
-        [0xfd, b'7', b'z', b'X', b'Z', ..] => Err(OtherForm::Xz),
-        [b'B', b'Z', b'h', ..] => Err(OtherForm::Bzip2),
-        [0x28, 0xb5, 0x2f, 0xfd, ..] => Err(OtherForm::Zstd),
-        [b'%', ..] => Err(OtherForm::Rup),
-        [b'o', b' ', ..] => Err(OtherForm::Frat),
-        [b'o', ..] if !is_text(start) => Err(OtherForm::Frat),
-        [b'a' | b'd', ..] if !is_text(start) => Ok(binary_form(start, clauses)),
-        [b'a', b' ', ..] => Err(OtherForm::Frat),
+    if let Some(compression) = Compression::of(start) {
+        return Err(compressed(compression));
+    }
+    if start.starts_with(b"%") {
+        return Err(OtherForm::Rup);
+    }
+    if is_text(start) {
+        return if start.starts_with(b"o ") || start.starts_with(b"a ") {
+            Err(OtherForm::Frat)
+        } else {
+            Ok(text_form(start, clauses))
+        };
+    }
+    match start.first() {
+        Some(b'o') => Err(OtherForm::Frat),
+        Some(b'a' | b'd') => Ok(binary_form(start, clauses)),
         _ => Ok(text_form(start, clauses)),
+    }
+}
+
+// The form of data that is compressed so.
+fn compressed(compression: Compression) -> OtherForm {
+    match compression {
+        Compression::Gzip => OtherForm::Gzip,
+        Compression::Xz => OtherForm::Xz,
+        Compression::Bzip2 => OtherForm::Bzip2,
+        Compression::Zstd => OtherForm::Zstd,
     }
 }
 
