@@ -1,14 +1,14 @@
 #!/usr/bin/env python3
 """Tests that want of memory is told exactly where a request is refused, and what memory a library holds.
 
-    tests/refused.py PROGRAMS
+    tests/refused.py PROGRAMS [CRATE..]
 
 A row is a test of a crate of trials/, whose tests `tests/trials.py` has left in PROGRAMS (trials/out). It runs once for
 each request for memory that it makes, which is refused by tests/refuse.c, alone or with those behind it. A test that
 asks for answers has to end with the error of a refused call each time; a collection at the end of `simplify` alone may be
 refused unseen, since a later one does its work. One that goes on behind a refused call has to pass so often at least, and
 never ends otherwise than with that error. Others may hold only so many bytes at a time, and
-nothing is refused. The last line is 'N passed, M failed'.
+nothing is refused. Where crates are named, their rows are run alone. The last line is 'N passed, M failed'.
 """
 
 import argparse
@@ -111,12 +111,16 @@ class Trials:
 def main():
     parser = argparse.ArgumentParser(description=__doc__, formatter_class=argparse.RawDescriptionHelpFormatter)
     parser.add_argument("programs", metavar="PROGRAMS", type=pathlib.Path)
+    parser.add_argument("crates", metavar="CRATE", nargs="*")
     asked = parser.parse_args()
+    crates = {crate for crate, _, _ in TOLD + KEPT + HELD}
+    if unknown := set(asked.crates) - crates:
+        parser.error(f"'{min(unknown)}' is no crate with rows")
     passed = failed = 0
     with tempfile.TemporaryDirectory() as folder:
         trials = Trials(asked.programs, folder)
         for rows, fault_of in ((TOLD, trials.fault_of_told), (KEPT, trials.fault_of_kept), (HELD, trials.fault_of_held)):
-            for crate, test, number in rows:
+            for crate, test, number in [row for row in rows if row[0] in (asked.crates or crates)]:
                 there = program_of(asked.programs, crate).is_file()
                 fault = fault_of(crate, test, number) if there else "its tests are not built"
                 print(f"FAILED: {crate} {test}: {fault}" if fault else f"ok: {crate} {test}", flush=True)
