@@ -1,9 +1,9 @@
 -- What holds of the problem that an input writes, and of one that is made of it.
-use Rattle.std.proofs.Common.{◌≡◌, ℕ, zero, suc, List, Option, Some, None, IfSome, IsTrue, sym, subst, ⊎_elim, inl, inr, Bool}
+use Rattle.std.proofs.Common.{◌≡◌, ℕ, zero, suc, List, Option, Some, None, IfSome, IsTrue, subst, ⊎_elim, inl, inr, Bool}
 use Rattle.std.specs.Prelude.{IfOk, Result, Ok, Err}
 use Rattle.gipsat_cnf.specs.Literals.{Lit}
 use Rattle.gipsat_answers.specs.Enumeration.{IsModelsText, IsOpen, WritesModels, differing, with_clause}
-use Rattle.gipsat_dimacs.specs.Inputs.{OfProblem, Writes}
+use Rattle.gipsat_dimacs.specs.Inputs.{OfProblem}
 use Rattle.gipsat_dimacs.specs.Texts.{Problem, problem_by}
 use Rattle.gipsat_dimacs.specs.declared.rule.HeaderRule.{HeaderRule}
 
@@ -11,12 +11,6 @@ use Rattle.gipsat_dimacs.specs.declared.rule.HeaderRule.{HeaderRule}
 pub IfOk-more : {T E : Type 0} {P Q : T → Type 0} (r : Result T E) → ((t : T) → P t → Q t) → IfOk r P → IfOk r Q
 IfOk-more (Ok t) more has = more t has
 IfOk-more (Err e) more has = tt
-
--- what holds of the problem holds of that which the input writes
-pub of_writes : (rule : HeaderRule) (input : Option (List ℕ)) (problem : Problem) (P : Problem → Type 0)
-    → Writes rule input problem → P problem → OfProblem rule input P
-of_writes rule None problem P writes holds = tt
-of_writes rule (Some text) problem P writes holds = subst (λ found. IfSome found P) (sym writes) holds
 
 made-found : (found : Option Problem) (made : Problem) (f : Problem → Problem) (P : Problem → Type 0)
     → IfSome found (λ problem. made ≡ f problem) → P made → IfSome found (λ problem. P (f problem))

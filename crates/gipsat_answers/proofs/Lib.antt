@@ -1,4 +1,3 @@
-mod Asking
 mod Assuming
 pub mod Below
 mod CubesRead
@@ -9,5 +8,4 @@ mod ProofExamples
 mod Questioning
 mod Renaming
 mod Replying
-mod Resuming
 mod ValueLines

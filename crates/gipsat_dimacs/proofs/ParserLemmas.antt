@@ -1,6 +1,6 @@
 -- What a text says before and after a word or a line.
 use Rattle.std.proofs.Common.{◌≡◌, ◌<◌, ◌∷◌, [], ◌++◌, length, ℕ, ◌==◌, Bool, true, false, List, map, refl, sym, ◌∙◌, arith, append_assoc, length-append, eqb-true, suc, Option, Some, None, codes, if◌then◌else◌, zero}
-use Rattle.std.specs.Prelude.{⊤, ◌&&◌, not}
+use Rattle.std.specs.Prelude.{⊤, ◌&&◌}
 use Rattle.std.specs.Option.{option_map, option_and_then}
 use Rattle.std.specs.Str.{bytes_eq}
 use Rattle.std.proofs.lemmas.Bool.{and_parts, cond_both, not-true, or_parts, or_right}

@@ -1,10 +1,9 @@
 -- What a text in the DIMACS form says.
-use Rattle.std.specs.Prelude.{◌≡◌, ℕ, ◌+◌, ◌-◌, ◌^◌, min, max, ◌==◌, ◌&&◌, ◌||◌, Bool, true, false, not, List, [], ◌∷◌, ◌++◌, length, drop, filter, map, nat_lt, nat_le, slice_index, if◌then◌else◌, codes, Option, Some, None}
+use Rattle.std.specs.Prelude.{◌≡◌, ℕ, ◌+◌, ◌-◌, ◌^◌, min, max, ◌==◌, ◌||◌, Bool, true, false, not, List, [], ◌∷◌, ◌++◌, length, filter, map, nat_lt, if◌then◌else◌, Option, Some, None}
 use Rattle.std.specs.List.{list_any, slice_split}
 use Rattle.std.specs.Option.{option_map, option_and_then}
-use Rattle.std.specs.Str.{byte, bytes_eq}
+use Rattle.std.specs.Str.{byte}
 use Rattle.giputils_text.specs.Lines.{line_feed, pieces}
-use Rattle.giputils_text.specs.Numbers.{number_up_to}
 use Rattle.gipsat_cnf.specs.Formulas.{Clause, Formula}
 pub use Rattle.gipsat_cnf.specs.Dimacs.{Word, greatest_number, number_of, literal_of, signed_item, begins, minus, item_of, header_of}
 use Rattle.gipsat_dimacs.specs.declared.rule.HeaderRule.{HeaderRule}

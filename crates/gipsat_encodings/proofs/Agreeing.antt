@@ -15,9 +15,6 @@ use Rattle.gipsat_encodings.specs.Gates.{parity}
 pub AgreeBelow-refl : (n : ℕ) (a : Assignment) → AgreeBelow n a a
 AgreeBelow-refl n a v less = refl
 
-pub AgreeBelow-sym : (n : ℕ) (a b : Assignment) → AgreeBelow n a b → AgreeBelow n b a
-AgreeBelow-sym n a b same v less = sym (same v less)
-
 -- agreement up to more variables comes second
 pub AgreeBelow-both : (n m : ℕ) (a b c : Assignment) → n ≤ m → AgreeBelow n a b → AgreeBelow m b c → AgreeBelow n a c
 AgreeBelow-both n m a b c up first then v less = first v less ∙ then v (omega (arith, up, less))

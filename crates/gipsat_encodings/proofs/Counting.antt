@@ -39,10 +39,3 @@ differ-false false y = refl
 pub parity-push : (a : Assignment) (literals : List Lit) (l : Lit) → parity a (literals ++ l ∷ []) ≡ differ (parity a literals) (is_true a l)
 parity-push a [] l = differ-false (is_true a l) true
 parity-push a (m ∷ literals) l = rw (parity-push a literals l) (differ-of (is_true a m) (parity a literals) (is_true a l))
-
-pub parity-one : (a : Assignment) (l : Lit) → is_true a l ≡ parity a (l ∷ [])
-parity-one a l = same (is_true a l)
-  where
-    same : (x : Bool) → x ≡ differ x false
-    same true = refl
-    same false = refl

@@ -1,7 +1,7 @@
 -- What a kernel keeps: clauses that follow, and marked literals that follow.
 use Rattle.std.proofs.Common.{◌≡◌, ◌≢◌, ℕ, ◌<◌, List, [], ◌∷◌, ◌++◌, length, set, Some, sym, ap, subst, ◌∙◌, arith, ⊎_elim, Bool, true, false, IsTrue}
 use Rattle.std.specs.Prelude.{slice_get, slice_index_or}
-use Rattle.std.proofs.lemmas.List.{get_or-set_same, get_or-set_other, length-set, length_push}
+use Rattle.std.proofs.lemmas.List.{get_or-set_same, get_or-set_other, length_push}
 use Rattle.std.proofs.lemmas.Bool.{false≢true, cases_eq}
 use Rattle.std.proofs.lemmas.Option.{slice_get_within}
 use Rattle.gipsat_cnf.specs.Literals.{Lit, negated}
@@ -14,16 +14,8 @@ use Rattle.gipsat_kernel.proofs.Originals.{length-retained, original_among-but, 
 use Rattle.gipsat_kernel.proofs.Resolution.{Implies-had, Implies-more, Implies-taken, ImpliesMarked-clause, ImpliesMarked-resolved}
 use Rattle.gipsat_cnf.proofs.Formulas.{satisfies-at}
 use Rattle.gipsat_cnf.proofs.LiteralLemmas.{satisfied_by, true_literal}
-use Rattle.gipsat_cnf.proofs.Places.{each_push, none_some, same_some, stands_last}
+use Rattle.gipsat_cnf.proofs.Places.{each_push, same_some, stands_last}
 use Rattle.gipsat_cnf.proofs.Retaining.{retained-among}
-
--- no clause
-pub IsKernel-none : (fs : List Bool) (cs : List Clause) (ms : List Bool) → fs ≡ [] → cs ≡ [] → IsKernel fs cs ms false
-IsKernel-none fs cs ms no_flags no_clauses = record {
-  as_many = ap length no_flags ∙ sym (ap length no_clauses);
-  implied = λ k c at. none_some c (ap (λ ds. slice_get ds k) (sym no_clauses) ∙ at);
-  follows = λ e. absurd (false≢true e);
-}
 
 -- the clauses of a formula
 pub IsKernel-given : (fs : List Bool) (cs : List Clause) (ms : List Bool) → length fs ≡ length cs → original_among fs cs ≡ cs
@@ -33,10 +25,6 @@ IsKernel-given fs cs ms as_many all = record {
   implied = λ k c at. subst (λ f. Implies f c) (sym all) (record { follows = λ a sat. satisfies-at a cs k c sat at });
   follows = λ e. absurd (false≢true e);
 }
-
--- no clause is being derived
-pub IsKernel-idle : (fs : List Bool) (cs : List Clause) (ms ns : List Bool) (b : Bool) → IsKernel fs cs ms b → IsKernel fs cs ns false
-IsKernel-idle fs cs ms ns b is = record { as_many = is.as_many; implied = is.implied; follows = λ e. absurd (false≢true e) }
 
 IsKernel-open : (fs : List Bool) (cs : List Clause) (ms ns : List Bool) (b : Bool) → ImpliesMarked (original_among fs cs) ns
     → IsKernel fs cs ms b → IsKernel fs cs ns true
@@ -114,18 +102,11 @@ IsKernel-collected stays fs cs ms b all is =
       follows = λ e. subst (λ f. ImpliesMarked f ms) formula (is.follows e);
     }
 
--- the flags once a clause stands for another
-flags_after : List Bool → ℕ → ℕ → List Bool
-flags_after fs id by = set (set fs by true) id false
-
 flag_kept : (fs : List Bool) (id by k : ℕ) → k ≢ id → k ≢ by → slice_index_or (set (set fs by true) id false) k false ≡ slice_index_or fs k false
 flag_kept fs id by k not_id not_by = get_or-set_other (set fs by true) id k false false not_id ∙ get_or-set_other fs by k true false not_by
 
 flag_by : (fs : List Bool) (id by : ℕ) → by < length fs → by ≢ id → slice_index_or (set (set fs by true) id false) by false ≡ true
 flag_by fs id by within other = get_or-set_other (set fs by true) id by false false other ∙ get_or-set_same fs by true false within
-
-flag_id : (fs : List Bool) (id by : ℕ) → id < length fs → slice_index_or (set (set fs by true) id false) id false ≡ false
-flag_id fs id by within = get_or-set_same (set fs by true) id false false (omega (arith, within, length-set fs by true))
 
 -- a clause of the formula has only literals of another one, and stands for it
 pub SaysSame-subsumed : (fs : List Bool) (cs : List Clause) (ms : List Bool) (b : Bool) (id by : ℕ) (c d : Clause) → by ≢ id

@@ -58,10 +58,6 @@ Grows-add old mid l same m marked =
         (λ past. absurd (false≢true (sym (get_or_past flags p false past) ∙ ap (λ q. get_or flags q false) (sym is) ∙ flagged)))
         (cases_lt p (length flags))
 
-pub AreListed-remove : (flags : List Bool) (listed : Clause) (l : Lit) → AreListed flags listed
-    → AreListed (set flags (code l) false) listed
-AreListed-remove flags listed l is m marked = is m (still_marked flags l m marked).1
-
 pub AreListed-none : (flags : List Bool) (listed : Clause) → NoneMarked flags → AreListed flags listed
 AreListed-none flags listed none m marked = absurd (false≢true (sym (none m) ∙ marked))
 

@@ -31,9 +31,6 @@ Covers-reordered os cs ds same covers k d at l has =
 abbrev pub CoversFirst : List Ids → List Clause → ℕ → Type 0
 CoversFirst os cs i = (k : ℕ) (c : Clause) → k < i → slice_get cs k ≡ Some c → AreNoted os c k
 
-pub CoversFirst-none : (os : List Ids) (cs : List Clause) → CoversFirst os cs 0
-CoversFirst-none os cs k c less at = absurd (omega (arith, less))
-
 pub CoversFirst-next : (old new : List Ids) (cs : List Clause) (i : ℕ) (c : Clause) → slice_get cs i ≡ Some c → Widens old new
     → AreNoted new c i → CoversFirst old cs i → CoversFirst new cs (i + 1)
 CoversFirst-next old new cs i c here widens noted first k d less at l has =

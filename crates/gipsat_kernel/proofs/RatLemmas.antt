@@ -11,9 +11,9 @@ use Rattle.std.proofs.lemmas.Option.{slice_get_within}
 use Rattle.gipsat_cnf.specs.Formulas.{Assignment, Clause, Formula, Has, Implies, is_true, satisfies, satisfies_clause}
 use Rattle.gipsat_cnf.specs.Lists.{AreHadBy, Reorders, retained}
 use Rattle.gipsat_cnf.specs.Literals.{Lit, negated}
-use Rattle.gipsat_cnf.proofs.Formulas.{satisfies-at, satisfies-each}
+use Rattle.gipsat_cnf.proofs.Formulas.{satisfies-at, satisfies-push}
 use Rattle.gipsat_cnf.proofs.LiteralLemmas.{beq_not, cases_literal, satisfied_by, true_literal}
-use Rattle.gipsat_cnf.proofs.Places.{each_push, same_some, stands_last}
+use Rattle.gipsat_cnf.proofs.Places.{same_some, stands_last}
 use Rattle.gipsat_kernel.specs.Kernel.{original_among}
 use Rattle.gipsat_kernel.specs.Marks.{AreListed, AreMarked, AreMarkedBut, Grows, KeepsMarksBut, TakesMarked, is_marked}
 use Rattle.gipsat_kernel.specs.Occurrences.{AreNoted, Covers}
@@ -71,13 +71,6 @@ IsRatKernel-resolved fs cs os ms mid ns b pivot id c is_open flagged at stay gro
   follows = λ e.
       ImpliesMarked-resolved (original_among fs cs) ms mid ns pivot c (Implies-flagged fs cs id c flagged at) stay grows come (is.follows is_open);
 }
-
--- a formula with a clause more
-satisfies-push : (a : Assignment) (f : Formula) (c : Clause) → IsTrue (satisfies a f) → IsTrue (satisfies_clause a c)
-    → IsTrue (satisfies a (f ++ c ∷ []))
-satisfies-push a f c sat last =
-    satisfies-each a (f ++ c ∷ [])
-    (each_push (λ d. IsTrue (satisfies_clause a d)) f c (λ k d at. satisfies-at a f k d sat at) last)
 
 -- a clause that follows is added
 pub KeepsSatisfiable-implied : (f : Formula) (c : Clause) → Implies f c → KeepsSatisfiable f (f ++ c ∷ [])
