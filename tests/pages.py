@@ -463,9 +463,17 @@ def lost_pages(page, text):
     return lost + [f"{link} has no part {part}" for link, part in parts if part not in anchors(page.parent / link)]
 
 
+def wrong_counts(text):
+    """What a page says otherwise than it is of how many mutants stand, and how many of them a goal refuses."""
+    files = [path.read_text(encoding="utf-8") for path in CRATES.glob("*/mutants/*.edit")]
+    right = (str(len(files)), str(sum("\nrefused:" not in f"\n{file}" for file in files)))
+    told = re.findall(r"[Oo]f\s+(\d+)\s+mutants\b[^.]*?\ba\s+goal\s+refuses\s+(\d+)", text)
+    return [f"of {right[0]} mutants a goal refuses {right[1]}, and not {' '.join(each)}" for each in told if each != right]
+
+
 def sound(page, text):
-    """What is wrong with a page's lines, and the files and pages that it names."""
-    return too_wide(text) + lost_files(text) + lost_pages(page, text)
+    """What is wrong with a page's lines, the files and pages that it names, and its counts."""
+    return too_wide(text) + lost_files(text) + lost_pages(page, text) + wrong_counts(text)
 
 
 def with_quotes(page, text, complaints):
