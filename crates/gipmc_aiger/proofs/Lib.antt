@@ -2,6 +2,7 @@ mod ClaimLoops
 mod Examples
 mod FrameLoops
 mod Fronts
+mod HeaderLines
 pub mod PackedRereads
 mod LiveOrders
 mod Refusals

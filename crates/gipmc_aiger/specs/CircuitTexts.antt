@@ -17,6 +17,18 @@ literal_number l = if l.positive then 2 * l.variable else 2 * l.variable + 1
 abbrev pub number_text : ℕ → ℕ → List ℕ
 number_text n end = decimal n ++ end ∷ []
 
+-- numbers with a space before each
+abbrev pub numbers_text : List ℕ → List ℕ
+numbers_text [] = []
+numbers_text (n ∷ numbers) = 32 ∷ (decimal n ++ numbers_text numbers)
+
+-- the numbers of a header: the greatest variable, and how many inputs, latches, outputs, gates, bad literals and
+-- constraints there are
+abbrev pub header_numbers : ℕ → Circuit → List ℕ
+header_numbers maximum c =
+    maximum ∷ length c.inputs.items ∷ length c.latches.items ∷ 0 ∷ length c.gates.items ∷ length c.bads.items
+    ∷ length c.constraints.items ∷ []
+
 -- the header: the greatest variable, then how many inputs, latches, outputs, gates, bad literals and constraints follow
 abbrev pub header_line : ℕ → Circuit → List ℕ
 header_line maximum c =

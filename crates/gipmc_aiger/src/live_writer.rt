@@ -7,8 +7,9 @@ ghost use Rattle.gipmc_aiger.specs.LiveTexts.{live_packed_header_line, liveness_
 
 use crate::liveness::Liveness;
 use crate::writer::{
-    WriteError, are_above, are_numbered, greatest_variable, sum, write_ands, write_inputs,
-    write_latches, write_literals, write_number, write_packed_ands, write_packed_latches,
+    WriteError, are_above, are_numbered, greatest_variable, header_text, sum, write_ands,
+    write_inputs, write_latches, write_literals, write_number, write_packed_ands,
+    write_packed_latches,
 };
 use gipmc_circuits::Circuit;
 use gipsat_cnf::Literal;
@@ -94,18 +95,13 @@ fn live_header_line(
 ) -> Result<Vec<u8>, AllocError>
     ensures { IfOk result (λ text. text.items ≡ live_header_line maximum circuit.now justice fairness) }
 {
-    let mut text = Vec::new(alloc);
-    text.extend_from_slice(b"aag ")?;
-    write_number(&mut text, u64::from(maximum), b' ')?;
-    write_number(&mut text, circuit.inputs.len() as u64, b' ')?;
-    write_number(&mut text, circuit.latches.len() as u64, b' ')?;
-    write_number(&mut text, 0, b' ')?;
-    write_number(&mut text, circuit.gates.len() as u64, b' ')?;
-    write_number(&mut text, circuit.bads.len() as u64, b' ')?;
-    write_number(&mut text, circuit.constraints.len() as u64, b' ')?;
-    write_number(&mut text, justice, b' ')?;
-    write_number(&mut text, fairness, b'\n')?;
-    Ok(text)
+    header_text(
+        alloc,
+        b"aag",
+        u64::from(maximum),
+        circuit,
+        &[justice, fairness],
+    )
 }
 
 // The header of the binary form, with so many justice properties and fairness constraints.
@@ -117,21 +113,7 @@ fn live_packed_header_line(
 ) -> Result<Vec<u8>, AllocError>
     ensures { IfOk result (λ text. text.items ≡ live_packed_header_line circuit.now justice fairness) }
 {
-    let inputs = circuit.inputs.len() as u64;
-    let latches = circuit.latches.len() as u64;
-    let gates = circuit.gates.len() as u64;
-    let mut text = Vec::new(alloc);
-    text.extend_from_slice(b"aig ")?;
-    write_number(&mut text, sum(inputs, latches, gates), b' ')?;
-    write_number(&mut text, inputs, b' ')?;
-    write_number(&mut text, latches, b' ')?;
-    write_number(&mut text, 0, b' ')?;
-    write_number(&mut text, gates, b' ')?;
-    write_number(&mut text, circuit.bads.len() as u64, b' ')?;
-    write_number(&mut text, circuit.constraints.len() as u64, b' ')?;
-    write_number(&mut text, justice, b' ')?;
-    write_number(&mut text, fairness, b'\n')?;
-    Ok(text)
+    header_text(alloc, b"aig", sum(circuit), circuit, &[justice, fairness])
 }
 
 // Writes the lines of justice properties and fairness constraints.

@@ -1,12 +1,12 @@
 //! A writer of circuits in both forms.
 ghost use Rattle.std.specs.Prelude.{◌≡◌, ◌==◌, ◌<◌, ◌+◌, ◌^◌, ◌++◌, ◌∷◌, [], ℕ, decimal, false, length, map, min, nat_le};
 ghost use Rattle.std.specs.Prelude.{IfOk, IsErrOf, IsTrue, None, OnErr, OnOk, Some};
-ghost use Rattle.gipmc_aiger.specs.CircuitTexts.{aag_text, aig_text, and_line, and_lines, are_above, header_line};
+ghost use Rattle.gipmc_aiger.specs.CircuitTexts.{aag_text, aig_text, and_line, and_lines, are_above};
 ghost use Rattle.gipmc_aiger.specs.CircuitTexts.{greatest_input, greatest_latch, greatest_output, greatest_variable};
-ghost use Rattle.gipmc_aiger.specs.CircuitTexts.{input_lines, is_above, is_numbered, latch_line, latch_lines};
-ghost use Rattle.gipmc_aiger.specs.CircuitTexts.{literal_lines, literal_number, numbered_behind, reset_number};
-ghost use Rattle.gipmc_aiger.specs.CircuitTexts.{packed_and, packed_ands, packed_header_line, packed_latch_line};
-ghost use Rattle.gipmc_aiger.specs.CircuitTexts.{packed_latch_lines};
+ghost use Rattle.gipmc_aiger.specs.CircuitTexts.{header_line, header_numbers, input_lines, is_above, is_numbered};
+ghost use Rattle.gipmc_aiger.specs.CircuitTexts.{latch_line, latch_lines, literal_lines, literal_number};
+ghost use Rattle.gipmc_aiger.specs.CircuitTexts.{numbered_behind, numbers_text, packed_and, packed_ands, packed_header_line};
+ghost use Rattle.gipmc_aiger.specs.CircuitTexts.{packed_latch_line, packed_latch_lines, reset_number};
 ghost use Rattle.gipmc_aiger.specs.Writable.{IsWritable, has_room};
 ghost use Rattle.giputils_text.specs.Groups.{groups};
 
@@ -200,25 +200,17 @@ fn last_output(first: u32, gates: &[And]) -> Result<u32, u32>
 fn packed_header_line(alloc: Global, circuit: &Circuit) -> Result<Vec<u8>, AllocError>
     ensures { IfOk result (λ text. text.items ≡ packed_header_line circuit.now) }
 {
+    header_text(alloc, b"aig", sum(circuit), circuit, &[])
+}
+
+// How many inputs, latches and gates there are, as far as numbers go.
+pub(crate) fn sum(circuit: &Circuit) -> u64
+    ensures { result ≡ min (min (length circuit.now.inputs.items + length circuit.now.latches.items)
+        18446744073709551615 + length circuit.now.gates.items) 18446744073709551615 }
+{
     let inputs = circuit.inputs.len() as u64;
     let latches = circuit.latches.len() as u64;
     let gates = circuit.gates.len() as u64;
-    let mut text = Vec::new(alloc);
-    text.extend_from_slice(b"aig ")?;
-    write_number(&mut text, sum(inputs, latches, gates), b' ')?;
-    write_number(&mut text, inputs, b' ')?;
-    write_number(&mut text, latches, b' ')?;
-    write_number(&mut text, 0, b' ')?;
-    write_number(&mut text, gates, b' ')?;
-    write_number(&mut text, circuit.bads.len() as u64, b' ')?;
-    write_number(&mut text, circuit.constraints.len() as u64, b'\n')?;
-    Ok(text)
-}
-
-// The sum of three numbers, as far as numbers go.
-pub(crate) fn sum(inputs: u64, latches: u64, gates: u64) -> u64
-    ensures { result ≡ min (min (inputs + latches) 18446744073709551615 + gates) 18446744073709551615 }
-{
     inputs.saturating_add(latches).saturating_add(gates)
 }
 
@@ -344,16 +336,44 @@ fn greatest_output(first: u32, gates: &[And]) -> u32
 fn header_line(alloc: Global, maximum: u32, circuit: &Circuit) -> Result<Vec<u8>, AllocError>
     ensures { IfOk result (λ text. text.items ≡ header_line maximum circuit.now) }
 {
+    header_text(alloc, b"aag", u64::from(maximum), circuit, &[])
+}
+
+// A header: a word, the greatest variable, how many inputs, latches, outputs, gates, bad literals and constraints there
+// are, and further numbers.
+pub(crate) fn header_text(
+    alloc: Global,
+    word: &[u8],
+    maximum: u64,
+    circuit: &Circuit,
+    further: &[u64],
+) -> Result<Vec<u8>, AllocError>
+    ensures { IfOk result (λ text. text.items ≡ word.now ++ numbers_text (header_numbers maximum circuit.now)
+        ++ numbers_text further.now ++ 10 ∷ []) }
+{
+    let inputs = circuit.inputs.len() as u64;
+    let latches = circuit.latches.len() as u64;
+    let gates = circuit.gates.len() as u64;
+    let bads = circuit.bads.len() as u64;
+    let constraints = circuit.constraints.len() as u64;
+    let counts = [maximum, inputs, latches, 0, gates, bads, constraints];
     let mut text = Vec::new(alloc);
-    text.extend_from_slice(b"aag ")?;
-    write_number(&mut text, u64::from(maximum), b' ')?;
-    write_number(&mut text, circuit.inputs.len() as u64, b' ')?;
-    write_number(&mut text, circuit.latches.len() as u64, b' ')?;
-    write_number(&mut text, 0, b' ')?;
-    write_number(&mut text, circuit.gates.len() as u64, b' ')?;
-    write_number(&mut text, circuit.bads.len() as u64, b' ')?;
-    write_number(&mut text, circuit.constraints.len() as u64, b'\n')?;
+    text.extend_from_slice(word)?;
+    write_numbers(&mut text, &counts)?;
+    write_numbers(&mut text, further)?;
+    text.push(b'\n')?;
     Ok(text)
+}
+
+// Writes numbers, with a space before each.
+fn write_numbers(text: &mut Vec<u8>, numbers: &[u64]) -> Result<(), AllocError>
+    ensures { OnOk result (text.new.items ≡ text.old.items ++ numbers_text numbers.now) }
+{
+    for number in numbers {
+        text.push(b' ')?;
+        write_decimal(text, *number)?;
+    }
+    Ok(())
 }
 
 // Writes a number and a byte behind it.

@@ -1,0 +1,10 @@
+-- The numbers of the header, with a byte behind each.
+use Rattle.std.proofs.Common.{◌≡◌, IfOk, subst}
+use Rattle.gipmc_aiger.proofs.HeaderLines.{live_header_line-of}
+use Rattle.gipmc_aiger.proofs.live_writer.live_header_line.Goals as goal
+
+pub returns : goal.returns
+returns c =
+    let same : c.from.result ≡ c.args.maximum = cc in
+    subst (λ line. IfOk c.header_text.result (λ text. text.items ≡ line)) (live_header_line-of c.from.result c.args.maximum c.args.circuit.now c.args.justice c.args.fairness same)
+    c.header_text.ensures
