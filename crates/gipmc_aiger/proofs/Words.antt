@@ -3,9 +3,9 @@ use Rattle.std.proofs.Common.{◌≡◌, ℕ, List, ◌∷◌, map, Option, Some
 use Rattle.giputils_text.specs.Lines.{pieces, space}
 use Rattle.giputils_text.proofs.Pieces.{pieces-cons}
 use Rattle.gipsat_cnf.specs.Formulas.{Clause}
-use Rattle.gipsat_dimacs.specs.Texts.{Word, header_of, item_of}
-use Rattle.gipsat_dimacs.specs.declared.words.Item.{Item}
-use Rattle.gipsat_dimacs.specs.declared.words.Item.TheVariants.{End}
+use Rattle.gipsat_cnf.specs.Dimacs.{Word, header_of, item_of}
+use Rattle.gipsat_cnf.specs.declared.dimacs.Item.{Item}
+use Rattle.gipsat_cnf.specs.declared.dimacs.Item.TheVariants.{End}
 use Rattle.gipmc_aiger.specs.Invariants.{clause_in, clause_of}
 use Rattle.gipmc_aiger.proofs.Fronts.{with_items}
 

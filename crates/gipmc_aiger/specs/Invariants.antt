@@ -5,10 +5,9 @@ use Rattle.std.specs.declared.vec.Vec.{Vec}
 use Rattle.std.specs.Str.{byte}
 use Rattle.gipsat_cnf.specs.Formulas.{Clause, Formula}
 use Rattle.gipsat_cnf.specs.Literals.{Lit}
-use Rattle.gipsat_dimacs.specs.Texts.{Word, header_of, item_of}
-use Rattle.gipsat_dimacs.specs.Writer.{clause_line}
-use Rattle.gipsat_dimacs.specs.declared.words.Item.{Item}
-use Rattle.gipsat_dimacs.specs.declared.words.Item.TheVariants.{Literal, End}
+use Rattle.gipsat_cnf.specs.Dimacs.{Word, clause_line, header_of, item_of}
+use Rattle.gipsat_cnf.specs.declared.dimacs.Item.{Item}
+use Rattle.gipsat_cnf.specs.declared.dimacs.Item.TheVariants.{Literal, End}
 use Rattle.gipmc_circuits.specs.WellFormed.{latch_variables}
 use Rattle.gipmc_circuits.specs.declared.circuit.Circuit.{Circuit}
 use Rattle.giputils_text.specs.Lines.{pieces, space, text_lines}

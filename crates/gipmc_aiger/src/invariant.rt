@@ -2,7 +2,7 @@
 //! Number n is the latch at place n - 1 of the circuit.
 ghost use Rattle.std.specs.Prelude.{◌≡◌, ◌<◌, ◌++◌, ◌∷◌, [], None, Some, decimal, get_or, length, map, IfErr, IfOk, IfSome, IsErrOf, MatchOption, OnOk};
 ghost use Rattle.std.specs.Option.{option_and_then, option_map_or};
-ghost use Rattle.gipsat_dimacs.specs.Texts.{header_of, item_of, number_of, signed_item};
+ghost use Rattle.gipsat_cnf.specs.Dimacs.{header_of, item_of, number_of, signed_item};
 ghost use Rattle.giputils_text.specs.Lines.{pieces, space};
 ghost use Rattle.gipmc_aiger.specs.Invariants.{clause_count_at, clause_count_in, clause_in, clause_lines, clauses_in, clauses_view};
 ghost use Rattle.gipmc_aiger.specs.Invariants.{invariant_for, invariant_in, invariant_of, invariant_text, is_comment, item_view};
@@ -14,7 +14,7 @@ use crate::numbers::SPACE;
 use crate::place::error_at;
 use gipmc_circuits::{Circuit, Latch};
 use gipsat_cnf::Literal;
-use gipsat_dimacs::write_clause;
+use gipsat_cnf::dimacs::write_clause;
 use giputils_text::{number, split_line, split_once};
 use std::alloc::{AllocError, Global};
 use std::io::Write;
