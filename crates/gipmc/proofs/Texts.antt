@@ -1,5 +1,5 @@
 -- Texts that are read.
-use Rattle.std.proofs.Common.{◌≡◌, ◌∙◌, ℕ, List, [], ◌∷◌, ◌++◌, None, Some, append_assoc, ap, subst}
+use Rattle.std.proofs.Common.{◌≡◌, ◌∙◌, ℕ, List, [], ◌∷◌, ◌++◌, None, Some, append_assoc, subst}
 use Rattle.std.specs.Prelude.{IfSome, Option}
 use Rattle.giputils_text.specs.Lines.{line_feed}
 use Rattle.gipmc.specs.Texts.{IsTextOf, text_read, with_feeds, without_return}
@@ -10,12 +10,6 @@ pub one_more : (text line : List ℕ) (lines : List (List ℕ))
 one_more text line lines =
     append_assoc (text ++ without_return line) (line_feed ∷ []) (with_feeds lines)
     ∙ append_assoc text (without_return line) (line_feed ∷ with_feeds lines)
-
--- what is read of all bytes of a reader is its text
-pub all_read : (known : Option (List ℕ)) (bytes text : List ℕ)
-    → IfSome known (λ xs. bytes ≡ xs) → text ≡ text_read bytes → IsTextOf known text
-all_read None bytes text all same = tt
-all_read (Some xs) bytes text all same = same ∙ ap text_read all
 
 -- what holds of the text of a file holds where its bytes are known
 pub if_text : (P : List ℕ → Type 0) (known : Option (List ℕ)) (text : List ℕ)

@@ -1,16 +1,14 @@
 -- Claims, and the numbers of properties, that are read one after the other, as a loop does.
-use Rattle.std.proofs.Common.{◌≡◌, ℕ, Bool, true, false, List, [], ◌∷◌, ◌++◌, Option, Some, None, refl, sym, ap, ◌∙◌, append_assoc, append-nil}
-use Rattle.gipmc_aiger.specs.declared.error.Stop.{Stop}
-use Rattle.gipmc_aiger.specs.declared.error.Stop.TheVariants as stop
-use Rattle.gipmc_aiger.specs.Reading.{◌>>=◌, Fails}
+use Rattle.std.proofs.Common.{◌≡◌, ℕ, Bool, true, false, List, [], ◌∷◌, ◌++◌, Option, Some, None, refl, sym, ap, ◌∙◌, append_assoc}
+use Rattle.gipmc_aiger.specs.Reading.{◌>>=◌}
 use Rattle.std.proofs.lemmas.List.{map-append}
 use Rattle.std.specs.Prelude.{◌==◌, if◌then◌else◌, length, not}
 use Rattle.giputils_text.proofs.Pieces.{pieces-cons}
 use Rattle.giputils_text.specs.Lines.{pieces}
 use Rattle.gipmc_aiger.specs.declared.claims.Claim.{Claim}
 use Rattle.gipmc_aiger.specs.Claims.{claim_view, claims_view, properties_of}
-use Rattle.gipmc_aiger.specs.Claims.{Claimed, bare_frames_of, before_mark, behind_end, claim_of, claims_from, is_last, is_passed, place_of, places_of}
-use Rattle.gipmc_aiger.specs.Witnesses.{bits_of, is_end}
+use Rattle.gipmc_aiger.specs.Claims.{Claimed, behind_end, claim_of, claims_from, is_passed, places_of}
+use Rattle.gipmc_aiger.specs.Witnesses.{is_end}
 
 -- what was read before, and what is still read
 abbrev pub with_front : {X : Type 0} → List X → Option (List X) → Option (List X)
@@ -74,74 +72,3 @@ module _ (front : List Claimed) (letter other latches inputs : ℕ) (lines : Lis
       rw (first, more, here, within_end letter other latches inputs after, behind)
       (regroup front claim (claims_from letter other latches inputs false (behind_end after))) in
       sym one ∙ so_far
-
-module _ (front : List Claimed) (letter other latches inputs : ℕ) (lines : List (List ℕ)) (total : Option (List Claimed))
-    (so_far : with_front front (claims_from letter other latches inputs false lines) ≡ total) where
-  pub stops : (line : List ℕ) (after : List (List ℕ)) → lines ≡ line ∷ after → (e : Stop)
-      → is_passed other line after ≡ false → Fails e (claim_of letter latches inputs lines) → Fails e total
-  stops line after first stop.Memory more h = tt
-  stops line after first (stop.Refused reason left) more h =
-      let here = rw first at h in
-      let one : with_front front (claims_from letter other latches inputs false lines) ≡ None = rw (first, more, here) refl in
-      sym so_far ∙ one
-
-  pub ends : lines ≡ [] → total ≡ Some front
-  ends none =
-      let one : with_front front (claims_from letter other latches inputs false lines) ≡ Some front =
-      rw none (ap (λ (cs : List Claimed). Some cs) (append-nil front)) in
-      sym so_far ∙ one
-
-module _ (front : List ℕ) (words : List (List ℕ)) (total : Option (List ℕ))
-    (so_far : with_front front (places_of words) ≡ total) (word : List ℕ) (after : List (List ℕ))
-    (first : words ≡ word ∷ after) where
-  pub more_places : (n : ℕ) → place_of word ≡ Some n → with_front (front ++ n ∷ []) (places_of after) ≡ total
-  more_places n h =
-      let one : with_front front (places_of words) ≡ with_front (front ++ n ∷ []) (places_of after) =
-      rw (first, h) (regroup front n (places_of after)) in
-      sym one ∙ so_far
-
-  pub last_place : (n : ℕ) → place_of word ≡ Some n → after ≡ [] → total ≡ Some (front ++ n ∷ [])
-  last_place n h none =
-      let one : with_front front (places_of words) ≡ Some (front ++ n ∷ []) = rw (first, h, none) refl in
-      sym so_far ∙ one
-
-  pub no_place : (e : Stop) → Fails e (place_of word) → Fails e total
-  no_place stop.Memory h = tt
-  no_place (stop.Refused reason left) h =
-      let one : with_front front (places_of words) ≡ None = rw (first, h) refl in
-      sym so_far ∙ one
-
-module _ (front : List (List Bool)) (count : ℕ) (lines : List (List ℕ)) (total : Option (List (List Bool)))
-    (so_far : with_front front (bare_frames_of count lines) ≡ total) (line : List ℕ) (after : List (List ℕ))
-    (first : lines ≡ line ∷ after) where
-  pub more_frames : (frame : List Bool) → is_last line ≡ false → bits_of count line ≡ Some frame
-      → with_front (front ++ frame ∷ []) (bare_frames_of count after) ≡ total
-  more_frames frame more h =
-      let one : with_front front (bare_frames_of count lines)
-      ≡ with_front (front ++ frame ∷ []) (bare_frames_of count after) =
-      rw (first, more, h) (regroup front frame (bare_frames_of count after)) in
-      sym one ∙ so_far
-
-  pub last_frame : (frame : List Bool) → is_last line ≡ true → bits_of count (before_mark line) ≡ Some frame
-      → total ≡ Some (front ++ frame ∷ [])
-  last_frame frame last h =
-      let one : with_front front (bare_frames_of count lines) ≡ Some (front ++ frame ∷ []) = rw (first, last, h) refl in
-      sym so_far ∙ one
-
-  pub no_frame : (e : Stop) → is_last line ≡ false → Fails e (bits_of count line) → Fails e total
-  no_frame stop.Memory more h = tt
-  no_frame (stop.Refused reason left) more h =
-      let one : with_front front (bare_frames_of count lines) ≡ None = rw (first, more, h) refl in
-      sym so_far ∙ one
-
-  pub no_last_frame : (e : Stop) → is_last line ≡ true → Fails e (bits_of count (before_mark line)) → Fails e total
-  no_last_frame stop.Memory last h = tt
-  no_last_frame (stop.Refused reason left) last h =
-      let one : with_front front (bare_frames_of count lines) ≡ None = rw (first, last, h) refl in
-      sym so_far ∙ one
-
--- the lines end without a last one
-pub no_mark : (front : List (List Bool)) (count : ℕ) (lines : List (List ℕ)) (total : Option (List (List Bool)))
-    → with_front front (bare_frames_of count lines) ≡ total → lines ≡ [] → total ≡ None
-no_mark front count lines total so_far none =
-    let one : with_front front (bare_frames_of count lines) ≡ None = rw none refl in sym so_far ∙ one

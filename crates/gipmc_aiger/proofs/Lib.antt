@@ -1,6 +1,5 @@
 mod ClaimLoops
 mod Examples
-mod FrameLoops
 mod Fronts
 mod HeaderLines
 pub mod PackedRereads

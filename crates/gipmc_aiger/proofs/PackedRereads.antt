@@ -28,8 +28,8 @@ use Rattle.gipmc_aiger.specs.LiveTexts.{AreLiveWritable, live_aig_text, live_pac
 use Rattle.gipmc_aiger.specs.declared.header.Properties.{Properties}
 use Rattle.gipmc_aiger.specs.declared.liveness.Liveness.{Liveness}
 use Rattle.gipmc_aiger.proofs.Rereads.{bads_are, counts_of, header-reread, header_in, latch-behind, limit_is, literal-reread}
-use Rattle.gipmc_aiger.proofs.Rereads.{literals-reread, live_properties-reread, liveness-reread, no_rows, none_writable, of_eight, of_ten}
-use Rattle.gipmc_aiger.proofs.Rereads.{properties-reread}
+use Rattle.gipmc_aiger.proofs.Rereads.{literals-reread, live_properties-reread, liveness-reread, no_rows, none_writable, of_eight, of_six}
+use Rattle.gipmc_aiger.proofs.Rereads.{of_ten, properties-reread}
 use Rattle.gipsat_cnf.specs.Literals.{Lit}
 
 -- a group and so many more hold the numbers below this one
@@ -386,9 +386,6 @@ aig_rereads c is numbered are =
     (arith, nat_tests, same)) (properties-reread b k rows is.bad_count is.constraint_count))
     ∙ ap (λ n. n >>= circuit_in)
     (body-reread c [] [] (header_in Binary m i l a p) m refl is (none_writable m) all are refl)
-
-of_six : (o a b c d e : List ℕ) → o ++ a ++ b ++ c ++ d ++ e ≡ o ++ (a ++ (b ++ (c ++ (d ++ (e ++ [])))))
-of_six o a b c d e = simp (append_assoc, append-nil)
 
 -- the same with justice properties and fairness constraints
 pub live_aig_rereads : (c : Circuit) (live : Liveness) → IsWritable c

@@ -448,7 +448,7 @@ body-reread c justice fairness h m greatest is live header =
     )
     refl
 
-of_six : (o a b c d e : List ℕ) → o ++ a ++ b ++ c ++ d ++ e ≡ o ++ (a ++ (b ++ (c ++ (d ++ (e ++ [])))))
+pub of_six : (o a b c d e : List ℕ) → o ++ a ++ b ++ c ++ d ++ e ≡ o ++ (a ++ (b ++ (c ++ (d ++ (e ++ [])))))
 of_six o a b c d e = simp (append_assoc, append-nil)
 
 -- no justice properties and no fairness constraints

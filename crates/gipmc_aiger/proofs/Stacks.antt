@@ -217,12 +217,6 @@ module _ (gates : List And) where
       sym (second ∙ ap (λ xs. xs ++ right) first ∙ append_assoc (front ++ place ∷ []) left right) in
       subst (λ xs. IsStack gates (set visits place visit.Open) xs) all (opened visits front place stack (left ++ right) kids)
 
-  -- a place that has no gate is open, and nothing more waits
-  pub opened_none : (visits : List Visit) (front : List ℕ) (place : ℕ) → IsStack gates visits (front ++ place ∷ [])
-      → IsStack gates (set visits place visit.Open) (front ++ place ∷ [])
-  opened_none visits front place stack =
-      subst (λ xs. IsStack gates (set visits place visit.Open) xs) (append-nil (front ++ place ∷ [])) (opened visits front place stack [] tt)
-
   -- nothing is open, and one waits
   pub begun : (visits : List Visit) (root : ℕ) → IsStack gates visits [] → IsStack gates visits (root ∷ [])
   begun visits root stack q is_open = let (below, above, split, all) = stack q is_open in absurd (none_left below q above split)

@@ -1,31 +1,17 @@
 -- The circuits that one text writes fail and are safe alike.
-use Rattle.std.proofs.Common.{◌≡◌, ℕ, ◌+◌, ◌&&◌, ◌||◌, Bool, true, false, not, List, [], ◌∷◌, IsTrue, refl, sym, ap, subst, ◌∙◌}
-use Rattle.std.specs.List.{list_all, list_any}
+use Rattle.std.proofs.Common.{◌≡◌, ℕ, ◌+◌, ◌&&◌, false, List, IsTrue, refl, sym, ap, subst, ◌∙◌}
+use Rattle.std.specs.List.{list_all}
 use Rattle.std.specs.Prelude.{◌==◌, None, Some, if◌then◌else◌, length, nat_lt}
-use Rattle.std.specs.List.Sorted.{IsPermutation}
-use Rattle.std.proofs.lemmas.List.Sorted.{list_any-IsPermutation}
 use Rattle.gipsat_cnf.specs.Formulas.{Assignment}
 use Rattle.gipsat_cnf.specs.Literals.{Lit}
 use Rattle.gipsat_cnf.proofs.Places.{same_some}
+use Rattle.gipsat_cnf.proofs.Tests.{list_all-permuted}
 use Rattle.gipmc_circuits.specs.declared.circuit.Circuit.{Circuit}
 use Rattle.gipmc_circuits.specs.Circuit.{FailsAfter, IsSafe, IsTrace, has_value, holds_next, holds_reset, is_moment}
 use Rattle.gipmc_aiger.specs.Circuits.{IsReordering, Rows, Writes, circuit_in, circuit_of, is_live_alone, rows_of}
 use Rattle.gipmc_aiger.specs.LiveCircuits.{WritesLive, justice_view, live_rows}
 use Rattle.gipmc_aiger.specs.Reading.{◌>>=◌}
 use Rattle.gipmc_aiger.specs.declared.liveness.Liveness.{Liveness}
-
-all_unless_any : {X : Type 0} (p : X → Bool) (xs : List X) → list_all p xs ≡ not (list_any (λ x. not (p x)) xs)
-all_unless_any p [] = refl
-all_unless_any p (x ∷ xs) = with_first (p x) (list_all p xs) (list_any (λ y. not (p y)) xs) (all_unless_any p xs)
-  where
-    with_first : (b u v : Bool) → u ≡ not v → (b && u) ≡ not (not b || v)
-    with_first true u v same = same
-    with_first false u v same = refl
-
--- a list and its permutation pass a test of all alike
-list_all-permuted : {X : Type 0} (p : X → Bool) (xs ys : List X) → IsPermutation xs ys → list_all p xs ≡ list_all p ys
-list_all-permuted p xs ys same =
-    all_unless_any p xs ∙ ap not (list_any-IsPermutation (λ x. not (p x)) xs ys same) ∙ sym (all_unless_any p ys)
 
 -- circuits with the same rows have the same moments
 pub moments-reordered : (c d : Circuit) (n : Rows) (a : Assignment)

@@ -6,6 +6,7 @@ use Rattle.std.specs.List.{list_all}
 use Rattle.std.proofs.lemmas.Bool.{and_from, and_parts, not-true}
 use Rattle.gipsat_cnf.specs.Formulas.{Assignment, is_true}
 use Rattle.gipsat_cnf.specs.Literals.{Lit, negated}
+pub use Rattle.gipsat_cnf.proofs.LiteralLemmas.{is_true-negated}
 use Rattle.gipmc_circuits.specs.declared.circuit.Circuit.{Circuit}
 use Rattle.gipmc_circuits.specs.Circuit.{has_value, is_valuation}
 use Rattle.gipmc_builder.specs.Build.{AddsInputs, AddsLatches, Extends, GivesAnd, GivesDigits, GivesOr, GivesXor, Keeps, are_positive, variables_of}
@@ -25,9 +26,6 @@ Extends-then first then = record {
   transitions = λ a b is. first.transitions a b (then.transitions a b is);
 }
 
-pub keeps_same : (c : Circuit) → Keeps c c
-keeps_same c = record { extends = Extends-same c; inputs = refl; latches = refl; bads = refl; constraints = refl }
-
 -- further gates, and then more of them
 pub keeps_then : {c d e : Circuit} → Keeps c d → Keeps d e → Keeps c e
 keeps_then first then = record {
@@ -37,15 +35,6 @@ keeps_then first then = record {
   bads = then.bads ∙ first.bads;
   constraints = then.constraints ∙ first.constraints;
 }
-
-sign_turned : (value sign : Bool) → beq value (not sign) ≡ not (beq value sign)
-sign_turned true true = refl
-sign_turned true false = refl
-sign_turned false true = refl
-sign_turned false false = refl
-
-pub is_true-negated : (a : Assignment) (l : Lit) → is_true a (negated l) ≡ not (is_true a l)
-is_true-negated a l = sign_turned (a l.variable) l.positive
 
 one_of_two : (x y : Bool) → ((x && not y) || (not x && y)) ≡ not (beq x y)
 one_of_two true true = refl
@@ -85,9 +74,6 @@ gives_digits c d e f g x y z half low both through high is_half to_d is_low to_e
     let in_c = to_d.extends.valuations a in_d in
     rw (is_high a is, is_low a in_d, is_both a in_e, is_through a in_f, is_half a in_c)
     (digits_of (is_true a x) (is_true a y) (is_true a z))
-
-pub adds_latches_same : (c : Circuit) → AddsLatches c c
-adds_latches_same c = record { extends = Extends-same c; inputs = refl; gates = refl; bads = refl; constraints = refl }
 
 pub adds_latches_then : {c d e : Circuit} → AddsLatches c d → AddsLatches d e → AddsLatches c e
 adds_latches_then first then = record {

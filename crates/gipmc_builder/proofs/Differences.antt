@@ -62,11 +62,6 @@ LessSoFar c xs ys i less =
     (a : Assignment) → IsTrue (is_valuation c a)
     → ltb (number_of a (drop i xs)) (number_of a (drop i ys) + bit_of a less) ≡ ltb (number_of a xs) (number_of a ys)
 
-pub less_none : (c : Circuit) (xs ys : List Lit) → LessSoFar c xs ys 0 (constant false)
-less_none c xs ys a is =
-    ap (λ b. ltb (number_of a xs) (number_of a ys + cond b 1 0)) (is_true-constant a false (zero_false c a is))
-    ∙ ap (ltb (number_of a xs)) (add-zero (number_of a ys))
-
 pub less_more : (c d : Circuit) (xs ys : List Lit) (i : ℕ) (x y less next : Lit)
     → x ≡ get_or xs i (constant false) → y ≡ get_or ys i (constant false) → LessSoFar c xs ys i less → Keeps c d
     → GivesBorrow d x y less next → LessSoFar d xs ys (i + 1) next
@@ -131,12 +126,6 @@ pub record DifferenceSoFar (c : Circuit) (xs ys : List Lit) (i : ℕ) (zs : List
   pub width : length zs ≡ i
   pub gives : (a : Assignment) → IsTrue (is_valuation c a)
       → number_of a zs + number_of a (take i ys) ≡ number_of a (take i xs) + bit_of a borrow * 2 ^ i
-
-pub difference_none : (c : Circuit) (xs ys : List Lit) → DifferenceSoFar c xs ys 0 [] (constant false)
-difference_none c xs ys = record {
-  width = refl;
-  gives = λ a is. sym (ap (λ b. 0 + cond b 1 0 * 2 ^ 0) (is_true-constant a false (zero_false c a is)));
-}
 
 pub difference_more : (c d : Circuit) (xs ys zs : List Lit) (i : ℕ) (x y borrow low high : Lit)
     → x ≡ get_or xs i (constant false) → y ≡ get_or ys i (constant false) → DifferenceSoFar c xs ys i zs borrow → Keeps c d

@@ -7,9 +7,7 @@ use Rattle.gipsat_cnf.specs.Formulas.{Assignment, is_true}
 use Rattle.gipsat_cnf.specs.Literals.{Lit}
 use Rattle.gipmc_circuits.specs.declared.circuit.Circuit.{Circuit}
 use Rattle.gipmc_circuits.specs.Circuit.{is_valuation}
-use Rattle.gipmc_builder.specs.Build.{GivesAll, GivesAnd, GivesAny, GivesOr, Keeps, constant}
-use Rattle.gipmc_builder.proofs.Built.{zero_false}
-use Rattle.gipmc_builder.proofs.Numbers.{is_true-constant}
+use Rattle.gipmc_builder.specs.Build.{GivesAll, GivesAnd, GivesAny, GivesOr, Keeps}
 
 and_true : (b : Bool) → b ≡ (b && true)
 and_true true = refl
@@ -24,9 +22,6 @@ abbrev pub AllSoFar : Circuit → List Lit → ℕ → Lit → Type 0
 AllSoFar c ls i all =
     (a : Assignment) → IsTrue (is_valuation c a)
     → (is_true a all && list_all (is_true a) (drop i ls)) ≡ list_all (is_true a) ls
-
-pub all_none : (c : Circuit) (ls : List Lit) → AllSoFar c ls 0 (constant true)
-all_none c ls a is = ap (λ b. b && list_all (is_true a) ls) (is_true-constant a true (zero_false c a is))
 
 pub all_more : (c d : Circuit) (ls : List Lit) (i : ℕ) (l all next : Lit) → i < length ls → l ≡ get_or ls i l
     → AllSoFar c ls i all → Keeps c d → GivesAnd d all l next → AllSoFar d ls (i + 1) next
@@ -48,9 +43,6 @@ abbrev pub AnySoFar : Circuit → List Lit → ℕ → Lit → Type 0
 AnySoFar c ls i any =
     (a : Assignment) → IsTrue (is_valuation c a)
     → (is_true a any || list_any (is_true a) (drop i ls)) ≡ list_any (is_true a) ls
-
-pub any_none : (c : Circuit) (ls : List Lit) → AnySoFar c ls 0 (constant false)
-any_none c ls a is = ap (λ b. b || list_any (is_true a) ls) (is_true-constant a false (zero_false c a is))
 
 pub any_more : (c d : Circuit) (ls : List Lit) (i : ℕ) (l any next : Lit) → i < length ls → l ≡ get_or ls i l
     → AnySoFar c ls i any → Keeps c d → GivesOr d any l next → AnySoFar d ls (i + 1) next

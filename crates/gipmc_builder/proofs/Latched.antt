@@ -1,8 +1,6 @@
 -- Values in which latches hold what they are to hold.
 use Rattle.std.proofs.Common.{eqb, cond, Bool, false, List, [], ◌∷◌, Option, Some, None, IsTrue, refl}
 use Rattle.std.specs.Bool.{beq}
-use Rattle.std.specs.List.{list_all}
-use Rattle.std.proofs.lemmas.Bool.{and_from, and_parts}
 use Rattle.gipsat_cnf.specs.Formulas.{Assignment, is_true}
 use Rattle.gipmc_circuits.specs.declared.circuit.Latch.{Latch}
 use Rattle.gipmc_circuits.specs.Circuit.{is_reset}
@@ -24,13 +22,6 @@ start_of l = reset_value l.reset
 -- what a latch holds behind these values
 abbrev pub next_of : Assignment → Latch → Bool
 next_of a l = is_true a l.next
-
-pub all_weaker : {X : Type 0} (p q : X → Bool) (xs : List X) → ((x : X) → IsTrue (p x) → IsTrue (q x)) → IsTrue (list_all p xs)
-    → IsTrue (list_all q xs)
-all_weaker p q [] weaker all = refl
-all_weaker p q (x ∷ xs) weaker all =
-    let (here, rest) = and_parts (p x) (list_all p xs) all in
-    and_from (q x) (list_all q xs) (weaker x here) (all_weaker p q xs weaker rest)
 
 pub starts : (reset : Option Bool) (value : Bool) → IsTrue (beq value (reset_value reset)) → IsTrue (is_reset reset value)
 starts None value is = refl

@@ -16,7 +16,8 @@ use Rattle.gipmc_circuits.specs.Circuit.{IsSafe, IsTrace, holds_reset, is_initia
 use Rattle.gipmc_circuits.specs.WellFormed.{are_in_order, are_new, is_constant, is_source, is_variable, is_well_formed, latch_variables, uses_defined, with_variable, with_variables}
 use Rattle.gipmc_circuits.proofs.Valuations.{valuation-exists}
 use Rattle.gipmc_builder.specs.Machine.{IsMachine, NeverBad, state_after}
-use Rattle.gipmc_builder.proofs.Latched.{all_weaker, held, next_of, start_of, starts}
+use Rattle.gipsat_cnf.proofs.Tests.{all_weaker}
+use Rattle.gipmc_builder.proofs.Latched.{held, next_of, start_of, starts}
 
 -- the state at each moment of a trace is the one that the steps reach
 pub state_along : {S I : Type 0} (c : Circuit) (bad : Lit) (step : S → I → S) (start : S) (is_bad : S → I → Bool)

@@ -1,5 +1,5 @@
 -- The numbers that lists of literals are, digit by digit.
-use Rattle.std.proofs.Common.{◌≡◌, ⊎_elim, ℕ, zero, suc, ◌+◌, ◌*◌, ◌^◌, ◌%◌, ◌/◌, ◌<◌, ◌≤◌, ◌&&◌, ◌++◌, ◌==◌, Bool, true, false, cond, List, [], ◌∷◌, Some, length, take, drop, get_or, IsTrue, add-zero, arith, refl, sym, ap, ◌∙◌}
+use Rattle.std.proofs.Common.{◌≡◌, ⊎_elim, ℕ, zero, suc, ◌+◌, ◌*◌, ◌^◌, ◌%◌, ◌/◌, ◌<◌, ◌≤◌, ◌&&◌, ◌++◌, ◌==◌, Bool, true, false, cond, List, [], ◌∷◌, Some, length, take, drop, get_or, IsTrue, arith, refl, sym, ap, ◌∙◌}
 use Rattle.std.specs.Bool.{beq}
 use Rattle.std.specs.Cmp.{booleans_Decides, both_ways}
 use Rattle.std.proofs.Math.Nat.{div-add-mod, mul-add, two-pow-succ}
@@ -10,7 +10,7 @@ use Rattle.gipsat_cnf.specs.Formulas.{Assignment, is_true}
 use Rattle.gipsat_cnf.specs.Literals.{Lit}
 use Rattle.gipmc_circuits.specs.declared.circuit.Circuit.{Circuit}
 use Rattle.gipmc_circuits.specs.Circuit.{is_initial, is_transition, is_valuation}
-use Rattle.gipmc_builder.specs.Build.{AddsLatches, AreDigits, Becomes, GivesAnd, GivesChoice, GivesDigits, GivesEqual, GivesMux, GivesSame, GivesSum, Keeps, StartsAs, StartsAt, Takes, bit_of, constant, number_of}
+use Rattle.gipmc_builder.specs.Build.{AddsLatches, AreDigits, Becomes, GivesAnd, GivesChoice, GivesDigits, GivesEqual, GivesMux, GivesSum, Keeps, StartsAs, StartsAt, Takes, bit_of, constant, number_of}
 use Rattle.gipmc_builder.proofs.Built.{zero_false}
 
 -- the number of the literals' digits, with another number behind the last one
@@ -86,11 +86,6 @@ SumSoFar c xs ys i zs carry =
     (a : Assignment) → IsTrue (is_valuation c a)
     → number_over a zs (number_of a (drop i xs) + number_of a (drop i ys) + bit_of a carry) ≡ number_of a xs + number_of a ys
 
-pub sum_none : (c : Circuit) (xs ys : List Lit) → SumSoFar c xs ys 0 [] (constant false)
-sum_none c xs ys a is =
-    ap (λ b. number_of a xs + number_of a ys + cond b 1 0) (is_true-constant a false (zero_false c a is))
-    ∙ add-zero (number_of a xs + number_of a ys)
-
 carried : (n m x y z low high n' m' : ℕ) → n ≡ x + 2 * n' → m ≡ y + 2 * m' → low + 2 * high ≡ x + y + z
     → low + 2 * (n' + m' + high) ≡ n + m + z
 carried n m x y z low high n' m' is also digits = omega (arith, is, also, digits)
@@ -124,9 +119,6 @@ ChoiceSoFar c s xs ys i zs =
     (a : Assignment) → IsTrue (is_valuation c a)
     → number_over a zs (cond (is_true a s) (number_of a (drop i xs)) (number_of a (drop i ys)))
     ≡ cond (is_true a s) (number_of a xs) (number_of a ys)
-
-pub choice_none : (c : Circuit) (s : Lit) (xs ys : List Lit) → ChoiceSoFar c s xs ys 0 []
-choice_none c s xs ys a is = refl
 
 picked : (s x y b : Bool) (n m n' m' : ℕ) → b ≡ cond s x y → n ≡ cond x 1 0 + 2 * n' → m ≡ cond y 1 0 + 2 * m'
     → cond b 1 0 + 2 * cond s n' m' ≡ cond s n m
@@ -163,10 +155,6 @@ SameSoFar c xs ys i same =
     (a : Assignment) → IsTrue (is_valuation c a)
     → (is_true a same && (number_of a (drop i xs) == number_of a (drop i ys))) ≡ (number_of a xs == number_of a ys)
 
-pub same_none : (c : Circuit) (xs ys : List Lit) → SameSoFar c xs ys 0 (constant true)
-same_none c xs ys a is =
-    ap (λ b. b && (number_of a xs == number_of a ys)) (is_true-constant a true (zero_false c a is))
-
 halves_same : (x y : Bool) (n m : ℕ) → (cond x 1 0 + 2 * n == cond y 1 0 + 2 * m) ≡ (beq x y && (n == m))
 halves_same true true n m =
     both_ways (1 + 2 * n == 1 + 2 * m) (n == m)
@@ -201,16 +189,6 @@ same_more c d e xs ys i x y same bit next at_x at_y before keeps equal more both
     (number_of-drop a xs i x none at_x) (number_of-drop a ys i y none at_y)
     (before a (keeps.extends.valuations a in_d))
 
-and_last : (b : Bool) (n m : ℕ) → n ≡ 0 → m ≡ 0 → b ≡ (b && (n == m))
-and_last true n m left right = rw (left, right) refl
-and_last false n m left right = refl
-
-pub same_all : (c : Circuit) (xs ys : List Lit) (i : ℕ) (same : Lit) → SameSoFar c xs ys i same
-    → length xs ≤ i → length ys ≤ i → GivesSame c xs ys same
-same_all c xs ys i same before left right a is =
-    and_last (is_true a same) (number_of a (drop i xs)) (number_of a (drop i ys)) (number_of-end a xs i left) (number_of-end a ys i right)
-    ∙ before a is
-
 halved : (n q r : ℕ) → 2 * q + r ≡ n → r < 2 → cond (r == 1) 1 0 + 2 * q ≡ n
 halved n q zero split less = omega (arith, split)
 halved n q (suc zero) split less = omega (arith, split)
@@ -241,9 +219,6 @@ pub record RegisterSoFar (c : Circuit) (bits next : List Lit) (start : ℕ) (i r
   pub starts : (a : Assignment) → IsTrue (is_valuation c a) → IsTrue (is_initial c a) → number_over a (take i bits) rest ≡ start
   pub takes : (a b : Assignment) → IsTrue (is_valuation c a) → IsTrue (is_transition c a b)
       → number_over b (take i bits) (number_of a (drop i next)) ≡ number_of a next
-
-pub register_none : (c : Circuit) (bits next : List Lit) (start : ℕ) → RegisterSoFar c bits next start 0 start
-register_none c bits next start = record { starts = λ a is first. refl; takes = λ a b is goes. refl }
 
 pub register_more : (c d : Circuit) (bits next : List Lit) (start i rest : ℕ) (bit l : Lit)
     → RegisterSoFar c bits next start i rest → i < length bits → bit ≡ get_or bits i bit

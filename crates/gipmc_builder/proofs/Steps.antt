@@ -1,15 +1,14 @@
 -- A machine from its step: a circuit that a builder made is the machine of what its state, its inputs and its bad literal do.
-use Rattle.std.proofs.Common.{◌≡◌, ℕ, ◌%◌, ◌^◌, ◌&&◌, ◌++◌, eqb, cond, Bool, true, false, not, Some, List, [], ◌∷◌, length, map, IsTrue, arith, refl, sym, ap, subst, ◌∙◌}
+use Rattle.std.proofs.Common.{◌≡◌, ℕ, ◌%◌, ◌^◌, ◌&&◌, ◌++◌, eqb, cond, Bool, true, false, not, List, [], ◌∷◌, length, map, IsTrue, arith, refl, sym, ap, subst, ◌∙◌}
 use Rattle.std.specs.Bool.{beq}
-use Rattle.std.specs.Cmp.{booleans_Decides}
 use Rattle.std.proofs.lemmas.Bool.{and_parts, cond-false, cond-true, eq-eqb, or_left}
 use Rattle.gipsat_cnf.specs.Assumptions.{makes_true}
-use Rattle.gipsat_cnf.specs.Formulas.{Assignment, is_true}
+use Rattle.gipsat_cnf.specs.Formulas.{Assignment}
 use Rattle.gipsat_cnf.specs.Literals.{Lit}
 use Rattle.gipmc_circuits.specs.declared.circuit.Circuit.{Circuit}
-use Rattle.gipmc_circuits.specs.Circuit.{is_initial, is_moment, is_valuation}
+use Rattle.gipmc_circuits.specs.Circuit.{is_moment, is_valuation}
 use Rattle.gipmc_circuits.specs.WellFormed.{are_in_order, are_new, is_constant, is_source, is_variable, is_well_formed, latch_variables, uses_defined, with_variable, with_variables}
-use Rattle.gipmc_builder.specs.Build.{AddsInputs, AddsLatches, AddsProperties, IsEmpty, Keeps, StartsAs, StartsAt, Takes, are_positive, number_of, variables_of}
+use Rattle.gipmc_builder.specs.Build.{AddsInputs, AddsLatches, AddsProperties, IsEmpty, Keeps, StartsAt, Takes, are_positive, number_of, variables_of}
 use Rattle.gipmc_builder.specs.Machine.{CanRead, DoesSteps, GivesBad, GivesNext, HasInputs, IsMachine, first_of, two_of, values_of}
 use Rattle.gipmc_builder.proofs.Machines.{differ, new_differ, turned}
 
@@ -68,11 +67,6 @@ values_of-positive a (l ∷ ls) all =
 length-variables_of : (ls : List Lit) → length (variables_of ls) ≡ length ls
 length-variables_of [] = refl
 length-variables_of (l ∷ ls) = let same = length-variables_of ls in omega (arith, same)
-
--- a latch that starts as a value has it at first
-pub StartsAs-value : (c : Circuit) (l : Lit) (value : Bool) → StartsAs c l (Some value) → (a : Assignment)
-    → IsTrue (is_initial c a) → is_true a l ≡ value
-StartsAs-value c l value starts a first = (booleans_Decides (is_true a l) value).0 (starts a first)
 
 -- from nothing: inputs, gates, latches and bad literals
 pub HasInputs-built : {none begun named stepped held c : Circuit} {inputs : List Lit} {bads : List Lit}

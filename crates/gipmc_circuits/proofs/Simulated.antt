@@ -1,13 +1,13 @@
 -- A certificate whose variables are defined once, with its gates in order, simulates every circuit.
-use Rattle.std.proofs.Common.{◌≡◌, ⊎_elim, ℕ, ◌++◌, ◌&&◌, ◌||◌, eqb, Bool, true, false, not, cond, List, [], ◌∷◌, map, IsTrue, refl, sym, ap, subst, ◌∙◌}
+use Rattle.std.proofs.Common.{◌≡◌, ⊎_elim, ℕ, ◌++◌, ◌&&◌, eqb, Bool, true, false, not, cond, List, [], ◌∷◌, map, IsTrue, refl, sym, ap, subst, ◌∙◌}
 use Rattle.std.specs.Bool.{beq}
 use Rattle.std.specs.Cmp.{booleans_Decides}
-use Rattle.std.specs.List.{list_all, list_any}
+use Rattle.std.specs.List.{list_all}
 use Rattle.std.specs.List.Sorted.{IsPermutation}
 use Rattle.std.proofs.lemmas.Bool.{and_from, and_parts, both_ways, cases_Bool, cond-true, cond-false, eqb-true, eq-eqb, or_left, or_right}
 use Rattle.std.proofs.lemmas.List.Folds.{list_all-append, list_all-map}
-use Rattle.std.proofs.lemmas.List.Sorted.{list_any-IsPermutation}
 use Rattle.gipsat_cnf.specs.Formulas.{Assignment, is_true}
+use Rattle.gipsat_cnf.proofs.Tests.{list_all-permuted}
 use Rattle.gipmc_circuits.specs.declared.circuit.And.{And}
 use Rattle.gipmc_circuits.specs.declared.circuit.Circuit.{Circuit}
 use Rattle.gipmc_circuits.specs.declared.witness_circuit.Link.{Link}
@@ -100,18 +100,6 @@ both_rows-variables a b (k ∷ links) more = ap (λ vs. k.variable ∷ vs) (both
 
 link_rows-hold : (a b : Assignment) (links : List Link) → have_rows b (link_rows a links) ≡ are_linked a b links
 link_rows-hold a b links = list_all-map (λ r. beq (b r.0) r.1) (λ k. (k.variable, is_true a k.literal)) links
-
-all_unless_any : {X : Type 0} (p : X → Bool) (xs : List X) → list_all p xs ≡ not (list_any (λ x. not (p x)) xs)
-all_unless_any p [] = refl
-all_unless_any p (x ∷ xs) = with_first (p x) (list_all p xs) (list_any (λ y. not (p y)) xs) (all_unless_any p xs)
-  where
-    with_first : (b u v : Bool) → u ≡ not v → (b && u) ≡ not (not b || v)
-    with_first true u v same = same
-    with_first false u v same = refl
-
-list_all-permuted : {X : Type 0} (p : X → Bool) (xs ys : List X) → IsPermutation xs ys → list_all p xs ≡ list_all p ys
-list_all-permuted p xs ys same =
-    all_unless_any p xs ∙ ap not (list_any-IsPermutation (λ x. not (p x)) xs ys same) ∙ sym (all_unless_any p ys)
 
 -- where the gate of a reset has its value, the latch has its reset
 reset_holds : (b : Assignment) (k : Link) → IsTrue (has_value b (reset_gate k)) → IsTrue (is_linked b b k)

@@ -8,7 +8,7 @@ use Rattle.gipsat_cnf.specs.Formulas.{Assignment, is_true}
 use Rattle.gipmc_circuits.specs.declared.circuit.And.{And}
 use Rattle.gipmc_circuits.specs.declared.circuit.Circuit.{Circuit}
 use Rattle.gipmc_circuits.specs.Circuit.{has_value, is_valuation}
-use Rattle.gipmc_circuits.specs.WellFormed.{are_in_order, are_new, is_constant, is_source, is_variable, is_well_formed, latch_variables, uses_defined, with_variable, with_variables}
+use Rattle.gipmc_circuits.specs.WellFormed.{are_in_order, are_new, is_constant, is_source, is_variable, is_well_formed, latch_variables, with_variable, with_variables}
 use Rattle.gipmc_circuits.proofs.Agreeing.{both_alike}
 
 -- the values are the same at each of these variables
@@ -85,13 +85,6 @@ order-part c is =
     in
     let (new, others) = and_parts news (are_in_order c.gates.items (is_source c) && literals) is in
     (and_parts (are_in_order c.gates.items (is_source c)) literals others).0
-
-pub uses-part : (c : Circuit) → IsTrue (is_well_formed c) → IsTrue (uses_defined (is_variable c) c)
-uses-part c is =
-    let news = are_new c.inputs.items is_constant && are_new (latch_variables c) (with_variables c.inputs.items is_constant) in
-    let ordered = are_in_order c.gates.items (is_source c) in
-    let (new, others) = and_parts news (ordered && uses_defined (is_variable c) c) is in
-    (and_parts ordered (uses_defined (is_variable c) c) others).1
 
 pub keeps_defined : (vs : List ℕ) (defined : ℕ → Bool) (v : ℕ) → IsTrue (defined v) → IsTrue (with_variables vs defined v)
 keeps_defined [] defined v is = is

@@ -8,6 +8,7 @@ use Rattle.std.proofs.lemmas.Bool.{and_from, and_parts, cases_Bool, cases_lt, co
 use Rattle.std.proofs.lemmas.List.Folds.{list_all-append}
 use Rattle.gipsat_cnf.specs.Assumptions.{makes_true}
 use Rattle.gipsat_cnf.specs.Formulas.{Assignment, is_true}
+use Rattle.gipsat_cnf.proofs.Tests.{all_weaker}
 use Rattle.gipmc_circuits.specs.declared.circuit.And.{And}
 use Rattle.gipmc_circuits.specs.declared.circuit.Circuit.{Circuit}
 use Rattle.gipmc_circuits.specs.declared.circuit.Latch.{Latch}
@@ -111,13 +112,6 @@ held-new (l ∷ ls) n value a b numbered agree =
     (held-new ls (n + 1) value a b rest
     (λ v from within. agree v (omega (arith, from)) (omega (arith, within))
     ∙ held-other l ls value a v (λ same. absurd (omega (arith, from, here, same)))))
-
-all_weaker : {X : Type 0} (p q : X → Bool) (xs : List X) → ((x : X) → IsTrue (p x) → IsTrue (q x)) → IsTrue (list_all p xs)
-    → IsTrue (list_all q xs)
-all_weaker p q [] weaker all = refl
-all_weaker p q (x ∷ xs) weaker all =
-    let (here, rest) = and_parts (p x) (list_all p xs) all in
-    and_from (q x) (list_all q xs) (weaker x here) (all_weaker p q xs weaker rest)
 
 starts : (reset : Option Bool) (value : Bool) → IsTrue (beq value (reset_value reset)) → IsTrue (is_reset reset value)
 starts None value is = refl

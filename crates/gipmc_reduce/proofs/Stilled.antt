@@ -76,9 +76,6 @@ IsCertifiedBy-still n c s w bad below is inside claims certified = record {
   excluded = ExcludesBy-still n c s w bad below is inside certified.excluded;
 }
 
-pub HoldsClaims-certified : (c : Circuit) (w : WitnessCircuit) (bad : Lit) → IsCertifiedBy c bad w → HoldsClaims c w
-HoldsClaims-certified c w bad by = record { simulates = by.simulates; initiated = by.initiated; inductive = by.inductive }
-
 -- one more literal and its verdict
 pub AreSafeBy-more : (c : Circuit) (w : WitnessCircuit) (bads : List Lit) (verdicts : List Verdict) (v : Verdict)
     → AreSafeBy c w bads verdicts

@@ -1,7 +1,7 @@
 -- Smaller circuits that stand for a circuit.
 use Rattle.std.proofs.Common.{◌≡◌, ◌∙◌, ℕ, ◌<◌, List, Vec, length, map, ap, get_or, sym, subst}
-use Rattle.std.specs.Option.{ForSome, option_map}
-use Rattle.std.specs.Prelude.{slice_get, Option, Some, None, IfSome}
+use Rattle.std.specs.Option.{option_map}
+use Rattle.std.specs.Prelude.{slice_get, Some}
 use Rattle.std.specs.declared.alloc.Global.{Global}
 use Rattle.std.proofs.lemmas.List.{length-map}
 use Rattle.std.proofs.lemmas.Option.{slice_get-get_or, slice_get-map, slice_get_within}
@@ -54,12 +54,3 @@ StandFor-through small owns between mids whole bads lower upper = record {
       let there = slice_get-get_or mids k own less in
       upper.each k (get_or mids k own) bad there here n (lower.each k own (get_or mids k own) at there n never);
 }
-
--- what follows from what is found
-pub some_more : {T : Type 0} (P Q : T → Type 0) (r : Option T) → ((t : T) → P t → Q t) → IfSome r P → IfSome r Q
-some_more P Q (Some t) more p = more t p
-some_more P Q None more p = tt
-
--- what holds of what is found, as an equation tells it
-pub for_some : {T : Type 0} (P : T → Type 0) (r : Option T) → IfSome r P → ForSome r P
-for_some P r holds found is = subst (λ o. IfSome o P) is holds

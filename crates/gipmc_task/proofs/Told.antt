@@ -57,12 +57,7 @@ pub some_clear : (r : Option ℕ) (v : Verdict) (c : Circuit) (bads : List Lit) 
 some_clear None v c bads k is right = tt
 some_clear (Some n) v c bads k is right = λ bad here. subst (λ w. IsKnown c bad w) is (right bad here)
 
--- what follows from what an answer says
-pub ok_more : {T E : Type 0} (P Q : T → Type 0) (r : Result T E) → ((t : T) → P t → Q t) → IfOk r P → IfOk r Q
-ok_more P Q (Ok t) more p = more t p
-ok_more P Q (Err e) more p = tt
-
--- and from two things that it says
+-- what follows from two things that an answer says
 pub ok_both : {T E : Type 0} (P Q R : T → Type 0) (r : Result T E) → ((t : T) → P t → Q t → R t) → IfOk r P → IfOk r Q
     → IfOk r R
 ok_both P Q R (Ok t) more p q = more t p q

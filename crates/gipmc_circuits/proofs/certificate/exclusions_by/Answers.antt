@@ -3,7 +3,8 @@ use Rattle.std.proofs.Common.{◌≡◌, ◌+◌, ◌∷◌, [], slice_get, Some
 use Rattle.std.proofs.lemmas.List.{length-append}
 use Rattle.std.proofs.lemmas.Option.{slice_get_read}
 use Rattle.gipmc_circuits.specs.Certificate.{Excludes, is_certified}
-use Rattle.gipmc_circuits.proofs.Certified.{AreExcluded-more, Some-alike}
+use Rattle.gipsat_cnf.proofs.Places.{same_some}
+use Rattle.gipmc_circuits.proofs.Certified.{AreExcluded-more}
 use Rattle.gipmc_circuits.proofs.certificate.exclusions_by.Goals as goal
 
 pub loop-place-preserved : goal.loop-place-preserved
@@ -21,6 +22,6 @@ loop-place-preserved g c =
           let right = (rw sure at c.in_ok-said.ensures.right) refl in
           let read = slice_get_read c.args.bads.now _ c.loop-place.place _ refl c.loop-place-test.true c.index-bads-place.is in
           let there = subst (λ n. slice_get c.args.bads.now n ≡ Some bad) held.count at in
-          let here = Some-alike c.index-bads-place.result bad (sym read ∙ there) in
+          let here = same_some c.index-bads-place.result bad (sym read ∙ there) in
           subst (λ l. Excludes circuit c.args.invariant.now l) here right));
     }

@@ -2,8 +2,9 @@
 use Rattle.std.proofs.Common.{◌≡◌, ◌∙◌, Some, get_or, subst, sym}
 use Rattle.std.specs.Prelude.{slice_get}
 use Rattle.std.proofs.lemmas.Option.{slice_get-get_or}
+use Rattle.std.proofs.lemmas.Result.{IfOk-weaker}
 use Rattle.gipmc_task.specs.Answers.{IsKnown}
-use Rattle.gipmc_task.proofs.Told.{IsWritten-answer, Tells-by, ok_both, ok_more}
+use Rattle.gipmc_task.proofs.Told.{IsWritten-answer, Tells-by, ok_both}
 use Rattle.gipmc_task.proofs.answers.tell_at.Goals as goal
 
 pub returns-clause-tells : goal.returns-clause-tells
@@ -16,7 +17,7 @@ returns-clause-tells g c =
     let here = subst (λ b. slice_get b.now c.args.at ≡ Some bad) (sym c.in_ok-depths.ensures.bads) at in
     let right = subst (λ w. IsKnown w.now.circuit bad known) c.in_ok-depths.ensures.whole
     (c.find_out-known.ensures.right bad here) in
-    ok_more _ _ c.tell_behind.result
+    IfOk-weaker c.tell_behind.result _ _
     (λ a is. Tells-by circuit c.args.place bad c.in_ok-depths.depths.items known a (c.requires.same ∙ at)
     c.in_ok-depths.ensures.depths right is)
     c.tell_behind.ensures.answer
