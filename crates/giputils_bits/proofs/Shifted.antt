@@ -12,9 +12,6 @@ use Rattle.giputils_bits.proofs.Overlaid.{Carries-next, IsLaid-word}
 use Rattle.giputils_bits.proofs.Places.{place_is, place-past, length-bits_of, get_or-bits_of_all, bits_of_is}
 
 -- ---- up: the word that comes to place k
-pub IsLaid-none : (n : ℕ) (ws : List ℕ) (k : ℕ) → k < n / 64 → IsLaid n ws k 0
-IsLaid-none n ws k before = record { below = λ d within h. has_digit-zero d; above = λ d within h. absurd (omega arith) }
-
 pub IsLaid-first : (n : ℕ) (ws : List ℕ) (k : ℕ) → n / 64 ≡ k → IsLaid n ws k (get_or ws 0 0 * 2 ^ (n % 64) % 2 ^ 64)
 IsLaid-first n ws k at = record {
   below = λ d within h. has_digit-shl_low (get_or ws 0 0) (n % 64) d (omega arith) within;

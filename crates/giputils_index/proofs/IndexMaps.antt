@@ -23,17 +23,6 @@ up_to-put m f g i before put q =
       ]
     ]
 
--- no more entry: m has nothing at i
-pub up_to-skip : (m f : ℕ → Option ℕ) (i : ℕ) → ((q : ℕ) → f q ≡ up_to m i q) → m i ≡ None → (q : ℕ) → f q ≡ up_to m (i + 1) q
-up_to-skip m f i before none q =
-    before q ∙ elim (cases_lt q i) [
-      | inl less ↦ rw (lt-ltb q i less, lt-ltb q (i + 1) (omega arith))
-      | inr more ↦ elim (cases_lt i q) [
-        | inl later ↦ rw (le-ltb q i more, le-ltb q (i + 1) (omega arith))
-        | inr less ↦ let same : i ≡ q = omega arith in rw (le-ltb q i more, lt-ltb q (i + 1) (omega arith)) (sym none ∙ ap m same)
-      ]
-    ]
-
 -- a table with one more entry
 pub table_at-push : (table : List (Option ℕ)) (i : ℕ) (entry : Option ℕ) (q : ℕ) → length table ≡ i
     → table_at (table ++ entry ∷ []) q ≡ cond (nat_eq i q) entry (table_at table q)
