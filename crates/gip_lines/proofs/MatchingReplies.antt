@@ -12,8 +12,7 @@ use Rattle.gip_lines.specs.Scripts.Replies.{is_held, goes_before, greatest, held
 use Rattle.gip_lines.specs.declared.scripts.lines.Line.{Line}
 use Rattle.gip_lines.specs.declared.scripts.lines.Line.TheVariants as line
 use Rattle.gip_lines.proofs.Greatest.{greatest-held}
-use Rattle.giputils_bounded.specs.Keys.{key_limit}
-use Rattle.giputils_bounded.specs.Relations.{is_greatest}
+use Rattle.giputils_bounded.specs.Prelude.{is_greatest, key_limit}
 use Rattle.giputils_heap.specs.Record as run
 use Rattle.giputils_heap.specs.declared.run.HeapReply.{HeapReply}
 use Rattle.giputils_heap.specs.declared.run.HeapReply.TheVariants.{Done, Refused, Skipped, Popped, Length}

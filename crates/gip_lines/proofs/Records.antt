@@ -10,9 +10,7 @@ use Rattle.gip_lines.specs.declared.scripts.lines.Line.{Line}
 use Rattle.gip_lines.specs.declared.scripts.lines.Line.TheVariants as line
 use Rattle.gip_lines.proofs.MatchingReplies.{number, matches}
 use Rattle.giputils_heap.specs.Record as run
-use Rattle.giputils_bounded.specs.Comparers.{by_rank}
-use Rattle.giputils_bounded.specs.Keys.{without}
-use Rattle.giputils_bounded.specs.Relations.{agree_on}
+use Rattle.giputils_bounded.specs.Prelude.{agree_on, by_rank, without}
 use Rattle.giputils_heap.specs.declared.run.HeapCall.{HeapCall}
 use Rattle.giputils_heap.specs.declared.run.HeapCall.TheVariants as call
 use Rattle.giputils_heap.specs.declared.run.HeapReply.{HeapReply}

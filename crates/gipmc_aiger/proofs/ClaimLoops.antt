@@ -1,14 +1,11 @@
 -- Claims, and the numbers of properties, that are read one after the other, as a loop does.
 use Rattle.std.proofs.Common.{◌≡◌, ℕ, Bool, true, false, List, [], ◌∷◌, ◌++◌, Option, Some, None, refl, sym, ap, ◌∙◌, append_assoc}
-use Rattle.gipmc_aiger.specs.Reading.{◌>>=◌}
+use Rattle.gipmc_aiger.specs.Prelude.{◌>>=◌, Claimed, behind_end, claim_of, claim_view, claims_from, claims_view, is_end, is_passed, places_of, properties_of}
 use Rattle.std.proofs.lemmas.List.{map-append}
 use Rattle.std.specs.Prelude.{◌==◌, if◌then◌else◌, length, not}
 use Rattle.giputils_text.proofs.Pieces.{pieces-cons}
 use Rattle.giputils_text.specs.Lines.{pieces}
 use Rattle.gipmc_aiger.specs.declared.claims.Claim.{Claim}
-use Rattle.gipmc_aiger.specs.Claims.{claim_view, claims_view, properties_of}
-use Rattle.gipmc_aiger.specs.Claims.{Claimed, behind_end, claim_of, claims_from, is_passed, places_of}
-use Rattle.gipmc_aiger.specs.Witnesses.{is_end}
 
 -- what was read before, and what is still read
 abbrev pub with_front : {X : Type 0} → List X → Option (List X) → Option (List X)

@@ -7,12 +7,8 @@ use Rattle.gipmc_circuits.specs.declared.circuit.Circuit.{Circuit}
 use Rattle.gipmc_circuits.specs.declared.circuit.Latch.{Latch}
 use Rattle.gipmc_circuits.specs.declared.witness_circuit.Link.{Link}
 use Rattle.gipmc_circuits.specs.declared.witness_circuit.Register.{Register}
-use Rattle.gipmc_aiger.specs.Claims.{bare_of, claim_of, claims_of, lassos_of}
+use Rattle.gipmc_aiger.specs.Prelude.{aig_text, bare_of, claim_of, claims_of, greater_first, lassos_of, register_at, shared_with, stimulus_of, witness_body_at, witness_of, witness_rows_of}
 use Rattle.gipmc_aiger.specs.Circuits.{LiveRows, Rows, body_at, circuit_of, live_rows_of, liveness_at, gate_at, header_at, latch_at, rows_of, packed_operands_at, properties_at, sizes_at, written_operands_at}
-use Rattle.gipmc_aiger.specs.CircuitTexts.{aig_text, greater_first}
-use Rattle.gipmc_aiger.specs.Sharing.{shared_with}
-use Rattle.gipmc_aiger.specs.WitnessCircuits.{register_at, witness_body_at, witness_rows_of}
-use Rattle.gipmc_aiger.specs.Witnesses.{stimulus_of, witness_of}
 
 -- a variable and its negation
 abbrev yes_of : ℕ → Lit

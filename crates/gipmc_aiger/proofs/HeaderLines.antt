@@ -2,8 +2,7 @@
 use Rattle.std.proofs.Common.{◌≡◌, ℕ, ◌+◌, min, List, [], ◌∷◌, ◌++◌, length, decimal, refl, sym, ap, ◌∙◌, append_assoc, append-nil}
 use Rattle.std.specs.Prelude.{codes}
 use Rattle.gipmc_circuits.specs.declared.circuit.Circuit.{Circuit}
-use Rattle.gipmc_aiger.specs.CircuitTexts.{header_line, header_numbers, number_text, numbers_text, packed_header_line}
-use Rattle.gipmc_aiger.specs.LiveTexts.{live_header_line, live_packed_header_line}
+use Rattle.gipmc_aiger.specs.Prelude.{header_line, header_numbers, live_header_line, live_packed_header_line, number_text, numbers_text, packed_header_line}
 
 -- a text with numbers behind it: a space behind each, and the end of the line behind the last
 abbrev with_numbers : List ℕ → ℕ → List ℕ → List ℕ

@@ -7,10 +7,8 @@ use Rattle.std.proofs.Math.Seq.{take-append_seam}
 use Rattle.std.proofs.lemmas.List.Folds.{list_all-append}
 use Rattle.gipsat_cnf.specs.Literals.{Lit}
 use Rattle.gipmc_circuits.specs.declared.circuit.Circuit.{Circuit}
-use Rattle.gipmc_circuits.specs.WellFormed.{are_in_order, are_new, is_constant, is_source, is_variable, is_well_formed}
-use Rattle.gipmc_circuits.specs.WellFormed.{latch_variables, uses_defined, with_variables}
-use Rattle.gipmc_aiger.specs.Circuits.{IsReordering, Rows, rows_of}
-use Rattle.gipmc_aiger.specs.Defects.{IsErrorOf, with_bads}
+use Rattle.gipmc_circuits.specs.Prelude.{are_in_order, are_new, is_constant, is_source, is_variable, is_well_formed, latch_variables, uses_defined, with_variables}
+use Rattle.gipmc_aiger.specs.Prelude.{IsErrorOf, IsReordering, Rows, rows_of, with_bads}
 use Rattle.gipmc_aiger.specs.declared.error.AigerError.{AigerError}
 
 -- an error of rows with more bad literals

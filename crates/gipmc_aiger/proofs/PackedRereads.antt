@@ -11,20 +11,9 @@ use Rattle.giputils_text.specs.Lines.{space}
 use Rattle.gipmc_circuits.specs.declared.circuit.And.{And}
 use Rattle.gipmc_circuits.specs.declared.circuit.Latch.{Latch}
 use Rattle.gipmc_circuits.specs.declared.circuit.Circuit.{Circuit}
-use Rattle.gipmc_aiger.specs.Lists.{Every}
+use Rattle.gipmc_aiger.specs.Prelude.{◌>>=◌, AreLiveWritable, Every, FitsGate, FitsLatch, FitsLiteral, FitsVariable, IsWritable, aig_text, are_above, body_at, circuit_in, circuit_of, defined_at, delta_at, gate_at, greater_first, greatest_input, greatest_latch, greatest_literal, greatest_output, greatest_variable, input_at, is_above, is_numbered, justice_view, latch_at, literal_at, literal_lines, literal_number, literal_of, live_aig_text, live_packed_header_line, live_rows_of, liveness_lines, number_text, numbered_behind, packed_and, packed_ands, packed_header_line, packed_latch_line, packed_latch_lines, packed_live_rows, packed_operands_at, packed_rows_of, reset_number, rows_at, separated_at}
 use Rattle.gipmc_aiger.specs.declared.header.Form.TheVariants.{Binary}
 use Rattle.gipmc_aiger.specs.declared.header.Header.{Header}
-use Rattle.gipmc_aiger.specs.Reading.{◌>>=◌, delta_at}
-use Rattle.gipmc_aiger.specs.Circuits.{body_at, circuit_in, circuit_of, live_rows_of, defined_at, gate_at, greatest_literal, input_at, latch_at}
-use Rattle.gipmc_aiger.specs.Circuits.{literal_at, literal_of, packed_operands_at, rows_at, separated_at}
-use Rattle.gipmc_aiger.specs.CircuitTexts.{aig_text, are_above, greater_first, greatest_input, greatest_latch}
-use Rattle.gipmc_aiger.specs.CircuitTexts.{greatest_output, greatest_variable, is_above, is_numbered, literal_lines}
-use Rattle.gipmc_aiger.specs.CircuitTexts.{literal_number, number_text, numbered_behind, packed_and, packed_ands}
-use Rattle.gipmc_aiger.specs.CircuitTexts.{packed_header_line, packed_latch_line, packed_latch_lines}
-use Rattle.gipmc_aiger.specs.CircuitTexts.{packed_rows_of, reset_number}
-use Rattle.gipmc_aiger.specs.Writable.{FitsGate, FitsLatch, FitsLiteral, FitsVariable, IsWritable}
-use Rattle.gipmc_aiger.specs.LiveCircuits.{justice_view}
-use Rattle.gipmc_aiger.specs.LiveTexts.{AreLiveWritable, live_aig_text, live_packed_header_line, liveness_lines, packed_live_rows}
 use Rattle.gipmc_aiger.specs.declared.header.Properties.{Properties}
 use Rattle.gipmc_aiger.specs.declared.liveness.Liveness.{Liveness}
 use Rattle.gipmc_aiger.proofs.Rereads.{bads_are, counts_of, header-reread, header_in, latch-behind, limit_is, literal-reread}

@@ -14,27 +14,14 @@ use Rattle.gipsat_cnf.specs.Literals.{Lit}
 use Rattle.gipmc_circuits.specs.declared.circuit.And.{And}
 use Rattle.gipmc_circuits.specs.declared.circuit.Latch.{Latch}
 use Rattle.gipmc_circuits.specs.declared.circuit.Circuit.{Circuit}
-use Rattle.gipmc_aiger.specs.Lists.{Every}
+use Rattle.gipmc_aiger.specs.Prelude.{◌>>=◌, AreLiveWritable, Every, FitsGate, FitsLatch, FitsLiteral, FitsVariable, IsWritable, aag_text, and_line, and_lines, bads_of, begins_number, body_at, circuit_in, circuit_of, count_at, defined_at, digits_at, form_at, gate_at, greatest_literal, greatest_variable, has_counts, header_at, header_line, input_at, input_lines, justice_at, justice_lines, justice_literals_at, justice_view, latch_at, latch_line, latch_lines, leading_at, literal_lines, literal_number, live_aag_text, live_header_line, live_rows, live_rows_of, liveness_at, liveness_lines, number_at, number_text, reset_number, rows_at, separated_at, size_lines, sizes_at, variable_of, written_operands_at}
 use Rattle.gipmc_aiger.specs.declared.header.Form.{Form}
 use Rattle.gipmc_aiger.specs.declared.header.Form.TheVariants.{Ascii}
 use Rattle.gipmc_aiger.specs.declared.header.Header.{Header}
 use Rattle.gipmc_aiger.specs.declared.header.Justice.{Justice}
 use Rattle.gipmc_aiger.specs.declared.header.Properties.{Properties}
-use Rattle.gipmc_aiger.specs.Reading.{◌>>=◌, digits_at, number_at}
-use Rattle.gipmc_aiger.specs.Circuits.{bads_of, body_at, circuit_in, circuit_of, count_at, defined_at, form_at, gate_at}
-use Rattle.gipmc_aiger.specs.Circuits.{greatest_literal, has_counts, header_at, input_at, justice_at, justice_literals_at}
-use Rattle.gipmc_aiger.specs.Circuits.{latch_at, leading_at, live_rows_of, liveness_at}
 use Rattle.gipmc_aiger.specs.Circuits.{literal_at, literal_of, rows_of, optional_count_at, properties_at, reset_of}
-use Rattle.gipmc_aiger.specs.Circuits.{rows_at, separated_at, sizes_at, variable_of, written_operands_at}
-use Rattle.gipmc_aiger.specs.CircuitTexts.{aag_text, and_line, and_lines, greatest_variable, header_line, input_lines}
-use Rattle.gipmc_aiger.specs.CircuitTexts.{latch_line, latch_lines, literal_lines, literal_number, number_text}
-use Rattle.gipmc_aiger.specs.CircuitTexts.{reset_number}
-use Rattle.gipmc_aiger.specs.LiveTexts.{AreLiveWritable, justice_lines, live_aag_text, live_header_line}
-use Rattle.gipmc_aiger.specs.LiveTexts.{liveness_lines, size_lines}
-use Rattle.gipmc_aiger.specs.LiveCircuits.{justice_view, live_rows}
 use Rattle.gipmc_aiger.specs.declared.liveness.Liveness.{Liveness}
-use Rattle.gipmc_aiger.specs.Tails.{begins_number}
-use Rattle.gipmc_aiger.specs.Writable.{FitsGate, FitsLatch, FitsLiteral, FitsVariable, IsWritable}
 
 digit_is : (d : ℕ) → digit_value d < 10 → is_ascii_digit d ≡ true
 digit_is d small = let (from, to) = digit_from_value d small in grind (arith, from, to)

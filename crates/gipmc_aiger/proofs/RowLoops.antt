@@ -3,8 +3,7 @@ use Rattle.std.proofs.Common.{◌≡◌, ℕ, suc, ◌-◌, ◌+◌, ◌≤◌, 
 use Rattle.std.proofs.lemmas.List.{append-nil}
 use Rattle.gipmc_aiger.specs.declared.error.Stop.{Stop}
 use Rattle.gipmc_aiger.specs.declared.error.Stop.TheVariants as stop
-use Rattle.gipmc_aiger.specs.Reading.{◌>>=◌, Fails}
-use Rattle.gipmc_aiger.specs.Circuits.{rows_at}
+use Rattle.gipmc_aiger.specs.Prelude.{◌>>=◌, Fails, rows_at}
 
 -- the rows that were read before, and those that are still read
 abbrev pub with_front : {X : Type 0} → List X → Option (List X × List ℕ) → Option (List X × List ℕ)

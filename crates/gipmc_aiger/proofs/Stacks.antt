@@ -3,13 +3,12 @@ use Rattle.std.proofs.Common.{◌≡◌, ⊎_elim, ℕ, zero, suc, ◌++◌, ◌
 use Rattle.std.proofs.lemmas.Bool.{cases_Bool, eqb-true, eq-eqb, false≢true}
 use Rattle.std.proofs.Math.ListN.{drop_of_length-le}
 use Rattle.std.proofs.lemmas.List.{get_or-set_other, take_all}
-use Rattle.gipmc_aiger.specs.Lists.{Every}
+use Rattle.gipmc_aiger.specs.Prelude.{AddsGateOf, Every, HasOutput, IsCycleIn, IsOpenAt, IsStack, Leads, MeetsOpen, Uses, UsesOnce, uses, visit_at}
 use Rattle.gipmc_circuits.specs.declared.circuit.And.{And}
 use Rattle.gipmc_aiger.specs.declared.error.Defect.{Defect}
 use Rattle.gipmc_aiger.specs.declared.error.Defect.TheVariants as defect
 use Rattle.gipmc_aiger.specs.declared.order.Visit.{Visit}
 use Rattle.gipmc_aiger.specs.declared.order.Visit.TheVariants as visit
-use Rattle.gipmc_aiger.specs.Defects.{AddsGateOf, HasOutput, IsCycleIn, IsOpenAt, IsStack, Leads, MeetsOpen, Uses, UsesOnce, uses, visit_at}
 
 -- a slice that was lent comes back
 pub lent_back : {X : Type 0} (new old : List X) (len : ℕ) → length new ≡ length old → len ≡ length old

@@ -12,14 +12,10 @@ use Rattle.std.specs.declared.vec.Vec.{Vec}
 use Rattle.gipmc_circuits.specs.declared.trace.Trace.{Trace}
 use Rattle.giputils_text.specs.Lines.{pieces}
 use Rattle.giputils_text.proofs.Pieces.{text_lines-at}
-use Rattle.gipmc_aiger.specs.Lists.{Every}
+use Rattle.gipmc_aiger.specs.Prelude.{Every, bits_line, bits_of, claim_by, claim_of, claims_from, claims_of, frames_lines, frames_of, frames_view, is_bit, is_end, is_last, is_remark, lasso_text, lassos_of, properties_of, property_of, said_lines, stimulus_of, witness_of, witness_text, witness_view}
 use Rattle.gipmc_aiger.proofs.ClaimLoops.{within_more}
 use Rattle.gipmc_aiger.proofs.Rereads.{number-reread_alone}
-use Rattle.gipmc_aiger.specs.Claims.{claim_by, claim_of, claims_from, claims_of, is_last, lassos_of, properties_of}
-use Rattle.gipmc_aiger.specs.Traces.{lasso_text, witness_text, witness_view}
 use Rattle.gipmc_aiger.specs.declared.witness.Witness.{Witness}
-use Rattle.gipmc_aiger.specs.Witnesses.{bits_line, bits_of, frames_lines, frames_of, frames_view}
-use Rattle.gipmc_aiger.specs.Witnesses.{is_bit, is_end, is_remark, property_of, said_lines, stimulus_of, witness_of}
 
 -- a byte that ends no line
 abbrev IsInLine : ℕ → Type 0

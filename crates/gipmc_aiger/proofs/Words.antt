@@ -2,8 +2,7 @@
 use Rattle.std.proofs.Common.{◌≡◌, ℕ, List, ◌∷◌, map, Option, Some, None, arith, refl, ap, sym, ◌∙◌}
 use Rattle.giputils_text.specs.Lines.{pieces, space}
 use Rattle.giputils_text.proofs.Pieces.{pieces-cons}
-use Rattle.gipsat_cnf.specs.Formulas.{Clause}
-use Rattle.gipsat_cnf.specs.Dimacs.{Word, header_of, item_of}
+use Rattle.gipsat_cnf.specs.Prelude.{Clause, Word, header_of, item_of}
 use Rattle.gipsat_cnf.specs.declared.dimacs.Item.{Item}
 use Rattle.gipsat_cnf.specs.declared.dimacs.Item.TheVariants.{End}
 use Rattle.gipmc_aiger.specs.Invariants.{clause_in, clause_of}

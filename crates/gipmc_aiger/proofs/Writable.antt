@@ -10,12 +10,8 @@ use Rattle.gipmc_circuits.specs.declared.circuit.And.{And}
 use Rattle.gipmc_circuits.specs.declared.circuit.Circuit.{Circuit}
 use Rattle.gipmc_circuits.specs.declared.circuit.Latch.{Latch}
 use Rattle.gipmc_circuits.specs.WellFormed.{are_in_order, are_new, is_constant, is_source, is_variable, is_well_formed, latch_variables, uses_defined, with_variable, with_variables}
-use Rattle.gipmc_aiger.specs.CircuitTexts.{greatest_input, greatest_latch, greatest_output, greatest_variable}
-use Rattle.gipmc_aiger.specs.Lists.{Every}
-use Rattle.gipmc_aiger.specs.LiveCircuits.{are_defined, flattened, justice_view}
-use Rattle.gipmc_aiger.specs.LiveTexts.{AreLiveWritable}
+use Rattle.gipmc_aiger.specs.Prelude.{AreLiveWritable, Every, FitsGate, FitsLatch, FitsLiteral, FitsVariable, IsWritable, are_defined, flattened, greatest_input, greatest_latch, greatest_output, greatest_variable, has_room, justice_view}
 use Rattle.gipmc_aiger.specs.declared.liveness.Liveness.{Liveness}
-use Rattle.gipmc_aiger.specs.Writable.{FitsGate, FitsLatch, FitsLiteral, FitsVariable, IsWritable, has_room}
 
 -- each variable for which the test passes is at most m
 abbrev AreWithin : ℕ → (ℕ → Bool) → Type 0

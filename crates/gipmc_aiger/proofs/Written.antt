@@ -2,15 +2,12 @@
 use Rattle.std.proofs.Common.{◌≡◌, ℕ, ◌+◌, ◌&&◌, false, List, IsTrue, refl, sym, ap, subst, ◌∙◌}
 use Rattle.std.specs.List.{list_all}
 use Rattle.std.specs.Prelude.{◌==◌, None, Some, if◌then◌else◌, length, nat_lt}
-use Rattle.gipsat_cnf.specs.Formulas.{Assignment}
-use Rattle.gipsat_cnf.specs.Literals.{Lit}
+use Rattle.gipsat_cnf.specs.Prelude.{Assignment, Lit}
 use Rattle.gipsat_cnf.proofs.Places.{same_some}
 use Rattle.gipsat_cnf.proofs.Tests.{list_all-permuted}
 use Rattle.gipmc_circuits.specs.declared.circuit.Circuit.{Circuit}
 use Rattle.gipmc_circuits.specs.Circuit.{FailsAfter, IsSafe, IsTrace, has_value, holds_next, holds_reset, is_moment}
-use Rattle.gipmc_aiger.specs.Circuits.{IsReordering, Rows, Writes, circuit_in, circuit_of, is_live_alone, rows_of}
-use Rattle.gipmc_aiger.specs.LiveCircuits.{WritesLive, justice_view, live_rows}
-use Rattle.gipmc_aiger.specs.Reading.{◌>>=◌}
+use Rattle.gipmc_aiger.specs.Prelude.{◌>>=◌, IsReordering, Rows, Writes, WritesLive, circuit_in, circuit_of, is_live_alone, justice_view, live_rows, rows_of}
 use Rattle.gipmc_aiger.specs.declared.liveness.Liveness.{Liveness}
 
 -- circuits with the same rows have the same moments

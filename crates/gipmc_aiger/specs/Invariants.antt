@@ -3,9 +3,7 @@ use Rattle.std.specs.Prelude.{ℕ, ◌==◌, Bool, false, not, List, [], ◌∷�
 use Rattle.std.specs.declared.alloc.Global.{Global}
 use Rattle.std.specs.declared.vec.Vec.{Vec}
 use Rattle.std.specs.Str.{byte}
-use Rattle.gipsat_cnf.specs.Formulas.{Clause, Formula}
-use Rattle.gipsat_cnf.specs.Literals.{Lit}
-use Rattle.gipsat_cnf.specs.Dimacs.{Word, clause_line, header_of, item_of}
+use Rattle.gipsat_cnf.specs.Prelude.{Clause, Formula, Lit, Word, clause_line, header_of, item_of}
 use Rattle.gipsat_cnf.specs.declared.dimacs.Item.{Item}
 use Rattle.gipsat_cnf.specs.declared.dimacs.Item.TheVariants.{Literal, End}
 use Rattle.gipmc_circuits.specs.WellFormed.{latch_variables}

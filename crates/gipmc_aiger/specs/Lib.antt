@@ -14,3 +14,4 @@ pub mod Traces
 pub mod Claims
 pub mod Invariants
 pub mod Defects
+pub mod Prelude

@@ -4,8 +4,7 @@ use Rattle.std.specs.Prelude.{◌+◌, ◌*◌}
 use Rattle.std.specs.Bool.{beq}
 use Rattle.std.specs.List.{list_all}
 use Rattle.std.proofs.lemmas.Bool.{and_from, and_parts, not-true}
-use Rattle.gipsat_cnf.specs.Formulas.{Assignment, is_true}
-use Rattle.gipsat_cnf.specs.Literals.{Lit, negated}
+use Rattle.gipsat_cnf.specs.Prelude.{Assignment, Lit, is_true, negated}
 pub use Rattle.gipsat_cnf.proofs.LiteralLemmas.{is_true-negated}
 use Rattle.gipmc_circuits.specs.declared.circuit.Circuit.{Circuit}
 use Rattle.gipmc_circuits.specs.Circuit.{has_value, is_valuation}

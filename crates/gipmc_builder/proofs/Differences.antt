@@ -4,8 +4,7 @@ use Rattle.std.specs.Bool.{beq}
 use Rattle.std.proofs.Math.Nat.{add-mul, mul-add, two-pow-succ}
 use Rattle.std.proofs.lemmas.Bool.{cases_lt, le-ltb, lt-ltb, ltb-true, ltb_from_iff}
 use Rattle.std.proofs.lemmas.List.{get_or_past, length-take-le, length_push, take_all, take_more}
-use Rattle.gipsat_cnf.specs.Formulas.{Assignment, is_true}
-use Rattle.gipsat_cnf.specs.Literals.{Lit}
+use Rattle.gipsat_cnf.specs.Prelude.{Assignment, Lit, is_true}
 use Rattle.gipmc_circuits.specs.declared.circuit.Circuit.{Circuit}
 use Rattle.gipmc_circuits.specs.Circuit.{is_valuation}
 use Rattle.gipmc_builder.specs.Build.{GivesBorrow, GivesDifference, GivesDifferenceDigits, GivesLess, GivesMux, GivesXor, Keeps, bit_of, constant, number_of}

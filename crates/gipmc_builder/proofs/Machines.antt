@@ -7,13 +7,10 @@ use Rattle.std.specs.Prelude.{◌↔◌}
 use Rattle.std.proofs.Math.Nat.{le_refl}
 use Rattle.std.proofs.Math.Path.{fun_ext}
 use Rattle.std.proofs.lemmas.Bool.{and_from, and_parts, both_ways, cases_Bool, cond-false, cond-true, eqb-true, eq-eqb, false≢true, not-true, or_left, or_right}
-use Rattle.gipsat_cnf.specs.Assumptions.{makes_true}
-use Rattle.gipsat_cnf.specs.Formulas.{Assignment, is_true}
-use Rattle.gipsat_cnf.specs.Literals.{Lit}
+use Rattle.gipsat_cnf.specs.Prelude.{Assignment, Lit, is_true, makes_true}
 use Rattle.gipmc_circuits.specs.declared.circuit.Circuit.{Circuit}
 use Rattle.gipmc_circuits.specs.declared.circuit.Latch.{Latch}
-use Rattle.gipmc_circuits.specs.Circuit.{IsSafe, IsTrace, holds_reset, is_initial, is_transition, is_valuation}
-use Rattle.gipmc_circuits.specs.WellFormed.{are_in_order, are_new, is_constant, is_source, is_variable, is_well_formed, latch_variables, uses_defined, with_variable, with_variables}
+use Rattle.gipmc_circuits.specs.Prelude.{IsSafe, IsTrace, are_in_order, are_new, holds_reset, is_constant, is_initial, is_source, is_transition, is_valuation, is_variable, is_well_formed, latch_variables, uses_defined, with_variable, with_variables}
 use Rattle.gipmc_circuits.proofs.Valuations.{valuation-exists}
 use Rattle.gipmc_builder.specs.Machine.{IsMachine, NeverBad, state_after}
 use Rattle.gipsat_cnf.proofs.Tests.{all_weaker}

@@ -6,8 +6,7 @@ use Rattle.std.proofs.Math.Nat.{div-add-mod, mul-add, two-pow-succ}
 use Rattle.std.proofs.lemmas.Bool.{cases_lt, eqb-true, eq-eqb, false≢true}
 use Rattle.std.proofs.lemmas.List.{drop_all, drop_more, get_or_past, take_all, take_more}
 use Rattle.std.proofs.lemmas.Nat.{mod-mul-add}
-use Rattle.gipsat_cnf.specs.Formulas.{Assignment, is_true}
-use Rattle.gipsat_cnf.specs.Literals.{Lit}
+use Rattle.gipsat_cnf.specs.Prelude.{Assignment, Lit, is_true}
 use Rattle.gipmc_circuits.specs.declared.circuit.Circuit.{Circuit}
 use Rattle.gipmc_circuits.specs.Circuit.{is_initial, is_transition, is_valuation}
 use Rattle.gipmc_builder.specs.Build.{AddsLatches, AreDigits, Becomes, GivesAnd, GivesChoice, GivesDigits, GivesEqual, GivesMux, GivesSum, Keeps, StartsAs, StartsAt, Takes, bit_of, constant, number_of}

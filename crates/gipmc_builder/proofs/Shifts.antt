@@ -4,8 +4,7 @@ use Rattle.std.proofs.Math.Nat.{mul-add, two-pow-succ}
 use Rattle.std.proofs.lemmas.Bool.{cases_lt}
 use Rattle.std.proofs.lemmas.List.{drop_all, drop_more, length-take-le, take-append-drop}
 use Rattle.std.proofs.lemmas.Nat.{pow_below, shr_high}
-use Rattle.gipsat_cnf.specs.Formulas.{Assignment}
-use Rattle.gipsat_cnf.specs.Literals.{Lit}
+use Rattle.gipsat_cnf.specs.Prelude.{Assignment, Lit}
 use Rattle.gipmc_builder.specs.Build.{IsShiftedLeft, IsShiftedRight, bit_of, constant, number_of}
 use Rattle.gipmc_builder.proofs.Built.{none_behind}
 use Rattle.gipmc_builder.proofs.Numbers.{is_true-constant, number_over, number_over-split, number_small}

@@ -2,12 +2,9 @@
 use Rattle.std.proofs.Common.{◌≡◌, ℕ, ◌%◌, ◌^◌, ◌&&◌, ◌++◌, eqb, cond, Bool, true, false, not, List, [], ◌∷◌, length, map, IsTrue, arith, refl, sym, ap, subst, ◌∙◌}
 use Rattle.std.specs.Bool.{beq}
 use Rattle.std.proofs.lemmas.Bool.{and_parts, cond-false, cond-true, eq-eqb, or_left}
-use Rattle.gipsat_cnf.specs.Assumptions.{makes_true}
-use Rattle.gipsat_cnf.specs.Formulas.{Assignment}
-use Rattle.gipsat_cnf.specs.Literals.{Lit}
+use Rattle.gipsat_cnf.specs.Prelude.{Assignment, Lit, makes_true}
 use Rattle.gipmc_circuits.specs.declared.circuit.Circuit.{Circuit}
-use Rattle.gipmc_circuits.specs.Circuit.{is_moment, is_valuation}
-use Rattle.gipmc_circuits.specs.WellFormed.{are_in_order, are_new, is_constant, is_source, is_variable, is_well_formed, latch_variables, uses_defined, with_variable, with_variables}
+use Rattle.gipmc_circuits.specs.Prelude.{are_in_order, are_new, is_constant, is_moment, is_source, is_valuation, is_variable, is_well_formed, latch_variables, uses_defined, with_variable, with_variables}
 use Rattle.gipmc_builder.specs.Build.{AddsInputs, AddsLatches, AddsProperties, IsEmpty, Keeps, StartsAt, Takes, are_positive, number_of, variables_of}
 use Rattle.gipmc_builder.specs.Machine.{CanRead, DoesSteps, GivesBad, GivesNext, HasInputs, IsMachine, first_of, two_of, values_of}
 use Rattle.gipmc_builder.proofs.Machines.{differ, new_differ, turned}

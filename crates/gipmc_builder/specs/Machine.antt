@@ -1,7 +1,6 @@
 -- Circuits that do what a step function does.
 use Rattle.std.specs.Prelude.{◌≡◌, ℕ, zero, suc, ◌%◌, ◌^◌, Bool, false, List, [], ◌∷◌, length, map, IsTrue}
-use Rattle.gipsat_cnf.specs.Formulas.{Assignment, is_true}
-use Rattle.gipsat_cnf.specs.Literals.{Lit}
+use Rattle.gipsat_cnf.specs.Prelude.{Assignment, Lit, is_true}
 use Rattle.gipmc_circuits.specs.declared.circuit.Circuit.{Circuit}
 use Rattle.gipmc_circuits.specs.Circuit.{is_initial, is_moment, is_transition, is_valuation}
 use Rattle.gipmc_builder.specs.Build.{are_positive, number_of, variables_of}

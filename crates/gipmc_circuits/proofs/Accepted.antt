@@ -1,11 +1,9 @@
 -- Certificates without latches of their own: the moments at which they claim what holds are an invariant of the circuit.
 use Rattle.std.proofs.Common.{◌≡◌, [], refl, subst, sym, IsTrue}
-use Rattle.gipsat_cnf.specs.Formulas.{Assignment, is_true}
-use Rattle.gipsat_cnf.specs.Literals.{Lit}
+use Rattle.gipsat_cnf.specs.Prelude.{Assignment, Lit, is_true}
 use Rattle.gipmc_circuits.specs.declared.circuit.Circuit.{Circuit}
 use Rattle.gipmc_circuits.specs.declared.witness_circuit.WitnessCircuit.{WitnessCircuit}
-use Rattle.gipmc_circuits.specs.Circuit.{is_initial, is_moment, is_transition}
-use Rattle.gipmc_circuits.specs.WitnessCircuits.{IsCertifiedBy, are_linked, are_paired, claims_hold}
+use Rattle.gipmc_circuits.specs.Prelude.{IsCertifiedBy, are_linked, are_paired, claims_hold, is_initial, is_moment, is_transition}
 
 -- the claims hold at each valuation of the certificate that is alike in what is shared
 abbrev pub Accepts : Circuit → WitnessCircuit → Assignment → Type 0

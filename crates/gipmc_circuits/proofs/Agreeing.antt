@@ -3,13 +3,10 @@ use Rattle.std.proofs.Common.{◌≡◌, ℕ, ◌<◌, ◌&&◌, ltb, Bool, not,
 use Rattle.std.specs.Bool.{beq}
 use Rattle.std.specs.List.{list_all}
 use Rattle.std.proofs.lemmas.Bool.{and_parts, ltb-true}
-use Rattle.gipsat_cnf.specs.Assumptions.{makes_true}
-use Rattle.gipsat_cnf.specs.Formulas.{Assignment, is_true}
-use Rattle.gipsat_cnf.specs.Literals.{Lit}
+use Rattle.gipsat_cnf.specs.Prelude.{Assignment, Lit, is_true, makes_true}
 use Rattle.gipmc_circuits.specs.declared.circuit.And.{And}
 use Rattle.gipmc_circuits.specs.declared.circuit.Circuit.{Circuit}
-use Rattle.gipmc_circuits.specs.Circuit.{has_value, is_initial, is_moment, is_reset, is_transition, is_valuation}
-use Rattle.gipmc_circuits.specs.Encoding.{gate_below, is_below, latch_below, literal_below}
+use Rattle.gipmc_circuits.specs.Prelude.{gate_below, has_value, is_below, is_initial, is_moment, is_reset, is_transition, is_valuation, latch_below, literal_below}
 
 -- the values are the same at each variable below n
 abbrev pub AgreeBelow : ℕ → Assignment → Assignment → Type 0

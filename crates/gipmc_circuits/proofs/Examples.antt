@@ -6,19 +6,12 @@ use Rattle.std.proofs.Math.Nat.{le_refl}
 use Rattle.std.specs.Bool.{beq}
 use Rattle.std.specs.List.{list_all}
 use Rattle.std.proofs.lemmas.Bool.{and_parts, false≢true}
-use Rattle.gipsat_cnf.specs.Formulas.{Assignment}
-use Rattle.gipsat_cnf.specs.Assumptions.{makes_true}
-use Rattle.gipsat_cnf.specs.Literals.{Lit}
+use Rattle.gipsat_cnf.specs.Prelude.{Assignment, Lit, assignment_in, makes_true}
 use Rattle.gipsat_cnf.proofs.Places.{none_some, same_some}
 use Rattle.gipmc_circuits.specs.declared.circuit.And.{And}
 use Rattle.gipmc_circuits.specs.declared.circuit.Circuit.{Circuit}
-use Rattle.gipsat_cnf.specs.Models.{assignment_in}
 use Rattle.gipmc_circuits.specs.declared.trace.Trace.{Trace}
-use Rattle.gipmc_circuits.specs.Circuit.{FailsAfter, IsSafe, IsTrace, has_value, is_reset, is_valuation}
-use Rattle.gipmc_circuits.specs.Traces.{FailsBy, HoldsRow, HoldsRows, have_width}
-use Rattle.gipmc_circuits.specs.WellFormed.{are_in_order, are_new, is_constant, with_variables}
-use Rattle.gipmc_circuits.specs.Widened.{are_stacked}
-use Rattle.gipmc_circuits.specs.WitnessCircuits.{SaySame, are_defined_from, reset_gate, unlinked}
+use Rattle.gipmc_circuits.specs.Prelude.{FailsAfter, FailsBy, HoldsRow, HoldsRows, IsSafe, IsTrace, SaySame, are_defined_from, are_in_order, are_new, are_stacked, has_value, have_width, is_constant, is_reset, is_valuation, reset_gate, unlinked, with_variables}
 
 abbrev yes_of : ℕ → Lit
 yes_of v = record { variable = v; positive = true }

@@ -1,14 +1,9 @@
 -- What clauses say of others, by a formula of a circuit's gates.
 use Rattle.std.proofs.Common.{◌≡◌, List, [], length, IsTrue, Vec, refl, sym, subst}
 use Rattle.std.specs.declared.alloc.Global.{Global}
-use Rattle.gipsat_cnf.specs.Encodings.{Adds, AllBelow}
-use Rattle.gipsat_cnf.specs.Formulas.{Formula, satisfies}
-use Rattle.gipsat_cnf.specs.Literals.{Lit}
+use Rattle.gipsat_cnf.specs.Prelude.{Adds, AllBelow, Formula, Lit, satisfies}
 use Rattle.gipmc_circuits.specs.declared.circuit.Circuit.{Circuit}
-use Rattle.gipmc_circuits.specs.Certificate.{ImpliesItem, holds}
-use Rattle.gipmc_circuits.specs.Circuit.{is_valuation}
-use Rattle.gipmc_circuits.specs.Encoding.{values_at}
-use Rattle.gipmc_circuits.specs.WitnessCircuits.{Implies}
+use Rattle.gipmc_circuits.specs.Prelude.{Implies, ImpliesItem, holds, is_valuation, values_at}
 use Rattle.gipmc_circuits.proofs.Certified.{implied_items, values_at-none}
 
 -- a formula that says the values of the gates and the given clauses implies others

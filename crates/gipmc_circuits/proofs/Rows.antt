@@ -6,9 +6,7 @@ use Rattle.std.specs.Bool.{beq}
 use Rattle.std.proofs.Math.ListN.{get_or-map}
 use Rattle.std.proofs.lemmas.Bool.{cases_lt, false≢true}
 use Rattle.std.proofs.lemmas.Option.{get_or_from_slice_get, slice_get_within}
-use Rattle.gipsat_cnf.specs.Encodings.{AllBelow}
-use Rattle.gipsat_cnf.specs.Formulas.{Assignment}
-use Rattle.gipsat_cnf.specs.Models.{assignment_in}
+use Rattle.gipsat_cnf.specs.Prelude.{AllBelow, Assignment, assignment_in}
 use Rattle.gipsat_cnf.proofs.Places.{same_some}
 use Rattle.gipmc_circuits.specs.Traces.{HoldsRow, HoldsRows}
 use Rattle.gipmc_circuits.proofs.Traces.{followed_by, followed_by-new, followed_by-old}

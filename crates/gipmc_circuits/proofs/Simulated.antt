@@ -12,9 +12,7 @@ use Rattle.gipmc_circuits.specs.declared.circuit.And.{And}
 use Rattle.gipmc_circuits.specs.declared.circuit.Circuit.{Circuit}
 use Rattle.gipmc_circuits.specs.declared.witness_circuit.Link.{Link}
 use Rattle.gipmc_circuits.specs.declared.witness_circuit.WitnessCircuit.{WitnessCircuit}
-use Rattle.gipmc_circuits.specs.Circuit.{has_value, is_moment, is_valuation}
-use Rattle.gipmc_circuits.specs.WellFormed.{are_in_order, are_new, is_constant, with_variable, with_variables}
-use Rattle.gipmc_circuits.specs.WitnessCircuits.{Simulates, are_defined_from, are_linked, are_paired, is_linked, link_variables, reset_gate, start_literal}
+use Rattle.gipmc_circuits.specs.Prelude.{Simulates, are_defined_from, are_in_order, are_linked, are_new, are_paired, has_value, is_constant, is_linked, is_moment, is_valuation, link_variables, reset_gate, start_literal, with_variable, with_variables}
 use Rattle.gipmc_circuits.proofs.Valuations.{AgreeAt, keeps_defined, values_from}
 
 -- a variable and the value that it is to have

@@ -6,18 +6,12 @@ use Rattle.std.specs.List.{list_all}
 use Rattle.std.proofs.Math.Path.{fun_ext}
 use Rattle.std.proofs.lemmas.Bool.{and_from, and_parts, cond-false, false≢true, le-ltb, ltb-true, or_cases}
 use Rattle.std.proofs.lemmas.List.Folds.{list_all-append, list_all-map}
-use Rattle.gipsat_cnf.specs.Assumptions.{makes_true}
-use Rattle.gipsat_cnf.specs.Encodings.{Adds, AllBelow}
-use Rattle.gipsat_cnf.specs.Formulas.{Assignment, Formula, is_true, satisfies, satisfies_clause}
-use Rattle.gipsat_cnf.specs.Literals.{Lit, negated}
+use Rattle.gipsat_cnf.specs.Prelude.{Adds, AllBelow, Assignment, Formula, Lit, is_true, makes_true, negated, satisfies, satisfies_clause}
 use Rattle.gipsat_cnf.proofs.LiteralLemmas.{not_both}
 use Rattle.gipmc_circuits.specs.declared.circuit.Circuit.{Circuit}
 use Rattle.gipmc_circuits.specs.declared.witness_circuit.Link.{Link}
 use Rattle.gipmc_circuits.specs.declared.witness_circuit.WitnessCircuit.{WitnessCircuit}
-use Rattle.gipmc_circuits.specs.Certificate.{ImpliesAt, ImpliesItem, holds}
-use Rattle.gipmc_circuits.specs.Circuit.{IsSafe, is_initial, is_moment, is_transition, is_valuation}
-use Rattle.gipmc_circuits.specs.Encoding.{is_below, literal_below, values_at}
-use Rattle.gipmc_circuits.specs.WitnessCircuits.{ExcludesBy, IsCertifiedBy, IsInductiveBy, IsInitiatedBy, SayClaims, are_linked, are_paired, claims, claims_hold, is_linked, is_witness_below, link_below}
+use Rattle.gipmc_circuits.specs.Prelude.{ExcludesBy, ImpliesAt, ImpliesItem, IsCertifiedBy, IsInductiveBy, IsInitiatedBy, IsSafe, SayClaims, are_linked, are_paired, claims, claims_hold, holds, is_below, is_initial, is_linked, is_moment, is_transition, is_valuation, is_witness_below, link_below, literal_below, values_at}
 use Rattle.gipmc_circuits.proofs.Agreeing.{AgreeBelow, all_alike, below-parts, both_alike, is_moment-alike, is_transition-alike, is_true-alike, is_valuation-alike}
 use Rattle.gipmc_circuits.proofs.Certified.{beside, beside-first, implied_items, values_at-none}
 use Rattle.gipmc_circuits.proofs.Traces.{safe_by}

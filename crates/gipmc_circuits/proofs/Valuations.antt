@@ -7,8 +7,7 @@ use Rattle.std.proofs.lemmas.Bool.{and_from, and_parts, both_ways, cases_Bool, c
 use Rattle.gipsat_cnf.specs.Formulas.{Assignment, is_true}
 use Rattle.gipmc_circuits.specs.declared.circuit.And.{And}
 use Rattle.gipmc_circuits.specs.declared.circuit.Circuit.{Circuit}
-use Rattle.gipmc_circuits.specs.Circuit.{has_value, is_valuation}
-use Rattle.gipmc_circuits.specs.WellFormed.{are_in_order, are_new, is_constant, is_source, is_variable, is_well_formed, latch_variables, with_variable, with_variables}
+use Rattle.gipmc_circuits.specs.Prelude.{are_in_order, are_new, has_value, is_constant, is_source, is_valuation, is_variable, is_well_formed, latch_variables, with_variable, with_variables}
 use Rattle.gipmc_circuits.proofs.Agreeing.{both_alike}
 
 -- the values are the same at each of these variables

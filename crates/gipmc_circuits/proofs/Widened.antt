@@ -6,16 +6,12 @@ use Rattle.std.specs.List.{list_all}
 use Rattle.std.proofs.Math.Path.{fun_ext}
 use Rattle.std.proofs.lemmas.Bool.{and_from, and_parts, cases_Bool, cases_lt, cond-false, cond-true, eq-eqb, eqb-true, false≢true, le-ltb, lt-ltb}
 use Rattle.std.proofs.lemmas.List.Folds.{list_all-append}
-use Rattle.gipsat_cnf.specs.Assumptions.{makes_true}
-use Rattle.gipsat_cnf.specs.Formulas.{Assignment, is_true}
+use Rattle.gipsat_cnf.specs.Prelude.{Assignment, is_true, makes_true}
 use Rattle.gipsat_cnf.proofs.Tests.{all_weaker}
 use Rattle.gipmc_circuits.specs.declared.circuit.And.{And}
 use Rattle.gipmc_circuits.specs.declared.circuit.Circuit.{Circuit}
 use Rattle.gipmc_circuits.specs.declared.circuit.Latch.{Latch}
-use Rattle.gipmc_circuits.specs.Circuit.{IsTrace, has_value, holds_next, holds_reset, is_initial, is_moment, is_reset, is_transition, is_valuation}
-use Rattle.gipmc_circuits.specs.Encoding.{is_below, literal_below}
-use Rattle.gipmc_circuits.specs.Widened.{IsWidened, are_numbered, are_stacked}
-use Rattle.gipmc_circuits.specs.WellFormed.{are_in_order, with_variable}
+use Rattle.gipmc_circuits.specs.Prelude.{IsTrace, IsWidened, are_in_order, are_numbered, are_stacked, has_value, holds_next, holds_reset, is_below, is_initial, is_moment, is_reset, is_transition, is_valuation, literal_below, with_variable}
 use Rattle.gipmc_circuits.proofs.Agreeing.{AgreeBelow, is_initial-alike, is_moment-alike, is_transition-alike}
 use Rattle.gipmc_circuits.proofs.Valuations.{AgreeAt, values_from}
 

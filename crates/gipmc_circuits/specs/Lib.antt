@@ -5,3 +5,4 @@ pub mod Traces
 pub mod WellFormed
 pub mod WitnessCircuits
 pub mod Widened
+pub mod Prelude

@@ -1,8 +1,6 @@
 //! What a circuit claims as a certificate, as clauses over its variables.
 ghost use Rattle.std.specs.Prelude.{◌≡◌, [], ◌∷◌, map, IfOk, IsTrue};
-ghost use Rattle.gipsat_cnf.specs.Assumptions.{makes_true};
-ghost use Rattle.gipsat_cnf.specs.Formulas.{Assignment};
-ghost use Rattle.gipsat_cnf.specs.Literals.{negated};
+ghost use Rattle.gipsat_cnf.specs.Prelude.{Assignment, makes_true, negated};
 ghost use Rattle.gipmc_circuits.specs.Certificate.{holds};
 ghost use Rattle.gipmc_circuits.specs.WitnessCircuits.{Implies, SayClaims, SaySame, claims};
 

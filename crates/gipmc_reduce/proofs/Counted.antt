@@ -5,14 +5,10 @@ use Rattle.std.specs.Cmp.{booleans_Decides}
 use Rattle.std.specs.List.{list_all}
 use Rattle.std.proofs.lemmas.Bool.{and_cases, and_from, and_parts, and_right, eq-eqb, false≢true, lt-ltb, ltb-true, not-true}
 use Rattle.std.proofs.lemmas.List.Folds.{list_all-append}
-use Rattle.gipsat_cnf.specs.Assumptions.{makes_true}
-use Rattle.gipsat_cnf.specs.Formulas.{Assignment, Has, is_true}
-use Rattle.gipsat_cnf.specs.Literals.{Lit}
+use Rattle.gipsat_cnf.specs.Prelude.{Assignment, Has, Lit, is_true, makes_true}
 use Rattle.gipsat_cnf.proofs.Places.{each_push, none_some}
 use Rattle.gipmc_circuits.specs.declared.circuit.Circuit.{Circuit}
-use Rattle.gipmc_circuits.specs.Circuit.{FailsAfter, IsSafe, IsTrace, has_value, holds_next, holds_reset, is_initial, is_moment, is_transition, is_valuation}
-use Rattle.gipmc_circuits.specs.Encoding.{is_below, literal_below}
-use Rattle.gipmc_circuits.specs.Widened.{IsWidened, are_numbered, are_stacked}
+use Rattle.gipmc_circuits.specs.Prelude.{FailsAfter, IsSafe, IsTrace, IsWidened, are_numbered, are_stacked, has_value, holds_next, holds_reset, is_below, is_initial, is_moment, is_transition, is_valuation, literal_below}
 use Rattle.gipmc_circuits.proofs.Agreeing.{AgreeBelow, below-parts, is_true-alike}
 use Rattle.gipmc_circuits.proofs.Widened.{IsTrace-widened}
 use Rattle.gipmc_reduce.specs.Chains.{IsChained, IsCounterOf, all_passed, last_gate, not_of, passed, passing, stage_gates, stage_latches, top, waiting, yes_of}

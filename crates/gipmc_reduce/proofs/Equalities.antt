@@ -5,8 +5,7 @@ use Rattle.std.specs.declared.alloc.Global.{Global}
 use Rattle.std.specs.Bool.{beq}
 use Rattle.std.proofs.Math.Seq.{take-suc}
 use Rattle.std.proofs.lemmas.Bool.{cases_lt}
-use Rattle.gipsat_cnf.specs.Formulas.{Assignment, is_true, satisfies_clause}
-use Rattle.gipsat_cnf.specs.Literals.{Lit}
+use Rattle.gipsat_cnf.specs.Prelude.{Assignment, Lit, is_true, satisfies_clause}
 use Rattle.gipmc_circuits.specs.Certificate.{holds}
 use Rattle.gipmc_reduce.proofs.Lists.{is_same}
 use Rattle.gipmc_reduce.specs.Correspondence.{AddsClause, AddsEquality, HoldBoth, ImpliesMerges, representative}

@@ -4,14 +4,11 @@ use Rattle.std.specs.Prelude.{filter, slice_get}
 use Rattle.std.specs.declared.alloc.Global.{Global}
 use Rattle.std.proofs.lemmas.Bool.{cases_Bool, cases_lt, cond-false, cond-true}
 use Rattle.std.proofs.lemmas.Option.{get_or_from_slice_get, slice_get_within}
-use Rattle.gipsat_cnf.specs.Formulas.{Assignment, Has, is_true}
-use Rattle.gipsat_cnf.specs.Literals.{Lit}
+use Rattle.gipsat_cnf.specs.Prelude.{Assignment, Has, Lit, is_true}
 use Rattle.gipsat_cnf.proofs.Places.{none_some, same_some}
 use Rattle.gipmc_circuits.specs.declared.circuit.Circuit.{Circuit}
 use Rattle.gipmc_circuits.specs.declared.trace.Trace.{Trace}
-use Rattle.gipmc_circuits.specs.Circuit.{IsTrace, is_initial, is_moment, is_transition}
-use Rattle.gipmc_circuits.specs.Traces.{HoldsRow}
-use Rattle.gipmc_circuits.specs.WellFormed.{latch_variables}
+use Rattle.gipmc_circuits.specs.Prelude.{HoldsRow, IsTrace, is_initial, is_moment, is_transition, latch_variables}
 use Rattle.gipmc_circuits.proofs.Traces.{IsTrace-first, IsTrace-more, followed_by, followed_by-new, followed_by-old}
 use Rattle.gipmc_reduce.specs.declared.lasso.Lasso.{Lasso}
 use Rattle.gipmc_reduce.specs.Lassos.{FollowsUpTo, IsMet, IsReachedBy, Loops}

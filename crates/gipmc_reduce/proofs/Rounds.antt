@@ -3,13 +3,11 @@ use Rattle.std.proofs.Common.{◌≡◌, ℕ, zero, suc, ◌+◌, ◌-◌, ◌*�
 use Rattle.std.specs.Bool.{beq}
 use Rattle.std.specs.List.{list_all}
 use Rattle.std.proofs.lemmas.Bool.{and_from, and_parts}
-use Rattle.gipsat_cnf.specs.Formulas.{Assignment, Has, is_true}
-use Rattle.gipsat_cnf.specs.Literals.{Lit}
+use Rattle.gipsat_cnf.specs.Prelude.{Assignment, Has, Lit, is_true}
 use Rattle.gipsat_cnf.proofs.Places.{none_some, same_some}
 use Rattle.gipmc_circuits.specs.declared.circuit.Circuit.{Circuit}
 use Rattle.gipmc_circuits.specs.declared.circuit.Latch.{Latch}
-use Rattle.gipmc_circuits.specs.Circuit.{holds_next, is_transition}
-use Rattle.gipmc_circuits.specs.WellFormed.{latch_variables}
+use Rattle.gipmc_circuits.specs.Prelude.{holds_next, is_transition, latch_variables}
 use Rattle.gipmc_reduce.specs.Liveness.{IsLive, IsRun, Recurs}
 use Rattle.gipmc_reduce.specs.Saved.{HasLasso}
 use Rattle.gipmc_reduce.proofs.Counted.{IsTrace-run}

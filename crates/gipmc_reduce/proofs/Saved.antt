@@ -7,16 +7,12 @@ use Rattle.std.specs.List.{list_all}
 use Rattle.std.proofs.lemmas.Bool.{and_from, and_parts, cases_Bool, cases_lt, cond-false, cond-true, eq-eqb, eqb-true, le-ltb, lt-ltb, or_left}
 use Rattle.std.proofs.lemmas.List.Folds.{list_all-append}
 use Rattle.std.proofs.lemmas.Option.{slice_get-get_or}
-use Rattle.gipsat_cnf.specs.Assumptions.{makes_true}
-use Rattle.gipsat_cnf.specs.Formulas.{Assignment, is_true}
-use Rattle.gipsat_cnf.specs.Literals.{Lit}
+use Rattle.gipsat_cnf.specs.Prelude.{Assignment, Lit, is_true, makes_true}
 use Rattle.gipsat_cnf.proofs.Formulas.{all-at}
 use Rattle.gipmc_circuits.specs.declared.circuit.And.{And}
 use Rattle.gipmc_circuits.specs.declared.circuit.Circuit.{Circuit}
 use Rattle.gipmc_circuits.specs.declared.circuit.Latch.{Latch}
-use Rattle.gipmc_circuits.specs.Circuit.{IsSafe, IsTrace, has_value, holds_next, holds_reset, is_initial, is_moment, is_transition, is_valuation}
-use Rattle.gipmc_circuits.specs.Encoding.{is_below}
-use Rattle.gipmc_circuits.specs.WellFormed.{latch_variables}
+use Rattle.gipmc_circuits.specs.Prelude.{IsSafe, IsTrace, has_value, holds_next, holds_reset, is_below, is_initial, is_moment, is_transition, is_valuation, latch_variables}
 use Rattle.gipmc_circuits.proofs.Agreeing.{AgreeBelow, below-parts, is_initial-alike, is_moment-alike, is_transition-alike, is_true-alike}
 use Rattle.gipmc_circuits.proofs.Widened.{IsTrace-widened}
 use Rattle.gipmc_reduce.specs.Chains.{not_of, yes_of}

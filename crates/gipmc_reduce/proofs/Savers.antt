@@ -7,9 +7,7 @@ use Rattle.gipsat_cnf.specs.Literals.{Lit}
 use Rattle.gipmc_circuits.specs.declared.circuit.And.{And}
 use Rattle.gipmc_circuits.specs.declared.circuit.Circuit.{Circuit}
 use Rattle.gipmc_circuits.specs.declared.circuit.Latch.{Latch}
-use Rattle.gipmc_circuits.specs.Encoding.{gate_below, is_below, latch_below, literal_below}
-use Rattle.gipmc_circuits.specs.Widened.{IsWidened, are_numbered, are_stacked}
-use Rattle.gipmc_circuits.specs.WellFormed.{latch_variables}
+use Rattle.gipmc_circuits.specs.Prelude.{IsWidened, are_numbered, are_stacked, gate_below, is_below, latch_below, latch_variables, literal_below}
 use Rattle.gipmc_circuits.proofs.Agreeing.{below-parts}
 use Rattle.gipmc_reduce.specs.Chains.{not_of, yes_of}
 use Rattle.gipmc_reduce.specs.Saved.{IsSaving, first_gate, gate, latch, note, note_latches, notes, saver_gates, saver_latches, saving, shadow, shadow_latches, shadows}

@@ -4,12 +4,8 @@ use Rattle.std.specs.Bool.{beq}
 use Rattle.std.specs.List.{list_all}
 use Rattle.std.proofs.lemmas.Bool.{and_from, and_parts, cases_Bool, cond-false, cond-true, eq-eqb, eqb-true}
 use Rattle.std.proofs.lemmas.List.Folds.{list_all-append}
-use Rattle.gipsat_cnf.specs.Assumptions.{makes_true}
-use Rattle.gipsat_cnf.specs.Formulas.{Assignment, is_true}
-use Rattle.gipsat_cnf.specs.Literals.{Lit}
-use Rattle.gipmc_circuits.specs.Circuit.{has_value, is_moment, is_valuation}
-use Rattle.gipmc_circuits.specs.Encoding.{is_below, literal_below}
-use Rattle.gipmc_circuits.specs.WitnessCircuits.{ExcludesBy, IsCertifiedBy, are_linked, is_linked}
+use Rattle.gipsat_cnf.specs.Prelude.{Assignment, Lit, is_true, makes_true}
+use Rattle.gipmc_circuits.specs.Prelude.{ExcludesBy, IsCertifiedBy, are_linked, has_value, is_below, is_linked, is_moment, is_valuation, literal_below}
 use Rattle.gipmc_circuits.specs.declared.certificate.Verdict.{Verdict}
 use Rattle.gipmc_circuits.specs.declared.certificate.Verdict.TheVariants.{Certified}
 use Rattle.gipmc_circuits.specs.declared.circuit.Circuit.{Circuit}

@@ -4,14 +4,11 @@ use Rattle.std.specs.declared.alloc.Global.{Global}
 use Rattle.std.specs.Bool.{beq}
 use Rattle.std.specs.List.{list_all}
 use Rattle.std.proofs.lemmas.Bool.{and_from, and_parts}
-use Rattle.gipsat_cnf.specs.Assumptions.{makes_true}
-use Rattle.gipsat_cnf.specs.Formulas.{Assignment, is_true}
-use Rattle.gipsat_cnf.specs.Literals.{Lit, negated}
+use Rattle.gipsat_cnf.specs.Prelude.{Assignment, Lit, is_true, makes_true, negated}
 use Rattle.gipmc_circuits.specs.declared.circuit.And.{And}
 use Rattle.gipmc_circuits.specs.declared.circuit.Circuit.{Circuit}
 use Rattle.gipmc_circuits.specs.declared.circuit.Latch.{Latch}
-use Rattle.gipmc_circuits.specs.Certificate.{IsSafeByClauses, holds}
-use Rattle.gipmc_circuits.specs.Circuit.{FailsAfter, IsSafe, IsTrace, has_value, holds_next, holds_reset, is_initial, is_moment, is_transition, is_valuation}
+use Rattle.gipmc_circuits.specs.Prelude.{FailsAfter, IsSafe, IsSafeByClauses, IsTrace, has_value, holds, holds_next, holds_reset, is_initial, is_moment, is_transition, is_valuation}
 use Rattle.gipmc_reduce.proofs.Lists.{all_changed, all_merged, is_same}
 use Rattle.gipmc_reduce.specs.Correspondence.{Agrees, HoldBoth, IsMergedOf, IsSweptOf, gate_merged, latch_merged, merged, representative}
 

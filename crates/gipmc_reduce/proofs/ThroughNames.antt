@@ -3,12 +3,9 @@ use Rattle.std.proofs.Common.{◌≡◌, ℕ, zero, suc, ◌+◌, ◌&&◌, ◌|
 use Rattle.std.specs.declared.alloc.Global.{Global}
 use Rattle.std.specs.List.{list_all}
 use Rattle.std.proofs.lemmas.Bool.{and_from, and_parts}
-use Rattle.gipsat_cnf.specs.Assumptions.{makes_true}
-use Rattle.gipsat_cnf.specs.Formulas.{Assignment, Clause, is_true, satisfies_clause}
-use Rattle.gipsat_cnf.specs.Literals.{Lit}
+use Rattle.gipsat_cnf.specs.Prelude.{Assignment, Clause, Lit, is_true, makes_true, satisfies_clause}
 use Rattle.gipmc_circuits.specs.declared.circuit.Circuit.{Circuit}
-use Rattle.gipmc_circuits.specs.Certificate.{IsSafeByClauses, holds}
-use Rattle.gipmc_circuits.specs.Circuit.{FailsAfter, IsSafe, IsTrace, has_value, holds_next, holds_reset, is_initial, is_moment, is_transition, is_valuation}
+use Rattle.gipmc_circuits.specs.Prelude.{FailsAfter, IsSafe, IsSafeByClauses, IsTrace, has_value, holds, holds_next, holds_reset, is_initial, is_moment, is_transition, is_valuation}
 use Rattle.gipmc_reduce.proofs.Lists.{all_renamed}
 use Rattle.gipmc_reduce.specs.Cone.{IsPartOf, gate_named, latch_named, literal_named, read, rows, rows_named}
 

@@ -2,8 +2,7 @@
 use Rattle.std.specs.Prelude.{◌≡◌, if◌then◌else◌, ℕ, ◌&&◌, true, not, List, Vec, map, slice_index_or, IsTrue}
 use Rattle.std.specs.declared.alloc.Global.{Global}
 use Rattle.std.specs.List.{All, Contains}
-use Rattle.gipsat_cnf.specs.Formulas.{Assignment, Clause, is_true, satisfies_clause}
-use Rattle.gipsat_cnf.specs.Literals.{Lit, negated}
+use Rattle.gipsat_cnf.specs.Prelude.{Assignment, Clause, Lit, is_true, negated, satisfies_clause}
 use Rattle.gipmc_circuits.specs.Certificate.{IsInductive, IsInitiated, holds}
 use Rattle.gipmc_circuits.specs.declared.circuit.And.{And}
 use Rattle.gipmc_circuits.specs.declared.circuit.Circuit.{Circuit}

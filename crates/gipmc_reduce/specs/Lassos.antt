@@ -1,13 +1,10 @@
 -- Lassos, which are traces that lead back to one of their moments.
 use Rattle.std.specs.Prelude.{◌≡◌, ℕ, ◌+◌, ◌≤◌, ◌++◌, List, Vec, Bool, length, slice_get, Some, IsTrue}
 use Rattle.std.specs.declared.alloc.Global.{Global}
-use Rattle.gipsat_cnf.specs.Formulas.{Assignment, Has, is_true}
-use Rattle.gipsat_cnf.specs.Literals.{Lit}
+use Rattle.gipsat_cnf.specs.Prelude.{Assignment, Has, Lit, is_true}
 use Rattle.gipmc_circuits.specs.declared.circuit.Circuit.{Circuit}
 use Rattle.gipmc_circuits.specs.declared.trace.Trace.{Trace}
-use Rattle.gipmc_circuits.specs.Circuit.{IsTrace, is_transition}
-use Rattle.gipmc_circuits.specs.Traces.{Follows, HoldsRow, fits}
-use Rattle.gipmc_circuits.specs.WellFormed.{latch_variables}
+use Rattle.gipmc_circuits.specs.Prelude.{Follows, HoldsRow, IsTrace, fits, is_transition, latch_variables}
 use Rattle.gipmc_reduce.specs.declared.lasso.Lasso.{Lasso}
 
 -- n transitions, and one more from the last moment back to that at which the loop starts

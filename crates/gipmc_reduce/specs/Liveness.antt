@@ -1,7 +1,6 @@
 -- Runs without end, and when a circuit is live.
 use Rattle.std.specs.Prelude.{ℕ, ◌+◌, ◌≤◌, ◌++◌, List, IsTrue}
-use Rattle.gipsat_cnf.specs.Formulas.{Assignment, Has, is_true}
-use Rattle.gipsat_cnf.specs.Literals.{Lit}
+use Rattle.gipsat_cnf.specs.Prelude.{Assignment, Has, Lit, is_true}
 use Rattle.gipmc_circuits.specs.declared.circuit.Circuit.{Circuit}
 use Rattle.gipmc_circuits.specs.Circuit.{is_initial, is_moment, is_transition}
 

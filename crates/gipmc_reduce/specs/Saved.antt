@@ -1,14 +1,11 @@
 -- Circuits that save what their latches hold, by which lassos become traces that fail.
 use Rattle.std.specs.Prelude.{◌≡◌, ℕ, zero, suc, ◌+◌, ◌*◌, ◌++◌, false, List, [], ◌∷◌, Some, length, slice_index_or, IsTrue}
 use Rattle.std.specs.List.{list_all}
-use Rattle.gipsat_cnf.specs.Formulas.{Assignment}
-use Rattle.gipsat_cnf.specs.Literals.{Lit}
+use Rattle.gipsat_cnf.specs.Prelude.{Assignment, Lit}
 use Rattle.gipmc_circuits.specs.declared.circuit.And.{And}
 use Rattle.gipmc_circuits.specs.declared.circuit.Circuit.{Circuit}
 use Rattle.gipmc_circuits.specs.declared.circuit.Latch.{Latch}
-use Rattle.gipmc_circuits.specs.Circuit.{FailsAfter}
-use Rattle.gipmc_circuits.specs.Encoding.{is_below, literal_below}
-use Rattle.gipmc_circuits.specs.WellFormed.{latch_variables}
+use Rattle.gipmc_circuits.specs.Prelude.{FailsAfter, is_below, latch_variables, literal_below}
 use Rattle.gipmc_reduce.specs.Chains.{not_of, yes_of}
 use Rattle.gipmc_reduce.specs.Lassos.{AllMet, LoopsBack}
 use Rattle.gipmc_reduce.specs.Turns.{always}

@@ -2,9 +2,7 @@
 use Rattle.std.specs.Prelude.{◌≡◌, ℕ, ◌++◌, Bool, true, List, [], ◌∷◌, slice_get, Some, IsTrue}
 use Rattle.std.specs.List.{list_all}
 use Rattle.gipsat_cnf.specs.Literals.{Lit}
-use Rattle.gipmc_circuits.specs.Circuit.{IsSafe}
-use Rattle.gipmc_circuits.specs.Encoding.{literal_below}
-use Rattle.gipmc_circuits.specs.WitnessCircuits.{IsCertifiedBy, IsInductiveBy, IsInitiatedBy, Simulates}
+use Rattle.gipmc_circuits.specs.Prelude.{IsCertifiedBy, IsInductiveBy, IsInitiatedBy, IsSafe, Simulates, literal_below}
 use Rattle.gipmc_circuits.specs.declared.certificate.Verdict.{Verdict}
 use Rattle.gipmc_circuits.specs.declared.certificate.Verdict.TheVariants.{Certified}
 use Rattle.gipmc_circuits.specs.declared.circuit.Circuit.{Circuit}

@@ -1,8 +1,7 @@
 //! k-liveness: a circuit with a chain of latches, which counts how often literals are met in turn.
 ghost use Rattle.std.specs.Prelude.{◌≡◌, ◌+◌, ◌++◌, ◌*◌, ◌^◌, ◌<◌, length, IfOk, IfSome};
 ghost use Rattle.std.specs.List.{list_all};
-ghost use Rattle.gipmc_circuits.specs.Circuit.{IsSafe};
-ghost use Rattle.gipmc_circuits.specs.Encoding.{literal_below};
+ghost use Rattle.gipmc_circuits.specs.Prelude.{IsSafe, literal_below};
 ghost use Rattle.gipmc_reduce.specs.Chains.{AddsStage, AddsStages, IsChained, IsCopied, IsCounterOf, all_passed, top, yes_of};
 ghost use Rattle.gipmc_reduce.specs.Liveness.{IsLive};
 ghost use Rattle.gipmc_reduce.specs.Turns.{CountsTo, always, turn, turns};

@@ -1,7 +1,6 @@
 //! Lassos: traces that lead back to one of their moments, and whether they show that a circuit is not live.
 ghost use Rattle.std.specs.Prelude.{◌≡◌, ◌++◌, ◌<◌, filter, length, not, IfOk, IfSome, IsTrue};
-ghost use Rattle.gipsat_cnf.specs.Formulas.{is_true};
-ghost use Rattle.gipsat_cnf.specs.Models.{assignment_in};
+ghost use Rattle.gipsat_cnf.specs.Prelude.{assignment_in, is_true};
 ghost use Rattle.gipmc_circuits.specs.Traces.{fits, have_width};
 ghost use Rattle.gipmc_reduce.specs.Lassos.{IsLasso, IsReachedBy, Loops, from};
 ghost use Rattle.gipmc_reduce.specs.Liveness.{FailsForever};

@@ -1,9 +1,7 @@
 //! Liveness as safety: a circuit whose traces lead round a loop, and the lassos that they are.
 ghost use Rattle.std.specs.Prelude.{◌≡◌, ◌+◌, ◌++◌, ◌*◌, ◌^◌, ◌<◌, [], ◌∷◌, length, map, IfOk, IfSome, IsTrue, OnOk};
 ghost use Rattle.std.specs.List.{list_all};
-ghost use Rattle.gipmc_circuits.specs.Circuit.{IsSafe};
-ghost use Rattle.gipmc_circuits.specs.Encoding.{is_below, latch_below};
-ghost use Rattle.gipmc_circuits.specs.WellFormed.{latch_variables};
+ghost use Rattle.gipmc_circuits.specs.Prelude.{IsSafe, is_below, latch_below, latch_variables};
 ghost use Rattle.gipmc_reduce.specs.Chains.{not_of, yes_of};
 ghost use Rattle.gipmc_reduce.specs.Lassos.{IsLasso};
 ghost use Rattle.gipmc_reduce.specs.Liveness.{IsLive};

@@ -1,7 +1,6 @@
 //! The longer circuits whose safety shows liveness, by which means each is made, and what an invariant of one shows.
 ghost use Rattle.std.specs.Prelude.{◌++◌, IfOk, IfSome, IsTrue};
-ghost use Rattle.gipmc_circuits.specs.Certificate.{is_certified};
-ghost use Rattle.gipmc_circuits.specs.Circuit.{IsSafe};
+ghost use Rattle.gipmc_circuits.specs.Prelude.{IsSafe, is_certified};
 ghost use Rattle.gipmc_reduce.specs.Liveness.{IsLive};
 ghost use Rattle.gipmc_reduce.specs.Longer.{IsMadeBy};
 

@@ -1,10 +1,8 @@
 //! Circuits that certify another one as to several literals: whether what they claim is an invariant is asked once.
 ghost use Rattle.std.specs.Prelude.{◌≡◌, ◌^◌, ◌<◌, [], ◌∷◌, length, slice_get, Some, IfOk, IfSome, IsTrue};
 ghost use Rattle.std.specs.List.{list_all};
-ghost use Rattle.gipmc_circuits.specs.Certificate.{is_certified};
-ghost use Rattle.gipmc_circuits.specs.Encoding.{literal_below};
+ghost use Rattle.gipmc_circuits.specs.Prelude.{IsCertifiedBy, is_certified, literal_below};
 ghost use Rattle.gipsat_cnf.specs.Literals.{Lit};
-ghost use Rattle.gipmc_circuits.specs.WitnessCircuits.{IsCertifiedBy};
 ghost use Rattle.gipmc_circuits.specs.declared.certificate.Verdict.TheVariants.{Certified};
 ghost use Rattle.gipmc_reduce.specs.Witnessed.{AreSafeBy, HasMoments, HoldsClaims, IsStilled, shares_below};
 

@@ -1,7 +1,6 @@
 -- What is k-inductive in a part of a circuit is so in the circuit.
 use Rattle.std.proofs.Common.{◌≡◌, ℕ, ◌+◌, List, subst}
-use Rattle.gipsat_cnf.specs.Formulas.{Assignment}
-use Rattle.gipsat_cnf.specs.Literals.{Lit}
+use Rattle.gipsat_cnf.specs.Prelude.{Assignment, Lit}
 use Rattle.gipmc_circuits.specs.declared.circuit.Circuit.{Circuit}
 use Rattle.gipmc_engines.specs.Verdicts.{IsSafeByInduction}
 use Rattle.gipmc_reduce.specs.Cone.{IsPartOf, literal_named, read}

@@ -7,8 +7,7 @@ use Rattle.std.proofs.lemmas.Fmt.{decimal_is_IsNumeral}
 use Rattle.std.proofs.lemmas.Str.Parse.{digit_from_value}
 use Rattle.giputils_text.specs.Lines.{pieces}
 use Rattle.giputils_text.proofs.Pieces.{text_lines-at}
-use Rattle.gipmc_aiger.specs.Lists.{Every}
-use Rattle.gipmc_aiger.specs.Witnesses.{said_lines}
+use Rattle.gipmc_aiger.specs.Prelude.{Every, said_lines}
 use Rattle.gipmc_task.specs.Verdicts.{depth_text, depths_text}
 
 -- a byte that ends no line

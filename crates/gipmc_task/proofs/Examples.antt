@@ -9,15 +9,10 @@ use Rattle.std.specs.Str.{bytes_eq}
 use Rattle.std.proofs.Math.Nat.{le_refl}
 use Rattle.std.proofs.lemmas.Bool.{and_parts, false≢true}
 use Rattle.std.proofs.lemmas.List.Sorted.{IsPermutation-append_comm}
-use Rattle.gipsat_cnf.specs.Assumptions.{makes_true}
-use Rattle.gipsat_cnf.specs.Formulas.{Assignment}
-use Rattle.gipsat_cnf.specs.Literals.{Lit}
+use Rattle.gipsat_cnf.specs.Prelude.{Assignment, Lit, makes_true}
 use Rattle.gipsat_cnf.proofs.Places.{none_some, same_some}
-use Rattle.gipmc_aiger.specs.Claims.{claim_by, claim_of}
-use Rattle.gipmc_aiger.specs.Invariants.{invariant_in}
-use Rattle.gipmc_circuits.specs.Certificate.{IsSafeByClauses}
-use Rattle.gipmc_circuits.specs.Circuit.{FailsAfter, IsSafe, has_value, is_moment, is_valuation}
-use Rattle.gipmc_circuits.specs.Traces.{FailsBy}
+use Rattle.gipmc_aiger.specs.Prelude.{claim_by, claim_of, invariant_in}
+use Rattle.gipmc_circuits.specs.Prelude.{FailsAfter, FailsBy, IsSafe, IsSafeByClauses, has_value, is_moment, is_valuation}
 use Rattle.gipmc_circuits.specs.declared.circuit.Circuit.{Circuit}
 use Rattle.gipmc_circuits.specs.declared.trace.Trace.{Trace}
 use Rattle.gipmc_reduce.specs.Lassos.{IsLasso, from}

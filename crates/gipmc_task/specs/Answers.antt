@@ -6,8 +6,7 @@ use Rattle.gipmc_aiger.specs.Lists.{Every}
 use Rattle.gipmc_aiger.specs.declared.problem.Property.TheVariants.{Bad, Justice}
 use Rattle.gipmc_aiger.specs.declared.problem.Subject.{Subject}
 use Rattle.gipmc_aiger.specs.declared.problem.Subject.TheVariants.{All, Any, One}
-use Rattle.gipmc_circuits.specs.Circuit.{IsSafe}
-use Rattle.gipmc_circuits.specs.Traces.{FailsBy}
+use Rattle.gipmc_circuits.specs.Prelude.{FailsBy, IsSafe}
 use Rattle.gipmc_circuits.specs.declared.circuit.Circuit.{Circuit}
 use Rattle.gipmc_engines.specs.Verdicts.{NeverFailsWithin}
 use Rattle.gipmc_task.specs.Verdicts.{outcome_of, place_of, places_of}

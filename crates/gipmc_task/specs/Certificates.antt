@@ -2,18 +2,14 @@
 use Rattle.std.specs.Prelude.{◌≡◌, ◌<◌, ◌==◌, ◌-◌, ◌^◌, ◌⊎◌, ◌++◌, ℕ, List, [], ◌∷◌, Vec, length, codes, slice_get, if◌then◌else◌, Option, Some, None}
 use Rattle.std.specs.Str.{bytes_eq}
 use Rattle.std.specs.declared.alloc.Global.{Global}
-use Rattle.gipsat_cnf.specs.Formulas.{Formula}
-use Rattle.gipsat_cnf.specs.Literals.{Lit}
-use Rattle.gipmc_aiger.specs.Invariants.{clauses_view, invariant_for}
-use Rattle.gipmc_aiger.specs.WitnessCircuits.{WritesWitness}
+use Rattle.gipsat_cnf.specs.Prelude.{Formula, Lit}
+use Rattle.gipmc_aiger.specs.Prelude.{WritesWitness, clauses_view, invariant_for}
 use Rattle.gipmc_aiger.specs.declared.liveness.Liveness.{Liveness}
 use Rattle.gipmc_aiger.specs.declared.problem.Problem.{Problem}
 use Rattle.gipmc_aiger.specs.declared.problem.Property.TheVariants.{Bad, Justice}
 use Rattle.gipmc_aiger.specs.declared.problem.Subject.{Subject}
 use Rattle.gipmc_aiger.specs.declared.problem.Subject.TheVariants.{All, Any, One}
-use Rattle.gipmc_circuits.specs.Certificate.{IsSafeByClauses}
-use Rattle.gipmc_circuits.specs.Circuit.{IsSafe}
-use Rattle.gipmc_circuits.specs.WitnessCircuits.{IsCertifiedBy}
+use Rattle.gipmc_circuits.specs.Prelude.{IsCertifiedBy, IsSafe, IsSafeByClauses}
 use Rattle.gipmc_circuits.specs.declared.circuit.Circuit.{Circuit}
 use Rattle.gipmc_circuits.specs.declared.witness_circuit.WitnessCircuit.{WitnessCircuit}
 use Rattle.gipmc_engines.specs.Verdicts.{IsSafeByInduction}

@@ -3,8 +3,7 @@ use Rattle.std.specs.Prelude.{◌≡◌, ◌==◌, ◌||◌, ℕ, Bool, true, Li
 use Rattle.std.specs.declared.alloc.Global.{Global}
 use Rattle.std.specs.List.{list_any}
 use Rattle.gipsat_cnf.specs.Literals.{Lit}
-use Rattle.gipmc_aiger.specs.Claims.{Claimed, claim_by, claims_of, lassos_of}
-use Rattle.gipmc_aiger.specs.Lists.{Every}
+use Rattle.gipmc_aiger.specs.Prelude.{Claimed, Every, claim_by, claims_of, lassos_of}
 use Rattle.gipmc_aiger.specs.declared.problem.Problem.{Problem}
 use Rattle.gipmc_circuits.specs.Traces.{FailsBy}
 use Rattle.gipmc_circuits.specs.declared.circuit.Circuit.{Circuit}

@@ -1,8 +1,7 @@
 //! Witnesses that properties fail, as texts.
 ghost use Rattle.std.specs.Prelude.{◌≡◌, ◌==◌, ◌<◌, ◌∷◌, [], length, map, IfNone, IfOk, IsTrue, None, Some};
 ghost use Rattle.std.specs.List.{list_any};
-ghost use Rattle.gipmc_aiger.specs.Claims.{claims_view};
-ghost use Rattle.gipmc_aiger.specs.Lists.{Every};
+ghost use Rattle.gipmc_aiger.specs.Prelude.{Every, claims_view};
 ghost use Rattle.gipmc_task.specs.Kinds.{count_of};
 ghost use Rattle.gipmc_task.specs.Witnesses.{AreWitnessesIn, FailsAt, IsRight, Replays, ReplaysAll};
 ghost use Rattle.gipmc_task.specs.Witnesses.{claimed, claims_by, names_asked, names_place};

@@ -3,8 +3,7 @@ use Rattle.std.specs.Prelude.{◌≡◌, ℕ, ◌+◌, Bool, List, length, map, 
 use Rattle.std.specs.declared.alloc.Global.{Global}
 use Rattle.std.specs.declared.vec.Vec.{Vec}
 use Rattle.gipsat_cnf.specs.Formulas.{Assignment}
-use Rattle.gipmc_circuits.specs.Circuit.{IsTrace}
-use Rattle.gipmc_circuits.specs.Traces.{Follows}
+use Rattle.gipmc_circuits.specs.Prelude.{Follows, IsTrace}
 use Rattle.gipmc_circuits.specs.declared.circuit.Circuit.{Circuit}
 use Rattle.gipmc_circuits.specs.declared.trace.Trace.{Trace}
 

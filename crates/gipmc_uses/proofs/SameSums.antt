@@ -2,12 +2,9 @@
 use Rattle.std.proofs.Common.{◌≡◌, ⊎_elim, ◌&&◌, ◌==◌, Bool, true, not, List, [], ◌∷◌, Vec, IsTrue, refl, sym, ap, subst, ◌∙◌}
 use Rattle.std.specs.declared.alloc.Global.{Global}
 use Rattle.std.proofs.lemmas.Bool.{and_from, cases_Bool, eqb-true}
-use Rattle.gipsat_cnf.specs.Assumptions.{makes_true}
-use Rattle.gipsat_cnf.specs.Formulas.{Assignment, is_true}
-use Rattle.gipsat_cnf.specs.Literals.{Lit, negated}
+use Rattle.gipsat_cnf.specs.Prelude.{Assignment, Lit, is_true, makes_true, negated}
 use Rattle.gipmc_circuits.specs.declared.circuit.Circuit.{Circuit}
-use Rattle.gipmc_circuits.specs.Certificate.{Excludes}
-use Rattle.gipmc_circuits.specs.Circuit.{is_moment, is_valuation}
+use Rattle.gipmc_circuits.specs.Prelude.{Excludes, is_moment, is_valuation}
 use Rattle.gipmc_builder.specs.Build.{GivesSame, GivesSum, Keeps, number_of}
 use Rattle.gipmc_builder.proofs.Built.{is_true-negated}
 

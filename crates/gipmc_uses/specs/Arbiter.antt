@@ -1,7 +1,6 @@
 -- An arbiter between two that ask for one thing.
 use Rattle.std.specs.Prelude.{Bool, not, ◌&&◌}
-use Rattle.gipsat_cnf.specs.Formulas.{Assignment, is_true}
-use Rattle.gipsat_cnf.specs.Literals.{Lit}
+use Rattle.gipsat_cnf.specs.Prelude.{Assignment, Lit, is_true}
 
 -- who has it, by the values of two literals
 abbrev pub grants_of : Assignment → Lit × Lit → Bool × Bool

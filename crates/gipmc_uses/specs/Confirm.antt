@@ -4,9 +4,7 @@ use Rattle.gipsat_cnf.specs.Literals.{Lit}
 use Rattle.gipmc_aiger.specs.Circuits.{Writes}
 use Rattle.gipmc_circuits.specs.declared.circuit.Circuit.{Circuit}
 use Rattle.gipmc_circuits.specs.declared.trace.Trace.{Trace}
-use Rattle.gipmc_circuits.specs.Circuit.{FailsAfter}
-use Rattle.gipmc_circuits.specs.Traces.{FailsBy}
-use Rattle.gipmc_circuits.specs.WellFormed.{is_well_formed}
+use Rattle.gipmc_circuits.specs.Prelude.{FailsAfter, FailsBy, is_well_formed}
 
 -- the circuit fails by the trace, at the bad literal at a place
 abbrev pub FailsAt : Circuit → ℕ → Trace → Type 0

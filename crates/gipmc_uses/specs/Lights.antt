@@ -1,7 +1,6 @@
 -- The lights of two streets that cross.
 use Rattle.std.specs.Prelude.{Bool, true, false, ◌&&◌, if◌then◌else◌}
-use Rattle.gipsat_cnf.specs.Formulas.{Assignment, is_true}
-use Rattle.gipsat_cnf.specs.Literals.{Lit}
+use Rattle.gipsat_cnf.specs.Prelude.{Assignment, Lit, is_true}
 
 -- which lamps of the two streets are on; a street with neither is at red
 pub record Lights : Type 0 where

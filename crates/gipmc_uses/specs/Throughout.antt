@@ -1,7 +1,6 @@
 -- What holds at each moment of each run of a circuit.
 use Rattle.std.specs.Prelude.{ℕ, ◌≤◌, IsTrue}
-use Rattle.gipsat_cnf.specs.Formulas.{Assignment, is_true}
-use Rattle.gipsat_cnf.specs.Literals.{Lit}
+use Rattle.gipsat_cnf.specs.Prelude.{Assignment, Lit, is_true}
 use Rattle.gipmc_circuits.specs.declared.circuit.Circuit.{Circuit}
 use Rattle.gipmc_circuits.specs.Circuit.{IsTrace}
 

@@ -1,8 +1,7 @@
 -- What a search answered to an input, in what it wrote.
 use Rattle.std.specs.Prelude.{◌≡◌, ℕ, List, codes, Bool, Option, Some, None, IsTrue, ⊤, ◌⊎◌}
 use Rattle.std.specs.Io.KnownBytes.{Appends}
-use Rattle.gipsat_cnf.specs.Formulas.{Assignment, IsSatisfiable, satisfies}
-use Rattle.gipsat_cnf.specs.Literals.{Lit}
+use Rattle.gipsat_cnf.specs.Prelude.{Assignment, IsSatisfiable, Lit, satisfies}
 use Rattle.gip_cli.specs.Statuses.{refused_status}
 use Rattle.gipsat_dimacs.specs.Inputs.{HasForm, OfProblem}
 use Rattle.gipsat_dimacs.specs.Texts.{Problem}

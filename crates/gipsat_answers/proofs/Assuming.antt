@@ -4,8 +4,7 @@ use Rattle.std.specs.Prelude.{slice_get, Some}
 use Rattle.std.proofs.lemmas.Grind.{flat_map-append}
 use Rattle.std.proofs.lemmas.List.{append-nil, take_more}
 use Rattle.std.proofs.lemmas.Option.{get_or_from_slice_get, slice_get_within}
-use Rattle.gipsat_cnf.specs.Formulas.{Clause, Formula}
-use Rattle.gipsat_cnf.specs.Literals.{Lit}
+use Rattle.gipsat_cnf.specs.Prelude.{Clause, Formula, Lit}
 use Rattle.gipsat_answers.specs.Assumed.{first_variables, literals_of}
 
 -- the literals of a clause more

@@ -4,9 +4,7 @@ use Rattle.std.specs.Prelude.{Option, Some, None, ⊤}
 use Rattle.std.specs.Option.{option_and_then, option_map}
 use Rattle.std.proofs.lemmas.Bool.{cases_Bool}
 use Rattle.gipsat_cnf.proofs.Places.{none_some}
-use Rattle.gipsat_cnf.specs.Formulas.{AreBelow, Clause, Formula}
-use Rattle.gipsat_cnf.specs.Lists.{AreAllBelow}
-use Rattle.gipsat_cnf.specs.Literals.{Lit}
+use Rattle.gipsat_cnf.specs.Prelude.{AreAllBelow, AreBelow, Clause, Formula, Lit}
 use Rattle.gipsat_dimacs.specs.Inputs.{OfProblem}
 use Rattle.gipsat_dimacs.specs.Texts.{Problem, Word, begins, clause_words, clauses_after, goes_on, header_of, is_header, item_of, literal_of, minus, number_of, problem_after, problem_begun, problem_by, problem_headed, problem_in, problem_with, says, signed_item, variable_limit, variables_with, word_lines}
 use Rattle.gipsat_dimacs.specs.declared.rule.HeaderRule.{HeaderRule}

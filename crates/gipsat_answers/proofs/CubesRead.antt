@@ -3,8 +3,7 @@ use Rattle.std.proofs.Common.{◌≡◌, ℕ, true, false, List, [], ◌∷◌, 
 use Rattle.std.specs.Prelude.{Option, Some, None, codes}
 use Rattle.std.specs.Option.{option_map}
 use Rattle.std.proofs.lemmas.List.{map-append}
-use Rattle.gipsat_cnf.specs.Formulas.{Formula}
-use Rattle.gipsat_cnf.specs.Literals.{Lit}
+use Rattle.gipsat_cnf.specs.Prelude.{Formula, Lit}
 use Rattle.gipsat_answers.specs.Questions.{Question, AsksSoFar, asks, clauses_in, cubes_asked, first_of, questions_after}
 use Rattle.gipsat_answers.proofs.Questioning.{one_left}
 

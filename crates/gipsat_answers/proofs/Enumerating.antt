@@ -4,8 +4,7 @@ use Rattle.std.specs.Prelude.{Option, Some, None, codes, Result, Ok, Err, IfOk, 
 use Rattle.gipsat_answers.specs.Answers.{problem_of}
 use Rattle.std.specs.Io.KnownBytes.{Appends}
 use Rattle.std.proofs.lemmas.List.{append_assoc, append-nil}
-use Rattle.gipsat_cnf.specs.Formulas.{Assignment, Formula, IsSatisfiable, satisfies}
-use Rattle.gipsat_cnf.specs.Literals.{Lit}
+use Rattle.gipsat_cnf.specs.Prelude.{Assignment, Formula, IsSatisfiable, Lit, satisfies}
 use Rattle.gipsat_cnf.proofs.Formulas.{satisfies-first}
 use Rattle.gipsat_dimacs.specs.Texts.{Problem}
 use Rattle.gipsat_answers.specs.Enumeration.{IsModelsText, IsOpen, IsRightVerdict, WritesModels, WritesNext, differing, first_verdict, model_text, with_clause}

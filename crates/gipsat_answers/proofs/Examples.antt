@@ -3,8 +3,7 @@ use Rattle.std.proofs.Common.{◌≡◌, ◌==◌, ℕ, zero, suc, Bool, true, f
 use Rattle.std.specs.Fmt.{digits}
 use Rattle.std.proofs.lemmas.Bool.{false≢true}
 use Rattle.std.specs.Option.{option_map}
-use Rattle.gipsat_cnf.specs.Formulas.{satisfies}
-use Rattle.gipsat_cnf.specs.Literals.{Lit}
+use Rattle.gipsat_cnf.specs.Prelude.{Lit, satisfies}
 use Rattle.gipsat_dimacs.specs.Texts.{Problem}
 use Rattle.gipsat_answers.specs.Answers.{IsRightText, laid_out, values_text, verdict_status}
 use Rattle.gipsat_answers.specs.Assumed.{assuming, first_variables, literals_in}

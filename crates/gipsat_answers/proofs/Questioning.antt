@@ -5,9 +5,7 @@ use Rattle.std.specs.Option.{option_map}
 use Rattle.std.proofs.lemmas.List.{append_assoc, append-nil, take_more}
 use Rattle.std.proofs.lemmas.Option.{get_or_from_slice_get, slice_get_within}
 use Rattle.std.proofs.lemmas.Bool.{false≢true}
-use Rattle.gipsat_cnf.specs.Assumptions.{IsSatisfiableUnder}
-use Rattle.gipsat_cnf.specs.Formulas.{Clause, Formula}
-use Rattle.gipsat_cnf.specs.Literals.{Lit}
+use Rattle.gipsat_cnf.specs.Prelude.{Clause, Formula, IsSatisfiableUnder, Lit}
 use Rattle.gipsat_answers.specs.Questions.{Question, AsksSoFar, asks, clauses_in, first_of, questions_after, is_stop, verdict_with}
 use Rattle.gipsat_answers.specs.Questions.{AreAskedOf, AreNoneSatisfiable, AreRightReplies, IsAnySatisfiable, IsRightOfAll, IsRightReply, WritesReplies, WritesReply}
 use Rattle.gipsat_answers.specs.declared.answers.Verdict.{Verdict}

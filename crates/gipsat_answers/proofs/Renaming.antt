@@ -1,11 +1,7 @@
 -- Formulas under other names: what satisfies them.
 use Rattle.std.proofs.Common.{◌≡◌, ◌≢◌, ◌<◌, ◌≤◌, ℕ, zero, suc, List, [], ◌∷◌, length, take, ◌++◌, ◌+◌, ◌==◌, get_or, Bool, true, false, if◌then◌else◌, refl, sym, ap, ◌∙◌, subst, ⊎_elim, inl, arith}
 use Rattle.std.specs.Prelude.{slice_get, Some, IfOk, Result, Ok, Err}
-use Rattle.gipsat_cnf.specs.Assumptions.{IsSatisfiableUnder, makes_true}
-use Rattle.gipsat_cnf.specs.Formulas.{Assignment, AreBelow, Clause, Formula, IsSatisfiable, satisfies, satisfies_clause}
-use Rattle.gipsat_cnf.specs.Literals.{Lit}
-use Rattle.gipsat_cnf.specs.Models.{assignment_in, IsModel}
-use Rattle.gipsat_cnf.specs.Lists.{AreAllBelow}
+use Rattle.gipsat_cnf.specs.Prelude.{AreAllBelow, AreBelow, Assignment, Clause, Formula, IsModel, IsSatisfiable, IsSatisfiableUnder, Lit, assignment_in, makes_true, satisfies, satisfies_clause}
 use Rattle.gipsat_cnf.proofs.Places.{none_some, same_some}
 use Rattle.gipsat_answers.specs.Names.{first_names, name_in, named, named_clause, named_literal, names_from, AreNamesOf, IsRising}
 use Rattle.std.proofs.lemmas.Bool.{cases_Bool, eq-eqb, eqb-true, false≢true, ne_eqb}

@@ -2,11 +2,7 @@
 use Rattle.std.proofs.Common.{◌≡◌, ◌<◌, ◌≤◌, ◌++◌, ℕ, Bool, List, length, codes, arith, ◌∙◌}
 use Rattle.std.specs.Prelude.{IsTrue}
 use Rattle.std.proofs.lemmas.Option.{slice_get-get_or}
-use Rattle.gipsat_cnf.specs.Assumptions.{IsModelUnder}
-use Rattle.gipsat_cnf.specs.Formulas.{AreBelow, Assignment, Formula}
-use Rattle.gipsat_cnf.specs.Lists.{AreAllBelow}
-use Rattle.gipsat_cnf.specs.Literals.{Lit}
-use Rattle.gipsat_cnf.specs.Models.{assignment_in}
+use Rattle.gipsat_cnf.specs.Prelude.{AreAllBelow, AreBelow, Assignment, Formula, IsModelUnder, Lit, assignment_in}
 use Rattle.gipsat_answers.specs.Answers.{witness_text}
 use Rattle.gipsat_answers.specs.Names.{first_names, name_in, AreNamedValues, IsRising}
 use Rattle.gipsat_answers.specs.Questions.{asked_under, IsRightReply}

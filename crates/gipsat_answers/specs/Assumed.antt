@@ -1,8 +1,7 @@
 -- Literals that words name, and problems under them.
 use Rattle.std.specs.Prelude.{ℕ, zero, suc, true, List, [], ◌∷◌, ◌++◌, codes, flat_map, map, Option}
 use Rattle.std.specs.Option.{option_map}
-use Rattle.gipsat_cnf.specs.Formulas.{Formula}
-use Rattle.gipsat_cnf.specs.Literals.{Lit}
+use Rattle.gipsat_cnf.specs.Prelude.{Formula, Lit}
 use Rattle.gipsat_dimacs.specs.Texts.{Problem, problem_by}
 use Rattle.gipsat_dimacs.specs.declared.rule.HeaderRule.TheVariants.{Relaxed}
 

@@ -1,8 +1,7 @@
 -- Several models of a problem, one after another.
 use Rattle.std.specs.Prelude.{◌≡◌, ℕ, zero, suc, Bool, not, ◌==◌, if◌then◌else◌, List, [], ◌∷◌, ◌++◌, map, codes, ⊤, IsTrue, Option, ◌⊎◌}
 use Rattle.std.specs.Io.KnownBytes.{Appends}
-use Rattle.gipsat_cnf.specs.Formulas.{Assignment, Clause, Formula, IsSatisfiable, satisfies}
-use Rattle.gipsat_cnf.specs.Literals.{Lit}
+use Rattle.gipsat_cnf.specs.Prelude.{Assignment, Clause, Formula, IsSatisfiable, Lit, satisfies}
 use Rattle.gipsat_dimacs.specs.Texts.{Problem}
 use Rattle.gipsat_answers.specs.Answers.{witness_text}
 use Rattle.gipsat_answers.specs.Names.{numbers_below}

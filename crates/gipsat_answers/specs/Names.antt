@@ -1,9 +1,6 @@
 -- Variables under other names.
 use Rattle.std.specs.Prelude.{◌≡◌, ℕ, zero, suc, ◌+◌, ◌<◌, Bool, List, [], ◌∷◌, map, length, slice_get, slice_index_or, Some, ◌⊎◌}
-use Rattle.gipsat_cnf.specs.Formulas.{Assignment, Clause, Formula}
-use Rattle.gipsat_cnf.specs.Lists.{AreAllBelow}
-use Rattle.gipsat_cnf.specs.Literals.{Lit}
-use Rattle.gipsat_cnf.specs.Models.{assignment_in}
+use Rattle.gipsat_cnf.specs.Prelude.{AreAllBelow, Assignment, Clause, Formula, Lit, assignment_in}
 use Rattle.gipsat_answers.specs.declared.answers.Solved.{Solved}
 
 -- the name of a variable by a list of names; a variable past its end keeps its number

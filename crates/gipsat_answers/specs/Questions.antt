@@ -4,9 +4,7 @@ use Rattle.std.specs.Option.{option_map, option_and_then}
 use Rattle.std.specs.Str.{byte, bytes_eq}
 use Rattle.std.specs.Io.KnownBytes.{Appends}
 use Rattle.giputils_text.specs.Lines.{text_lines}
-use Rattle.gipsat_cnf.specs.Assumptions.{IsSatisfiableUnder, makes_true}
-use Rattle.gipsat_cnf.specs.Formulas.{Assignment, Formula, satisfies}
-use Rattle.gipsat_cnf.specs.Literals.{Lit}
+use Rattle.gipsat_cnf.specs.Prelude.{Assignment, Formula, IsSatisfiableUnder, Lit, makes_true, satisfies}
 use Rattle.gipsat_dimacs.specs.Texts.{begins, comment_byte, problem_by}
 use Rattle.gipsat_dimacs.specs.declared.rule.HeaderRule.TheVariants.{Relaxed}
 use Rattle.gipsat_answers.specs.Answers.{witness_text}

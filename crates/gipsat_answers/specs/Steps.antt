@@ -1,7 +1,6 @@
 -- The steps of a proof in the DRAT form, as text and as bytes.
 use Rattle.std.specs.Prelude.{ℕ, ◌+◌, ◌*◌, Bool, false, List, [], ◌∷◌, ◌++◌, if◌then◌else◌, codes}
-use Rattle.gipsat_cnf.specs.Formulas.{Clause}
-use Rattle.gipsat_cnf.specs.Literals.{Lit}
+use Rattle.gipsat_cnf.specs.Prelude.{Clause, Lit}
 use Rattle.giputils_text.specs.Groups.{groups}
 use Rattle.gipsat_dimacs.specs.Writer.{clause_line}
 use Rattle.gipsat_answers.specs.declared.proof.writer.Format.{Format}

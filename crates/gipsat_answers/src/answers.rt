@@ -1,10 +1,9 @@
 //! Answers, and their texts.
 ghost use Rattle.std.specs.Prelude.{◌≡◌, ◌≢◌, ◌++◌, ◌∷◌, [], List, codes, decimal, IfErr, IfOk, OnOk};
 ghost use Rattle.std.specs.Io.KnownBytes.{Appends};
-ghost use Rattle.gipsat_cnf.specs.Models.{assignment_in};
+ghost use Rattle.gipsat_cnf.specs.Prelude.{Assignment, assignment_in};
 ghost use Rattle.gipsat_dimacs.specs.Texts.{Word};
 ghost use Rattle.gipsat_dimacs.specs.Writer.{literal_word};
-ghost use Rattle.gipsat_cnf.specs.Formulas.{Assignment};
 ghost use Rattle.gipsat_answers.specs.Answers.{laid_out, values_text, verdict_status, witness_text, TellsRight};
 ghost use Rattle.gipsat_answers.specs.Names.{first_names, numbers_below, AreNamedValues};
 

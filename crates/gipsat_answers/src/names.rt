@@ -1,9 +1,7 @@
 //! Variables under other numbers, so that a solver has no tables for variables that no clause has.
 ghost use Rattle.std.specs.Prelude.{◌≡◌, ◌<◌, ◌^◌, [], ℕ, length, slice_get, vec_len, IfOk, IfSome, OnOk};
 ghost use Rattle.std.specs.Bool.{OnTrue};
-ghost use Rattle.gipsat_cnf.specs.Formulas.{AreBelow, Formula};
-ghost use Rattle.gipsat_cnf.specs.Lists.{AreAllBelow};
-ghost use Rattle.gipsat_cnf.specs.Models.{assignment_in, IsModel};
+ghost use Rattle.gipsat_cnf.specs.Prelude.{AreAllBelow, AreBelow, Formula, IsModel, assignment_in};
 ghost use Rattle.gipsat_solver.specs.Answers.{IsRight, SolverState};
 ghost use Rattle.gipsat_answers.specs.Names.{name_in, named, named_clause, AreNamesOf, IsRising};
 

@@ -1,8 +1,6 @@
 -- Cores: what they refute.
 use Rattle.std.proofs.Common.{List, IsTrue}
-use Rattle.gipsat_cnf.specs.Literals.{Lit}
-use Rattle.gipsat_cnf.specs.Formulas.{Assignment, Formula, Has, satisfies}
-use Rattle.gipsat_cnf.specs.Assumptions.{makes_true, IsCore, IsSatisfiableUnder}
+use Rattle.gipsat_cnf.specs.Prelude.{Assignment, Formula, Has, IsCore, IsSatisfiableUnder, Lit, makes_true, satisfies}
 use Rattle.gipsat_cnf.proofs.MakesTrue.{makes_true-among, unsatisfied-under}
 
 -- where there is a core, no model of the formula makes all assumptions true

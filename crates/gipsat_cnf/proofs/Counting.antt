@@ -5,12 +5,7 @@ use Rattle.std.specs.Bool.{beq}
 use Rattle.std.proofs.Math.Nat.{two-pow-succ}
 use Rattle.std.proofs.Math.Numerals.{add-one}
 use Rattle.std.proofs.lemmas.Bool.{false≢true, cases_lt}
-use Rattle.gipsat_cnf.specs.Literals.{Lit}
-use Rattle.gipsat_cnf.specs.Assumptions.{IsModelUnder, IsSatisfiableUnder, makes_true}
-use Rattle.gipsat_cnf.specs.Formulas.{AreBelow, Assignment, Formula, is_true, satisfies}
-use Rattle.gipsat_cnf.specs.Lists.{AreAllBelow}
-use Rattle.gipsat_cnf.specs.Models.{assignment_in}
-use Rattle.gipsat_cnf.specs.Numbers.{NoneBelow, number}
+use Rattle.gipsat_cnf.specs.Prelude.{AreAllBelow, AreBelow, Assignment, Formula, IsModelUnder, IsSatisfiableUnder, Lit, NoneBelow, assignment_in, is_true, makes_true, number, satisfies}
 use Rattle.gipsat_cnf.proofs.Formulas.{satisfies-at, satisfies-each}
 use Rattle.gipsat_cnf.proofs.LiteralLemmas.{satisfied_by, true_literal}
 use Rattle.gipsat_cnf.proofs.MakesTrue.{makes_true-at, makes_true-each}

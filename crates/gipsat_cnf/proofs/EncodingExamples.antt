@@ -1,8 +1,6 @@
 -- Worked examples of clauses that choose among literals: accepted and refused ones.
 use Rattle.std.proofs.Common.{◌≡◌, ℕ, true, false, [], ◌∷◌, arith, eqb, refl}
-use Rattle.gipsat_cnf.specs.Literals.{Lit}
-use Rattle.gipsat_cnf.specs.Formulas.{Assignment, satisfies}
-use Rattle.gipsat_cnf.specs.Encodings.{AtLeastOneTrue, AtMostOneTrue, at_most_one, exactly_one}
+use Rattle.gipsat_cnf.specs.Prelude.{Assignment, AtLeastOneTrue, AtMostOneTrue, Lit, at_most_one, exactly_one, satisfies}
 use Rattle.gipsat_cnf.proofs.Places.{none_some}
 
 abbrev yes : ℕ → Lit

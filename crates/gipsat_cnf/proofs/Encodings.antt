@@ -5,9 +5,7 @@ use Rattle.std.specs.List.{list_all}
 use Rattle.std.proofs.lemmas.Bool.{and_parts, and_from, cases_lt, cases_Bool}
 use Rattle.std.proofs.lemmas.List.{map-append}
 use Rattle.std.proofs.lemmas.List.Folds.{list_all-append, list_all-map}
-use Rattle.gipsat_cnf.specs.Encodings.{Adds, AddsPart, AllBelow, AtLeastOneTrue, AtMostOneTrue, ExactlyOneTrue, at_most_one, exactly_one, one_false}
-use Rattle.gipsat_cnf.specs.Formulas.{Assignment, Clause, Formula, Has, is_true, satisfies, satisfies_clause}
-use Rattle.gipsat_cnf.specs.Literals.{Lit, negated}
+use Rattle.gipsat_cnf.specs.Prelude.{Adds, AddsPart, AllBelow, Assignment, AtLeastOneTrue, AtMostOneTrue, Clause, ExactlyOneTrue, Formula, Has, Lit, at_most_one, exactly_one, is_true, negated, one_false, satisfies, satisfies_clause}
 use Rattle.gipsat_cnf.proofs.Formulas.{all-at, all-each, satisfies-first}
 use Rattle.gipsat_cnf.proofs.LiteralLemmas.{beq_not, not_both, satisfied_by, true_literal}
 use Rattle.gipsat_cnf.proofs.Places.{none_some, same_some}

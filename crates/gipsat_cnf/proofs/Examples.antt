@@ -1,14 +1,7 @@
 -- Worked examples of the definitions: accepted and refused ones.
 use Rattle.std.proofs.Common.{◌≡◌, ℕ, arith, eqb, inl, negsuc, pos, Bool, true, false, ◌||◌, [], ◌∷◌, refl, suc, zero}
 use Rattle.std.proofs.lemmas.Bool.{false≢true}
-use Rattle.gipsat_cnf.specs.Literals.{IsNamed, IsNoLiteral, Lit, aiger, code, decoded, dimacs}
-use Rattle.gipsat_cnf.specs.Assumptions.{IsCore, IsModelUnder, IsSatisfiableUnder, makes_true}
-use Rattle.gipsat_cnf.specs.Formulas.{Assignment, Clause, Formula, IsSatisfiable, Implies, satisfies, satisfies_clause}
-use Rattle.gipsat_cnf.specs.Layout.{clauses_of}
-use Rattle.gipsat_cnf.specs.Lists.{retained}
-use Rattle.gipsat_cnf.specs.Models.{IsModel}
-use Rattle.gipsat_cnf.specs.Numbers.{number}
-use Rattle.gipsat_cnf.specs.Simplifying.{SaysSame}
+use Rattle.gipsat_cnf.specs.Prelude.{Assignment, Clause, Formula, Implies, IsCore, IsModel, IsModelUnder, IsNamed, IsNoLiteral, IsSatisfiable, IsSatisfiableUnder, Lit, SaysSame, aiger, clauses_of, code, decoded, dimacs, makes_true, number, retained, satisfies, satisfies_clause}
 
 abbrev yes : ℕ → Lit
 yes v = record { variable = v; positive = true }

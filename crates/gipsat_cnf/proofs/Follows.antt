@@ -1,10 +1,7 @@
 -- Clauses that follow from a formula: those whose negation it refutes.
 use Rattle.std.proofs.Common.{◌≡◌, ◌↔◌, ◌&&◌, ◌||◌, List, [], ◌∷◌, map, Bool, true, false, not, refl, sym, ap, ◌∙◌, ⊎_elim}
 use Rattle.std.proofs.lemmas.Bool.{cases_Bool, false≢true}
-use Rattle.gipsat_cnf.specs.Assumptions.{IsCore, IsModelUnder, IsSatisfiableUnder, makes_true}
-use Rattle.gipsat_cnf.specs.Formulas.{Assignment, Clause, Formula, Implies, is_true, satisfies_clause}
-use Rattle.gipsat_cnf.specs.Literals.{Lit, negated}
-use Rattle.gipsat_cnf.specs.Models.{assignment_in}
+use Rattle.gipsat_cnf.specs.Prelude.{Assignment, Clause, Formula, Implies, IsCore, IsModelUnder, IsSatisfiableUnder, Lit, assignment_in, is_true, makes_true, negated, satisfies_clause}
 use Rattle.gipsat_cnf.proofs.LiteralLemmas.{is_true-negated}
 use Rattle.gipsat_cnf.proofs.MakesTrue.{unsatisfied-under}
 

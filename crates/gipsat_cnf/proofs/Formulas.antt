@@ -4,8 +4,7 @@ use Rattle.std.specs.Prelude.{slice_get, Some}
 use Rattle.std.specs.List.{list_all}
 use Rattle.std.proofs.lemmas.Bool.{and_from, and_parts}
 use Rattle.std.proofs.lemmas.List.Folds.{list_all-append}
-use Rattle.gipsat_cnf.specs.Formulas.{Assignment, Clause, Formula, satisfies, satisfies_clause, IsSatisfiable}
-use Rattle.gipsat_cnf.specs.Lists.{AreAllBelow, AreAmong}
+use Rattle.gipsat_cnf.specs.Prelude.{AreAllBelow, AreAmong, Assignment, Clause, Formula, IsSatisfiable, satisfies, satisfies_clause}
 use Rattle.gipsat_cnf.proofs.Places.{each_push, none_some, same_some}
 
 pub all-at : {A : Type 0} (p : A → Bool) (xs : List A) (k : ℕ) (x : A) → list_all p xs ≡ true → slice_get xs k ≡ Some x → p x ≡ true

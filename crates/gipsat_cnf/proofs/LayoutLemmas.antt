@@ -3,11 +3,8 @@ use Rattle.std.proofs.Common.{◌≡◌, ℕ, ◌+◌, ◌-◌, ◌^◌, ◌<◌
 use Rattle.std.specs.Prelude.{slice_get, slice_range}
 use Rattle.std.proofs.lemmas.List.{take-append-le, drop-append-le, drop_at, take_all, take-map, length-take, length-drop, length-append, get_or-take, get_or-drop}
 use Rattle.std.proofs.lemmas.Option.{slice_get_within, slice_get-get_or, get_or_from_slice_get}
-use Rattle.gipsat_cnf.specs.Literals.{Lit}
+use Rattle.gipsat_cnf.specs.Prelude.{AreAllBelow, AreApart, AreBelow, AreSpans, Clause, Has, IsLaidOut, Lit, clauses_of}
 use Rattle.gipsat_cnf.specs.declared.cnf.Span.{Span}
-use Rattle.gipsat_cnf.specs.Formulas.{AreBelow, Clause, Has}
-use Rattle.gipsat_cnf.specs.Layout.{clauses_of, AreApart, AreSpans, IsLaidOut}
-use Rattle.gipsat_cnf.specs.Lists.{AreAllBelow}
 use Rattle.gipsat_cnf.proofs.Places.{before_or_last, each_push, none_some, same_some}
 
 range_before : (xs ys : List Lit) (i j : ℕ) → i ≤ j → j ≤ length xs → slice_range (xs ++ ys) i j ≡ slice_range xs i j

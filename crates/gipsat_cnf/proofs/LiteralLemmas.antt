@@ -5,8 +5,7 @@ use Rattle.std.specs.Prelude.{slice_get}
 use Rattle.std.specs.Bool.{beq}
 use Rattle.std.specs.Cmp.{booleans_Decides}
 use Rattle.std.proofs.lemmas.Bool.{false≢true, cases_eq, or_cases, or_left, or_right}
-use Rattle.gipsat_cnf.specs.Literals.{Lit, code, negated}
-use Rattle.gipsat_cnf.specs.Formulas.{Assignment, Clause, Has, is_true, satisfies_clause}
+use Rattle.gipsat_cnf.specs.Prelude.{Assignment, Clause, Has, Lit, code, is_true, negated, satisfies_clause}
 use Rattle.gipsat_cnf.proofs.Places.{none_some}
 
 same_literal : (v w : ℕ) (p q : Bool) → 2 * v + cond p 1 0 ≡ 2 * w + cond q 1 0

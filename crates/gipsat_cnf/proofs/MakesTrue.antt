@@ -3,10 +3,7 @@ use Rattle.std.proofs.Common.{◌≡◌, ℕ, List, [], ◌∷◌, Bool, true, f
 use Rattle.std.specs.Prelude.{slice_get, Some}
 use Rattle.std.specs.Bool.{OnFalse, OnTrue}
 use Rattle.std.proofs.lemmas.Bool.{false≢true, and_from, and_parts}
-use Rattle.gipsat_cnf.specs.Literals.{Lit}
-use Rattle.gipsat_cnf.specs.Formulas.{Assignment, Formula, Has, is_true, satisfies}
-use Rattle.gipsat_cnf.specs.Assumptions.{makes_true, IsCore, IsModelUnder, IsSatisfiableUnder}
-use Rattle.gipsat_cnf.specs.Models.{assignment_in}
+use Rattle.gipsat_cnf.specs.Prelude.{Assignment, Formula, Has, IsCore, IsModelUnder, IsSatisfiableUnder, Lit, assignment_in, is_true, makes_true, satisfies}
 use Rattle.gipsat_cnf.proofs.Places.{none_some, same_some}
 
 -- literals each of which is true, all at once

@@ -3,8 +3,7 @@ use Rattle.std.proofs.Common.{◌≡◌, ℕ, ◌+◌, List, [], ◌∷◌, ◌+
 use Rattle.std.specs.Prelude.{slice_get, slice_index_or}
 use Rattle.std.proofs.Math.Numerals.{add-one}
 use Rattle.std.proofs.lemmas.Bool.{false≢true}
-use Rattle.gipsat_cnf.specs.Formulas.{Clause}
-use Rattle.gipsat_cnf.specs.Lists.{AreAmong, retained}
+use Rattle.gipsat_cnf.specs.Prelude.{AreAmong, Clause, retained}
 use Rattle.gipsat_cnf.proofs.Places.{none_some, same_some}
 
 pub retained-nil : {A : Type 0} (flags : List Bool) → retained {A = A} flags [] ≡ []

@@ -5,11 +5,8 @@ use Rattle.std.specs.List.{SwappedAt}
 use Rattle.std.proofs.lemmas.List.{ext_get_or, length-take, length-drop, get_or-take, get_or-drop}
 use Rattle.std.proofs.lemmas.Option.{slice_get_within, slice_get-get_or, get_or_from_slice_get}
 use Rattle.std.proofs.lemmas.Bool.{cases_eq, cases_lt}
-use Rattle.gipsat_cnf.specs.Literals.{Lit}
+use Rattle.gipsat_cnf.specs.Prelude.{AreApart, Clause, Has, IsLaidOut, KeepsBut, Lit, Reorders, clauses_of}
 use Rattle.gipsat_cnf.specs.declared.cnf.Span.{Span}
-use Rattle.gipsat_cnf.specs.Formulas.{Clause, Has}
-use Rattle.gipsat_cnf.specs.Layout.{clauses_of, AreApart, IsLaidOut}
-use Rattle.gipsat_cnf.specs.Lists.{KeepsBut, Reorders}
 use Rattle.gipsat_cnf.proofs.LayoutLemmas.{clause_at, from_range, in_range}
 use Rattle.gipsat_cnf.proofs.Places.{same_some}
 

@@ -10,3 +10,4 @@ pub mod Layout
 pub mod Numbers
 pub mod Answers
 pub mod Dimacs
+pub mod Prelude

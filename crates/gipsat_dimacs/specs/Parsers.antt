@@ -6,8 +6,7 @@
 use Rattle.std.specs.Prelude.{◌≡◌, ℕ, ◌+◌, max, ◌==◌, ◌&&◌, ◌||◌, Bool, true, false, not, List, [], ◌∷◌, ◌++◌, length, map, nat_lt, if◌then◌else◌, codes, Option, Some, None, ⊤}
 use Rattle.std.specs.List.{AllPass}
 use Rattle.std.specs.Option.{option_map, option_and_then}
-use Rattle.gipsat_cnf.specs.Formulas.{Clause, Formula}
-use Rattle.gipsat_cnf.specs.Literals.{Lit}
+use Rattle.gipsat_cnf.specs.Prelude.{Clause, Formula, Lit}
 use Rattle.gipsat_dimacs.specs.Texts.{Word, Problem, begins, comment_byte, end_byte, ends_line, is_blank, says, uncommented, clause_words, word_lines, number_of, item_of, variable_limit, clauses_after, variables_with, header_of, goes_on, has_comment, is_header, line_on, with_word}
 use Rattle.gipsat_dimacs.specs.declared.rule.HeaderRule.{HeaderRule}
 use Rattle.gipsat_dimacs.specs.declared.rule.HeaderRule.TheVariants.{Strict, Relaxed}

@@ -3,8 +3,7 @@ use Rattle.std.proofs.Common.{◌≡◌, ℕ, true, false, [], ◌∷◌, refl, 
 use Rattle.std.specs.Prelude.{slice_get}
 use Rattle.std.proofs.lemmas.Bool.{false≢true}
 use Rattle.gipsat_cnf.proofs.Places.{none_some}
-use Rattle.gipsat_cnf.specs.Formulas.{Clause}
-use Rattle.gipsat_cnf.specs.Literals.{Lit}
+use Rattle.gipsat_cnf.specs.Prelude.{Clause, Lit}
 use Rattle.gipsat_kernel.specs.Kernel.{original_among}
 use Rattle.gipsat_kernel.specs.Rat.{AreResolved, HasResolvent, IsOfResolvent, KeepsSatisfiable}
 

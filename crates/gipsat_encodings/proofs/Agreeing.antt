@@ -1,10 +1,7 @@
 -- Assignments that agree on the variables below a number, and what rests on these alone.
 use Rattle.std.proofs.Common.{◌≡◌, ℕ, ◌<◌, ◌≤◌, List, [], ◌∷◌, suc, zero, refl, sym, ap, ◌∙◌, arith}
 use Rattle.std.specs.Bool.{beq}
-use Rattle.gipsat_cnf.specs.Encodings.{Adds}
-use Rattle.gipsat_cnf.specs.Formulas.{AreBelow, Assignment, Formula, is_true}
-use Rattle.gipsat_cnf.specs.Lists.{AreAllBelow}
-use Rattle.gipsat_cnf.specs.Literals.{Lit}
+use Rattle.gipsat_cnf.specs.Prelude.{Adds, AreAllBelow, AreBelow, Assignment, Formula, Lit, is_true}
 use Rattle.gipsat_cnf.proofs.Formulas.{satisfies-at, satisfies-each}
 use Rattle.gipsat_cnf.proofs.LiteralLemmas.{satisfied_by, true_literal}
 use Rattle.gipsat_encodings.specs.Counts.{count_true}

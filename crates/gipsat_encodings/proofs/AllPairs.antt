@@ -1,9 +1,7 @@
 -- The clauses of all pairs of literals, in the order in which they are added.
 use Rattle.std.proofs.Common.{◌≡◌, ℕ, ◌+◌, ◌-◌, ◌<◌, List, [], ◌∷◌, ◌++◌, append_assoc, length, length-drop, drop, take, get_or, map, IsTrue, refl, sym, ap, ◌∙◌, arith}
 use Rattle.std.proofs.lemmas.List.{append-nil, drop_all, drop_more, take_all}
-use Rattle.gipsat_cnf.specs.Encodings.{AddsPart, AtMostOneTrue, at_most_one, one_false}
-use Rattle.gipsat_cnf.specs.Formulas.{Formula, satisfies}
-use Rattle.gipsat_cnf.specs.Literals.{Lit}
+use Rattle.gipsat_cnf.specs.Prelude.{AddsPart, AtMostOneTrue, Formula, Lit, at_most_one, one_false, satisfies}
 use Rattle.gipsat_cnf.proofs.Encodings.{Adds-at_most_one, AddsPart-next}
 
 -- some of the clauses are added, and with those of the literals from a place on all are

@@ -2,9 +2,7 @@
 use Rattle.std.proofs.Common.{◌≡◌, ◌↔◌, ℕ, suc, ◌+◌, ◌<◌, ◌≤◌, Bool, true, false, not, List, length, Option, IsTrue, refl, sym, ap, ◌∙◌, arith, ⊎_elim}
 use Rattle.std.proofs.lemmas.Bool.{cases_lt}
 use Rattle.std.proofs.lemmas.Option.{slice_get_within}
-use Rattle.gipsat_cnf.specs.Encodings.{Adds}
-use Rattle.gipsat_cnf.specs.Formulas.{AreBelow, Assignment, Formula, is_true, satisfies}
-use Rattle.gipsat_cnf.specs.Literals.{Lit}
+use Rattle.gipsat_cnf.specs.Prelude.{Adds, AreBelow, Assignment, Formula, Lit, is_true, satisfies}
 use Rattle.gipsat_encodings.specs.Counts.{AreBetween, AtLeastTrue, AtMostTrue, ExactlyTrue, count_true}
 use Rattle.gipsat_encodings.specs.Extending.{AddsSome, AgreeBelow, Anything, Constrains, ConstrainsPart, Defines, SpeaksBelow}
 use Rattle.gipsat_encodings.specs.Outputs.{Counts, SaysSum, TellCount, reached, says, value_or}

@@ -1,7 +1,6 @@
 -- How many literals are true: where lists are joined, and at most as many as there are.
 use Rattle.std.proofs.Common.{◌≡◌, ◌+◌, ◌≤◌, Bool, true, false, cond, List, [], ◌∷◌, ◌++◌, length, refl, arith}
-use Rattle.gipsat_cnf.specs.Formulas.{Assignment, is_true}
-use Rattle.gipsat_cnf.specs.Literals.{Lit}
+use Rattle.gipsat_cnf.specs.Prelude.{Assignment, Lit, is_true}
 use Rattle.gipsat_encodings.specs.Counts.{count_true}
 use Rattle.gipsat_encodings.specs.Gates.{differ, parity}
 

@@ -1,8 +1,7 @@
 -- Worked examples of the definitions: accepted and refused ones.
 use Rattle.std.proofs.Common.{◌≡◌, ℕ, true, false, [], ◌∷◌, arith, eqb, ltb, refl, sym, zero, suc}
 use Rattle.std.proofs.lemmas.Bool.{false≢true}
-use Rattle.gipsat_cnf.specs.Formulas.{Assignment}
-use Rattle.gipsat_cnf.specs.Literals.{Lit}
+use Rattle.gipsat_cnf.specs.Prelude.{Assignment, Lit}
 use Rattle.gipsat_encodings.specs.Counts.{AtLeastTrue, AtMostTrue, ExactlyTrue, count_true}
 use Rattle.gipsat_encodings.specs.Extending.{AgreeBelow, SpeaksBelow}
 use Rattle.gipsat_encodings.specs.Gates.{HasParity, IsAnd, IsChoice, IsOr, IsXor, parity}

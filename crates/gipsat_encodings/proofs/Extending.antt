@@ -2,9 +2,7 @@
 use Rattle.std.proofs.Common.{◌≡◌, ◌↔◌, ℕ, ◌+◌, ◌≤◌, Bool, true, false, cond, ltb, IsTrue, refl, sym, ap, ◌∙◌, arith}
 use Rattle.std.specs.Bool.{beq}
 use Rattle.std.proofs.lemmas.Bool.{lt-ltb, le-ltb, false≢true}
-use Rattle.gipsat_cnf.specs.Encodings.{Adds}
-use Rattle.gipsat_cnf.specs.Formulas.{Assignment, Formula, is_true, satisfies}
-use Rattle.gipsat_cnf.specs.Literals.{Lit}
+use Rattle.gipsat_cnf.specs.Prelude.{Adds, Assignment, Formula, Lit, is_true, satisfies}
 use Rattle.gipsat_cnf.proofs.Encodings.{Adds-same}
 use Rattle.gipsat_encodings.specs.Extending.{AgreeBelow, Anything, Constrains, ConstrainsPart, Defines, Extends, RestsBelow, SpeaksBelow}
 use Rattle.gipsat_encodings.proofs.Agreeing.{AgreeBelow-both, AgreeBelow-less, AgreeBelow-refl, RestsBelow-more, SpeaksBelow-adds, is_true-agreeing}

@@ -3,10 +3,7 @@ use Rattle.std.proofs.Common.{◌≡◌, ◌↔◌, ℕ, Bool, true, false, cond
 use Rattle.std.specs.List.{list_all}
 use Rattle.std.proofs.lemmas.Bool.{and_from, and_parts, false≢true}
 use Rattle.std.proofs.lemmas.List.Folds.{list_all-map, list_any-append}
-use Rattle.gipsat_cnf.specs.Assumptions.{makes_true}
-use Rattle.gipsat_cnf.specs.Encodings.{Adds, AddsPart}
-use Rattle.gipsat_cnf.specs.Formulas.{Assignment, Clause, Formula, is_true, satisfies, satisfies_clause}
-use Rattle.gipsat_cnf.specs.Literals.{Lit, negated}
+use Rattle.gipsat_cnf.specs.Prelude.{Adds, AddsPart, Assignment, Clause, Formula, Lit, is_true, makes_true, negated, satisfies, satisfies_clause}
 use Rattle.gipsat_cnf.proofs.Encodings.{Adds-both, Adds-clause, Adds-clauses, Adds-same, AddsPart-both, AddsPart-mapped, AddsPart-of}
 use Rattle.gipsat_cnf.proofs.LiteralLemmas.{is_true-negated}
 use Rattle.gipsat_encodings.specs.Gates.{IsAnd, IsChoice, IsOr, IsXor, differ}

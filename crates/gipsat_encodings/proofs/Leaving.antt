@@ -1,8 +1,6 @@
 -- What a refused call leaves: a part of what is to be added, in clauses of the variables of its literals.
 use Rattle.std.proofs.Common.{◌≡◌, ℕ, zero, suc, ◌<◌, ◌≤◌, List, [], ◌∷◌, ◌++◌, IsTrue, refl, sym, subst, ◌∙◌, arith}
-use Rattle.gipsat_cnf.specs.Encodings.{Adds}
-use Rattle.gipsat_cnf.specs.Formulas.{AreBelow, Assignment, Clause, Formula, is_true, satisfies, satisfies_clause}
-use Rattle.gipsat_cnf.specs.Literals.{Lit, negated}
+use Rattle.gipsat_cnf.specs.Prelude.{Adds, AreBelow, Assignment, Clause, Formula, Lit, is_true, negated, satisfies, satisfies_clause}
 use Rattle.gipsat_cnf.proofs.Encodings.{Adds-clause, AddsPart-none, AddsPart-of, AddsPart-then, AddsPart-whole}
 use Rattle.gipsat_cnf.proofs.Places.{none_some, same_some}
 use Rattle.gipsat_encodings.specs.Extending.{AddsSome, Anything, ConstrainsPart, DefinesPart, Extends, RestsBelow, SpeaksOf}

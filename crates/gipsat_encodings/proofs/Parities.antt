@@ -1,9 +1,7 @@
 -- An exclusive or of many, literal by literal.
 use Rattle.std.proofs.Common.{◌≡◌, ℕ, ◌+◌, ◌<◌, ◌≤◌, Bool, List, [], ◌∷◌, ◌++◌, get_or, length, take, IsTrue, sym, ap, ◌∙◌, arith}
 use Rattle.std.proofs.lemmas.List.{take_more}
-use Rattle.gipsat_cnf.specs.Encodings.{Adds, AddsPart}
-use Rattle.gipsat_cnf.specs.Formulas.{AreBelow, Assignment, Formula, is_true, satisfies}
-use Rattle.gipsat_cnf.specs.Literals.{Lit}
+use Rattle.gipsat_cnf.specs.Prelude.{Adds, AddsPart, AreBelow, Assignment, Formula, Lit, is_true, satisfies}
 use Rattle.gipsat_cnf.proofs.Places.{none_some}
 use Rattle.gipsat_encodings.specs.Extending.{Anything, Constrains, Defines, DefinesPart, Extends, SpeaksOf}
 use Rattle.gipsat_encodings.specs.Gates.{HasParity, IsXor, differ, parity}

@@ -3,9 +3,7 @@ use Rattle.std.proofs.Common.{◌≡◌, ℕ, zero, suc, ◌+◌, ◌-◌, ◌<�
 use Rattle.std.specs.Prelude.{min, slice_get, IfOk}
 use Rattle.std.proofs.lemmas.List.{take-append-drop, take_all}
 use Rattle.std.proofs.lemmas.Option.{slice_get_read}
-use Rattle.gipsat_cnf.specs.Encodings.{Adds}
-use Rattle.gipsat_cnf.specs.Formulas.{AreBelow, Formula}
-use Rattle.gipsat_cnf.specs.Literals.{Lit}
+use Rattle.gipsat_cnf.specs.Prelude.{Adds, AreBelow, Formula, Lit}
 use Rattle.gipsat_cnf.proofs.Places.{none_some, same_some}
 use Rattle.gipsat_encodings.specs.Extending.{DefinesPart}
 use Rattle.gipsat_encodings.specs.Outputs.{AreFresh, AreSums, Counts, SumsPart}

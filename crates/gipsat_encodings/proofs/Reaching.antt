@@ -1,8 +1,7 @@
 -- What outputs say: at a place, past their end, and by two assignments that agree.
 use Rattle.std.proofs.Common.{◌≡◌, ℕ, zero, suc, ◌+◌, ◌-◌, ◌<◌, ◌≤◌, Bool, true, false, not, ltb, List, [], ◌∷◌, length, refl, sym, ap, subst, ◌∙◌, arith, ⊎_elim}
 use Rattle.std.proofs.lemmas.Bool.{cases_Bool, cases_lt, false≢true, lt-ltb, ltb-true}
-use Rattle.gipsat_cnf.specs.Formulas.{AreBelow, Assignment, is_true}
-use Rattle.gipsat_cnf.specs.Literals.{Lit}
+use Rattle.gipsat_cnf.specs.Prelude.{AreBelow, Assignment, Lit, is_true}
 use Rattle.gipsat_cnf.proofs.Places.{none_some}
 use Rattle.gipsat_encodings.specs.Extending.{AgreeBelow}
 use Rattle.gipsat_encodings.specs.Outputs.{AreFresh, SayAtLeast, SayAtMost, SaySums, SaysSum, reached, says}

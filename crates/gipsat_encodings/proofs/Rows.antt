@@ -1,9 +1,7 @@
 -- What a refused call leaves of the clauses of sums: those of the first places, and those of bounds.
 use Rattle.std.proofs.Common.{◌≡◌, ℕ, zero, suc, ◌+◌, ◌<◌, ◌≤◌, Bool, true, false, not, List, [], ◌∷◌, ◌++◌, length, Option, IsTrue, refl, sym, ap, ◌∙◌, arith}
 use Rattle.std.specs.Prelude.{min}
-use Rattle.gipsat_cnf.specs.Encodings.{Adds, AllBelow}
-use Rattle.gipsat_cnf.specs.Formulas.{AreBelow, Assignment, Formula, satisfies}
-use Rattle.gipsat_cnf.specs.Literals.{Lit}
+use Rattle.gipsat_cnf.specs.Prelude.{Adds, AllBelow, AreBelow, Assignment, Formula, Lit, satisfies}
 use Rattle.gipsat_cnf.proofs.Encodings.{AddsPart-none}
 use Rattle.gipsat_cnf.proofs.Places.{none_some, same_some}
 use Rattle.gipsat_encodings.specs.Extending.{AddsSome, RestsBelow}

@@ -3,9 +3,7 @@ use Rattle.std.proofs.Common.{◌≡◌, ℕ, zero, suc, ◌+◌, ◌-◌, ◌<�
 use Rattle.std.specs.Prelude.{min}
 use Rattle.std.proofs.lemmas.Bool.{cases_Bool, cases_lt, false≢true}
 use Rattle.std.proofs.lemmas.List.{length-append}
-use Rattle.gipsat_cnf.specs.Encodings.{Adds}
-use Rattle.gipsat_cnf.specs.Formulas.{AreBelow, Assignment, Formula, is_true, satisfies}
-use Rattle.gipsat_cnf.specs.Literals.{Lit}
+use Rattle.gipsat_cnf.specs.Prelude.{Adds, AreBelow, Assignment, Formula, Lit, is_true, satisfies}
 use Rattle.gipsat_encodings.specs.Counts.{count_true}
 use Rattle.gipsat_encodings.specs.Extending.{AgreeBelow, DefinesPart, SpeaksBelow}
 use Rattle.gipsat_encodings.specs.Outputs.{AreFresh, AreSums, Counts, SayAtLeast, SayAtMost, SaySums, SumsPart, reached}

@@ -1,7 +1,6 @@
 -- How many of some literals are true.
 use Rattle.std.specs.Prelude.{◌≡◌, ℕ, ◌+◌, ◌≤◌, List, [], ◌∷◌, if◌then◌else◌}
-use Rattle.gipsat_cnf.specs.Formulas.{Assignment, is_true}
-use Rattle.gipsat_cnf.specs.Literals.{Lit}
+use Rattle.gipsat_cnf.specs.Prelude.{Assignment, Lit, is_true}
 
 -- how many of the literals are true; one that stands twice counts twice
 abbrev pub count_true : Assignment → List Lit → ℕ

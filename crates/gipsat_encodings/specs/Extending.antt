@@ -1,8 +1,6 @@
 -- What a formula that grows says more than before, where the clauses that are added have variables of their own.
 use Rattle.std.specs.Prelude.{◌≡◌, ℕ, ◌<◌, ◌≤◌, List, IsTrue, ⊤}
-use Rattle.gipsat_cnf.specs.Encodings.{AddsPart}
-use Rattle.gipsat_cnf.specs.Formulas.{AreBelow, Assignment, Formula, satisfies}
-use Rattle.gipsat_cnf.specs.Literals.{Lit}
+use Rattle.gipsat_cnf.specs.Prelude.{AddsPart, AreBelow, Assignment, Formula, Lit, satisfies}
 
 -- both give each variable below n the same value
 abbrev pub AgreeBelow : ℕ → Assignment → Assignment → Type 0

@@ -1,9 +1,7 @@
 -- Literals that have the values of gates, and of an exclusive or of many.
 use Rattle.std.specs.Prelude.{◌≡◌, Bool, false, not, List, [], ◌∷◌, if◌then◌else◌}
 use Rattle.std.specs.Bool.{beq}
-use Rattle.gipsat_cnf.specs.Assumptions.{makes_true}
-use Rattle.gipsat_cnf.specs.Formulas.{Assignment, is_true, satisfies_clause}
-use Rattle.gipsat_cnf.specs.Literals.{Lit}
+use Rattle.gipsat_cnf.specs.Prelude.{Assignment, Lit, is_true, makes_true, satisfies_clause}
 
 -- whether one of the two is true, and the other is not
 abbrev pub differ : Bool → Bool → Bool

@@ -1,8 +1,6 @@
 -- Outputs that count literals: the output at place j says that more than j of them are true.
 use Rattle.std.specs.Prelude.{◌≡◌, ◌↔◌, ℕ, zero, suc, ◌+◌, ◌<◌, ◌≤◌, Bool, true, false, not, List, length, slice_get, Option, Some, None, IsTrue, min}
-use Rattle.gipsat_cnf.specs.Encodings.{AddsPart, AllBelow}
-use Rattle.gipsat_cnf.specs.Formulas.{AreBelow, Assignment, Formula, is_true, satisfies}
-use Rattle.gipsat_cnf.specs.Literals.{Lit}
+use Rattle.gipsat_cnf.specs.Prelude.{AddsPart, AllBelow, AreBelow, Assignment, Formula, Lit, is_true, satisfies}
 use Rattle.gipsat_encodings.specs.Counts.{count_true}
 use Rattle.gipsat_encodings.specs.Extending.{AgreeBelow, SpeaksBelow}
 

@@ -1,7 +1,6 @@
 //! Clauses that at most, at least or exactly k of some literals are true, by variables of their own.
 ghost use Rattle.std.specs.Prelude.{◌≡◌, ◌<◌, ◌≤◌, IfOk, OnErr, OnOk, IsTrue, length, min, not, suc};
-ghost use Rattle.gipsat_cnf.specs.Encodings.{Adds};
-ghost use Rattle.gipsat_cnf.specs.Formulas.{AreBelow};
+ghost use Rattle.gipsat_cnf.specs.Prelude.{Adds, AreBelow};
 ghost use Rattle.gipsat_encodings.specs.Counts.{AreBetween, AtLeastTrue, AtMostTrue, ExactlyTrue};
 ghost use Rattle.gipsat_encodings.specs.Extending.{AddsSome, Constrains, ConstrainsPart, Defines, DefinesPart};
 ghost use Rattle.gipsat_encodings.specs.Outputs.{Counts, TellCount, reached};

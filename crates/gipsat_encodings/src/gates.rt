@@ -1,8 +1,6 @@
 //! Clauses that a literal has the value of a gate (G. Tseitin, 1968).
 ghost use Rattle.std.specs.Prelude.{◌≡◌, [], ◌∷◌, ◌++◌, map, take, IfOk, IsTrue, OnErr, OnOk};
-ghost use Rattle.gipsat_cnf.specs.Encodings.{Adds, AddsPart};
-ghost use Rattle.gipsat_cnf.specs.Formulas.{is_true};
-ghost use Rattle.gipsat_cnf.specs.Literals.{negated};
+ghost use Rattle.gipsat_cnf.specs.Prelude.{Adds, AddsPart, is_true, negated};
 ghost use Rattle.gipsat_encodings.specs.Extending.{SpeaksOf};
 ghost use Rattle.gipsat_encodings.specs.Gates.{IsAnd, IsChoice, IsOr, IsXor};
 

@@ -1,7 +1,6 @@
 //! Clauses that at least, at most or exactly one of some literals is true, with no variables of their own.
 ghost use Rattle.std.specs.Prelude.{◌≡◌, ◌++◌, map, IsTrue, OnOk, OnErr};
-ghost use Rattle.gipsat_cnf.specs.Encodings.{Adds, AddsPart, AtLeastOneTrue, AtMostOneTrue, ExactlyOneTrue, at_most_one, one_false};
-ghost use Rattle.gipsat_cnf.specs.Formulas.{satisfies};
+ghost use Rattle.gipsat_cnf.specs.Prelude.{Adds, AddsPart, AtLeastOneTrue, AtMostOneTrue, ExactlyOneTrue, at_most_one, one_false, satisfies};
 
 use gipsat_cnf::{ClauseSink, Literal};
 use std::alloc::AllocError;

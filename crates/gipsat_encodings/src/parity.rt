@@ -1,7 +1,6 @@
 //! Clauses that an odd number of literals is true, or an even one: an exclusive or of many.
 ghost use Rattle.std.specs.Prelude.{◌≡◌, ◌<◌, ◌≤◌, IfOk, OnErr, OnOk, IsTrue, length};
-ghost use Rattle.gipsat_cnf.specs.Encodings.{Adds};
-ghost use Rattle.gipsat_cnf.specs.Formulas.{AreBelow, is_true};
+ghost use Rattle.gipsat_cnf.specs.Prelude.{Adds, AreBelow, is_true};
 ghost use Rattle.gipsat_encodings.specs.Extending.{Constrains, ConstrainsPart, Defines, DefinesPart};
 ghost use Rattle.gipsat_encodings.specs.Gates.{HasParity, differ, parity};
 

@@ -1,7 +1,6 @@
 //! Sums of outputs that count literals: where the left outputs say i and the right ones j, the sums say i + j.
 ghost use Rattle.std.specs.Prelude.{◌≡◌, ◌+◌, ◌≤◌, ◌<◌, ◌++◌, length, min, false, true, IfOk, IsTrue, OnErr, OnOk};
-ghost use Rattle.gipsat_cnf.specs.Encodings.{Adds, AllBelow};
-ghost use Rattle.gipsat_cnf.specs.Formulas.{Assignment};
+ghost use Rattle.gipsat_cnf.specs.Prelude.{Adds, AllBelow, Assignment};
 ghost use Rattle.gipsat_encodings.specs.Extending.{AddsSome};
 ghost use Rattle.gipsat_encodings.specs.Outputs.{AreFresh, AreSums, SaySums, SaysSum, SumsPart, says, value_or};
 

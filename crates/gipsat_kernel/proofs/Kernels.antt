@@ -4,10 +4,7 @@ use Rattle.std.specs.Prelude.{slice_get, slice_index_or}
 use Rattle.std.proofs.lemmas.List.{get_or-set_same, get_or-set_other, length_push}
 use Rattle.std.proofs.lemmas.Bool.{false≢true, cases_eq}
 use Rattle.std.proofs.lemmas.Option.{slice_get_within}
-use Rattle.gipsat_cnf.specs.Literals.{Lit, negated}
-use Rattle.gipsat_cnf.specs.Formulas.{Clause, Implies, satisfies_clause}
-use Rattle.gipsat_cnf.specs.Lists.{AreHadBy, KeepsBut, Reorders, retained}
-use Rattle.gipsat_cnf.specs.Simplifying.{SaysSame}
+use Rattle.gipsat_cnf.specs.Prelude.{AreHadBy, Clause, Implies, KeepsBut, Lit, Reorders, SaysSame, negated, retained, satisfies_clause}
 use Rattle.gipsat_kernel.specs.Kernel.{IsKernel, OriginalStay, original_among}
 use Rattle.gipsat_kernel.specs.Marks.{AreMarked, AreMarkedBut, Grows, ImpliesMarked, KeepsMarksBut, TakesMarked}
 use Rattle.gipsat_kernel.proofs.Originals.{length-retained, original_among-but, original_among-derived, original_among-original, original_among-retained, satisfies-flagged, satisfies-original}

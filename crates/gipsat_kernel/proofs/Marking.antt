@@ -4,9 +4,7 @@ use Rattle.std.specs.Prelude.{slice_get, Result, Ok, Err, OnOk}
 use Rattle.std.proofs.lemmas.List.{get_or-set_same, get_or-set_other, get_or_past, length-set, take_more_set}
 use Rattle.std.proofs.lemmas.Bool.{false≢true, cases_lt, cases_Bool}
 use Rattle.std.proofs.lemmas.Option.{slice_get_within}
-use Rattle.gipsat_cnf.specs.Literals.{Lit, code}
-use Rattle.gipsat_cnf.specs.Formulas.{Clause, Formula, Has}
-use Rattle.gipsat_cnf.specs.Lists.{AreHadBy}
+use Rattle.gipsat_cnf.specs.Prelude.{AreHadBy, Clause, Formula, Has, Lit, code}
 use Rattle.gipsat_kernel.specs.Marks.{AreListed, AreMarked, Grows, IsTaken, MarksSame, NoneMarked, TakesMarked, is_marked}
 use Rattle.gipsat_cnf.proofs.Places.{same_some, stands_last, stays_before}
 use Rattle.gipsat_cnf.proofs.LiteralLemmas.{cases_literal, code-injective}

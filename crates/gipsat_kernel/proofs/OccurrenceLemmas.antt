@@ -3,9 +3,7 @@ use Rattle.std.proofs.Common.{◌≡◌, ℕ, ◌+◌, ◌<◌, ◌≤◌, List,
 use Rattle.std.specs.Prelude.{slice_get}
 use Rattle.std.proofs.lemmas.Bool.{cases_lt}
 use Rattle.std.proofs.lemmas.Option.{slice_get_within}
-use Rattle.gipsat_cnf.specs.Formulas.{Clause, Has}
-use Rattle.gipsat_cnf.specs.Lists.{Reorders}
-use Rattle.gipsat_cnf.specs.Literals.{Lit}
+use Rattle.gipsat_cnf.specs.Prelude.{Clause, Has, Lit, Reorders}
 use Rattle.gipsat_kernel.specs.Occurrences.{AreNoted, Covers, IsWithin, Widens, ids_at}
 use Rattle.gipsat_kernel.specs.declared.occurrences.Ids.{Ids}
 use Rattle.gipsat_cnf.proofs.Places.{before_or_last, same_at}

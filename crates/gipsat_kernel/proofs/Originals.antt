@@ -3,9 +3,7 @@ use Rattle.std.proofs.Common.{◌≡◌, ℕ, ◌+◌, ◌<◌, ◌≤◌, List,
 use Rattle.std.specs.Prelude.{slice_get, slice_index_or, replicate}
 use Rattle.std.proofs.lemmas.Bool.{false≢true, and_from, cases_Bool, cases_lt}
 use Rattle.std.proofs.lemmas.Option.{slice_get_within}
-use Rattle.gipsat_cnf.specs.Formulas.{Assignment, Clause, Implies, satisfies, satisfies_clause}
-use Rattle.gipsat_cnf.specs.Lists.{AreAllBelow, AreAmong, IsAmong, KeepsBut, retained}
-use Rattle.gipsat_cnf.specs.Simplifying.{SaysSame}
+use Rattle.gipsat_cnf.specs.Prelude.{AreAllBelow, AreAmong, Assignment, Clause, Implies, IsAmong, KeepsBut, SaysSame, retained, satisfies, satisfies_clause}
 use Rattle.gipsat_kernel.specs.Kernel.{OriginalStay, original_among}
 use Rattle.gipsat_cnf.proofs.Formulas.{satisfies-at, satisfies-each}
 use Rattle.gipsat_cnf.proofs.Places.{none_some, same_some}

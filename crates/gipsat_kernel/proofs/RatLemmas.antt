@@ -8,9 +8,7 @@ use Rattle.std.proofs.lemmas.Bool.{false≢true, cases_Bool, cases_lt, cases_eq}
 use Rattle.std.proofs.lemmas.Bool.Decides.{eqb_tells}
 use Rattle.std.proofs.lemmas.List.{get_or-set_same, get_or-set_other, get_or_past, length-set, length_push}
 use Rattle.std.proofs.lemmas.Option.{slice_get_within}
-use Rattle.gipsat_cnf.specs.Formulas.{Assignment, Clause, Formula, Has, Implies, is_true, satisfies, satisfies_clause}
-use Rattle.gipsat_cnf.specs.Lists.{AreHadBy, Reorders, retained}
-use Rattle.gipsat_cnf.specs.Literals.{Lit, negated}
+use Rattle.gipsat_cnf.specs.Prelude.{AreHadBy, Assignment, Clause, Formula, Has, Implies, Lit, Reorders, is_true, negated, retained, satisfies, satisfies_clause}
 use Rattle.gipsat_cnf.proofs.Formulas.{satisfies-at, satisfies-push}
 use Rattle.gipsat_cnf.proofs.LiteralLemmas.{beq_not, cases_literal, satisfied_by, true_literal}
 use Rattle.gipsat_cnf.proofs.Places.{same_some, stands_last}

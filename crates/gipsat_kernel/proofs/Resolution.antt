@@ -1,8 +1,6 @@
 -- Resolution: what follows of clauses that follow.
 use Rattle.std.proofs.Common.{◌≡◌, List, ◌++◌, subst, ⊎_elim, Bool, true}
-use Rattle.gipsat_cnf.specs.Literals.{Lit, negated}
-use Rattle.gipsat_cnf.specs.Formulas.{Clause, Formula, Implies, is_true}
-use Rattle.gipsat_cnf.specs.Lists.{AreHadBy}
+use Rattle.gipsat_cnf.specs.Prelude.{AreHadBy, Clause, Formula, Implies, Lit, is_true, negated}
 use Rattle.gipsat_kernel.specs.Marks.{AreListed, AreMarked, AreMarkedBut, Grows, ImpliesMarked, KeepsMarksBut}
 use Rattle.gipsat_cnf.proofs.Formulas.{satisfies-first}
 use Rattle.gipsat_cnf.proofs.LiteralLemmas.{cases_literal, not_both, satisfied_by, true_literal}

@@ -3,11 +3,7 @@ use Rattle.std.proofs.Common.{◌≡◌, ℕ, List, [], ◌∷◌, length, map, 
 use Rattle.std.specs.Prelude.{◌==◌, slice_get, Option, Some, None, Result, Ok, Err, IfNone, IfOk, IfSome}
 use Rattle.std.specs.Bool.{OnTrue}
 use Rattle.std.proofs.lemmas.Bool.{false≢true}
-use Rattle.gipsat_cnf.specs.Assumptions.{IsCore, IsModelUnder, IsSatisfiableUnder}
-use Rattle.gipsat_cnf.specs.Formulas.{Clause, Formula, Implies, IsSatisfiable}
-use Rattle.gipsat_cnf.specs.Lists.{AreHadBy}
-use Rattle.gipsat_cnf.specs.Literals.{Lit, negated}
-use Rattle.gipsat_cnf.specs.Simplifying.{SaysSame}
+use Rattle.gipsat_cnf.specs.Prelude.{AreHadBy, Clause, Formula, Implies, IsCore, IsModelUnder, IsSatisfiable, IsSatisfiableUnder, Lit, SaysSame, negated}
 use Rattle.gipsat_cnf.proofs.LiteralLemmas.{not_both, true_literal}
 use Rattle.gipsat_cnf.proofs.MakesTrue.{makes_true-at}
 use Rattle.gipsat_cnf.proofs.Places.{none_some, same_some}

@@ -1,7 +1,6 @@
 -- Marks on literals, as a flag for each code.
 use Rattle.std.specs.Prelude.{◌≡◌, ◌≢◌, ◌++◌, ◌∷◌, [], Bool, true, false, List, slice_index_or, IsTrue}
-use Rattle.gipsat_cnf.specs.Formulas.{Assignment, Clause, Formula, Has, is_true, satisfies}
-use Rattle.gipsat_cnf.specs.Literals.{Lit, code}
+use Rattle.gipsat_cnf.specs.Prelude.{Assignment, Clause, Formula, Has, Lit, code, is_true, satisfies}
 
 -- the literal's flag is set; a literal without a flag is not marked
 abbrev pub is_marked : List Bool → Lit → Bool

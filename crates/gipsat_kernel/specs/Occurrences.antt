@@ -1,7 +1,6 @@
 -- Between which ids the clauses with a literal lie.
 use Rattle.std.specs.Prelude.{◌≡◌, ℕ, ◌<◌, ◌≤◌, List, slice_get, slice_index_or, Some}
-use Rattle.gipsat_cnf.specs.Formulas.{Clause, Has}
-use Rattle.gipsat_cnf.specs.Literals.{Lit, code}
+use Rattle.gipsat_cnf.specs.Prelude.{Clause, Has, Lit, code}
 use Rattle.gipsat_kernel.specs.declared.occurrences.Ids.{Ids}
 
 -- the ids that are noted for a literal; one without an entry has none

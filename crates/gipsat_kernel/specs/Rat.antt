@@ -1,9 +1,7 @@
 -- Formulas that change by steps which keep satisfiability, and clauses that are RAT.
 use Rattle.std.specs.Prelude.{◌≡◌, ◌⊎◌, ℕ, ◌<◌, Bool, true, false, List, length, IsTrue}
 use Rattle.std.specs.Prelude.{slice_get, slice_index_or, Some}
-use Rattle.gipsat_cnf.specs.Formulas.{Clause, Formula, Has, HasBut, IsSatisfiable}
-use Rattle.gipsat_cnf.specs.Lists.{IsAmong}
-use Rattle.gipsat_cnf.specs.Literals.{Lit}
+use Rattle.gipsat_cnf.specs.Prelude.{Clause, Formula, Has, HasBut, IsAmong, IsSatisfiable, Lit}
 use Rattle.gipsat_kernel.specs.Kernel.{original_among}
 use Rattle.gipsat_kernel.specs.Marks.{ImpliesMarked}
 use Rattle.gipsat_kernel.specs.Occurrences.{Covers}

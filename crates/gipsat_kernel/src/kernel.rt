@@ -1,12 +1,7 @@
 //! A formula, and working clauses each of which follows from it.
 ghost use Rattle.std.specs.Prelude.{◌≡◌, ◌++◌, ◌∷◌, ◌<◌, [], length, map, IfSome, IfNone, IfOk, OnOk, OnErr};
 ghost use Rattle.std.specs.Bool.{OnFalse, OnTrue};
-ghost use Rattle.gipsat_cnf.specs.Assumptions.{IsCore, IsModelUnder, IsSatisfiableUnder};
-ghost use Rattle.gipsat_cnf.specs.Formulas.{Implies, IsSatisfiable, satisfies};
-ghost use Rattle.gipsat_cnf.specs.Lists.{AreAllBelow};
-ghost use Rattle.gipsat_cnf.specs.Literals.{negated};
-ghost use Rattle.gipsat_cnf.specs.Models.{assignment_in};
-ghost use Rattle.gipsat_cnf.specs.Simplifying.{SaysSame};
+ghost use Rattle.gipsat_cnf.specs.Prelude.{AreAllBelow, Implies, IsCore, IsModelUnder, IsSatisfiable, IsSatisfiableUnder, SaysSame, assignment_in, negated, satisfies};
 
 use crate::chains::Chains;
 use crate::flags::{all_set, flag_at, flags_kept, keep_original};

@@ -1,8 +1,7 @@
 //! A set of literals: those of the clause that is being derived.
 ghost use Rattle.std.specs.Prelude.{◌≡◌, ◌≤◌, ◌<◌, length, set, take, true, OnOk, OnErr};
 ghost use Rattle.std.specs.Bool.{OnTrue};
-ghost use Rattle.gipsat_cnf.specs.Lists.{AreHadBy};
-ghost use Rattle.gipsat_cnf.specs.Literals.{code};
+ghost use Rattle.gipsat_cnf.specs.Prelude.{AreHadBy, code};
 ghost use Rattle.gipsat_kernel.specs.Marks.{AreListed, AreMarked, AreMarkedBut, Grows, IsTaken, KeepsMarksBut, MarksSame, NoneMarked, TakesMarked, is_marked};
 
 use gipsat_cnf::{Cnf, Literal};

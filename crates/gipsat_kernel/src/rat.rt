@@ -1,8 +1,7 @@
 //! A formula that changes by steps each of which keeps satisfiability, as those of a proof do.
 ghost use Rattle.std.specs.Prelude.{◌≡◌, ◌++◌, ◌∷◌, [], length, IfOk, OnOk, OnErr};
 ghost use Rattle.std.specs.Bool.{OnFalse, OnTrue};
-ghost use Rattle.gipsat_cnf.specs.Formulas.{Has, IsSatisfiable};
-ghost use Rattle.gipsat_cnf.specs.Literals.{negated};
+ghost use Rattle.gipsat_cnf.specs.Prelude.{Has, IsSatisfiable, negated};
 ghost use Rattle.gipsat_kernel.specs.Kernel.{original_among};
 ghost use Rattle.gipsat_kernel.specs.Occurrences.{Covers};
 ghost use Rattle.gipsat_kernel.specs.Rat.{AreResolved, HasResolvent, IsOfResolvent, KeepsSatisfiable};

@@ -2,9 +2,7 @@
 use Rattle.std.proofs.Common.{◌≡◌, ◌∷◌, ℕ, List, Some, IsTrue, ⊎_elim}
 use Rattle.std.specs.Prelude.{slice_get}
 use Rattle.std.proofs.lemmas.Bool.{and_from, cases_Bool}
-use Rattle.gipsat_cnf.specs.Assumptions.{IsSatisfiableUnder, makes_true}
-use Rattle.gipsat_cnf.specs.Formulas.{Assignment, Clause, Formula, is_true, satisfies_clause}
-use Rattle.gipsat_cnf.specs.Literals.{Lit, negated}
+use Rattle.gipsat_cnf.specs.Prelude.{Assignment, Clause, Formula, IsSatisfiableUnder, Lit, is_true, makes_true, negated, satisfies_clause}
 use Rattle.gipsat_cnf.proofs.Formulas.{satisfies-at}
 use Rattle.gipsat_cnf.proofs.LiteralLemmas.{beq_not, not_both, true_literal}
 use Rattle.gipsat_cnf.proofs.MakesTrue.{makes_true-at}

@@ -1,7 +1,6 @@
 -- When literals refute a clause, and when some are among others.
 use Rattle.std.specs.Prelude.{List}
-use Rattle.gipsat_cnf.specs.Formulas.{Clause, Has}
-use Rattle.gipsat_cnf.specs.Literals.{Lit, negated}
+use Rattle.gipsat_cnf.specs.Prelude.{Clause, Has, Lit, negated}
 
 -- the negation of each of the clause's literals is one of these
 abbrev pub AreRefuted : List Lit → Clause → Type 0

@@ -1,8 +1,7 @@
 //! Both values of one variable after another, until a clause is false or each is true.
 ghost use Rattle.std.specs.Prelude.{◌≡◌, ◌∷◌, IfNone, IfOk, IfSome};
 ghost use Rattle.std.specs.Bool.{OnTrue};
-ghost use Rattle.gipsat_cnf.specs.Assumptions.{IsCore, IsModelUnder, IsSatisfiableUnder};
-ghost use Rattle.gipsat_cnf.specs.Formulas.{Has};
+ghost use Rattle.gipsat_cnf.specs.Prelude.{Has, IsCore, IsModelUnder, IsSatisfiableUnder};
 ghost use Rattle.gipsat_plain.specs.Refuted.{AreAmong, AreRefuted};
 
 use gipsat_cnf::enumerate::find_model;

@@ -1,9 +1,7 @@
 -- What makes an answer right.
 use Rattle.std.proofs.Common.{◌≡◌, List, [], subst}
 use Rattle.std.specs.Prelude.{slice_get, Some}
-use Rattle.gipsat_cnf.specs.Assumptions.{IsCore}
-use Rattle.gipsat_cnf.specs.Formulas.{Formula, IsSatisfiable}
-use Rattle.gipsat_cnf.specs.Literals.{Lit}
+use Rattle.gipsat_cnf.specs.Prelude.{Formula, IsCore, IsSatisfiable, Lit}
 use Rattle.gipsat_cnf.proofs.MakesTrue.{makes_true-each}
 use Rattle.gipsat_cnf.proofs.Places.{none_some}
 

@@ -1,11 +1,7 @@
 -- When an answer of a solver is right.
 use Rattle.std.specs.Prelude.{◌≡◌, ℕ, ◌+◌, ◌-◌, ◌^◌, ◌<◌, ◌≤◌, List, ⊤, IsTrue}
-use Rattle.gipsat_cnf.specs.Assumptions.{IsCore, IsModelUnder}
-use Rattle.gipsat_cnf.specs.Formulas.{Formula, IsSatisfiable}
-use Rattle.gipsat_cnf.specs.Literals.{Lit}
-use Rattle.gipsat_cnf.specs.Models.{IsModel}
+use Rattle.gipsat_cnf.specs.Prelude.{Formula, IsCore, IsModel, IsModelUnder, IsRightGuessOr, IsRightOr, IsSatisfiable, Lit}
 use Rattle.gipsat_search.specs.declared.search.Query.{Query}
-use Rattle.gipsat_cnf.specs.Answers.{IsRightGuessOr, IsRightOr}
 use Rattle.gipsat_cnf.specs.declared.answers.Answer.{Answer}
 use Rattle.gipsat_cnf.specs.declared.answers.Answer.TheVariants.{Sat, Unsat, Unknown}
 use Rattle.gipsat_cnf.specs.declared.answers.AnswerUnder.{AnswerUnder}

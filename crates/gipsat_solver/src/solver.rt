@@ -1,10 +1,6 @@
 //! The solver: a search that guesses, and a kernel that is believed.
 ghost use Rattle.std.specs.Prelude.{◌≡◌, ◌+◌, ◌≤◌, ◌++◌, ◌∷◌, [], true, IfNone, IfOk, IfSome, IsTrue, OnOk, OnErr};
-ghost use Rattle.gipsat_cnf.specs.Encodings.{Adds};
-ghost use Rattle.gipsat_cnf.specs.Formulas.{IsSatisfiable, satisfies_clause};
-ghost use Rattle.gipsat_cnf.specs.Lists.{AreAllBelow};
-ghost use Rattle.gipsat_cnf.specs.Models.{IsModel};
-ghost use Rattle.gipsat_cnf.specs.Simplifying.{SaysSame};
+ghost use Rattle.gipsat_cnf.specs.Prelude.{Adds, AreAllBelow, IsModel, IsSatisfiable, SaysSame, satisfies_clause};
 ghost use Rattle.gipsat_solver.specs.Answers.{HasMore, HasNoFewer, HasUpTo, IsRight, IsRightEnd, IsRightGuess, IsRightLimited, IsRightUnder};
 
 use crate::answers::{End, answer_of};

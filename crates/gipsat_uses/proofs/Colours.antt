@@ -3,9 +3,7 @@ use Rattle.std.proofs.Common.{◌≡◌, ◌↔◌, ℕ, zero, suc, ◌+◌, ◌
 use Rattle.std.specs.Prelude.{slice_get, Some}
 use Rattle.std.specs.Bool.{beq}
 use Rattle.std.proofs.lemmas.Option.{slice_get-get_or, slice_get_within}
-use Rattle.gipsat_cnf.specs.Encodings.{Adds, AtLeastOneTrue, AtMostOneTrue}
-use Rattle.gipsat_cnf.specs.Formulas.{Assignment, Formula, is_true}
-use Rattle.gipsat_cnf.specs.Literals.{Lit}
+use Rattle.gipsat_cnf.specs.Prelude.{Adds, Assignment, AtLeastOneTrue, AtMostOneTrue, Formula, Lit, is_true}
 use Rattle.gipsat_cnf.proofs.Encodings.{Adds-same}
 use Rattle.gipsat_cnf.proofs.Places.{none_some, same_some}
 use Rattle.gipsat_uses.specs.Colouring.{EndsDiffer, EndsDifferAt, HasColour, IsColoured, has_colour}

@@ -2,8 +2,7 @@
 use Rattle.std.proofs.Common.{◌≡◌, Bool, true, false, ◌&&◌, ◌||◌, [], ◌∷◌, IsTrue, refl}
 use Rattle.std.specs.Bool.{beq}
 use Rattle.std.proofs.lemmas.Bool.{false≢true}
-use Rattle.gipsat_cnf.specs.Formulas.{Assignment, satisfies}
-use Rattle.gipsat_cnf.specs.Assumptions.{makes_true}
+use Rattle.gipsat_cnf.specs.Prelude.{Assignment, makes_true, satisfies}
 
 by_values : (x y z : Bool) → ((beq x true || (beq y true || false)) && ((beq x false || (beq z false || false)) && true)) ≡ true
     → (beq z true && true) ≡ true → y ≡ true

@@ -4,9 +4,7 @@ use Rattle.std.specs.Prelude.{◌⊎◌, slice_get, Option, None, is_some, IfNon
 use Rattle.std.proofs.lemmas.Bool.{false≢true}
 use Rattle.std.proofs.lemmas.List.{append_assoc, map-append}
 use Rattle.std.proofs.Math.Seq.{take-add}
-use Rattle.gipsat_cnf.specs.Assumptions.{IsSatisfiableUnder, makes_true}
-use Rattle.gipsat_cnf.specs.Formulas.{Assignment, Clause, Formula, IsSatisfiable, is_true, satisfies, satisfies_clause}
-use Rattle.gipsat_cnf.specs.Literals.{Lit}
+use Rattle.gipsat_cnf.specs.Prelude.{Assignment, Clause, Formula, IsSatisfiable, IsSatisfiableUnder, Lit, is_true, makes_true, satisfies, satisfies_clause}
 use Rattle.gipsat_cnf.proofs.Encodings.{Adds-clauses}
 use Rattle.gipsat_cnf.proofs.Formulas.{satisfies-at, satisfies-each, satisfies-first, unsatisfiable-more}
 use Rattle.gipsat_cnf.proofs.Places.{none_some, same_some}

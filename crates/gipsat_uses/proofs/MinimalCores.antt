@@ -2,9 +2,7 @@
 use Rattle.std.proofs.Common.{◌≡◌, ℕ, zero, suc, ◌+◌, ◌<◌, ◌≤◌, List, [], ◌∷◌, length, inl, inr, arith, sym, subst, ⊎_elim}
 use Rattle.std.specs.List.{remove}
 use Rattle.std.proofs.lemmas.Bool.{cases_eq}
-use Rattle.gipsat_cnf.specs.Formulas.{Formula, Has}
-use Rattle.gipsat_cnf.specs.Literals.{Lit}
-use Rattle.gipsat_cnf.specs.Assumptions.{IsCore, IsSatisfiableUnder}
+use Rattle.gipsat_cnf.specs.Prelude.{Formula, Has, IsCore, IsSatisfiableUnder, Lit}
 use Rattle.gipsat_cnf.proofs.Cores.{IsSatisfiableUnder-among}
 use Rattle.gipsat_uses.specs.MinimalCore.{NeedsFrom, IsNextCore}
 

@@ -1,8 +1,6 @@
 -- Graphs whose vertices are coloured, as values of variables: one for each vertex and colour.
 use Rattle.std.specs.Prelude.{◌≡◌, ℕ, ◌+◌, ◌*◌, ◌<◌, List, length, slice_get, Some, true, IsTrue}
-use Rattle.gipsat_cnf.specs.Encodings.{AllBelow}
-use Rattle.gipsat_cnf.specs.Formulas.{Assignment}
-use Rattle.gipsat_cnf.specs.Literals.{Lit}
+use Rattle.gipsat_cnf.specs.Prelude.{AllBelow, Assignment, Lit}
 
 -- the variable that a vertex has a colour, as a literal
 abbrev pub has_colour : ℕ → ℕ → ℕ → Lit

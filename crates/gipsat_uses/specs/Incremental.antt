@@ -1,7 +1,6 @@
 -- Pairs of literals, and facts that are added to a formula.
 use Rattle.std.specs.Prelude.{◌≡◌, ℕ, ◌<◌, ◌≤◌, ◌⊎◌, List, [], ◌∷◌, ◌++◌, length, map, take, slice_get, Some, IsTrue}
-use Rattle.gipsat_cnf.specs.Formulas.{Assignment, Clause, Formula, IsSatisfiable, is_true}
-use Rattle.gipsat_cnf.specs.Literals.{Lit}
+use Rattle.gipsat_cnf.specs.Prelude.{Assignment, Clause, Formula, IsSatisfiable, Lit, is_true}
 
 -- the clause that one of the pair is true
 abbrev pub either : Lit × Lit → Clause

@@ -1,9 +1,7 @@
 -- Cores none of whose literals can be left out.
 use Rattle.std.specs.Prelude.{◌≡◌, ℕ, ◌<◌, ◌≤◌, ◌⊎◌, List, length}
 use Rattle.std.specs.List.{remove}
-use Rattle.gipsat_cnf.specs.Formulas.{Formula}
-use Rattle.gipsat_cnf.specs.Literals.{Lit}
-use Rattle.gipsat_cnf.specs.Assumptions.{IsCore, IsSatisfiableUnder}
+use Rattle.gipsat_cnf.specs.Prelude.{Formula, IsCore, IsSatisfiableUnder, Lit}
 
 -- without the literal at any place from this one on, all others can be true
 abbrev pub NeedsFrom : Formula → ℕ → List Lit → Type 0

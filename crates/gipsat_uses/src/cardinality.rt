@@ -1,7 +1,6 @@
 //! A model in which few of some literals are true.
 ghost use Rattle.std.specs.Prelude.{IfNone, IfOk, IfSome, IsTrue};
-ghost use Rattle.gipsat_cnf.specs.Formulas.{Assignment, satisfies};
-ghost use Rattle.gipsat_cnf.specs.Models.{IsModel, assignment_in};
+ghost use Rattle.gipsat_cnf.specs.Prelude.{Assignment, IsModel, assignment_in, satisfies};
 ghost use Rattle.gipsat_encodings.specs.Counts.{AtMostTrue};
 ghost use Rattle.gipsat_encodings.specs.Extending.{SpeaksBelow};
 

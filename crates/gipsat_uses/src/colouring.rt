@@ -1,9 +1,6 @@
 //! A graph whose vertices are coloured, so that the ends of each edge differ.
 ghost use Rattle.std.specs.Prelude.{◌≡◌, [], ℕ, length, slice_get, Some, IfNone, IfOk, IfSome, OnOk};
-ghost use Rattle.gipsat_cnf.specs.Encodings.{Adds};
-ghost use Rattle.gipsat_cnf.specs.Formulas.{Assignment};
-ghost use Rattle.gipsat_cnf.specs.Literals.{Lit};
-ghost use Rattle.gipsat_cnf.specs.Models.{assignment_in};
+ghost use Rattle.gipsat_cnf.specs.Prelude.{Adds, Assignment, Lit, assignment_in};
 ghost use Rattle.gipsat_uses.specs.Colouring.{EndsDiffer, HasColour, IsColoured, IsColouring, has_colour};
 
 use gipsat_cnf::{ClauseSink, Literal, SatSolver};

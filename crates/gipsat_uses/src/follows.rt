@@ -1,7 +1,6 @@
 //! Whether a clause follows from a formula.
 ghost use Rattle.std.specs.Prelude.{◌≡◌, ◌↔◌, map, IfOk, IfSome, IsTrue};
-ghost use Rattle.gipsat_cnf.specs.Formulas.{Implies};
-ghost use Rattle.gipsat_cnf.specs.Literals.{negated};
+ghost use Rattle.gipsat_cnf.specs.Prelude.{Implies, negated};
 
 use gipsat_cnf::{AnswerUnder, Budget, Literal, SatSolver};
 use std::alloc::{AllocError, Global};

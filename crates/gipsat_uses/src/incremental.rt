@@ -1,9 +1,6 @@
 //! Formulas to which clauses are added one after another.
 ghost use Rattle.std.specs.Prelude.{◌≡◌, ◌++◌, [], IfNone, IfOk, IfSome, IsTrue, OnOk};
-ghost use Rattle.gipsat_cnf.specs.Models.{IsModel};
-ghost use Rattle.gipsat_cnf.specs.Assumptions.{IsSatisfiableUnder, makes_true};
-ghost use Rattle.gipsat_cnf.specs.Formulas.{Assignment, IsSatisfiable};
-ghost use Rattle.gipsat_cnf.specs.Models.{assignment_in};
+ghost use Rattle.gipsat_cnf.specs.Prelude.{Assignment, IsModel, IsSatisfiable, IsSatisfiableUnder, assignment_in, makes_true};
 ghost use Rattle.gipsat_uses.specs.Incremental.{Covers, IsLongestStart, units};
 
 use gipsat_cnf::{ClauseSink, Literal, SatSolver};

@@ -4,8 +4,7 @@ use Rattle.std.specs.Prelude.{bit_or}
 use Rattle.std.proofs.Math.Bool.{or-false}
 use Rattle.std.proofs.lemmas.List.{length-set, length-append, length_push, get_or-set_same, get_or-set_other, get_or_append_left, get_or-append_right}
 use Rattle.std.proofs.lemmas.Bool.{cases_eq, cases_lt}
-use Rattle.giputils_bits.specs.Bits.{has_digit, digits_of}
-use Rattle.giputils_bits.specs.Places.{place, bits_of, IsPacked, AppendsWord}
+use Rattle.giputils_bits.specs.Prelude.{AppendsWord, IsPacked, bits_of, digits_of, has_digit, place}
 use Rattle.giputils_bits.proofs.Digits.{has_digit-or, has_digit-shl_low, has_digit-shl_high, has_digit-shr, length-digits_of, get_or-digits_of}
 use Rattle.giputils_bits.proofs.Places.{place_is, place-past, place-word, length-bits_of, get_or-bits_of, bits_of_is}
 

@@ -2,9 +2,7 @@
 use Rattle.std.proofs.Common.{◌≡◌, ℕ, ◌+◌, ◌-◌, ◌/◌, ◌%◌, ◌<◌, Bool, false, ◌&&◌, List, length, replicate, get_or, refl, sym, ap, ◌∙◌, arith}
 use Rattle.std.specs.Prelude.{bit_xor}
 use Rattle.std.proofs.lemmas.List.{get_or-replicate}
-use Rattle.giputils_bits.specs.Bits.{has_digit, value_of}
-use Rattle.giputils_bits.specs.Logic.{xor, and_of, negated_if}
-use Rattle.giputils_bits.specs.Places.{place, bits_of, IsPacked, Rewrites, common_digits}
+use Rattle.giputils_bits.specs.Prelude.{IsPacked, Rewrites, and_of, bits_of, common_digits, has_digit, negated_if, place, value_of, xor}
 use Rattle.giputils_bits.proofs.Digits.{has_digit-and, has_digit-xor, has_digit-value_of}
 use Rattle.giputils_bits.proofs.Logic.{empty_is_none, length-zip_with, get_or-zip_with, length-negated_if, get_or-negated_if}
 use Rattle.giputils_bits.proofs.Places.{place_is, length-bits_of, get_or-bits_of, bits_of_is}

@@ -7,8 +7,7 @@ use Rattle.std.proofs.lemmas.Nat.{and_mask, shr-shr, pow_pos}
 use Rattle.std.proofs.lemmas.Nat.Bits.{bit_at-lt, bit_at-zero, bit_at-suc, bit_at_lowest, bit_at_and, bit_at_or, bit_at_xor, bit_at_not, bit_at_ones, bit_at_ones_above, bit_at_above, bit_at_cat_low, bit_at_cat_high, same_from_bits_below}
 use Rattle.std.proofs.lemmas.List.{same_lists, get_or_default, get_or-replicate, length-replicate}
 use Rattle.std.proofs.lemmas.List.FromFn.{length-map-range_with_len, get_or-map-range_with_len}
-use Rattle.giputils_bits.specs.Bits.{has_digit, digits_of, value_of, one_of}
-use Rattle.giputils_bits.specs.Logic.{xor}
+use Rattle.giputils_bits.specs.Prelude.{digits_of, has_digit, one_of, value_of, xor}
 
 -- ---- one digit
 pub same_digit : (a b : ℕ) → a < 2 → b < 2 → eqb a 1 ≡ eqb b 1 → a ≡ b

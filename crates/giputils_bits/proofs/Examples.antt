@@ -1,12 +1,9 @@
 -- The definitions, computed on worked examples.
 use Rattle.std.specs.Prelude.{◌≡◌, ◌≢◌, zero, suc, ◌+◌, ◌-◌, ◌^◌, Bool, true, false, List, [], ◌∷◌, ◌++◌, drop, length, replicate, take, codes, refl}
 use Rattle.std.proofs.Common.{arith, ap, get_or}
-use Rattle.giputils_bits.specs.Bits.{digits_of, value_of, words_of, one_of, with_word}
-use Rattle.giputils_bits.specs.Ones.{true_count, true_places, HasNoneFrom, IsNextOne, HasOne}
-use Rattle.giputils_bits.specs.Text.{binary_text, hex_text, places_written, IsNoBinaryText}
+use Rattle.giputils_bits.specs.Prelude.{HasNoneFrom, HasOne, IsNextOne, IsNoBinaryText, and_of, binary_text, digits_of, hex_text, negated_if, not_of, one_of, or_of, places_written, true_count, true_places, value_of, with_word, words_of, xor_of}
 use Rattle.giputils_bits.proofs.BinaryTexts.{no_text, no_empty_text}
 use Rattle.std.specs.Fmt.{digits}
-use Rattle.giputils_bits.specs.Logic.{and_of, or_of, xor_of, not_of, negated_if}
 
 -- numbers of lists
 

@@ -5,10 +5,7 @@ use Rattle.std.specs.Int.{bit_not, trailing_zeros}
 use Rattle.std.proofs.Math.Bool.{and-true, and-false}
 use Rattle.std.proofs.lemmas.Bool.{cases_lt, false≢true}
 use Rattle.std.proofs.lemmas.List.{get_or_past}
-use Rattle.giputils_bits.specs.Bits.{has_digit}
-use Rattle.giputils_bits.specs.Logic.{not_of}
-use Rattle.giputils_bits.specs.Ones.{HasNoneFrom, IsNextOne}
-use Rattle.giputils_bits.specs.Places.{place, bits_of}
+use Rattle.giputils_bits.specs.Prelude.{HasNoneFrom, IsNextOne, bits_of, has_digit, not_of, place}
 use Rattle.giputils_bits.proofs.Digits.{has_digit-zero, has_digit-ones, has_digit-and, has_digit-not, has_digit-shl_low, has_digit-shl_high}
 use Rattle.giputils_bits.proofs.Logic.{length-not_of, get_or-not_of}
 use Rattle.giputils_bits.proofs.OnesLeft.{lowest_one}

@@ -5,9 +5,7 @@ use Rattle.std.proofs.lemmas.Bool.{cases_lt}
 use Rattle.std.proofs.lemmas.Nat.{leading_top}
 use Rattle.std.proofs.lemmas.Nat.Bits.{bit_at_cat_high}
 use Rattle.std.proofs.Math.Nat.{pow-suc}
-use Rattle.giputils_bits.specs.Bits.{has_digit}
-use Rattle.giputils_bits.specs.Ones.{HasNoneFrom}
-use Rattle.giputils_bits.specs.Places.{place, bits_of, IsPacked}
+use Rattle.giputils_bits.specs.Prelude.{HasNoneFrom, IsPacked, bits_of, has_digit, place}
 use Rattle.giputils_bits.proofs.Digits.{has_digit-zero, has_digit-above}
 use Rattle.giputils_bits.proofs.Places.{place_is, get_or-bits_of_all}
 

@@ -5,8 +5,7 @@ use Rattle.std.specs.Int.{bit_at, trailing_zeros}
 use Rattle.std.proofs.Math.Bool.{and-false}
 use Rattle.std.proofs.lemmas.Bool.{cases_lt}
 use Rattle.std.proofs.lemmas.Nat.Bits.{bit_at_lowest, bit_at-suc, bit_at-trailing_zeros}
-use Rattle.giputils_bits.specs.Bits.{has_digit}
-use Rattle.giputils_bits.specs.Places.{SetsDigit}
+use Rattle.giputils_bits.specs.Prelude.{SetsDigit, has_digit}
 use Rattle.giputils_bits.proofs.Digits.{has_digit-and}
 
 -- an odd number less one

@@ -7,9 +7,7 @@ use Rattle.std.proofs.lemmas.List.{get_or-replicate, length-take, take_all}
 use Rattle.std.proofs.lemmas.List.Sums.{sum_by-append, count_by-le-length}
 use Rattle.std.specs.Simd.Lanes.{mask_l}
 use Rattle.std.proofs.lemmas.Simd.{ones-mask_l}
-use Rattle.giputils_bits.specs.Bits.{value_of, word_of, words_of}
-use Rattle.giputils_bits.specs.Logic.{not_of}
-use Rattle.giputils_bits.specs.Ones.{true_count, HasOne}
+use Rattle.giputils_bits.specs.Prelude.{HasOne, not_of, true_count, value_of, word_of, words_of}
 use Rattle.giputils_bits.proofs.Words.{length-words_of, get_or-words_of}
 
 -- ---- how many places are true

@@ -6,9 +6,7 @@ use Rattle.std.proofs.lemmas.Nat.Bits.{bit_at-trailing_zeros}
 use Rattle.std.proofs.Math.Bool.{and-true, and-false}
 use Rattle.std.proofs.lemmas.Bool.{cases_eq, cases_lt, false≢true}
 use Rattle.std.proofs.lemmas.List.{length-append, length-replicate, length-drop, get_or-replicate, get_or_append_left, get_or-append_right, get_or-drop}
-use Rattle.giputils_bits.specs.Bits.{has_digit}
-use Rattle.giputils_bits.specs.Ones.{true_places, HasNoneFrom, IsNextOne}
-use Rattle.giputils_bits.specs.Places.{place, bits_of, IsPacked, SetsDigit, words_from}
+use Rattle.giputils_bits.specs.Prelude.{HasNoneFrom, IsNextOne, IsPacked, SetsDigit, bits_of, has_digit, place, true_places, words_from}
 use Rattle.giputils_bits.proofs.Digits.{has_digit-zero, has_digit-ones, has_digit-shl_low, has_digit-shl_high, has_digit-and}
 use Rattle.giputils_bits.proofs.Places.{place_is, place-past, SetsPlace, length-bits_of, get_or-bits_of, get_or-bits_of_all, bits_of_is, bits_of-SetsPlace}
 

@@ -7,9 +7,7 @@ use Rattle.std.specs.Ordering.{bool_cmp, nat_cmp, MatchOrdering}
 use Rattle.std.specs.Cmp.{ranks}
 use Rattle.std.specs.Cmp.Lexicographic.{slice_cmp}
 use Rattle.std.proofs.lemmas.Bool.{cases_lt}
-use Rattle.giputils_bits.specs.Bits.{has_digit}
-use Rattle.giputils_bits.specs.Logic.{xor}
-use Rattle.giputils_bits.specs.Places.{place, bits_of, IsPacked, AlikeBelow, IsDecided}
+use Rattle.giputils_bits.specs.Prelude.{AlikeBelow, IsDecided, IsPacked, bits_of, has_digit, place, xor}
 use Rattle.giputils_bits.proofs.Digits.{has_digit-xor}
 use Rattle.giputils_bits.proofs.OnesLeft.{lowest_one}
 use Rattle.giputils_bits.proofs.Places.{place_is, kept-length, get_or-bits_of_all}

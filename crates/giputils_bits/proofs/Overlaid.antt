@@ -7,8 +7,7 @@ use Rattle.std.specs.Prelude.{bit_or}
 use Rattle.std.proofs.Math.Bool.{or-false}
 use Rattle.std.proofs.lemmas.List.{length-set, take_all, length-append, length-replicate, get_or-set_same, get_or-set_other, get_or_append_left, get_or-append_right, get_or-replicate}
 use Rattle.std.proofs.lemmas.Bool.{cases_eq, cases_lt}
-use Rattle.giputils_bits.specs.Bits.{has_digit}
-use Rattle.giputils_bits.specs.Places.{place, bits_of, IsLaid, IsPacked, Overlays}
+use Rattle.giputils_bits.specs.Prelude.{IsLaid, IsPacked, Overlays, bits_of, has_digit, place}
 use Rattle.giputils_bits.proofs.Digits.{has_digit-or, has_digit-above, has_digit-shl_low, has_digit-shl_high, has_digit-shr}
 use Rattle.giputils_bits.proofs.Places.{place_is, place-past, length-bits_of, get_or-bits_of, bits_of_is}
 

@@ -5,8 +5,7 @@ use Rattle.std.proofs.Math.Pow.{pow_mono}
 use Rattle.std.proofs.Math.Seq.{take-append-add}
 use Rattle.std.proofs.lemmas.List.{take_more, take-append-drop, length-take, map-append, length-map, reverse-append, length-reverse}
 use Rattle.std.proofs.lemmas.List.FromFn.{take-map-range_with_len}
-use Rattle.giputils_bits.specs.Bits.{has_digit, digits_of, value_of}
-use Rattle.giputils_bits.specs.Text.{places_written}
+use Rattle.giputils_bits.specs.Prelude.{digits_of, has_digit, places_written, value_of}
 use Rattle.giputils_bits.proofs.BinaryTexts.{is_one}
 use Rattle.giputils_bits.proofs.Digits.{digits_of-value_of, value_of-below}
 

@@ -5,8 +5,7 @@ use Rattle.std.proofs.Math.Pow.{pow_mono}
 use Rattle.std.proofs.lemmas.List.{length-set, length-replicate, get_or-replicate, get_or-set_same, get_or-set_other, get_or_past, take-replicate, drop-replicate, take_all, length-take, length-drop, get_or-take, get_or-drop}
 use Rattle.std.proofs.lemmas.Nat.{pow_pos}
 use Rattle.std.proofs.lemmas.Bool.{cases_eq, cases_lt, false≢true}
-use Rattle.giputils_bits.specs.Bits.{digits_of, has_digit, value_of, word_count, word_of, words_of, one_of}
-use Rattle.giputils_bits.specs.Places.{bits_of, IsPacked}
+use Rattle.giputils_bits.specs.Prelude.{IsPacked, bits_of, digits_of, has_digit, one_of, value_of, word_count, word_of, words_of}
 use Rattle.giputils_bits.proofs.Digits.{has_digit-zero, has_digit-above, length-digits_of, get_or-digits_of, digits_of-one}
 use Rattle.giputils_bits.proofs.Places.{place_is, kept-length}
 use Rattle.giputils_bits.proofs.Words.{length-words_of, words_of_is, word_of_is, words_of-bits_of, same_by_words, get_or-words_of_same}

@@ -9,8 +9,7 @@ use Rattle.std.proofs.lemmas.Nat.Bits.{bit_at_set_same, bit_at_set_other, bit_at
 use Rattle.std.proofs.lemmas.Bool.{cases_eq, cases_lt}
 use Rattle.std.proofs.Math.Bool.{or-false}
 use Rattle.std.specs.Int.Bits.{or_zero_l}
-use Rattle.giputils_bits.specs.Bits.{has_digit, digits_of}
-use Rattle.giputils_bits.specs.Places.{place, places, bits_of, IsPacked, SetsDigit, HasRoom}
+use Rattle.giputils_bits.specs.Prelude.{HasRoom, IsPacked, SetsDigit, bits_of, digits_of, has_digit, place, places}
 use Rattle.giputils_bits.proofs.Digits.{has_digit-zero, has_digit-or, has_digit-above, length-digits_of, get_or-digits_of}
 
 -- ---- one place

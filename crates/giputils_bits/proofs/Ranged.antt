@@ -7,9 +7,7 @@ use Rattle.std.proofs.lemmas.List.{length-set, length-append, length-replicate, 
 use Rattle.std.proofs.lemmas.Nat.{and_le_l}
 use Rattle.std.proofs.lemmas.List.Folds.{sum_by-replicate}
 use Rattle.std.proofs.lemmas.List.Sums.{sum_by-append}
-use Rattle.giputils_bits.specs.Bits.{has_digit, word_count, word_of}
-use Rattle.giputils_bits.specs.Ones.{true_count}
-use Rattle.giputils_bits.specs.Places.{place, bits_of, digits_before, digits_between, without_digits, IsPacked, SetsDigits, SetsRange}
+use Rattle.giputils_bits.specs.Prelude.{IsPacked, SetsDigits, SetsRange, bits_of, digits_before, digits_between, has_digit, place, true_count, without_digits, word_count, word_of}
 use Rattle.giputils_bits.proofs.Digits.{has_digit-and, has_digit-or, has_digit-ones, has_digit-ones_above}
 use Rattle.giputils_bits.proofs.Ones.{true_count-word_more}
 use Rattle.giputils_bits.proofs.Places.{place_is, length-bits_of, get_or-bits_of_all, bits_of_is}

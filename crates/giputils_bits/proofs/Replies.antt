@@ -12,9 +12,7 @@ use Rattle.std.proofs.lemmas.Slice.Eq.{slice_eq-Decides}
 use Rattle.giputils_bits.specs.declared.bitvec.error.BitVecError.{BitVecError}
 use Rattle.giputils_bits.specs.declared.bitvec.error.BitVecError.TheVariants.{TooLong, Memory}
 use Rattle.giputils_bits.specs.declared.run.BitReply.TheVariants.{Bit}
-use Rattle.giputils_bits.specs.Bits.{words_of, value_of}
-use Rattle.giputils_bits.specs.BitRun.{max_len, StopsAt, bit_if, equality_reply}
-use Rattle.giputils_bits.specs.Ones.{HasOne}
+use Rattle.giputils_bits.specs.Prelude.{HasOne, StopsAt, bit_if, equality_reply, max_len, value_of, words_of}
 use Rattle.giputils_bits.proofs.Ones.{HasOne-from_not_none, none_without_one}
 use Rattle.giputils_bits.proofs.Taken.{taken}
 use Rattle.giputils_bits.proofs.Words.{get_or-words_of}

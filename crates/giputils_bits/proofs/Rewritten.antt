@@ -9,9 +9,7 @@ use Rattle.std.proofs.Math.Bool.{and-true, and-false}
 use Rattle.std.proofs.lemmas.List.{same_lists, length-map, get_or-map, get_or_past, get_or_default, length-set, length-replicate, get_or-replicate, get_or-set_same, get_or-set_other}
 use Rattle.std.proofs.lemmas.Nat.Bits.{same_from_bits, bit_at-lt}
 use Rattle.std.proofs.lemmas.Bool.{cases_eq, cases_lt}
-use Rattle.giputils_bits.specs.Bits.{has_digit}
-use Rattle.giputils_bits.specs.Logic.{zip_with, xor, not_of}
-use Rattle.giputils_bits.specs.Places.{place, bits_of, IsPacked, MakesZeros, Rewrites, SetsDigit, without_digits}
+use Rattle.giputils_bits.specs.Prelude.{IsPacked, MakesZeros, Rewrites, SetsDigit, bits_of, has_digit, not_of, place, without_digits, xor, zip_with}
 use Rattle.giputils_bits.proofs.Digits.{has_digit-and, has_digit-xor, has_digit-not, has_digit-zero, has_digit-above, has_digit-ones, has_digit-ones_above, has_digit-shl_low, has_digit-shl_high, same_digit}
 use Rattle.giputils_bits.proofs.Logic.{xor_true, xor_false, length-zip_with, get_or-zip_with, get_or-zip_with_all, get_or-falses, length-not_of, get_or-not_of}
 use Rattle.giputils_bits.proofs.Places.{place_is, place-past, kept-length, length-bits_of, get_or-bits_of, get_or-bits_of_all, bits_of_is}

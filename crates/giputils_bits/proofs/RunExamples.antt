@@ -6,8 +6,7 @@ use Rattle.std.proofs.lemmas.Bool.{false≢true}
 use Rattle.giputils_bits.specs.declared.bitvec.error.BitVecError.TheVariants.{TooLong, Memory}
 use Rattle.giputils_bits.specs.declared.run.BitCall.TheVariants.{Push, PushWord, SetBit, GetBit, Clear, Extend, Len, ToUsize, IsZero, IsOne, Bool as BoolCall, TryBool, Put, Flip, Fill, Negate, CountOnes, Any, All, NextOne, Truncate, Resize, Pop}
 use Rattle.giputils_bits.specs.declared.run.BitReply.TheVariants.{Done, Refused, Skipped, Bit, MaybeBit, Number, Place}
-use Rattle.giputils_bits.specs.BitRun.{Answers, StopsAt, CanRefuseWord, max_len}
-use Rattle.giputils_bits.specs.Bits.{digits_of, words_of}
+use Rattle.giputils_bits.specs.Prelude.{Answers, CanRefuseWord, StopsAt, digits_of, max_len, words_of}
 
 -- a list, lent
 abbrev lent : List Bool → Bor (List Bool)

@@ -2,8 +2,7 @@
 use Rattle.std.proofs.Common.{◌≡◌, ◌↔◌, ℕ, zero, suc, ◌+◌, ◌<◌, Bool, true, false, ◌&&◌, not, List, [], ◌∷◌, length, get_or, set, replicate, cond, refl, arith, sym, ap, ◌∙◌}
 use Rattle.std.proofs.lemmas.Bool.{false≢true}
 use Rattle.std.proofs.lemmas.List.Sums.{sum_by-set}
-use Rattle.giputils_bits.specs.Logic.{and_of, not_of}
-use Rattle.giputils_bits.specs.Ones.{true_count}
+use Rattle.giputils_bits.specs.Prelude.{and_of, not_of, true_count}
 use Rattle.giputils_bits.proofs.Logic.{length-zip_with, length-not_of, get_or-zip_with_all, get_or-falses}
 
 -- how many places are true after a write, beside what stood there

@@ -4,8 +4,7 @@ use Rattle.std.specs.Prelude.{bit_or}
 use Rattle.std.proofs.Math.Bool.{or-false}
 use Rattle.std.proofs.lemmas.Bool.{cases_eq, cases_lt}
 use Rattle.std.proofs.lemmas.List.{length-set, length-append, length-replicate, length-take, length-drop, get_or-set_same, get_or-set_other, get_or_append_left, get_or-append_right, get_or-replicate, get_or-take, get_or-drop}
-use Rattle.giputils_bits.specs.Bits.{has_digit}
-use Rattle.giputils_bits.specs.Places.{place, bits_of, IsLaid, IsPacked, MovesDown, MovesUp}
+use Rattle.giputils_bits.specs.Prelude.{IsLaid, IsPacked, MovesDown, MovesUp, bits_of, has_digit, place}
 use Rattle.giputils_bits.proofs.Digits.{has_digit-zero, has_digit-or, has_digit-above, has_digit-shl_low, has_digit-shl_high, has_digit-shr}
 use Rattle.giputils_bits.proofs.Logic.{get_or-falses}
 use Rattle.giputils_bits.proofs.Overlaid.{Carries-next, IsLaid-word}

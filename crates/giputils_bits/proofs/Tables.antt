@@ -1,7 +1,6 @@
 -- What the true places of bits list.
 use Rattle.std.proofs.Common.{◌≡◌, ℕ, ◌<◌, Bool, true, false, List, length, get_or}
-use Rattle.giputils_bits.specs.Ones.{true_places}
-use Rattle.giputils_bits.specs.Tables.{Tells, Lists}
+use Rattle.giputils_bits.specs.Prelude.{Lists, Tells, true_places}
 use Rattle.giputils_bits.proofs.Ones.{true_within}
 use Rattle.giputils_bits.proofs.TruePlaces.{Contains-true_places, IsStrictlyIncreasing-true_places}
 

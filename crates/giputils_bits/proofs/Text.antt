@@ -10,9 +10,7 @@ use Rattle.std.proofs.Math.Nat.{mul_assoc, pow-suc}
 use Rattle.std.proofs.lemmas.Bool.{cases_eq, cases_lt, cases_Bool}
 use Rattle.std.proofs.lemmas.Bool.Decides.{Decides-eqb}
 use Rattle.std.proofs.lemmas.List.{same_lists, append_assoc, append-nil, map-append, reverse-append, reverse-reverse, length-reverse, length-map, length-append, get_or-set_same, get_or-set_other, get_or-map, get_or_append_left, get_or-append_right, get_or_past, get_or_default, get_or-take, length-take, length-take-le, length-drop, take_more, take_all}
-use Rattle.giputils_bits.specs.Bits.{digits_of, value_of, word_count, word_of, words_of}
-use Rattle.giputils_bits.specs.Text.{bit_glyph, binary_text, lowest_digits, hex_count, hex_text, BinaryTextsTell}
-use Rattle.giputils_bits.specs.Spelt.{digits_of_words}
+use Rattle.giputils_bits.specs.Prelude.{BinaryTextsTell, binary_text, bit_glyph, digits_of, digits_of_words, hex_count, hex_text, lowest_digits, value_of, word_count, word_of, words_of}
 use Rattle.giputils_bits.proofs.Digits.{digits_of-value_of, digits_of-zero, value_half}
 use Rattle.giputils_bits.proofs.Patterns.{value_of-zeros}
 use Rattle.giputils_bits.proofs.Words.{length-words_of, get_or-words_of}

@@ -4,8 +4,7 @@ use Rattle.std.proofs.Math.Pow.{pow_mono}
 use Rattle.std.proofs.lemmas.List.{same_lists, get_or_default, get_or_past, get_or-take, get_or-drop, length-take, length-take-le, length-drop}
 use Rattle.std.proofs.lemmas.List.FromFn.{length-map-range_with_len, get_or-map-range_with_len}
 use Rattle.std.proofs.lemmas.Bool.{cases_lt}
-use Rattle.giputils_bits.specs.Bits.{digits_of, has_digit, with_word, word_count, word_of, words_of}
-use Rattle.giputils_bits.specs.Places.{place, bits_of, IsPacked}
+use Rattle.giputils_bits.specs.Prelude.{IsPacked, bits_of, digits_of, has_digit, place, with_word, word_count, word_of, words_of}
 use Rattle.giputils_bits.proofs.Digits.{length-digits_of, has_digit-value_of, value_of-below, same_from_digits}
 use Rattle.giputils_bits.proofs.Places.{place_is, place-past, length-bits_of, get_or-bits_of, bits_of_is}
 

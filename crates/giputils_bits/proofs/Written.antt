@@ -5,8 +5,7 @@ use Rattle.std.proofs.Math.Bool.{and-true, and-false, or-false, or_self}
 use Rattle.std.proofs.Math.Seq.{take-append-add}
 use Rattle.std.proofs.lemmas.Bool.{cases_eq, cases_lt}
 use Rattle.std.proofs.lemmas.List.{length-replicate, get_or-replicate, take-replicate, take_all, take_more, length-set, length-take, length-drop, length-append, get_or-take, get_or-drop, get_or-set_same, get_or-set_other, get_or_append_left, get_or-append_right}
-use Rattle.giputils_bits.specs.Bits.{has_digit, value_of, digits_of, with_word}
-use Rattle.giputils_bits.specs.Places.{place, bits_of, IsPacked}
+use Rattle.giputils_bits.specs.Prelude.{IsPacked, bits_of, digits_of, has_digit, place, value_of, with_word}
 use Rattle.giputils_bits.proofs.Digits.{has_digit-or, has_digit-shl_low, has_digit-shl_high, has_digit-value_of, has_digit-ones, has_digit-ones_above, length-digits_of, get_or-digits_of, has_digit-and}
 use Rattle.giputils_bits.proofs.Places.{place_is, place-past, length-bits_of, get_or-bits_of, bits_of_is}
 

@@ -10,3 +10,4 @@ pub mod Places
 pub mod Spelt
 pub mod Tables
 pub mod Text
+pub mod Prelude

@@ -10,3 +10,4 @@ pub mod Keys
 pub mod Relations
 pub mod Table
 pub mod Tree
+pub mod Prelude

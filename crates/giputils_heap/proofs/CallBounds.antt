@@ -2,8 +2,7 @@
 use Rattle.std.proofs.Common.{◌≡◌, ℕ, zero, suc, ◌+◌, ◌*◌, ◌≤◌, Bool, true, false, ◌&&◌, not, cond, ltb, leb, List, [], ◌∷◌, length, take, Some, arith}
 use Rattle.std.specs.Prelude.{slice_get}
 use Rattle.std.proofs.lemmas.Bool.{and_parts, leb-true}
-use Rattle.giputils_bounded.specs.Keys.{is_held, AreDistinct, AreBelow, key_limit}
-use Rattle.giputils_bounded.specs.Bounds.{floor_log2}
+use Rattle.giputils_bounded.specs.Prelude.{AreBelow, AreDistinct, floor_log2, is_held, key_limit}
 use Rattle.giputils_heap.specs.Record.{Entry, comparison_bound, most_comparisons, held_after, held_from, keeps_counts_from}
 use Rattle.giputils_heap.specs.declared.run.HeapCall.{HeapCall}
 use Rattle.giputils_heap.specs.declared.run.HeapCall.TheVariants.{Push, Pop, Up, Down, Update, Rebuild, Clear, Len, IsEmpty}

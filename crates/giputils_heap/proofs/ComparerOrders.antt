@@ -8,9 +8,7 @@ use Rattle.std.specs.List.{list_all}
 use Rattle.std.proofs.lemmas.Bool.{cases_Bool, false≢true, eqb-true, eq-eqb}
 use Rattle.std.proofs.lemmas.Bool.Decides.{nat_tests}
 use Rattle.std.proofs.lemmas.List.{get_or-set_other, get_or-set_same}
-use Rattle.giputils_bounded.specs.Keys.{same_key}
-use Rattle.giputils_bounded.specs.Relations.{AgreesExcept, HasRisen, HasFallen, HasNoTies, IsTotalPreorder}
-use Rattle.giputils_bounded.specs.Comparers.{reverse_of, rank_of, by_number, by_rank}
+use Rattle.giputils_bounded.specs.Prelude.{AgreesExcept, HasFallen, HasNoTies, HasRisen, IsTotalPreorder, by_number, by_rank, rank_of, reverse_of, same_key}
 use Rattle.giputils_bounded.proofs.BoolsAndLists.{list_all-filter}
 use Rattle.giputils_bounded.proofs.Greatest.{HasNoTies-everywhere}
 use Rattle.giputils_bounded.proofs.Preorders.{list_all-always}

@@ -6,16 +6,11 @@ use Rattle.std.specs.List.{IsDistinct}
 use Rattle.std.proofs.lemmas.Bool.{false≢true, ne_eqb}
 use Rattle.std.proofs.lemmas.List.Sorted.{IsPermutation-refl, IsPermutation-to_front, length_permutation}
 use Rattle.std.specs.Ordering.{nat_cmp}
-use Rattle.giputils_bounded.specs.Comparers.{by_number, reverse_of, by_rank, by_ord}
-use Rattle.giputils_bounded.specs.Bounds.{floor_log2, drain_bound}
-use Rattle.giputils_bounded.specs.Calls.{Builds, Drains, PushesOrUpdates}
-use Rattle.giputils_bounded.specs.Keys.{HoldsAllBut, HoldsWithin}
+use Rattle.giputils_bounded.specs.Prelude.{Builds, CanRepair, Drains, HasFallen, HasRisen, HoldsAllBut, HoldsWithin, PushesOrUpdates, agrees_except, by_number, by_ord, by_rank, drain_bound, floor_log2, has_no_ties, is_descending, is_lawful, is_total, is_transitive, reverse_of}
 use Rattle.giputils_heap.specs.Record.{Entry, start, answers_from, is_steady, keeps_counts_from, record_of, held_before, KeepsSteps}
-use Rattle.giputils_bounded.specs.Falls.{is_descending}
 use Rattle.giputils_heap.specs.Extended.{Extends}
 use Rattle.giputils_heap.specs.Laws.{PopUntilNone, ListsDownward}
 use Rattle.giputils_heap.specs.Priorities.{Prioritized, filled_up, priority_of, with_priority, ChangesAt, IsFirst, Joins}
-use Rattle.giputils_bounded.specs.Relations.{is_total, is_transitive, is_lawful, agrees_except, has_no_ties, HasRisen, HasFallen, CanRepair}
 use Rattle.giputils_bounded.proofs.HoldAlike.{HoldsAllBut-taken, HoldsWithin-cons}
 use Rattle.giputils_bounded.proofs.OrderLaws.{IsInOrder-empty}
 use Rattle.giputils_heap.specs.declared.run.HeapCall.{HeapCall}

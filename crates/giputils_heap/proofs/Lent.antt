@@ -1,7 +1,6 @@
 -- A call that was lent a table of ranks: what it keeps, takes and repairs, where keys compare lawfully by every table.
 use Rattle.std.proofs.Common.{◌≡◌, ℕ, Bool, List, ◌∷◌, sym, subst}
-use Rattle.giputils_bounded.specs.InOrder.{IsInOrder, KeepsOrder, KeepsOrderWith, RepairsChanged, RepairsRisen, RepairsFallen, TakesGreatest}
-use Rattle.giputils_bounded.specs.Relations.{IsLawful, IsGreatest, AgreesExcept, CanRepair, HasRisen, HasFallen}
+use Rattle.giputils_bounded.specs.Prelude.{AgreesExcept, CanRepair, HasFallen, HasRisen, IsGreatest, IsInOrder, IsLawful, KeepsOrder, KeepsOrderWith, RepairsChanged, RepairsFallen, RepairsRisen, TakesGreatest}
 use Rattle.giputils_heap.proofs.Repairs.{IsInOrder-changed, IsInOrder-renewed, IsInOrder-risen, IsInOrder-fallen}
 
 module _ {T X : Type 0} (number : T → ℕ) (by : X → T → T → Bool) (lawful : (ranks : X) (keys : List T) → IsLawful (by ranks) keys) where

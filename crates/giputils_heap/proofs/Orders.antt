@@ -11,10 +11,7 @@ use Rattle.std.specs.Ordering.{is_ge, is_gt, is_le, nat_cmp, ordering_reverse, o
 use Rattle.std.specs.declared.cmp.Ordering.TheVariants.{Less, Equal, Greater}
 use Rattle.std.proofs.lemmas.Bool.{and_parts, cases_Bool, cases_lt, false≢true, eqb-true, not-true, or_cases}
 use Rattle.std.proofs.lemmas.Cmp.{upto, nat_cmp_total, on_total, then_total}
-use Rattle.giputils_bounded.specs.Comparers.{by_ord, compared, reverse_of}
-use Rattle.giputils_bounded.specs.Keys.{same_key, is_held}
-use Rattle.giputils_bounded.specs.InOrder.{IsInOrder, KeepsOrder, KeepsOrderWith, RepairsChanged, RepairsRisen, RepairsFallen, TakesGreatest}
-use Rattle.giputils_bounded.specs.Relations.{IsLawful, IsGreatest, AgreesExcept, CanRepair, HasRisen, HasFallen, IsTotalPreorder}
+use Rattle.giputils_bounded.specs.Prelude.{AgreesExcept, CanRepair, HasFallen, HasRisen, IsGreatest, IsInOrder, IsLawful, IsTotalPreorder, KeepsOrder, KeepsOrderWith, RepairsChanged, RepairsFallen, RepairsRisen, TakesGreatest, by_ord, compared, is_held, reverse_of, same_key}
 use Rattle.giputils_bounded.proofs.BoolsAndLists.{implied_from, list_all-filter}
 use Rattle.giputils_heap.proofs.ComparerOrders.{apart_from, IsTotalPreorder-reverse_of}
 use Rattle.giputils_bounded.proofs.KeySets.{pass_at_held}

@@ -14,13 +14,7 @@ use Rattle.std.proofs.lemmas.List.{length-set, length-append}
 use Rattle.std.proofs.lemmas.List.Sorted.{IsPermutation-cons, IsPermutation-refl, IsPermutation-trans, length_permutation}
 use Rattle.std.proofs.lemmas.Map.Keys.{le_from_is_le}
 use Rattle.std.proofs.lemmas.Option.{IfSome_then, slice_get-get_or}
-use Rattle.giputils_bounded.specs.Bounded.{Bounded}
-use Rattle.giputils_bounded.specs.Bounds.{push_bound, update_bound}
-use Rattle.giputils_bounded.specs.Calls.{Pops, Pushes, Removes, Updates}
-use Rattle.giputils_bounded.specs.Comparers.{by_ord}
-use Rattle.giputils_bounded.specs.InOrder.{ComesFirst, IsInOrder, TakesGreatest}
-use Rattle.giputils_bounded.specs.Keys.{is_held, same_key, AreBelow, HoldAlike, HoldsWithin, IsHeld}
-use Rattle.giputils_bounded.specs.Relations.{AgreeOn, IsGreatest}
+use Rattle.giputils_bounded.specs.Prelude.{AgreeOn, AreBelow, Bounded, ComesFirst, HoldAlike, HoldsWithin, IsGreatest, IsHeld, IsInOrder, Pops, Pushes, Removes, TakesGreatest, Updates, by_ord, is_held, push_bound, same_key, update_bound}
 use Rattle.giputils_bounded.proofs.Greatest.{IsHeld-greatest}
 use Rattle.giputils_bounded.proofs.HoldAlike.{HoldAlike-cons, HoldAlike-IsPermutation, list_all-fewer}
 use Rattle.giputils_bounded.proofs.KeySets.{all_pass_from_held, is_held-below, is_held-head, pass_at_held, AreBelow-IsPermutation, AreBelow-mono}

@@ -4,8 +4,7 @@ use Rattle.std.specs.List.Sorted.{IsPermutation}
 use Rattle.std.proofs.lemmas.Bool.{cases_Bool}
 use Rattle.std.proofs.lemmas.List.Sorted.{length_permutation}
 use Rattle.std.proofs.lemmas.Map.Steps.{list_any_congr}
-use Rattle.giputils_bounded.specs.Calls.{Pushes, PushesOrUpdates}
-use Rattle.giputils_bounded.specs.Keys.{same_key, is_held, IsHeld, IsAbsent, AreDistinct, HoldAlike}
+use Rattle.giputils_bounded.specs.Prelude.{AreDistinct, HoldAlike, IsAbsent, IsHeld, Pushes, PushesOrUpdates, is_held, same_key}
 use Rattle.giputils_bounded.proofs.HoldAlike.{HoldAlike-IsPermutation, AreDistinct-cons}
 use Rattle.giputils_bounded.proofs.KeySets.{same_key-equiv, AreDistinct-IsPermutation}
 

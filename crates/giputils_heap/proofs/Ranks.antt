@@ -5,10 +5,7 @@ use Rattle.std.specs.Bool.{beq}
 use Rattle.std.specs.List.{list_all}
 use Rattle.std.proofs.lemmas.Bool.{and_parts}
 use Rattle.std.proofs.lemmas.Bool.Decides.{nat_tests}
-use Rattle.giputils_bounded.specs.Comparers.{by_rank, rank_of, reverse_of}
-use Rattle.giputils_bounded.specs.InOrder.{IsInOrder, KeepsOrder, KeepsOrderWith, RepairsChanged, RepairsRisen, RepairsFallen, TakesGreatest}
-use Rattle.giputils_bounded.specs.Keys.{is_held, without}
-use Rattle.giputils_bounded.specs.Relations.{IsLawful, IsGreatest, AgreesExcept, CanRepair}
+use Rattle.giputils_bounded.specs.Prelude.{AgreesExcept, CanRepair, IsGreatest, IsInOrder, IsLawful, KeepsOrder, KeepsOrderWith, RepairsChanged, RepairsFallen, RepairsRisen, TakesGreatest, by_rank, is_held, rank_of, reverse_of, without}
 use Rattle.giputils_heap.proofs.ComparerOrders.{IsTotalPreorder-by_rank, IsTotalPreorder-reverse_of, AgreesExcept-by_rank, AgreesExcept-by_least_rank, AgreesExcept-by_rank-push, AgreesExcept-by_least_rank-push, HasRisen-by_rank, HasFallen-by_rank}
 use Rattle.giputils_bounded.proofs.KeySets.{pass_at_held, all_pass_from_held}
 use Rattle.giputils_bounded.proofs.Preorders.{IsLawful-everywhere}

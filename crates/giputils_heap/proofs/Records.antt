@@ -11,10 +11,8 @@ use Rattle.std.proofs.lemmas.Bool.{and_parts, and_from, cases_Bool, false≢true
 use Rattle.std.proofs.lemmas.Map.Steps.{list_any_congr}
 use Rattle.std.proofs.Math.Bool.{and-false}
 use Rattle.std.proofs.lemmas.List.Elements.{All-head, All-tail}
-use Rattle.giputils_bounded.specs.Keys.{same_key, is_held, AreDistinct, AreBelow, HoldAlike, without, key_limit}
-use Rattle.giputils_bounded.specs.Relations.{is_lawful, IsLawful, agree_on, is_greatest, IsTotalPreorder}
+use Rattle.giputils_bounded.specs.Prelude.{AreBelow, AreDistinct, HoldAlike, IsLawful, IsTotalPreorder, agree_on, is_descending, is_greatest, is_held, is_lawful, key_limit, same_key, without}
 use Rattle.giputils_heap.specs.Record.{Entry, Progress, start, start_if_empty, start_anew, is_nil, agrees_with_last, compared_keys, may_compare, held_after, after_call, may_answer, may_reply, progress_from, answers_from, held_from, held_before, Answers, is_steady_at, IsSteady}
-use Rattle.giputils_bounded.specs.Falls.{is_descending}
 use Rattle.giputils_heap.specs.Laws.{Compares, PopUntilNone, ListsDownward}
 use Rattle.giputils_heap.specs.declared.run.HeapCall.{HeapCall}
 use Rattle.giputils_heap.specs.declared.run.HeapCall.TheVariants.{Push, Pop, Rebuild, Clear}

@@ -1,7 +1,6 @@
 -- Order after a call that puts one key right, from one premise on the relations.
 use Rattle.std.proofs.Common.{ℕ, Bool, List, ◌∷◌}
-use Rattle.giputils_bounded.specs.InOrder.{IsInOrder, RepairsChanged, RepairsRisen, RepairsFallen}
-use Rattle.giputils_bounded.specs.Relations.{IsLawful, CanRepair, HasRisen, HasFallen}
+use Rattle.giputils_bounded.specs.Prelude.{CanRepair, HasFallen, HasRisen, IsInOrder, IsLawful, RepairsChanged, RepairsFallen, RepairsRisen}
 
 module _ {T : Type 0} (number : T → ℕ) (v : T) (R Q : T → T → Bool) (old new : List T) (can : CanRepair number v R Q old) where
   -- after `update`

@@ -7,8 +7,7 @@ use Rattle.std.proofs.lemmas.Grind.{drop_more_same}
 use Rattle.std.proofs.Math.Nat.{add-zero}
 use Rattle.std.proofs.lemmas.List.Elements.{AllZip-push}
 use Rattle.giputils_heap.specs.Record.{Entry, Progress, start, may_compare, held_after, held_from, comparison_bound, after_call, may_answer, progress_from, answers_from, keeps_counts_from, record_of, Answers, KeepsCounts, KeepsStep, KeepsSteps}
-use Rattle.giputils_bounded.specs.Counted.{Counted}
-use Rattle.giputils_bounded.specs.InOrder.{IsInOrder}
+use Rattle.giputils_bounded.specs.Prelude.{Counted, IsInOrder}
 use Rattle.giputils_bounded.proofs.KeySets.{AreDistinct-nil}
 use Rattle.giputils_heap.proofs.Records.{progress_from-held, AreDistinct-from, AreBelow-from}
 use Rattle.giputils_heap.proofs.CallBounds.{comparison_bound-most}

@@ -1,9 +1,8 @@
 -- When a step of a run agrees with the comparer that was last lent.
 use Rattle.std.proofs.Common.{◌≡◌, ℕ, Bool, true, ◌&&◌, List, Option, Some, None, refl, ap, ◌∙◌}
 use Rattle.std.proofs.lemmas.Bool.{or_left}
-use Rattle.giputils_bounded.specs.Keys.{without}
+use Rattle.giputils_bounded.specs.Prelude.{agree_on, agrees_except, has_fallen, has_risen, without}
 use Rattle.giputils_heap.specs.Record.{agrees_with_last}
-use Rattle.giputils_bounded.specs.Relations.{agree_on, agrees_except, has_risen, has_fallen}
 use Rattle.giputils_heap.specs.declared.run.HeapCall.{HeapCall}
 use Rattle.giputils_heap.specs.declared.run.HeapCall.TheVariants.{Up, Down, Update}
 use Rattle.giputils_bounded.proofs.Preorders.{agree_on-refl}

@@ -10,11 +10,8 @@ use Rattle.std.specs.List.Sorted.{IsPermutation}
 use Rattle.std.proofs.lemmas.Bool.{and_parts, and_from, or_cases, cases_Bool, false≢true, lt-ltb}
 use Rattle.std.proofs.lemmas.List.Sorted.{IsPermutation-sym}
 use Rattle.std.proofs.lemmas.Map.Keys.{IsDistinct-tail}
-use Rattle.giputils_bounded.specs.Keys.{same_key, is_held, AreDistinct, HoldAlike, HoldsWithin, without, key_limit}
-use Rattle.giputils_bounded.specs.Relations.{is_lawful, IsLawful, agree_on, AgreeOn, agrees_except, AgreesExcept, is_greatest, IsGreatest}
-use Rattle.giputils_bounded.specs.InOrder.{IsInOrder, KeepsOrder, RepairsChanged, RepairsRisen, RepairsFallen}
+use Rattle.giputils_bounded.specs.Prelude.{AgreeOn, AgreesExcept, AreDistinct, HoldAlike, HoldsWithin, IsGreatest, IsInOrder, IsLawful, KeepsOrder, RepairsChanged, RepairsFallen, RepairsRisen, agree_on, agrees_except, floor_log2, is_greatest, is_held, is_lawful, key_limit, same_key, without}
 use Rattle.giputils_bounded.proofs.OrderLaws.{IsInOrder-empty, IsInOrder-agree}
-use Rattle.giputils_bounded.specs.Bounds.{floor_log2}
 use Rattle.giputils_heap.specs.Record.{Progress, start_if_empty, agrees_with_last, is_nil, is_steady_at, after_call, may_answer, comparison_bound}
 use Rattle.giputils_heap.specs.declared.run.HeapCall.{HeapCall}
 use Rattle.giputils_heap.specs.declared.run.HeapCall.TheVariants.{Push, Pop, Up, Down, Update, Rebuild, Clear}

@@ -1,8 +1,6 @@
 -- A heap that was handed a list of keys.
 use Rattle.std.specs.Prelude.{ℕ, Bool, List, ◌++◌}
-use Rattle.giputils_bounded.specs.InOrder.{IsInOrder}
-use Rattle.giputils_bounded.specs.Keys.{HoldAlike}
-use Rattle.giputils_bounded.specs.Relations.{IsLawful}
+use Rattle.giputils_bounded.specs.Prelude.{HoldAlike, IsInOrder, IsLawful}
 
 module _ {T : Type 0} (number : T → ℕ) (R : T → T → Bool) where
   -- the keys of a list are held as well

@@ -1,9 +1,7 @@
 -- Laws of records, which callers of a run may cite.
 use Rattle.std.specs.Prelude.{◌≡◌, ℕ, Bool, List, [], ◌∷◌, ◌++◌, length, map, slice_get, IsTrue, Option, Some, None}
 use Rattle.std.specs.List.{All, AllZip}
-use Rattle.giputils_bounded.specs.Keys.{AreDistinct, HoldAlike}
-use Rattle.giputils_bounded.specs.Falls.{is_descending}
-use Rattle.giputils_bounded.specs.Relations.{IsTotalPreorder}
+use Rattle.giputils_bounded.specs.Prelude.{AreDistinct, HoldAlike, IsTotalPreorder, is_descending}
 use Rattle.giputils_heap.specs.Record.{Entry, Answers, AnswersAt, KeepsCounts, KeepsCountAt, IsSteady, held_before}
 use Rattle.giputils_heap.specs.declared.run.HeapCall.TheVariants.{Pop}
 use Rattle.giputils_heap.specs.declared.run.HeapReply.TheVariants.{Popped}

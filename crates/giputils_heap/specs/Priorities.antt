@@ -4,10 +4,7 @@ use Rattle.std.specs.List.Sorted.{IsPermutation}
 use Rattle.std.specs.Ordering.{is_le}
 use Rattle.std.specs.declared.cmp.Ordering.{Ordering}
 use Rattle.std.specs.declared.cmp.Ordering.TheVariants.{Equal}
-use Rattle.giputils_bounded.specs.Bounded.{Bounded}
-use Rattle.giputils_bounded.specs.Comparers.{by_ord}
-use Rattle.giputils_bounded.specs.InOrder.{IsInOrder}
-use Rattle.giputils_bounded.specs.Keys.{is_held, AreBelow, HoldAlike, IsAbsent, IsHeld}
+use Rattle.giputils_bounded.specs.Prelude.{AreBelow, Bounded, HoldAlike, IsAbsent, IsHeld, IsInOrder, by_ord, is_held}
 
 -- the held keys, each once and in an open order; the priority of each number, of a key that is held or not; and how
 -- often priorities were compared

@@ -2,9 +2,7 @@
 use Rattle.std.specs.Prelude.{◌≡◌, ℕ, ◌+◌, ◌-◌, ◌*◌, ◌≤◌, ◌==◌, nat_lt, nat_le, Bool, true, false, ◌&&◌, ◌||◌, not, if◌then◌else◌, List, [], ◌∷◌, length, take, IsTrue, IsFalse, Option, Some, None}
 use Rattle.std.specs.Bool.{beq}
 use Rattle.std.specs.List.{All, AllZip}
-use Rattle.giputils_bounded.specs.Keys.{is_held, without, key_limit}
-use Rattle.giputils_bounded.specs.Relations.{is_lawful, agree_on, agrees_except, has_risen, has_fallen, is_greatest}
-use Rattle.giputils_bounded.specs.Bounds.{count_limit, push_bound, pop_bound, up_bound, down_bound, update_bound, rebuild_bound}
+use Rattle.giputils_bounded.specs.Prelude.{agree_on, agrees_except, count_limit, down_bound, has_fallen, has_risen, is_greatest, is_held, is_lawful, key_limit, pop_bound, push_bound, rebuild_bound, up_bound, update_bound, without}
 use Rattle.giputils_heap.specs.declared.run.HeapCall.{HeapCall}
 use Rattle.giputils_heap.specs.declared.run.HeapCall.TheVariants.{Push, Pop, Up, Down, Update, Rebuild, Clear, Len, IsEmpty}
 use Rattle.giputils_heap.specs.declared.run.HeapReply.{HeapReply}

@@ -1,8 +1,6 @@
 -- How a heap stands to the record of the calls that it has answered.
 use Rattle.std.specs.Prelude.{ℕ, Bool, List, Option, IsTrue, MatchOption}
-use Rattle.giputils_bounded.specs.Keys.{AreDistinct, HoldAlike}
-use Rattle.giputils_bounded.specs.Relations.{IsLawful}
-use Rattle.giputils_bounded.specs.InOrder.{IsInOrder}
+use Rattle.giputils_bounded.specs.Prelude.{AreDistinct, HoldAlike, IsInOrder, IsLawful}
 use Rattle.giputils_heap.specs.Record.{Progress, start_if_empty}
 
 module _ {T C : Type 0} (at_least : C → T → T → Bool) where

@@ -5,8 +5,7 @@
 
 ghost use Rattle.std.specs.Prelude.{◌≡◌, ◌↔◌, ◌-◌, ◌<◌, ◌≤◌, ◌∷◌, ◌++◌, [], length, replicate, vec_capacity, slice_get, slice_set, if◌then◌else◌, is_some, Some, None, IfSome, IfNone, IfOk, IsOk, IsSome, IsTrue, OnOk, OnErr};
 ghost use Rattle.std.specs.List.Sorted.{IsPermutation};
-ghost use Rattle.giputils_bounded.specs.Bounds.{pop_bound, push_bound, update_bound};
-ghost use Rattle.giputils_bounded.specs.Keys.{is_held, key_limit, AreDistinct, IsAbsent, IsHeld};
+ghost use Rattle.giputils_bounded.specs.Prelude.{AreDistinct, IsAbsent, IsHeld, is_held, key_limit, pop_bound, push_bound, update_bound};
 ghost use Rattle.giputils_heap.specs.Priorities.{filled_up, priority_of, with_priority, ChangesAt, ComparesAtMost, IsFirst, Joins};
 
 use giputils_bounded::bounded::BoundedHeap;

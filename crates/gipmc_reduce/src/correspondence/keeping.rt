@@ -1,7 +1,6 @@
 //! A solver that keeps what it has shown, for questions in an order in which each one follows from those before.
 ghost use Rattle.std.specs.Prelude.{◌≡◌};
-ghost use Rattle.gipsat_cnf.specs.Assumptions.{IsSatisfiableUnder};
-ghost use Rattle.gipsat_cnf.specs.Simplifying.{SaysSame};
+ghost use Rattle.gipsat_cnf.specs.Prelude.{IsSatisfiableUnder, SaysSame};
 
 use gipsat_cnf::{AnswerUnder, Budget, ClauseSink, Cnf, Effort, Guess, Literal, SatSolver};
 use std::alloc::{AllocError, Global};

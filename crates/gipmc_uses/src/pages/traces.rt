@@ -1,8 +1,6 @@
 //! A bad literal that becomes true, and one that never does.
 ghost use Rattle.std.specs.Prelude.{IfOk, IfSome, IsTrue};
-ghost use Rattle.gipmc_circuits.specs.Certificate.{is_certified};
-ghost use Rattle.gipmc_circuits.specs.Circuit.{IsSafe};
-ghost use Rattle.gipmc_circuits.specs.Traces.{FailsBy};
+ghost use Rattle.gipmc_circuits.specs.Prelude.{FailsBy, IsSafe, is_certified};
 
 use gipmc_circuits::{Circuit, Latch, Netlist, Trace, Verdict, certify, replay};
 use gipsat_cnf::Literal;

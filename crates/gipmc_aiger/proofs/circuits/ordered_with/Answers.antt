@@ -1,8 +1,7 @@
 -- The circuit keeps its own bad literals, and the others are of its variables.
 use Rattle.std.proofs.Common.{◌≡◌, arith, length, vec_len, ◌∙◌}
 use Rattle.std.proofs.lemmas.Grind.{common_steps}
-use Rattle.gipmc_aiger.specs.Circuits.{rows_of}
-use Rattle.gipmc_aiger.specs.LiveCircuits.{justice_view, live_literals}
+use Rattle.gipmc_aiger.specs.Prelude.{justice_view, live_literals, rows_of}
 use Rattle.gipmc_aiger.proofs.LiveOrders.{defined_still, error-with, kept_alone}
 use Rattle.gipmc_aiger.proofs.circuits.ordered_with.Goals as goal
 

@@ -1,7 +1,6 @@
 -- An answer without a witness of such properties is passed over, and a claim is one more.
 use Rattle.std.proofs.Common.{◌≡◌, ◌∷◌, false, rules, true}
-use Rattle.gipmc_aiger.specs.Claims.{claim_view, claims_from, claims_view, is_passed}
-use Rattle.gipmc_aiger.specs.Witnesses.{said_lines}
+use Rattle.gipmc_aiger.specs.Prelude.{claim_view, claims_from, claims_view, is_passed, said_lines}
 use Rattle.gipmc_aiger.proofs.ClaimLoops.{claims_view-more, goes_on, passes}
 use Rattle.gipmc_aiger.proofs.claims.answered.Goals as goal
 

@@ -1,7 +1,6 @@
 -- The claims so far, and those that the rest says, are all.
 use Rattle.std.proofs.Common.{◌≡◌, false, length}
-use Rattle.gipmc_aiger.specs.Claims.{claims_from, claims_view}
-use Rattle.gipmc_aiger.specs.Witnesses.{said_lines}
+use Rattle.gipmc_aiger.specs.Prelude.{claims_from, claims_view, said_lines}
 use Rattle.gipmc_aiger.proofs.ClaimLoops.{with_front}
 use Rattle.gipmc_aiger.proofs.claims.answered.Given as goal
 

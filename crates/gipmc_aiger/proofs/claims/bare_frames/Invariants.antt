@@ -1,7 +1,6 @@
 -- The values so far, and those that the rest says, are all.
 use Rattle.std.proofs.Common.{◌≡◌, length}
-use Rattle.gipmc_aiger.specs.Claims.{bare_frames_of}
-use Rattle.gipmc_aiger.specs.Witnesses.{said_lines, frames_view}
+use Rattle.gipmc_aiger.specs.Prelude.{bare_frames_of, frames_view, said_lines}
 use Rattle.gipmc_aiger.proofs.ClaimLoops.{with_front}
 use Rattle.gipmc_aiger.proofs.claims.bare_frames.Given as goal
 

@@ -1,7 +1,6 @@
 -- What stands behind the end is the same for the rest as for all of the text.
 use Rattle.std.proofs.Common.{◌≡◌, ◌≤◌, length}
-use Rattle.gipmc_aiger.specs.Claims.{behind_end}
-use Rattle.gipmc_aiger.specs.Witnesses.{said_lines}
+use Rattle.gipmc_aiger.specs.Prelude.{behind_end, said_lines}
 use Rattle.gipmc_aiger.proofs.claims.behind.Given as goal
 
 abbrev pub invariant-loop-line : goal.invariant-loop-line

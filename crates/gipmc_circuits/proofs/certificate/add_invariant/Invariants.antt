@@ -1,5 +1,4 @@
-use Rattle.gipsat_cnf.specs.Encodings.{Adds, AllBelow}
-use Rattle.gipsat_cnf.specs.Formulas.{satisfies_clause}
+use Rattle.gipsat_cnf.specs.Prelude.{Adds, AllBelow, satisfies_clause}
 use Rattle.gipmc_circuits.specs.Encoding.{PassesAt}
 use Rattle.gipmc_circuits.proofs.certificate.add_invariant.Given as goal
 

@@ -1,7 +1,6 @@
 -- The clauses so far say that the literals so far are true.
 use Rattle.std.proofs.Common.{◌≡◌, take}
-use Rattle.gipsat_cnf.specs.Assumptions.{makes_true}
-use Rattle.gipsat_cnf.specs.Formulas.{Assignment}
+use Rattle.gipsat_cnf.specs.Prelude.{Assignment, makes_true}
 use Rattle.gipmc_circuits.specs.Certificate.{holds}
 use Rattle.gipmc_circuits.proofs.claims.units.Given as goal
 

@@ -1,5 +1,4 @@
-use Rattle.gipsat_cnf.specs.Encodings.{AllBelow}
-use Rattle.gipsat_cnf.specs.Models.{assignment_in}
+use Rattle.gipsat_cnf.specs.Prelude.{AllBelow, assignment_in}
 use Rattle.gipmc_circuits.proofs.Rows.{HoldsAt}
 use Rattle.gipmc_circuits.proofs.trace.holds_row.Given as goal
 

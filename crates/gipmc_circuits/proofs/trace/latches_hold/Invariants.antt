@@ -1,6 +1,5 @@
 use Rattle.std.proofs.Common.{map}
-use Rattle.gipsat_cnf.specs.Encodings.{AllBelow}
-use Rattle.gipsat_cnf.specs.Models.{assignment_in}
+use Rattle.gipsat_cnf.specs.Prelude.{AllBelow, assignment_in}
 use Rattle.gipmc_circuits.proofs.Rows.{HoldsAt}
 use Rattle.gipmc_circuits.proofs.trace.latches_hold.Given as goal
 

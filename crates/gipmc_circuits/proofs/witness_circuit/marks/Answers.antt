@@ -1,8 +1,7 @@
 -- At first 0 alone is noted.
 use Rattle.std.proofs.Common.{◌≡◌, ap, ◌∙◌}
 use Rattle.gipsat_cnf.specs.Models.{assignment_in}
-use Rattle.gipmc_circuits.specs.WellFormed.{is_constant, with_variable, with_variables}
-use Rattle.gipmc_circuits.specs.WitnessCircuits.{link_variables}
+use Rattle.gipmc_circuits.specs.Prelude.{is_constant, link_variables, with_variable, with_variables}
 use Rattle.gipmc_circuits.proofs.Defined.{defined_first}
 use Rattle.gipmc_circuits.proofs.witness_circuit.marks.Goals as goal
 

@@ -1,8 +1,7 @@
 -- What is added for each place is added for all.
 use Rattle.std.proofs.Common.{◌≡◌, length, arith}
 use Rattle.std.proofs.lemmas.Grind.{common_steps}
-use Rattle.gipmc_circuits.specs.Encoding.{values_at}
-use Rattle.gipmc_circuits.specs.WitnessCircuits.{is_linked}
+use Rattle.gipmc_circuits.specs.Prelude.{is_linked, values_at}
 use Rattle.gipmc_circuits.proofs.Encoded.{Adds-each}
 use Rattle.gipmc_circuits.proofs.witnessed.add_links.Goals as goal
 

@@ -1,6 +1,5 @@
 use Rattle.gipsat_cnf.specs.Encodings.{Adds, AllBelow}
-use Rattle.gipmc_circuits.specs.Encoding.{PassesAt, values_at}
-use Rattle.gipmc_circuits.specs.WitnessCircuits.{is_linked}
+use Rattle.gipmc_circuits.specs.Prelude.{PassesAt, is_linked, values_at}
 use Rattle.gipmc_circuits.proofs.witnessed.add_links.Given as goal
 
 abbrev pub invariant-loop-place : goal.invariant-loop-place

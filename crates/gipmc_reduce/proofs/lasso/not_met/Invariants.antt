@@ -1,8 +1,7 @@
 -- Those so far, and those that are left.
 use Rattle.std.proofs.Common.{◌≡◌, ◌++◌, drop, not}
 use Rattle.std.specs.Prelude.{filter}
-use Rattle.gipsat_cnf.specs.Formulas.{is_true}
-use Rattle.gipsat_cnf.specs.Models.{assignment_in}
+use Rattle.gipsat_cnf.specs.Prelude.{assignment_in, is_true}
 use Rattle.gipmc_reduce.proofs.lasso.not_met.Given as goal
 
 abbrev pub invariant-loop-l : goal.invariant-loop-l

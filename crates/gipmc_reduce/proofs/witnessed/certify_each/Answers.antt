@@ -2,8 +2,7 @@
 use Rattle.std.proofs.Common.{◌≡◌, ◌+◌, ◌∷◌, [], length, slice_get, Some, IsTrue, ap, refl, sym, subst, ◌∙◌}
 use Rattle.std.proofs.lemmas.List.{length-append}
 use Rattle.std.proofs.lemmas.Option.{slice_get_read}
-use Rattle.gipmc_circuits.specs.Certificate.{is_certified}
-use Rattle.gipmc_circuits.specs.WitnessCircuits.{IsCertifiedBy}
+use Rattle.gipmc_circuits.specs.Prelude.{IsCertifiedBy, is_certified}
 use Rattle.gipmc_circuits.proofs.Certified.{Some-alike}
 use Rattle.gipmc_circuits.specs.declared.certificate.Verdict.TheVariants.{Certified}
 use Rattle.gipmc_reduce.specs.Witnessed.{AreSafeBy}

@@ -2,9 +2,7 @@
 use Rattle.std.proofs.Common.{◌≡◌, ◌+◌, [], ◌∷◌, ◌++◌, length, arith, refl, sym, ap, subst, ◌∙◌, IsTrue}
 use Rattle.std.proofs.lemmas.Grind.{common_steps}
 use Rattle.gipsat_cnf.specs.Models.{assignment_in}
-use Rattle.gipmc_circuits.specs.Circuit.{is_transition}
-use Rattle.gipmc_circuits.specs.Traces.{HoldsRow}
-use Rattle.gipmc_circuits.specs.WellFormed.{latch_variables}
+use Rattle.gipmc_circuits.specs.Prelude.{HoldsRow, is_transition, latch_variables}
 use Rattle.gipmc_circuits.proofs.Rows.{holds_first, holds_more, holds_rows}
 use Rattle.gipmc_circuits.proofs.Traces.{IsTrace-first, IsTrace-more, followed_by, followed_by-new, followed_by-old}
 use Rattle.gipmc_traces.proofs.Held.{held-first, held-more}

@@ -1,10 +1,7 @@
 -- The moments so far are a trace that follows the rows so far, and the values are those of its last moment.
 use Rattle.std.proofs.Common.{◌≡◌, ℕ, ◌+◌, length}
-use Rattle.gipsat_cnf.specs.Formulas.{Assignment}
-use Rattle.gipsat_cnf.specs.Models.{assignment_in}
-use Rattle.gipmc_circuits.specs.Circuit.{IsTrace}
-use Rattle.gipmc_circuits.specs.Traces.{HoldsRow}
-use Rattle.gipmc_circuits.specs.WellFormed.{latch_variables}
+use Rattle.gipsat_cnf.specs.Prelude.{Assignment, assignment_in}
+use Rattle.gipmc_circuits.specs.Prelude.{HoldsRow, IsTrace, latch_variables}
 use Rattle.gipmc_circuits.proofs.Rows.{HoldsRowsUpTo}
 use Rattle.gipmc_traces.specs.Rows.{AreHeld}
 use Rattle.gipmc_traces.proofs.rows.rows_of.Given as goal

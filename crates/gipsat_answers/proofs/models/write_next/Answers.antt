@@ -1,7 +1,6 @@
 -- A model was written and excluded.
 use Rattle.std.proofs.Common.{IsTrue, subst, sym}
-use Rattle.gipsat_cnf.specs.Formulas.{satisfies}
-use Rattle.gipsat_cnf.specs.Models.{assignment_in}
+use Rattle.gipsat_cnf.specs.Prelude.{assignment_in, satisfies}
 use Rattle.gipsat_answers.proofs.Enumerating.{WritesNext-model}
 use Rattle.gipsat_answers.proofs.models.write_next.Goals as goal
 

@@ -1,9 +1,6 @@
 use Rattle.std.proofs.Common.{◌≡◌, ◌+◌, ◌^◌, ◌≤◌, length, subst, sym, ap, ◌∙◌, refl}
 use Rattle.std.proofs.lemmas.List.{length-replicate}
-use Rattle.gipsat_cnf.specs.Assumptions.{IsModelUnder}
-use Rattle.gipsat_cnf.specs.Formulas.{AreBelow}
-use Rattle.gipsat_cnf.specs.Lists.{AreAllBelow}
-use Rattle.gipsat_cnf.specs.Numbers.{NoneBelow, number}
+use Rattle.gipsat_cnf.specs.Prelude.{AreAllBelow, AreBelow, IsModelUnder, NoneBelow, number}
 use Rattle.gipsat_cnf.proofs.Formulas.{AreAllBelow-more}
 use Rattle.gipsat_cnf.proofs.Counting.{NoneBelow-all, NoneBelow-next, NoneBelow-zero, distance-less, number-replicate}
 use Rattle.gipsat_cnf.proofs.enumerate.find_model.Goals as goal

@@ -1,7 +1,5 @@
 use Rattle.std.proofs.Common.{◌-◌, ◌^◌, length}
-use Rattle.gipsat_cnf.specs.Formulas.{AreBelow}
-use Rattle.gipsat_cnf.specs.Lists.{AreAllBelow}
-use Rattle.gipsat_cnf.specs.Numbers.{NoneBelow, number}
+use Rattle.gipsat_cnf.specs.Prelude.{AreAllBelow, AreBelow, NoneBelow, number}
 use Rattle.gipsat_cnf.proofs.enumerate.find_model.Given as goal
 
 abbrev pub invariant-loop-values : goal.invariant-loop-values

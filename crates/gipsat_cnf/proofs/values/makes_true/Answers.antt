@@ -1,7 +1,6 @@
 use Rattle.std.proofs.Common.{refl, sym, length, ◌∙◌}
 use Rattle.std.proofs.lemmas.Option.{slice_get_read}
-use Rattle.gipsat_cnf.specs.Formulas.{is_true}
-use Rattle.gipsat_cnf.specs.Models.{assignment_in}
+use Rattle.gipsat_cnf.specs.Prelude.{assignment_in, is_true}
 use Rattle.gipsat_cnf.proofs.Tests.{all_pass, one_fails}
 use Rattle.gipsat_cnf.proofs.values.makes_true.Goals as goal
 

@@ -1,8 +1,6 @@
 use Rattle.std.proofs.Common.{◌≡◌, ℕ, ◌<◌, Some, true}
 use Rattle.std.specs.Prelude.{slice_get}
-use Rattle.gipsat_cnf.specs.Literals.{Lit}
-use Rattle.gipsat_cnf.specs.Formulas.{is_true}
-use Rattle.gipsat_cnf.specs.Models.{assignment_in}
+use Rattle.gipsat_cnf.specs.Prelude.{Lit, assignment_in, is_true}
 use Rattle.gipsat_cnf.proofs.values.makes_true.Given as goal
 
 abbrev pub invariant-loop-l : goal.invariant-loop-l

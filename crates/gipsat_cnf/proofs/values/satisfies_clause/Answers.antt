@@ -1,5 +1,4 @@
-use Rattle.gipsat_cnf.specs.Formulas.{is_true}
-use Rattle.gipsat_cnf.specs.Models.{assignment_in}
+use Rattle.gipsat_cnf.specs.Prelude.{assignment_in, is_true}
 use Rattle.gipsat_cnf.proofs.Tests.{all_fail}
 use Rattle.gipsat_cnf.proofs.values.satisfies_clause.Goals as goal
 

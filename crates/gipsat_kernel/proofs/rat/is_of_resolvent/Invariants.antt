@@ -1,7 +1,6 @@
 use Rattle.std.proofs.Common.{◌≡◌, ◌<◌, ◌⊎◌, ℕ, Some}
 use Rattle.std.specs.Prelude.{slice_get}
-use Rattle.gipsat_cnf.specs.Formulas.{Has, HasBut}
-use Rattle.gipsat_cnf.specs.Literals.{Lit}
+use Rattle.gipsat_cnf.specs.Prelude.{Has, HasBut, Lit}
 use Rattle.gipsat_kernel.proofs.rat.is_of_resolvent.Given as goal
 
 abbrev pub invariant-loop-l : goal.invariant-loop-l

@@ -1,7 +1,6 @@
 use Rattle.std.proofs.Common.{◌≡◌, ℕ, ◌<◌, Some}
 use Rattle.std.specs.Prelude.{slice_get}
-use Rattle.gipsat_cnf.specs.Formulas.{Has}
-use Rattle.gipsat_cnf.specs.Literals.{Lit}
+use Rattle.gipsat_cnf.specs.Prelude.{Has, Lit}
 use Rattle.gipsat_plain.proofs.search.are_among.Given as goal
 
 abbrev pub invariant-loop-l : goal.invariant-loop-l

@@ -1,7 +1,6 @@
 use Rattle.std.proofs.Common.{◌≡◌, ℕ, ◌<◌, Some}
 use Rattle.std.specs.Prelude.{slice_get}
-use Rattle.gipsat_cnf.specs.Formulas.{Has}
-use Rattle.gipsat_cnf.specs.Literals.{Lit, negated}
+use Rattle.gipsat_cnf.specs.Prelude.{Has, Lit, negated}
 use Rattle.gipsat_plain.proofs.search.is_refuted.Given as goal
 
 abbrev pub invariant-loop-l : goal.invariant-loop-l

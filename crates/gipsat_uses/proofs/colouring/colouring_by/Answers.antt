@@ -1,7 +1,6 @@
 -- The clauses say of a model that it is a colouring.
 use Rattle.std.proofs.Common.{IsTrue, refl, subst, sym}
-use Rattle.gipsat_cnf.specs.Formulas.{satisfies}
-use Rattle.gipsat_cnf.specs.Models.{assignment_in}
+use Rattle.gipsat_cnf.specs.Prelude.{assignment_in, satisfies}
 use Rattle.gipsat_uses.proofs.Outcomes.{found-weaker, missing-weaker}
 use Rattle.gipsat_uses.proofs.colouring.colouring_by.Goals as goal
 

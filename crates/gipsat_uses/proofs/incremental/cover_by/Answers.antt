@@ -1,8 +1,7 @@
 -- The formula is that of all pairs.
 use Rattle.std.proofs.Common.{◌≡◌, map, arith, IsTrue, subst, sym}
 use Rattle.std.proofs.lemmas.Grind.{common_steps}
-use Rattle.gipsat_cnf.specs.Formulas.{satisfies}
-use Rattle.gipsat_cnf.specs.Models.{assignment_in}
+use Rattle.gipsat_cnf.specs.Prelude.{assignment_in, satisfies}
 use Rattle.gipsat_uses.specs.Incremental.{either}
 use Rattle.gipsat_uses.proofs.Incrementals.{covers, covered}
 use Rattle.gipsat_uses.proofs.Outcomes.{found-weaker, missing-weaker}

@@ -1,8 +1,7 @@
 -- What is asked is the core without the literal.
 use Rattle.std.proofs.Common.{◌≡◌, IsTrue, inl, inr, refl, rules, subst}
 use Rattle.std.specs.List.{remove}
-use Rattle.gipsat_cnf.specs.Assumptions.{makes_true}
-use Rattle.gipsat_cnf.specs.Models.{assignment_in}
+use Rattle.gipsat_cnf.specs.Prelude.{assignment_in, makes_true}
 use Rattle.gipsat_cnf.proofs.MakesTrue.{unsatisfied-under}
 use Rattle.gipsat_uses.proofs.minimal_core.without.Goals as goal
 

@@ -1,7 +1,6 @@
 use Rattle.std.proofs.Common.{ap, arith, refl, subst, take, length, false, ◌≡◌, ◌∙◌}
 use Rattle.std.proofs.lemmas.List.{length-take-le, take_all, take_more}
-use Rattle.giputils_bounded.specs.Keys.{is_held}
-use Rattle.giputils_bounded.specs.Table.{place_in, IsTable, SaysAlso}
+use Rattle.giputils_bounded.specs.Prelude.{IsTable, SaysAlso, is_held, place_in}
 use Rattle.giputils_bounded.proofs.Entries.{below_at}
 use Rattle.giputils_bounded.proofs.Places.{IsTable-append, IsTable-nil}
 use Rattle.giputils_bounded.proofs.Retained.{absent_before}

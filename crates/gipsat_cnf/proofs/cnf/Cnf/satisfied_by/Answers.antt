@@ -1,6 +1,5 @@
 use Rattle.std.proofs.Common.{◌≤◌, length, sym, ◌∙◌, arith}
-use Rattle.gipsat_cnf.specs.Formulas.{satisfies_clause}
-use Rattle.gipsat_cnf.specs.Models.{assignment_in}
+use Rattle.gipsat_cnf.specs.Prelude.{assignment_in, satisfies_clause}
 use Rattle.gipsat_cnf.proofs.Tests.{all_pass, one_fails}
 use Rattle.gipsat_cnf.proofs.cnf.Cnf.satisfied_by.Goals as goal
 

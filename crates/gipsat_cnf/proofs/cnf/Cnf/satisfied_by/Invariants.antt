@@ -1,7 +1,6 @@
 use Rattle.std.proofs.Common.{◌≡◌, ℕ, ◌<◌, Some, true}
 use Rattle.std.specs.Prelude.{slice_get}
-use Rattle.gipsat_cnf.specs.Formulas.{Clause, satisfies_clause}
-use Rattle.gipsat_cnf.specs.Models.{assignment_in}
+use Rattle.gipsat_cnf.specs.Prelude.{Clause, assignment_in, satisfies_clause}
 use Rattle.gipsat_cnf.proofs.cnf.Cnf.satisfied_by.Given as goal
 
 abbrev pub invariant-loop-place : goal.invariant-loop-place

@@ -1,8 +1,7 @@
 use Rattle.std.proofs.Common.{◌≡◌, ◌<◌, length, refl, arith, subst}
 use Rattle.std.proofs.lemmas.Option.{slice_get_read}
 use Rattle.std.proofs.lemmas.Grind.{common_steps}
-use Rattle.gipsat_cnf.specs.Layout.{clauses_of}
-use Rattle.gipsat_cnf.specs.Lists.{KeepsBut, Reorders}
+use Rattle.gipsat_cnf.specs.Prelude.{KeepsBut, Reorders, clauses_of}
 use Rattle.gipsat_cnf.proofs.Swaps.{IsLaidOut-swapped, KeepsBut-swapped, Reorders-swapped}
 use Rattle.gipsat_cnf.proofs.cnf.Cnf.swap.Goals as goal
 

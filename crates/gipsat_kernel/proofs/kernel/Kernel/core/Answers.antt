@@ -1,7 +1,5 @@
 use Rattle.std.proofs.Common.{◌≡◌, map, subst, ◌∙◌}
-use Rattle.gipsat_cnf.specs.Formulas.{Implies}
-use Rattle.gipsat_cnf.specs.Lists.{AreHadBy}
-use Rattle.gipsat_cnf.specs.Literals.{negated}
+use Rattle.gipsat_cnf.specs.Prelude.{AreHadBy, Implies, negated}
 use Rattle.gipsat_kernel.proofs.Verdicts.{IsCore-negations}
 use Rattle.gipsat_kernel.proofs.kernel.Kernel.core.Goals as goal
 

@@ -1,8 +1,7 @@
 use Rattle.std.proofs.Common.{◌≡◌, ◌≤◌, length, true, false, sym, ap, ◌∙◌, arith}
 use Rattle.std.specs.Prelude.{slice_index_or}
 use Rattle.std.proofs.lemmas.Grind.{common_steps}
-use Rattle.gipsat_cnf.specs.Formulas.{satisfies}
-use Rattle.gipsat_cnf.specs.Models.{assignment_in}
+use Rattle.gipsat_cnf.specs.Prelude.{assignment_in, satisfies}
 use Rattle.gipsat_kernel.proofs.Originals.{AreSatisfied-all, AreSatisfied-derived, AreSatisfied-next, unsatisfied_original}
 use Rattle.gipsat_kernel.proofs.kernel.Kernel.satisfied_by.Goals as goal
 

@@ -1,8 +1,7 @@
 -- The clause of both literals, and that of their negations, say that exactly one is true.
 use Rattle.std.proofs.Common.{◌≡◌, [], ◌∷◌, ◌++◌, refl, ap, ◌∙◌}
 use Rattle.std.proofs.lemmas.Result.{on_ok_weaker}
-use Rattle.gipsat_cnf.specs.Formulas.{Clause, Formula}
-use Rattle.gipsat_cnf.specs.Literals.{negated}
+use Rattle.gipsat_cnf.specs.Prelude.{Clause, Formula, negated}
 use Rattle.gipsat_cnf.proofs.Encodings.{Adds-exactly_one}
 use Rattle.gipsat_uses.proofs.pages.encoded.add_either.Goals as goal
 

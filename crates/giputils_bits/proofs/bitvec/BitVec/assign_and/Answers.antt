@@ -1,6 +1,5 @@
 use Rattle.std.proofs.Common.{◌≡◌, ◌∙◌, sym, ap, arith}
-use Rattle.giputils_bits.specs.Logic.{and_of, negated_if}
-use Rattle.giputils_bits.specs.Places.{bits_of}
+use Rattle.giputils_bits.specs.Prelude.{and_of, bits_of, negated_if}
 use Rattle.giputils_bits.proofs.Conjoined.{none_in_common, IsPacked-conjoined, bits_of-conjoined}
 use Rattle.giputils_bits.proofs.Places.{kept-length}
 use Rattle.giputils_bits.proofs.Rewritten.{same_count}

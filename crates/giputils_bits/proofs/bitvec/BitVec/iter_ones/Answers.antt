@@ -1,6 +1,5 @@
 use Rattle.std.proofs.Common.{ap, length, ◌∙◌, ◌*◌, get_or, arith}
-use Rattle.giputils_bits.specs.Ones.{true_places}
-use Rattle.giputils_bits.specs.Places.{bits_of, words_from}
+use Rattle.giputils_bits.specs.Prelude.{bits_of, true_places, words_from}
 use Rattle.giputils_bits.proofs.Places.{kept-length}
 use Rattle.giputils_bits.proofs.OnesLeft.{left-all}
 use Rattle.giputils_bits.proofs.bitvec.BitVec.iter_ones.Goals as goal

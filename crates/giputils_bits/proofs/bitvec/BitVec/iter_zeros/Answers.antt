@@ -1,7 +1,5 @@
 use Rattle.std.proofs.Common.{◌≡◌, ◌∙◌, length, ap, arith}
-use Rattle.giputils_bits.specs.Logic.{not_of}
-use Rattle.giputils_bits.specs.Ones.{true_places}
-use Rattle.giputils_bits.specs.Places.{bits_of}
+use Rattle.giputils_bits.specs.Prelude.{bits_of, not_of, true_places}
 use Rattle.giputils_bits.proofs.Places.{kept-length}
 use Rattle.giputils_bits.proofs.bitvec.BitVec.iter_zeros.Goals as goal
 

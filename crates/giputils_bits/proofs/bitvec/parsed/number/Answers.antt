@@ -1,7 +1,6 @@
 use Rattle.std.proofs.Common.{◌==◌, ◌∙◌, get_or, ap, arith}
 use Rattle.std.proofs.lemmas.List.{take_all}
-use Rattle.giputils_bits.specs.Bits.{value_of}
-use Rattle.giputils_bits.specs.Text.{places_written}
+use Rattle.giputils_bits.specs.Prelude.{places_written, value_of}
 use Rattle.giputils_bits.proofs.Parsed.{number_fits, number_more, bit_fits}
 use Rattle.giputils_bits.proofs.bitvec.parsed.number.Goals as goal
 

@@ -1,7 +1,6 @@
 -- The number that the digits so far write.
 use Rattle.std.proofs.Common.{◌≡◌, take}
-use Rattle.giputils_bits.specs.Bits.{value_of}
-use Rattle.giputils_bits.specs.Text.{places_written}
+use Rattle.giputils_bits.specs.Prelude.{places_written, value_of}
 use Rattle.giputils_bits.proofs.bitvec.parsed.number.Given as goal
 
 abbrev pub invariant-loop-digit : goal.invariant-loop-digit

@@ -1,8 +1,7 @@
 use Rattle.std.proofs.Common.{◌≡◌, ◌+◌, ◌-◌, ◌++◌, ◌∙◌, length, take, drop, sym, ap, arith}
 use Rattle.std.proofs.lemmas.Bool.{false≢true}
 use Rattle.std.proofs.lemmas.List.{append_assoc, length-append, length-drop}
-use Rattle.giputils_bits.specs.Bits.{digits_of, value_of}
-use Rattle.giputils_bits.specs.Text.{places_written}
+use Rattle.giputils_bits.specs.Prelude.{digits_of, places_written, value_of}
 use Rattle.giputils_bits.proofs.Parsed.{length-places_written, places_written-split, word_cut, word_whole}
 use Rattle.giputils_bits.proofs.bitvec.parsed.read_digits.Goals as goal
 

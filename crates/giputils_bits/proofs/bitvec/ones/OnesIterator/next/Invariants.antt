@@ -1,7 +1,6 @@
 -- What was left at the call is what is left from the word in hand on.
 use Rattle.std.proofs.Common.{◌≡◌, ◌-◌, ◌*◌, ◌^◌, ◌<◌, length}
-use Rattle.giputils_bits.specs.Ones.{true_places}
-use Rattle.giputils_bits.specs.Places.{bits_of, words_from}
+use Rattle.giputils_bits.specs.Prelude.{bits_of, true_places, words_from}
 use Rattle.giputils_bits.proofs.bitvec.ones.OnesIterator.next.Given as goal
 
 abbrev pub invariant-loop-word : goal.invariant-loop-word

@@ -1,6 +1,5 @@
 use Rattle.std.proofs.Common.{◌∙◌, length, sym, ap, arith}
-use Rattle.giputils_bits.specs.Logic.{not_of}
-use Rattle.giputils_bits.specs.Places.{bits_of}
+use Rattle.giputils_bits.specs.Prelude.{bits_of, not_of}
 use Rattle.giputils_bits.proofs.Walks.{true_places-next, true_places-none}
 use Rattle.giputils_bits.proofs.bitvec.zeros.ZerosIterator.next.Goals as goal
 
