@@ -127,7 +127,8 @@ class Crate:
         self.name, self.mutants, self.command, self.begun = name, mutants, command, begun
         self.folder, self.room, self.said_to = ROOT / "crates" / name, pathlib.Path(room), said_to
         self.outcomes = {mutant: ("other", mutant.fault) for mutant in mutants if mutant.fault}
-        # Those to be tried over stubs, then those to be tried over all of the crate, and groups of these that are one check each.
+        # Those to be tried over stubs, those of a proof each by itself; then those to be tried over all of the crate, and groups of
+        # these that are one check each.
         self.left = [mutant for mutant in mutants if not mutant.fault]
         self.plain, self.groups = [], []
         # Those for which all of the crate is asked, since the prover names their functions otherwise.
@@ -208,6 +209,8 @@ class Crate:
     def judge_over_stubs(self, batch):
         """Tries mutants, each in its function alone. One that shows less than its file says, or that a check says nothing of, is
         tried once more over all of the crate, and so are all where the control is refused."""
+        if not batch[0].places:
+            return self.judge_proof(batch[0])
         control = self.control_for(batch)
         places = {place for mutant in batch for place in mutant.places} | ({control} if control else set())
         keys = {mutant_stubs.key_of(*place) for place in places}
@@ -227,6 +230,16 @@ class Crate:
             else:
                 again.plain.append(mutant)
         return again
+
+    def judge_proof(self, mutant):
+        """Tries a mutant of a proof, where each function is a stub."""
+        said = self.check(mutant_files.texts_with([mutant], self.folder), (), set())
+        outcome = said.reason_of_crate() if said and said.reached else None
+        if outcome and not is_less(outcome[0], mutant.wanted):
+            self.outcomes[mutant] = outcome
+            return Again()
+        self.whole.add(mutant)
+        return Again(groups=[[mutant]])
 
     def control_for(self, batch):
         """The place of a function that no mutant of the batch changes, and whose right body has to be accepted beside them. It is
@@ -349,8 +362,9 @@ class Again:
 
 
 def taken_from(mutants, most):
-    """Takes at most so many mutants in different functions out of a list."""
-    taken, functions = [], set()
+    """Takes at most so many mutants in different functions out of a list, or one of a proof."""
+    taken, functions = [mutant for mutant in mutants if not mutant.places][:1], set()
+    most = 1 if taken else most
     for mutant in mutants:
         if len(taken) < most and not functions & mutant.places:
             taken.append(mutant)

@@ -127,6 +127,10 @@ class Tree:
         by how many steps."""
         own = [mutant.wanted, *(text for hunk in mutant.hunks for text in hunk)]
         found, left, steps = {}, set(), 0
+        for path in sorted({path for path, _, _ in mutant.hunks if path.endswith(".antt")}):
+            source = self.sources(mutant.crate)[path]
+            own.append(" ".join(source.source.split()))
+            left |= self.leads_to(mutant_sources.words_of(source.source), source, calls=True)
         for path, function in sorted(mutant.places):
             source = self.sources(mutant.crate)[path]
             text = f"{function.head} {source.source[function.begins : function.closes + 1]}"

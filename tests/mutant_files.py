@@ -1,8 +1,9 @@
 """The mutants of the crates. Read by the scripts that try mutants.
 
 A mutant is a file crates/NAME/mutants/*.edit: a line 'file: src/..' and pairs of lines 'old: TEXT' and 'new: TEXT', where
-each old TEXT stands in the file once. It changes the body of a function so that a clause no longer holds. A goal refuses
-it, or the file says which other reason does, in a line 'refused: REASON', and in a line 'why: TEXT' why no goal can."""
+each old TEXT stands in the file once. It changes the body of a function so that a clause no longer holds; or a proof of a
+caller (file: proofs/..), which then rests on what it may not know. A goal refuses it, or the file says which other
+reason does, in a line 'refused: REASON', and in a line 'why: TEXT' why no goal can."""
 
 import pathlib
 import re
@@ -49,7 +50,7 @@ class Mutant:
     def __init__(self, file, crate, folder):
         self.crate, self.stem, self.name = crate, file.stem, f"{crate}/{file.stem}"
         self.wanted, self.why, self.hunks, self.fault = "goal", "", [], None
-        # The functions in which it stands, each with its file.
+        # The functions in which it stands, each with its file; none where it changes a proof.
         self.places = set()
         texts, path, old = {}, None, None
         for line in filter(None, file.read_text(encoding="utf-8").splitlines()):
@@ -69,11 +70,12 @@ class Mutant:
                 if not old or texts[path].count(old) != 1:
                     self.fault = f"an 'old:' text does not stand once in {path}"
                     return
-                place = place_of(path, texts[path], texts[path].index(old), len(old))
-                if place is None:
-                    self.fault = f"an 'old:' text stands in no function of {path}"
-                    return
-                self.places.add(place)
+                if path.endswith(".rt"):
+                    place = place_of(path, texts[path], texts[path].index(old), len(old))
+                    if place is None:
+                        self.fault = f"an 'old:' text stands in no function of {path}"
+                        return
+                    self.places.add(place)
                 self.hunks.append((path, old, value))
                 texts[path] = texts[path].replace(old, value)
             else:
@@ -89,7 +91,7 @@ class Mutant:
 
 def place_of(path, text, at, length):
     """The function in which a text stands, with its file, or None where it stands in none."""
-    for function in mutant_sources.functions_of(text) if path.endswith(".rt") else ():
+    for function in mutant_sources.functions_of(text):
         if function.start <= at + length - 1 <= function.closes:
             return path, function
     return None

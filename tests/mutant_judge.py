@@ -30,7 +30,7 @@ FORM = re.compile(r"(?:is|are) not covered|does not cover|expected a measure")
 ACCEPTED = re.compile(r"proved|no holes|depends on a hole|it calls .* which (?:are|is) not proved")
 WAITS = re.compile(r"declarations? that depends? on")
 # How a check ends that reached the prover.
-REACHED = re.compile(r"^(?:logic=|only=|rattle: no verdict)", re.MULTILINE)
+REACHED = re.compile(r"^(?:logic=|only=|holes=|rattle: no verdict)", re.MULTILINE)
 # How it ends where all of a crate is proved.
 WHOLE = re.compile(r"^logic=proved ", re.MULTILINE)
 UNKNOWN = re.compile(r"^rattle: error: `\w+` has no function `([^`]+)`", re.MULTILINE)

@@ -83,9 +83,23 @@ def owner_of(word, head):
     if head.startswith("<"):
         own, head = set(re.findall(r"\w+", head[: angle(head, 0)])), head[angle(head, 0) + 1 :]
     trait, _, implementor = head.rpartition(" for ")
-    arguments = trait[trait.index("<") + 1 : trait.rindex(">")] if "<" in trait else ""
-    camel = "".join(camel_name(each) for each in re.split(r",(?![^<]*>)", arguments) if each.strip() not in own)
-    return camel_name(implementor or head) + (last_name(trait) if trait else ""), camel
+    arguments = split(trait[trait.index("<") + 1 : trait.rindex(">")]) if "<" in trait else []
+    own_name = camel_name(implementor or head)
+    # An argument that is the type itself is told as little as one of the impl's parameters.
+    camel = "".join(name for each in arguments if each not in own and (name := camel_name(each)) != own_name)
+    return own_name + (last_name(trait) if trait else ""), camel
+
+
+def split(types):
+    """The types of a list of them."""
+    found, depth = [""], 0
+    for at, letter in enumerate(types):
+        depth += (letter in "<([") - (letter in ")]" or letter == ">" and types[at - 1] != "-")
+        if letter == "," and depth == 0:
+            found.append("")
+        else:
+            found[-1] += letter
+    return [each.strip() for each in found if each.strip()]
 
 
 def parts_of_head(head):
@@ -95,12 +109,15 @@ def parts_of_head(head):
     if word == "impl" and head.startswith("<"):
         head = head[angle(head, 0) + 1 :]
     trait, _, implementor = head.rpartition(" for ") if word == "impl" else ("", "", head)
-    return last_name(trait), last_name(re.sub(r"&(?:'\w+ )?(?:mut )?", "", implementor))
+    return last_name(trait), camel_name(re.sub(r"&(?:'\w+ )?(?:mut )?", "", implementor))
 
 
 def camel_name(type_name):
-    """How the prover writes a type in the name of an impl: `u32` as `U32`, `&[T]` as `Ref`, `&BitVec<A>` as `RefBitVec`."""
-    name = last_name(re.sub(r"&(?:'\w+ )?(?:mut )?", "", type_name))
+    """How the prover writes a type in the name of an impl: `u32` as `U32`, `&[T]` as `Ref`, `&BitVec<A>` as `RefBitVec`, `()` as
+    `Unit`, `(K, V)` as `Tuple2`."""
+    plain = re.sub(r"&(?:'\w+ )?(?:mut )?", "", type_name).strip()
+    parts = split(plain[1:-1]) if plain.startswith("(") else None
+    name = last_name(plain) if parts is None else f"Tuple{len(parts)}" if parts else "Unit"
     return ("Ref" if type_name.strip().startswith("&") else "") + name[:1].upper() + name[1:]
 
 

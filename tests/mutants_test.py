@@ -538,6 +538,18 @@ def shared(folder):
     yield "or by the name that the prover tells", (found, tried[-1]), (goals, ("stubs", ["a::Counter::get", "double", "quadruple", "same"]))
     silent = lambda _, only: Said("fn low::other: proved\nonly=1 proved=1")
     yield "what is not judged is not refused", run(silent, silent)[0], dict.fromkeys(goals, "other")
+    crate = Checked(mutant_files.mutants_of("low", folder), folder, right, right)
+    proof = copy.copy(crate.left[0])
+    proof.places, proof.hunks = set(), [("proofs/Facts.antt", "itself n = refl", "itself n = n")]
+    crate.left.append(proof)
+    batches = [crate.take(16)[0] for _ in range(3)]
+    yield "one of a proof is a check by itself", ([len(batch) for batch in batches], batches[0]), ([1, 3, 0], [proof])
+    answers = {"proofs/Facts.antt:9:3: error: `itself`: expected type A\nholes=4": "type", "holes=4": None}
+    for said_of_proof, wanted in answers.items():
+        crate = Checked([proof], folder, lambda texts, only, text=said_of_proof: Said(text), lambda texts, only: Said("logic=proved "))
+        proof.wanted = "type"
+        mutant_checks.Trial([crate], 1, tells=False).run()
+        yield f"one of a proof is refused by {wanted}", (crate.outcomes[proof][0], crate.tried[0]), (wanted or "none", ("stubs", []))
     late = lambda _, only: None if "double" in only else said(only)
     yield "nor is what comes to no end", run(late, late)[0], goals | {"double_is_one_more": "none"}
 
