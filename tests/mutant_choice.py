@@ -26,7 +26,7 @@ BACK = 60
 # Where a repository has its main branch.
 MAIN = ("origin/main", "origin/master", "main", "master")
 # How many mutants are tried of each definition, type and contract that changed.
-COVER = 2
+COVER = 3
 # In how many commits the rota samples each mutant once.
 ROUND = 1600
 # What a check costs by itself, and a mutant in it, in seconds: by these few crates are better than many.
