@@ -977,7 +977,7 @@ for _ in range(20000):
     print("a 200001 -200002 0")
 END
     TIMEFORMAT=%U
-    spent=$( { time timeout 60 "$gipsat" -q "$work/questions" > "$work/out" 2> "$work/err"; } 2>&1)
+    spent=$( { time timeout 600 "$gipsat" -q "$work/questions" > "$work/out" 2> "$work/err"; } 2>&1)
     echo "$spent s" >> "$work/err"
     [ "$(grep -c '^s UNSATISFIABLE$' "$work/out")" = 20000 ] && awk "BEGIN { exit !($spent < 10) }"
     told "20 000 questions beside a long chain" $?

@@ -219,8 +219,8 @@ class Crate:
             return self.named_anew(batch, misnamed, control, over_stubs=True)
         if said is None or not said.reached:
             return Again(plain=batch)
-        if control and not said.accepts(self.names_at([control], said)):
-            self.refused_controls.append("::".join(sorted(self.asked_for(control))))
+        if not control or not said.accepts(self.names_at([control], said)):
+            self.refused_controls += self.asked_for(control) if control else ()
             return Again(plain=batch)
         again = Again()
         for mutant in batch:
@@ -234,7 +234,7 @@ class Crate:
     def judge_proof(self, mutant):
         """Tries a mutant of a proof, where each function is a stub."""
         said = self.check(mutant_files.texts_with([mutant], self.folder), (), set())
-        outcome = said.reason_of_crate() if said and said.reached else None
+        outcome = said.reason_of_proofs({path for path, _, _ in mutant.hunks}) if said and said.reached else None
         if outcome and not is_less(outcome[0], mutant.wanted):
             self.outcomes[mutant] = outcome
             return Again()
@@ -243,21 +243,22 @@ class Crate:
 
     def control_for(self, batch):
         """The place of a function that no mutant of the batch changes, and whose right body has to be accepted beside them. It is
-        drawn by their names; None where there is none."""
+        drawn by their names, of those with a contract where there are such; None where there is none."""
         changed = {mutant_stubs.key_of(*place) for mutant in batch for place in mutant.places}
         names = [mutant.stem for mutant in batch]
         drawn = lambda place: hashlib.sha256(repr([mutant_stubs.key_of(*place), names]).encode()).digest()
-        return min((place for place in self.controls if mutant_stubs.key_of(*place) not in changed), key=drawn, default=None)
+        free = [(place, has_contract) for place, has_contract in self.controls.items() if mutant_stubs.key_of(*place) not in changed]
+        return min(free, key=lambda each: (not each[1], drawn(each[0])), default=(None, False))[0]
 
     @functools.cached_property
     def controls(self):
-        """The places of the crate's short functions that ensure something."""
-        found = []
+        """The places of the crate's short functions, each with whether it ensures something."""
+        found = {}
         for path, text in self.texts.items():
             for function in mutant_sources.functions_of(text):
                 head, body = text[function.start : function.opens], text[function.opens : function.closes]
-                if re.search(r"\bensures\b", head) and body.count("\n") <= LONGEST and mutant_stubs.can_be_stub(text, function):
-                    found.append((path, function))
+                if body.count("\n") <= LONGEST and mutant_stubs.can_be_stub(text, function):
+                    found[path, function] = bool(re.search(r"\bensures\b", head))
         return found
 
     def judge_plainly(self, batch):
@@ -324,7 +325,7 @@ class Crate:
             elif names != {function.name}:
                 self.names[place] = {function.name}
             elif place == control:
-                self.controls.remove(control)
+                self.controls.pop(control, None)
             else:
                 self.whole |= {mutant for mutant in batch if place in mutant.places}
         known = [mutant for mutant in batch if mutant not in self.whole]
@@ -474,7 +475,8 @@ def crates_of(by_crate, libraries, room, said_to, ended):
     unless it is going on: then they are waited for until this file tells that it ended."""
     left = list(by_crate)
     while left:
-        is_last = ended is None or ended.exists()
+        # Where the folder is gone, too, nothing is to come.
+        is_last = ended is None or ended.exists() or not ended.parent.exists()
         if ended is None:
             there = libraries.prepare(left)
         else:

@@ -33,6 +33,7 @@ ROUND = 1600
 CHECK, EACH = 12, 3
 # Where mutants stand, and where they stood in earlier commits.
 FOLDERS = (mutant_files.FOLDER, "wrong", "must-fail")
+MUTANT = re.compile(rf"crates/(\w+)/(?:{'|'.join(FOLDERS)})/(\w+)[.]edit")
 
 
 # What a refusal rests on.
@@ -197,16 +198,23 @@ def covering(reached, chosen):
 
 
 def sampled(mutants, root, commit):
-    """The mutants that a rota tries for the commits behind this one. They stand in a round, crate by crate, in an order that
-    the commit gives with which the round began, and each commit goes on by its part of the round."""
+    """The mutants that a rota tries for the commits behind this one. Those that stood at the commit with which a round began
+    stand in it, crate by crate, in an order that this commit gives; each later commit goes on by its part of the round. Those
+    that came later were tried as new ones."""
     first, last = (int(git(root, "rev-list", "--count", "--first-parent", each) or 0) for each in (commit, "HEAD"))
     found = set()
     for begin in {number - number % ROUND for number in range(first + 1, last + 1)}:
         seed = git(root, "rev-list", "--first-parent", f"--skip={last - max(begin, 1)}", "-1", "HEAD")
-        order = sorted(mutants, key=lambda mutant: (digest(f"{seed} {mutant.crate}"), digest(f"{seed} {mutant.name}")))
+        order = sorted(names_at(root, seed), key=lambda name: (digest(f"{seed} {name[0]}"), digest(f"{seed} {name[1]}")))
         passed = {number - begin for number in range(max(begin, first + 1), min(begin + ROUND, last + 1))}
-        found |= {mutant for place, mutant in enumerate(order) if place * ROUND // len(order) in passed}
-    return found
+        found |= {"/".join(name) for place, name in enumerate(order) if place * ROUND // len(order) in passed}
+    return {mutant for mutant in mutants if mutant.name in found}
+
+
+def names_at(root, commit):
+    """The mutants that a commit has, each as its crate and the name of its file."""
+    listed = git(root, "ls-tree", "-r", "--name-only", commit, "crates") or ""
+    return {(match[1], match[2]) for match in map(MUTANT.fullmatch, listed.splitlines()) if match}
 
 
 # The base.
@@ -261,22 +269,23 @@ def is_of_another_kit(base, version):
 
 
 def gone(root, commit):
-    """The mutants that a commit behind a base took out and that are not there, where no message since then says why: by a line
-    'NAME: TEXT', with the name of its file."""
-    there = {mutant.stem for mutant in mutant_files.all_mutants(root)}
-    commits = (git(root, "rev-list", "--first-parent", f"{commit}..HEAD") or "").split()
-    told = {line.partition(":")[0].strip() for line in (git(root, "log", "--format=%B", f"{commit}..HEAD") or "").splitlines() if re.match(r"\s*\w+: \S", line)}
-    went = {}
-    for each in commits:
-        removed = git(root, "diff", "--no-renames", "--diff-filter=D", "--name-only", f"{each}~", each, "--", "crates") or ""
-        for path in filter(re.compile(rf"crates/\w+/(?:{'|'.join(FOLDERS)})/\w+[.]edit").fullmatch, removed.splitlines()):
-            went[pathlib.PurePath(path).stem] = path.split("/")[1]
-    told |= told_by_lists(root, commits)
-    return sorted(f"{crate}/{stem}" for stem, crate in went.items() if stem not in there | told)
+    """The mutants that a commit behind a base took out and that did not come back, where neither its message nor a later one
+    says why: by a line 'NAME: TEXT', with the name of its file."""
+    commits = (git(root, "rev-list", "--first-parent", "--reverse", f"{commit}..HEAD") or "").split()
+    went, told = {}, told_by_lists(root, commits)
+    for number, each in enumerate(commits):
+        # One that came back, or that another crate took over, is not gone.
+        came = {stem for _, stem in names_at(root, each) - names_at(root, f"{each}~")}
+        went = {name: when for name, when in went.items() if name[1] not in came}
+        went |= {name: number for name in names_at(root, f"{each}~") - names_at(root, each) if name[1] not in came}
+    message = functools.cache(lambda each: git(root, "log", "-1", "--format=%B", each) or "")
+    says = lambda name, since: any(re.search(rf"(?m)^\s*{name}: \S", message(each)) for each in commits[since:])
+    return sorted("/".join(name) for name, when in went.items() if name[1] not in told and not says(name[1], when))
 
 
 def told_by_lists(root, commits):
-    """The names that have a reason in the lists of names that commits had (crates/NAME/wrong/LIST)."""
+    """The names that have a reason in the lists of names that earlier commits had (crates/NAME/wrong/LIST). Where none of the
+    commits behind a base has such a list, this goes, and so do the earlier names of the folder."""
     found = set()
     for commit in commits:
         for line in (git(root, "grep", "-hF", ":", commit, "--", "crates/*/wrong/LIST") or "").splitlines():

@@ -5,9 +5,7 @@
     limit   a search for a goal's proof gave up at its limit: the goal may hold
     form    the borrow checker does not cover the mutant: no clause was tried
     name    an answer or a lemma cites a name that the mutant has not, or that is closed to it
-    other   another error: it does not compile, or a text of it does not stand once
-
-Of the scripts this alone is in the sum of what a refusal rests on: a change of it makes all mutants due."""
+    other   another error: it does not compile, or a text of it does not stand once"""
 
 import collections
 import re
@@ -108,6 +106,13 @@ class Said:
         self.sort_errors("", goals, others)
         found = [foremost(goals, others), *map(self.reason, self.judged)]
         return min(filter(None, found), key=rank, default=PROVED if self.is_proved else None)
+
+    def reason_of_proofs(self, paths):
+        """Why the prover refuses what stands in these files of proofs/, and what shows it; None where it says nothing of them."""
+        goals, others = {}, {}
+        for path in paths:
+            self.sort_errors(path.removeprefix("proofs/"), goals, others)
+        return foremost(goals, others)
 
     def misnamed(self):
         """The names of functions that were asked for and that stand for none or for several, each with these."""

@@ -188,12 +188,12 @@ class Source:
 
     def read_proof(self, text):
         self.source = text = re.sub(r"(?m)(?:^|(?<=\s))--.*$", "", text)
-        for match in re.finditer(r"(?m)^(pub )?use\s+((?:[^\n]|\n[ \t}])+)", text):
+        for match in re.finditer(r"(?m)^(?:unfoldable )?(pub )?use\s+((?:[^\n]|\n[ \t}])+)", text):
             for name, path in leaves(match[2], "."):
                 self.ghost_uses[name] = path
                 if match[1]:
                     self.handed_on[name] = path
-        text = re.sub(r"(?m)^(?:pub )?(?:use\s(?:[^\n]|\n[ \t}])+|mod\s[^\n]*)", "", text)
+        text = re.sub(r"(?m)^(?:unfoldable )?(?:pub )?(?:use\s(?:[^\n]|\n[ \t}])+|mod\s[^\n]*)", "", text)
         found = []
         for part in re.findall(r"(?m)^\S[^\n]*(?:\n(?:[ \t}][^\n]*)?)*", text):
             # A declaration; what stands behind one without being another is its equations.

@@ -13,8 +13,8 @@
 
 The tree is compared with a base: on a branch the commit where it left the main branch, and on the main branch itself the commit
 that stands 60 before HEAD. Where there is no base, or its README names another kit, all are tried. It takes the libraries
-that `rt ci` built, and else builds them. No result is stored. All mutants are applied and compiled, also those that are not
-tried. It fails, too, where a mutant is gone that a commit since the base had, and no message of a commit says why, by
+that `rt ci` built, and else builds them. No result is stored. All mutants of functions are applied and compiled, also those
+that are not tried. It fails, too, where a mutant is gone that a commit since the base had, and no message of a commit says why, by
 a line 'NAME: TEXT'. The last line is 'N passed, M failed'.
 """
 

@@ -25,7 +25,7 @@ LOW = """\
 //! Multiples of a number.
 #![tactic(auto)]
 ghost use Rattle.std.specs.Prelude.{◌≡◌, ◌+◌};
-ghost use Rattle.low.specs.Numbers.{IsSmall};
+ghost use Rattle.low.specs.Prelude.{IsSmall};
 
 /// Twice the number.
 pub fn double(n: u8) -> u16
@@ -143,6 +143,7 @@ FILES = {
     "crates/low/src/lib.rt": LOW,
     "crates/low/specs/Lib.antt": "pub mod Numbers\n",
     "crates/low/specs/Numbers.antt": NUMBERS,
+    "crates/low/specs/Prelude.antt": "unfoldable pub use Rattle.low.specs.Numbers.{IsSmall}\n",
     "crates/low/proofs/Lib.antt": "pub mod Facts\n",
     "crates/low/proofs/Facts.antt": FACTS,
     "crates/low/proofs/quadruple/Answers.antt": ANSWERS,
@@ -174,6 +175,7 @@ CHANGES = [
     ("the head of an impl", "low/src/lib.rt", "impl Counter {", "impl<> Counter {", {"count_is_one_more", "of_nothing"}),
     ("the head of a file", "low/src/lib.rt", "#![tactic(auto)]", "#![tactic(auto, using(std::x))]", set()),
     ("a definition that is reached", "low/specs/Numbers.antt", "greatest = 9", "greatest = 8", {"count_is_one_more", "of_nothing"}),
+    ("what a Prelude hands on", "low/specs/Numbers.antt", "n < greatest", "n < 9", {"count_is_one_more", "of_nothing"}),
     ("one that is not", "low/specs/Numbers.antt", "lonely = 3", "lonely = 4", set()),
     ("an answer", "low/proofs/quadruple/Answers.antt", "itself c.args.n", "itself c.n", set()),
     ("a lemma that an answer imports", "low/proofs/Facts.antt", "itself n = refl", "itself m = refl", set()),
@@ -350,6 +352,12 @@ def history(folder):
     yield "one of which the message says why", gone(), ["high/of_base"]
     commit("of_base: said later\n")
     yield "a later message says why", gone(), []
+    write(high / "told.edit", text)
+    commit()
+    (high / "told.edit").unlink()
+    commit()
+    yield "one that came back and went once more, of which an earlier message says why", gone(), ["high/told"]
+    commit("told: once more\n")
     write(high / "short_lived.edit", text)
     commit()
     (high / "short_lived.edit").unlink()
@@ -378,11 +386,15 @@ def rota(folder):
     """Which mutants are sampled."""
     git = lambda *words: subprocess.run(["git", "-C", folder, *words], check=True, stdout=subprocess.PIPE, text=True).stdout.strip()
     make(folder)
-    kinds = [copy.copy(mutant) for mutant in mutant_files.all_mutants(folder) for _ in range(4)]
-    for number, mutant in enumerate(kinds):
-        mutant.name = f"{mutant.crate}/{number}"
+    for number in range(15):
+        write(folder / f"crates/{'low' if number < 9 else 'high'}/mutants/m{number}.edit", "file: src/lib.rt\nold: 1\nnew: 2\n")
     git("init", "--quiet", "--initial-branch=main")
     for number in range(50):
+        # One comes in the middle of a round, and another one goes.
+        if number == 27:
+            write(folder / "crates/low/mutants/late.edit", "file: src/lib.rt\nold: 1\nnew: 2\n")
+            (folder / "crates/low/mutants/m0.edit").unlink()
+        git("add", "--all")
         git("-c", "user.name=A", "-c", "user.email=a@b", "commit", "--quiet", "--allow-empty", "-m", str(number))
     mutant_choice.ROUND = 20
     commits = git("rev-list", "--first-parent", "--reverse", "HEAD").split()
@@ -390,12 +402,13 @@ def rota(folder):
     def tried(first, last):
         """Those that are sampled where a landing ends at one commit and its base is another one."""
         git("checkout", "--quiet", commits[last - 1])
-        return {mutant.name for mutant in mutant_choice.sampled(kinds, folder, commits[first - 1])}
+        return {mutant.name for mutant in mutant_choice.sampled(mutant_files.all_mutants(folder), folder, commits[first - 1])}
 
-    names = {mutant.name for mutant in kinds}
+    git("checkout", "--quiet", commits[25])
+    names = {mutant.name for mutant in mutant_files.all_mutants(folder)}
     parts = [tried(first, first + 4) for first in range(19, 39, 4)]
-    yield "a round samples each of them", set().union(*parts), names
-    yield "once", sum(map(len, parts)), len(names)
+    yield "a round samples each that stands throughout", set().union(*parts) | {"low/m0"}, names
+    yield "once", sum(map(len, parts)) in (len(names) - 1, len(names)), True
     yield "a part of them at a time", max(map(len, parts)) <= len(names) // 4, True
     yield "however the landings part it", tried(21, 23) | tried(23, 25), tried(21, 25)
     in_order = [{name.partition("/")[0] for name in tried(number, number + 1)} for number in range(19, 39)]
@@ -514,6 +527,10 @@ def shared(folder):
     yield "where the control is refused, all of the crate is asked", (found, tried[1:]), (goals, [("all", changed)])
     found, tried = run(lambda texts, only: said(set(only) - {"same"}))
     yield "or where nothing is told of it", (found, tried[1:]), (goals, [("all", changed)])
+    crate = Checked(mutant_files.mutants_of("low", folder), folder, right, right)
+    crate.controls = {}
+    mutant_checks.Trial([crate], 1, tells=False).run()
+    yield "or where there is none", crate.tried, [("stubs", changed), ("all", changed)]
     yield "what stubs let pass is tried over all", run(blind), (goals, [("stubs", [*changed, "same"]), ("all", changed)])
     accepts = lambda texts, only: Said("fn low::double: proved\n" + said(set(only) - {"double"}).text)
     yield "and is not refused where that is proved", run(blind, accepts)[0], goals | {"double_is_one_more": "none"}
@@ -544,7 +561,8 @@ def shared(folder):
     crate.left.append(proof)
     batches = [crate.take(16)[0] for _ in range(3)]
     yield "one of a proof is a check by itself", ([len(batch) for batch in batches], batches[0]), ([1, 3, 0], [proof])
-    answers = {"proofs/Facts.antt:9:3: error: `itself`: expected type A\nholes=4": "type", "holes=4": None}
+    of_another = "proofs/Kept.antt:9:3: error: `kept`: expected type A\nholes=4"
+    answers = {"proofs/Facts.antt:9:3: error: `itself`: expected type A\nholes=4": "type", "holes=4": None, of_another: None}
     for said_of_proof, wanted in answers.items():
         crate = Checked([proof], folder, lambda texts, only, text=said_of_proof: Said(text), lambda texts, only: Said("logic=proved "))
         proof.wanted = "type"

@@ -11,8 +11,8 @@ crates.txt and of trials/trials.txt. A crate that is not in the layout of `rt fm
 
 Tests are compiled for speed, but keep the tests of each access that a proved program lacks (`tools/unproved.py
 --checked`): a place past the end of a list, a number that wraps, or what can't be reached ends a test by a signal. A test
-runs in a process of its own, for 60 seconds at most. A program is built without these tests. It counts as one test, which
-runs on its files `args` and `stdin`, for 120 seconds at most, and has to write its file `stdout`. The tests are left as
+runs in a process of its own, for 600 seconds at most. A program is built without these tests. It counts as one test, which
+runs on its files `args` and `stdin`, for 1200 seconds at most, and has to write its file `stdout`. The tests are left as
 OUT/CRATE_tests, the programs as OUT/CRATE; OUT is trials/out where it is not given. The last line is
 'N passed, M failed'.
 """
@@ -34,8 +34,9 @@ TRIALS = ROOT / "trials"
 sys.path.insert(0, str(ROOT / "tools"))
 import unproved
 
-SECONDS_OF_TEST = 60
-SECONDS_OF_PROGRAM = 120
+# Of the clock, ten times what they may take on a machine with nothing else to do.
+SECONDS_OF_TEST = 600
+SECONDS_OF_PROGRAM = 1200
 # The compiler takes longer at -O3, and the tests as long as here.
 LEVEL_OF_TESTS = "-O1"
 ENDED = re.compile(r"^test (\S+) \.\.\. (ok|FAILED)", re.MULTILINE)
@@ -85,6 +86,12 @@ class Counts:
             print(f"FAILED: {name}: {fault}", flush=True)
 
 
+def tests_of(name):
+    """How many tests the files of a crate have."""
+    texts = [path.read_text(encoding="utf-8") for path in (TRIALS / name / "src").rglob("*.rs")]
+    return sum(len(re.findall(r"(?m)^\s*#\[test\]", text)) for text in texts)
+
+
 def run_tests(kit, name, program, counts):
     """Runs each test of a built library, and tells how many there are."""
     words = [f"{kit.KIT}/bin/rattle-test", "--seconds", str(SECONDS_OF_TEST), program]
@@ -98,6 +105,8 @@ def run_tests(kit, name, program, counts):
         counts.add(f"{name} {test}", "" if end == "ok" else "it failed")
     if not ended or bool(ran.returncode) != has_failed:
         counts.add(name, f"its tests ended with status {ran.returncode}: {ran.stderr[-500:]}")
+    if len(ended) != tests_of(name):
+        counts.add(name, f"{len(ended)} tests ran, and its files have {tests_of(name)}")
     return f"{len(ended)} tests"
 
 
@@ -122,7 +131,7 @@ def first_difference(written, wanted):
         return ""
     pairs = itertools.zip_longest(written.splitlines(), wanted.splitlines())
     place = next((at for at, (one, other) in enumerate(pairs, 1) if one != other), 0)
-    return f"line {place} is another one than in stdout"
+    return f"line {place} is another one than in stdout" if place else "the end of the last line is another one than in stdout"
 
 
 def try_crate(kit, crate, out, counts):
