@@ -467,7 +467,7 @@ def wrong_counts(text):
     """What a page says otherwise than it is of how many mutants stand, and how many of them a goal refuses."""
     files = [path.read_text(encoding="utf-8") for path in CRATES.glob("*/mutants/*.edit")]
     right = (str(len(files)), str(sum("\nrefused:" not in f"\n{file}" for file in files)))
-    told = re.findall(r"[Oo]f\s+(\d+)\s+mutants\b[^.]*?\ba\s+goal\s+refuses\s+(\d+)", text)
+    told = re.findall(r"[Oo]f\s+(\d+)\s+\[?mutants\b(?s:.{,200}?)\ba\s+goal\s+refuses\s+(\d+)", text)
     return [f"of {right[0]} mutants a goal refuses {right[1]}, and not {' '.join(each)}" for each in told if each != right]
 
 
