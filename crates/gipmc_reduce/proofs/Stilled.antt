@@ -11,7 +11,7 @@ use Rattle.gipmc_circuits.specs.declared.certificate.Verdict.TheVariants.{Certif
 use Rattle.gipmc_circuits.specs.declared.circuit.Circuit.{Circuit}
 use Rattle.gipmc_circuits.specs.declared.witness_circuit.WitnessCircuit.{WitnessCircuit}
 use Rattle.gipmc_circuits.proofs.Agreeing.{AgreeBelow, all_alike, is_moment-alike, is_true-alike}
-use Rattle.gipmc_circuits.proofs.Certified.{Some-alike}
+use Rattle.gipsat_cnf.proofs.Places.{same_some}
 use Rattle.gipmc_circuits.proofs.Together.{safe_by_certificate}
 use Rattle.gipmc_reduce.specs.Witnessed.{AreSafeBy, HoldsClaims, IsStilled, shares_below}
 
@@ -79,7 +79,7 @@ pub AreSafeBy-more : (c : Circuit) (w : WitnessCircuit) (bads : List Lit) (verdi
     → AreSafeBy c w bads (verdicts ++ v ∷ [])
 AreSafeBy-more c w [] verdicts v before last k bad at found = cc
 AreSafeBy-more c w (b ∷ bads) [] v before last zero bad at found =
-    let by = last bad at (Some-alike v Certified found) in (by, safe_by_certificate c w bad by)
+    let by = last bad at (same_some v Certified found) in (by, safe_by_certificate c w bad by)
 AreSafeBy-more c w (b ∷ bads) [] v before last (suc k) bad at found = cc
 AreSafeBy-more c w (b ∷ bads) (u ∷ verdicts) v before last zero bad at found = before zero bad at found
 AreSafeBy-more c w (b ∷ bads) (u ∷ verdicts) v before last (suc k) bad at found =

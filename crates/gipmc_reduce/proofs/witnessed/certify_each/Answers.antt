@@ -3,7 +3,7 @@ use Rattle.std.proofs.Common.{◌≡◌, ◌+◌, ◌∷◌, [], length, slice_g
 use Rattle.std.proofs.lemmas.List.{length-append}
 use Rattle.std.proofs.lemmas.Option.{slice_get_read}
 use Rattle.gipmc_circuits.specs.Prelude.{IsCertifiedBy, is_certified}
-use Rattle.gipmc_circuits.proofs.Certified.{Some-alike}
+use Rattle.gipsat_cnf.proofs.Places.{same_some}
 use Rattle.gipmc_circuits.specs.declared.certificate.Verdict.TheVariants.{Certified}
 use Rattle.gipmc_reduce.specs.Witnessed.{AreSafeBy}
 use Rattle.gipmc_reduce.proofs.Stilled.{AreSafeBy-more, AreSafeBy-none}
@@ -34,6 +34,6 @@ loop-place-preserved g c =
           let right = c.in_ok-verdict.ensures (subst (λ v. IsTrue (is_certified v)) (sym is) refl) in
           let read = slice_get_read c.args.bads.now _ c.loop-place.place _ refl c.loop-place-test.true c.index-bads-place.is in
           let there = subst (λ n. slice_get c.args.bads.now n ≡ Some bad) held.count at in
-          let here = Some-alike c.index-bads-place.result bad (sym read ∙ there) in
+          let here = same_some c.index-bads-place.result bad (sym read ∙ there) in
           subst (λ l. IsCertifiedBy circuit l c.args.certificate.now) here right));
     }
