@@ -19,6 +19,7 @@ a line 'NAME: TEXT'. The last line is 'N passed, M failed'.
 """
 
 import argparse
+import concurrent.futures
 import pathlib
 import signal
 import subprocess
@@ -98,8 +99,11 @@ def main():
         return 0
     faults = [f"{mutant.name}: {mutant.fault}" for mutant in mutants if mutant.fault and mutant not in why]
     faults += [f"{name}: it is gone, and no message of a commit says why" for name in gone]
-    faults += [f"{mutant.name}: {fault}" for mutant, fault in mutant_compiles.faults(list(why) if asked.only else mutants).items()]
-    outcomes = mutant_checks.try_all(list(why), asked.jobs or mutant_checks.processors(), asked.said, asked.beside)
+    mutant_checks.load_kit()
+    with concurrent.futures.ThreadPoolExecutor() as beside:
+        compiled = beside.submit(mutant_compiles.faults, list(why) if asked.only else mutants)
+        outcomes = mutant_checks.try_all(list(why), asked.jobs or mutant_checks.processors(), asked.said, asked.beside)
+    faults += [f"{mutant.name}: {fault}" for mutant, fault in compiled.result().items()]
     passed, failed = mutant_checks.report(outcomes)
     for fault in faults:
         print(f"FAILED: {fault}")
