@@ -3,7 +3,7 @@
 
     tests/mutants.py [CRATE..]           those of all crates, or of some
     tests/mutants.py --only NAME..       these (CRATE/NAME), and no others
-    tests/mutants.py --all [CRATE..]     all: some 60 minutes of a processor
+    tests/mutants.py --all [CRATE..]     all: some three hours of a processor
 
     --list           tells which would be tried, and why, and tries none
     --base COMMIT    compares with this commit
